@@ -1,0 +1,14 @@
+-- Lists of options (RFC 7252, 3.1).
+use Rattle.std.specs.Prelude.{ℕ, ◌<◌, ◌≤◌, List, [], ◌∷◌, length}
+use Rattle.coap_message.specs.declared.options.Opt.{Opt}
+
+-- Options in order of number, the first not below `before`: each number has sixteen bits, and each
+-- value at most 65,804 bytes, the greatest length that can be written.
+abbrev pub AreOptions : ℕ → List Opt → Type 0
+AreOptions before [] = Unit {0}
+AreOptions before (o ∷ os) = (before ≤ o.number) × (o.number < 65536) × (length o.value ≤ 65804) × AreOptions o.number os
+
+-- the number of the last option, or `before` where there is none
+abbrev pub last_number : ℕ → List Opt → ℕ
+last_number before [] = before
+last_number before (o ∷ os) = last_number o.number os

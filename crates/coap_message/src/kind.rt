@@ -1,0 +1,25 @@
+//! The type of a message (RFC 7252, 3).
+ghost use Rattle.std.specs.Prelude.{◌≡◌};
+ghost use Rattle.coap_message.specs.Kind.{kind_number};
+
+/// The type of a message (RFC 7252, 3).
+#[derive(Clone, Copy, Debug, PartialEq, Eq, Hash)]
+pub enum Kind {
+    /// Confirmable.
+    Con,
+    /// Non-confirmable.
+    Non,
+    /// Acknowledgement.
+    Ack,
+    /// Reset.
+    Rst,
+}
+
+impl Kind {
+    /// The two bits of the header that stand for the type: 0 to 3.
+    pub fn number(self) -> u8
+        ensures { result ≡ kind_number self }
+    {
+        self as u8
+    }
+}
