@@ -4,3 +4,7 @@ pub mod TokenForm
 pub mod Options
 pub mod Message
 pub mod MessageView
+pub mod Spelling
+pub mod Reading
+pub mod Examples
+pub mod Parsing

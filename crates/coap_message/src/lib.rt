@@ -2,8 +2,10 @@
 #![tactic(auto)]
 
 mod code;
+mod decode;
 mod error;
 mod kind;
+mod laws;
 mod message;
 mod options;
 mod seq;
@@ -12,6 +14,7 @@ mod token;
 pub use code::Code;
 pub use error::{DecodeError, Full, OutOfMemory};
 pub use kind::Kind;
+pub use laws::examples;
 pub use message::{Head, Message};
 pub use options::{Opt, OptionList};
 pub use seq::Seq;

@@ -1,0 +1,93 @@
+-- Reading a message from its bytes, from left to right (RFC 7252, 3 and 3.1).
+use Rattle.std.specs.Prelude.{◌≡◌, ℕ, zero, suc, ◌+◌, ◌*◌, ◌/◌, ◌%◌, ◌==◌, ◌||◌, nat_lt, if◌then◌else◌, List, [], ◌∷◌, length, take, drop, Option, Some, None, option_map, Bool, false, not, Result, Ok, Err, IsOk}
+use Rattle.coap_message.specs.declared.error.DecodeError.{DecodeError}
+use Rattle.coap_message.specs.declared.error.DecodeError.TheVariants as errors
+use Rattle.coap_message.specs.declared.options.Opt.{Opt}
+use Rattle.coap_message.specs.Kind.{kind_of}
+use Rattle.coap_message.specs.Message.{Message}
+
+infixl 10 ◌>>=◌
+abbrev pub ◌>>=◌ : {A B : Type 0} → Option A → (A → Option B) → Option B
+None >>= f = None
+(Some x) >>= f = f x
+
+abbrev pub one_more : List ℕ → Option (ℕ × List ℕ)
+one_more [] = None
+one_more (a ∷ rest) = Some (a + 13, rest)
+
+abbrev pub two_more : List ℕ → Option (ℕ × List ℕ)
+two_more [] = None
+two_more (a ∷ []) = None
+two_more (a ∷ b ∷ rest) = Some (256 * a + b + 269, rest)
+
+-- a delta or a length of these four bits, and what stands behind the bytes that extend them
+unfoldable pub extended : ℕ → List ℕ → Option (ℕ × List ℕ)
+extended bits bytes = if nat_lt bits 13 then Some (bits, bytes) else (if bits == 13 then one_more bytes else (if bits == 14 then two_more bytes else None))
+
+-- the option behind one of the number `before`, and what stands behind it
+unfoldable pub option_at : ℕ → List ℕ → Option (Opt × List ℕ)
+option_at before [] = None
+option_at before (first ∷ rest) = do
+  delta ← extended (first / 16) rest
+  len ← extended (first % 16) delta.1
+  if nat_lt 65535 (before + delta.0) || nat_lt (length len.1) len.0 then None else Some (record { number = before + delta.0; value = take len.0 len.1 }, drop len.0 len.1)
+
+-- whether an option stands here: neither the end nor the payload marker
+abbrev pub begins_option : List ℕ → Bool
+begins_option [] = false
+begins_option (first ∷ rest) = not (first == 255)
+
+-- no payload, or one of at least one byte behind the marker
+abbrev pub payload_at : List ℕ → Option (List ℕ)
+payload_at [] = Some []
+payload_at (marker ∷ []) = None
+payload_at (marker ∷ p ∷ ps) = Some (p ∷ ps)
+
+abbrev pub no_options : List ℕ → List Opt × List ℕ
+no_options payload = ([], payload)
+
+abbrev pub one_option_more : Opt → List Opt × List ℕ → List Opt × List ℕ
+one_option_more o found = (o ∷ found.0, found.1)
+
+-- the options from here on, at most so many, and the payload
+unfoldable pub options_within : ℕ → ℕ → List ℕ → Option (List Opt × List ℕ)
+options_within zero before bytes = option_map no_options (payload_at bytes)
+options_within (suc most) before bytes = if begins_option bytes then (option_at before bytes >>= λ o. option_map (one_option_more o.0) (options_within most o.0.number o.1)) else option_map no_options (payload_at bytes)
+
+-- the options from here on, each of which takes a byte at least, and the payload
+abbrev pub options_at : ℕ → List ℕ → Option (List Opt × List ℕ)
+options_at before bytes = options_within (length bytes) before bytes
+
+-- what stands behind the header of a message
+pub record Body : Type 0 where
+  pub token : List ℕ
+  pub options : List Opt
+  pub payload : List ℕ
+
+-- a token of so many bytes, options and a payload
+unfoldable pub body_at : ℕ → List ℕ → Option Body
+body_at token_length bytes = if nat_lt 8 token_length || nat_lt (length bytes) token_length then None else option_map (λ found. record { token = take token_length bytes; options = found.0; payload = found.1 }) (options_at 0 (drop token_length bytes))
+
+-- behind the code 0.00 stands nothing
+abbrev pub body_behind : ℕ → ℕ → List ℕ → Option Body
+body_behind zero zero [] = Some (record { token = []; options = []; payload = [] })
+body_behind zero zero (b ∷ bytes) = None
+body_behind zero (suc n) bytes = None
+body_behind (suc code) token_length bytes = body_at token_length bytes
+
+abbrev pub with_header : ℕ → ℕ → ℕ → Option Body → Result Message DecodeError
+with_header first code id None = Err errors.Format
+with_header first code id (Some body) = Ok (record { kind = kind_of (first / 16 % 4); code = record { 0 = code }; id = id; token = body.token; options = body.options; payload = body.payload })
+
+-- the message that the bytes spell, or why there is none
+unfoldable pub read_message : List ℕ → Result Message DecodeError
+read_message (first ∷ code ∷ high ∷ low ∷ rest) = if first / 64 == 1 then with_header first code (256 * high + low) (body_behind code (first % 16) rest) else Err errors.Version
+read_message _ = Err errors.Short
+
+-- What a reader gave is what reading gives, and memory is missed only by what can be read.
+abbrev pub Reads : {A : Type 0} → Result A DecodeError → Result A DecodeError → Type 0
+Reads (Ok x) read = read ≡ Ok x
+Reads (Err errors.OutOfMemory) read = IsOk read
+Reads (Err errors.Short) read = read ≡ Err errors.Short
+Reads (Err errors.Version) read = read ≡ Err errors.Version
+Reads (Err errors.Format) read = read ≡ Err errors.Format

@@ -1,0 +1,92 @@
+-- How a message is spelled as bytes (RFC 7252, 3 and 3.1): first as a relation, case by case, and then
+-- as the function that writes it.
+use Rattle.std.specs.Prelude.{◌≡◌, ℕ, ◌+◌, ◌-◌, ◌*◌, ◌/◌, ◌%◌, ◌<◌, ◌≤◌, nat_lt, if◌then◌else◌, List, [], ◌∷◌, ◌++◌, length, slice_index}
+use Rattle.coap_message.specs.declared.options.Opt.{Opt}
+use Rattle.coap_message.specs.Kind.{kind_number}
+use Rattle.coap_message.specs.Options.{AreOptions}
+use Rattle.coap_message.specs.Message.{Message, IsBareIfEmpty}
+
+-- A delta or a length is written as four bits and the bytes that extend them: 0 to 12 as the four bits
+-- alone; from 13 on as 13 and one byte, which holds the number less 13; from 269 on as 14 and two bytes,
+-- which hold the number less 269. The four bits 15 stand for nothing.
+abbrev pub Extends : ℕ → List ℕ → ℕ → Type 0
+Extends bits [] n = (bits ≡ n) × (n < 13)
+Extends bits (a ∷ []) n = (bits ≡ 13) × (a < 256) × (n ≡ a + 13)
+Extends bits (a ∷ b ∷ []) n = (bits ≡ 14) × (a < 256) × (b < 256) × (n ≡ 256 * a + b + 269)
+Extends bits (a ∷ b ∷ c ∷ more) n = ⊥
+
+-- An option is written behind one of the number `before` (0 at the first): a byte with the delta of its
+-- number and the length of its value in four bits each, the bytes that extend them, and the value.
+pub record SpellsOption (before : ℕ) (bytes : List ℕ) (option : Opt) : Type 0 where
+  pub delta : ℕ
+  pub delta_bits : ℕ
+  pub delta_more : List ℕ
+  pub length_bits : ℕ
+  pub length_more : List ℕ
+  pub number : option.number ≡ before + delta
+  pub delta_is : Extends delta_bits delta_more delta
+  pub length_is : Extends length_bits length_more (length option.value)
+  pub bytes_are : bytes ≡ (16 * delta_bits + length_bits) ∷ (delta_more ++ (length_more ++ option.value))
+
+-- options are written one behind the other
+abbrev pub SpellsOptions : ℕ → List ℕ → List Opt → Type 0
+SpellsOptions before bytes [] = bytes ≡ []
+SpellsOptions before bytes (o ∷ os) = (first others : List ℕ) × (bytes ≡ first ++ others) × SpellsOption before first o × SpellsOptions o.number others os
+
+-- a payload is written behind the marker, and where there is none there is no marker
+abbrev pub SpellsPayload : List ℕ → List ℕ → Type 0
+SpellsPayload bytes [] = bytes ≡ []
+SpellsPayload bytes (p ∷ ps) = bytes ≡ 255 ∷ p ∷ ps
+
+-- what a message is
+pub record IsMessage (m : Message) : Type 0 where
+  pub token : length m.token ≤ 8
+  pub options : AreOptions 0 m.options
+  pub bare : IsBareIfEmpty m
+
+-- version 1, the type and the length of the token; the code; and the id, its high byte first
+abbrev pub header : Message → List ℕ
+header m = (64 + 16 * kind_number m.kind + length m.token) ∷ m.code.0 ∷ m.id / 256 ∷ m.id % 256 ∷ []
+
+-- the bytes spell the message
+pub record Spells (bytes : List ℕ) (m : Message) : Type 0 where
+  pub message : IsMessage m
+  pub options : List ℕ
+  pub payload : List ℕ
+  pub options_are : SpellsOptions 0 options m.options
+  pub payload_is : SpellsPayload payload m.payload
+  pub bytes_are : bytes ≡ header m ++ (m.token ++ (options ++ payload))
+
+-- the bytes spell no message
+abbrev pub SpellsNone : List ℕ → Type 0
+SpellsNone bytes = (m : Message) → Spells bytes m → ⊥
+
+-- a datagram's version stands in the two high bits of its first byte
+abbrev pub IsVersionOne : List ℕ → Type 0
+IsVersionOne bytes = slice_index bytes 0 / 64 ≡ 1
+
+-- ---- the function
+
+-- the four bits for a delta or a length
+abbrev pub bits_of : ℕ → ℕ
+bits_of n = if nat_lt n 13 then n else (if nat_lt n 269 then 13 else 14)
+
+-- and the bytes that extend them
+abbrev pub more_of : ℕ → List ℕ
+more_of n = if nat_lt n 13 then [] else (if nat_lt n 269 then (n - 13) ∷ [] else (n - 269) / 256 ∷ (n - 269) % 256 ∷ [])
+
+unfoldable pub option_spelling : ℕ → Opt → List ℕ
+option_spelling before o =
+    (16 * bits_of (o.number - before) + bits_of (length o.value)) ∷ (more_of (o.number - before) ++ (more_of (length o.value) ++ o.value))
+
+abbrev pub options_spelling : ℕ → List Opt → List ℕ
+options_spelling before [] = []
+options_spelling before (o ∷ os) = option_spelling before o ++ options_spelling o.number os
+
+abbrev pub payload_spelling : List ℕ → List ℕ
+payload_spelling [] = []
+payload_spelling (p ∷ ps) = 255 ∷ p ∷ ps
+
+-- the one spelling of a message
+unfoldable pub spelling : Message → List ℕ
+spelling m = header m ++ (m.token ++ (options_spelling 0 m.options ++ payload_spelling m.payload))
