@@ -6,3 +6,6 @@ pub mod WholeMessages
 pub mod Spellings
 pub mod Counting
 pub mod Refusals
+pub mod Buffers
+pub mod Appending
+pub mod Uints

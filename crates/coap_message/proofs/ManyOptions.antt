@@ -5,9 +5,10 @@ use Rattle.std.proofs.lemmas.Bool.{ne_eqb, eqb-true, not-false}
 use Rattle.std.proofs.lemmas.List.{length-append}
 use Rattle.coap_message.specs.declared.options.Opt.{Opt}
 use Rattle.coap_message.specs.Options.{AreOptions}
+use Rattle.coap_message.specs.Uint.{IsBytes}
 use Rattle.coap_message.specs.Spelling.{SpellsOption, SpellsOptions, SpellsPayload}
 use Rattle.coap_message.specs.Reading.{◌>>=◌, option_at, begins_option, payload_at, no_options, one_option_more, options_within, options_at}
-use Rattle.coap_message.proofs.Extensions.{IsBytes, IsBytes-left, IsBytes-right, some_is, Extends-bits}
+use Rattle.coap_message.proofs.Extensions.{IsBytes-left, IsBytes-right, some_is, Extends-bits}
 use Rattle.coap_message.proofs.OneOption.{bind_some, option_is, option_again}
 
 -- an option leaves less than there was

@@ -4,9 +4,10 @@ use Rattle.std.specs.Prelude.{◌||◌}
 use Rattle.std.proofs.lemmas.Bool.{ltb-false, le-ltb}
 use Rattle.std.proofs.lemmas.List.{take-append-drop, length-append, length-take, take_at, drop_at}
 use Rattle.coap_message.specs.declared.options.Opt.{Opt}
+use Rattle.coap_message.specs.Uint.{IsBytes}
 use Rattle.coap_message.specs.Spelling.{Extends, SpellsOption}
 use Rattle.coap_message.specs.Reading.{◌>>=◌, extended, option_at}
-use Rattle.coap_message.proofs.Extensions.{IsBytes, IsBytes-left, IsBytes-right, some_is, extended_is, extended_again, Extends-bits, Extends-within}
+use Rattle.coap_message.proofs.Extensions.{IsBytes-left, IsBytes-right, some_is, extended_is, extended_again, Extends-bits, Extends-within}
 
 -- the value of a step that gave one
 pub bind_some : {A B : Type 0} (o : Option A) (f : A → Option B) (y : B) → (o >>= f) ≡ Some y → (x : A) × (o ≡ Some x) × (f x ≡ Some y)

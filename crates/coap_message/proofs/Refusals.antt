@@ -5,9 +5,9 @@ use Rattle.std.proofs.lemmas.Bool.{eqb-true, ne_eqb, eq-eqb, false≢true}
 use Rattle.coap_message.specs.declared.error.DecodeError.{DecodeError}
 use Rattle.coap_message.specs.declared.error.DecodeError.TheVariants as errors
 use Rattle.coap_message.specs.Message.{Message}
+use Rattle.coap_message.specs.Uint.{IsBytes}
 use Rattle.coap_message.specs.Spelling.{Spells, SpellsNone, IsVersionOne}
 use Rattle.coap_message.specs.Reading.{Body, body_behind, with_header, read_message, Reads}
-use Rattle.coap_message.proofs.Extensions.{IsBytes}
 use Rattle.coap_message.proofs.WholeMessages.{read_is, read_again}
 
 -- ---- the refusals of the definition

@@ -1,10 +1,11 @@
 -- The relation and the function: a message is spelled by its spelling, and by nothing else.
 use Rattle.std.proofs.Common.{◌≡◌, ℕ, ◌-◌, ◌/◌, ◌%◌, ◌<◌, ◌≤◌, true, false, ltb, List, [], ◌∷◌, ◌++◌, length, refl, ap, ◌∙◌, inl, inr, arith}
+use Rattle.std.proofs.lemmas.List.{length-append}
 use Rattle.std.proofs.lemmas.Bool.{cases_lt, lt-ltb, le-ltb}
 use Rattle.coap_message.specs.declared.options.Opt.{Opt}
 use Rattle.coap_message.specs.Options.{AreOptions}
 use Rattle.coap_message.specs.Message.{Message}
-use Rattle.coap_message.specs.Spelling.{Extends, SpellsOption, SpellsOptions, SpellsPayload, IsMessage, Spells, bits_of, more_of, option_spelling, options_spelling, payload_spelling, spelling}
+use Rattle.coap_message.specs.Spelling.{Extends, SpellsOption, SpellsOptions, SpellsPayload, IsMessage, Spells, bits_of, more_of, option_spelling, options_spelling, payload_spelling, spelling, more_length, option_length, options_length, payload_length, spelling_length}
 
 -- ---- deltas and lengths
 
@@ -104,3 +105,34 @@ spelled m is = record {
   payload_is = form_payload m.payload;
   bytes_are = refl;
 }
+
+-- ---- how many bytes
+
+more-length : (n : ℕ) → length (more_of n) ≡ more_length n
+more-length n =
+    elim (cases_lt n 13) [
+      | inl lt ↦ rw (lt-ltb n 13 lt) refl
+      | inr ge ↦
+          elim (cases_lt n 269) [
+            | inl lt ↦ rw (le-ltb n 13 ge, lt-ltb n 269 lt) refl
+            | inr high ↦ rw (le-ltb n 13 ge, le-ltb n 269 high) refl
+          ]
+    ]
+
+option-length : (before : ℕ) (o : Opt) → length (option_spelling before o) ≡ option_length before o
+unfolding option_spelling
+option-length before o =
+    omega (arith, length-append (more_of (o.number - before)) (more_of (length o.value) ++ o.value), length-append (more_of (length o.value)) o.value, more-length (o.number - before), more-length (length o.value))
+
+options-length : (before : ℕ) (os : List Opt) → length (options_spelling before os) ≡ options_length before os
+options-length before [] = refl
+options-length before (o ∷ os) = omega (arith, length-append (option_spelling before o) (options_spelling o.number os), option-length before o, options-length o.number os)
+
+payload-length : (payload : List ℕ) → length (payload_spelling payload) ≡ payload_length payload
+payload-length [] = refl
+payload-length (p ∷ ps) = omega arith
+
+pub spelling-length : (m : Message) → length (spelling m) ≡ spelling_length m
+unfolding spelling
+spelling-length m =
+    omega (arith, length-append m.token (options_spelling 0 m.options ++ payload_spelling m.payload), length-append (options_spelling 0 m.options) (payload_spelling m.payload), options-length 0 m.options, payload-length m.payload)

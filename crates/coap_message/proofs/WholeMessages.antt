@@ -12,9 +12,10 @@ use Rattle.coap_message.specs.declared.options.Opt.{Opt}
 use Rattle.coap_message.specs.Kind.{kind_number, kind_of}
 use Rattle.coap_message.specs.Options.{AreOptions}
 use Rattle.coap_message.specs.Message.{Message}
+use Rattle.coap_message.specs.Uint.{IsBytes}
 use Rattle.coap_message.specs.Spelling.{SpellsOptions, SpellsPayload, header, Spells}
 use Rattle.coap_message.specs.Reading.{Body, options_at, body_at, body_behind, with_header, read_message}
-use Rattle.coap_message.proofs.Extensions.{IsBytes, IsBytes-right, some_is}
+use Rattle.coap_message.proofs.Extensions.{IsBytes-right, some_is}
 use Rattle.coap_message.proofs.ManyOptions.{mapped_is, options_is, options_again}
 
 -- ---- what stands behind the header

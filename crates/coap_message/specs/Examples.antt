@@ -1,7 +1,11 @@
 -- Datagrams whose reading and spelling are computed on the definitions.
-use Rattle.std.specs.Prelude.{ℕ, List, [], ◌∷◌}
-use Rattle.coap_message.specs.declared.kind.Kind.TheVariants.{Non}
+use Rattle.std.specs.Prelude.{◌≡◌, ℕ, List, [], ◌∷◌, Err}
+use Rattle.coap_message.specs.declared.error.DecodeError.{DecodeError}
+use Rattle.coap_message.specs.declared.error.DecodeError.TheVariants.{Format}
+use Rattle.coap_message.specs.declared.kind.Kind.TheVariants.{Con, Non}
 use Rattle.coap_message.specs.Message.{Message}
+use Rattle.coap_message.specs.Reading.{read_message}
+use Rattle.coap_message.specs.Spelling.{bits_of, more_of}
 
 -- a Non-confirmable GET of the path `t`
 abbrev pub get_bytes : List ℕ
@@ -9,3 +13,48 @@ get_bytes = 0x50 ∷ 1 ∷ 0 ∷ 7 ∷ 0xB1 ∷ 0x74 ∷ []
 
 abbrev pub get_message : Message
 get_message = record { kind = Non; code = record { 0 = 1 }; id = 7; token = []; options = record { number = 11; value = 0x74 ∷ [] } ∷ []; payload = [] }
+
+-- a Confirmable 2.05 with a token, a Max-Age of ten seconds and a payload
+abbrev pub content_bytes : List ℕ
+content_bytes = 0x41 ∷ 0x45 ∷ 1 ∷ 2 ∷ 0xAA ∷ 0xD1 ∷ 1 ∷ 10 ∷ 0xFF ∷ 0x32 ∷ 0x31 ∷ []
+
+abbrev pub content_message : Message
+content_message = record { kind = Con; code = record { 0 = 0x45 }; id = 258; token = 0xAA ∷ []; options = record { number = 14; value = 10 ∷ [] } ∷ []; payload = 0x32 ∷ 0x31 ∷ [] }
+
+abbrev pub refused : List ℕ → DecodeError → Type 0
+refused bytes error = read_message bytes ≡ Err error
+
+-- fewer than four bytes, and version 0
+abbrev pub short_bytes : List ℕ
+short_bytes = 0x50 ∷ 1 ∷ 0 ∷ []
+
+abbrev pub old_bytes : List ℕ
+old_bytes = 0x10 ∷ 1 ∷ 0 ∷ 7 ∷ []
+
+-- a token of nine bytes; the nibble 15 as a delta; a value past the end; a marker with nothing behind it;
+-- an option number of 65,536; and an Empty message with a byte too many
+abbrev pub malformed : List (List ℕ)
+malformed =
+    (0x59 ∷ 1 ∷ 0 ∷ 7 ∷ 0 ∷ 0 ∷ 0 ∷ 0 ∷ 0 ∷ 0 ∷ 0 ∷ 0 ∷ 0 ∷ [])
+    ∷ (0x50 ∷ 1 ∷ 0 ∷ 7 ∷ 0xF0 ∷ [])
+    ∷ (0x50 ∷ 1 ∷ 0 ∷ 7 ∷ 0xB5 ∷ 0x74 ∷ [])
+    ∷ (0x50 ∷ 1 ∷ 0 ∷ 7 ∷ 0xFF ∷ [])
+    ∷ (0x50 ∷ 1 ∷ 0 ∷ 7 ∷ 0xE0 ∷ 0xFE ∷ 0xF3 ∷ [])
+    ∷ (0x40 ∷ 0 ∷ 0 ∷ 9 ∷ 0 ∷ []) ∷ []
+
+abbrev pub AllRefused : List (List ℕ) → Type 0
+AllRefused [] = Unit {0}
+AllRefused (bytes ∷ others) = refused bytes Format × AllRefused others
+
+-- one option of the greatest number
+abbrev pub last_option_bytes : List ℕ
+last_option_bytes = 0x50 ∷ 1 ∷ 0 ∷ 7 ∷ 0xE0 ∷ 0xFE ∷ 0xF2 ∷ []
+
+abbrev pub last_option_message : Message
+last_option_message = record { kind = Non; code = record { 0 = 1 }; id = 7; token = []; options = record { number = 65535; value = [] } ∷ []; payload = [] }
+
+-- the boundaries between the three ways to write a delta or a length
+abbrev pub Boundaries : Type 0
+Boundaries =
+    (bits_of 12 ≡ 12) × (more_of 12 ≡ []) × (bits_of 13 ≡ 13) × (more_of 13 ≡ 0 ∷ []) × (bits_of 268 ≡ 13) × (more_of 268 ≡ 255 ∷ [])
+    × (bits_of 269 ≡ 14) × (more_of 269 ≡ 0 ∷ 0 ∷ []) × (more_of 65535 ≡ 0xFE ∷ 0xF2 ∷ []) × (more_of 65804 ≡ 0xFF ∷ 0xFF ∷ [])

@@ -1,3 +1,4 @@
+pub mod Datagram
 pub mod Kind
 pub mod Token
 pub mod TokenForm
@@ -8,3 +9,4 @@ pub mod Spelling
 pub mod Reading
 pub mod Examples
 pub mod Parsing
+pub mod Uint

@@ -1,7 +1,7 @@
 -- What the steps of reading answer, as lists.
 use Rattle.std.specs.Prelude.{ℕ, ◌+◌, List, length, Option, option_map, Result, Ok, Err, ◌≡◌, Some, None, IsSome}
-use Rattle.coap_message.specs.declared.decode.Parsed.{Parsed}
-use Rattle.coap_message.specs.declared.decode.Content.{Content}
+use Rattle.coap_message.specs.declared.reading.Parsed.{Parsed}
+use Rattle.coap_message.specs.declared.reading.Content.{Content}
 use Rattle.coap_message.specs.declared.error.DecodeError.{DecodeError}
 use Rattle.coap_message.specs.declared.error.DecodeError.TheVariants as errors
 use Rattle.coap_message.specs.declared.options.Opt.{Opt}

@@ -2,6 +2,7 @@
 use Rattle.std.specs.Prelude.{◌≡◌, ℕ, zero, suc, ◌+◌, ◌*◌, ◌/◌, ◌%◌, ◌==◌, ◌||◌, nat_lt, if◌then◌else◌, List, [], ◌∷◌, length, take, drop, Option, Some, None, option_map, Bool, false, not, Result, Ok, Err, IsOk}
 use Rattle.coap_message.specs.declared.error.DecodeError.{DecodeError}
 use Rattle.coap_message.specs.declared.error.DecodeError.TheVariants as errors
+use Rattle.coap_message.specs.declared.message.Head.{Head}
 use Rattle.coap_message.specs.declared.options.Opt.{Opt}
 use Rattle.coap_message.specs.Kind.{kind_of}
 use Rattle.coap_message.specs.Message.{Message}
@@ -83,6 +84,11 @@ with_header first code id (Some body) = Ok (record { kind = kind_of (first / 16 
 unfoldable pub read_message : List ℕ → Result Message DecodeError
 read_message (first ∷ code ∷ high ∷ low ∷ rest) = if first / 64 == 1 then with_header first code (256 * high + low) (body_behind code (first % 16) rest) else Err errors.Version
 read_message _ = Err errors.Short
+
+-- the head of a datagram: of four bytes and version 1
+abbrev pub head_at : List ℕ → Option Head
+head_at (first ∷ code ∷ high ∷ low ∷ rest) = if first / 64 == 1 then Some (record { kind = kind_of (first / 16 % 4); code = record { 0 = code }; id = 256 * high + low }) else None
+head_at _ = None
 
 -- What a reader gave is what reading gives, and memory is missed only by what can be read.
 abbrev pub Reads : {A : Type 0} → Result A DecodeError → Result A DecodeError → Type 0

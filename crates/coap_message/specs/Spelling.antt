@@ -90,3 +90,22 @@ payload_spelling (p ∷ ps) = 255 ∷ p ∷ ps
 -- the one spelling of a message
 unfoldable pub spelling : Message → List ℕ
 spelling m = header m ++ (m.token ++ (options_spelling 0 m.options ++ payload_spelling m.payload))
+
+-- ---- how many bytes that is
+
+abbrev pub more_length : ℕ → ℕ
+more_length n = if nat_lt n 13 then 0 else (if nat_lt n 269 then 1 else 2)
+
+abbrev pub option_length : ℕ → Opt → ℕ
+option_length before o = 1 + more_length (o.number - before) + more_length (length o.value) + length o.value
+
+abbrev pub options_length : ℕ → List Opt → ℕ
+options_length before [] = 0
+options_length before (o ∷ os) = option_length before o + options_length o.number os
+
+abbrev pub payload_length : List ℕ → ℕ
+payload_length [] = 0
+payload_length (p ∷ ps) = 1 + length (p ∷ ps)
+
+abbrev pub spelling_length : Message → ℕ
+spelling_length m = 4 + length m.token + options_length 0 m.options + payload_length m.payload

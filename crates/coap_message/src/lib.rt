@@ -2,20 +2,26 @@
 #![tactic(auto)]
 
 mod code;
-mod decode;
+mod datagram;
 mod error;
+mod integers;
 mod kind;
-mod laws;
+pub mod laws;
 mod message;
 mod options;
+mod reading;
 mod seq;
 mod token;
+mod writing;
 
 pub use code::Code;
+pub use datagram::Datagram;
 pub use error::{DecodeError, Full, OutOfMemory};
+pub use integers::{uint, uint_bytes};
 pub use kind::Kind;
-pub use laws::examples;
 pub use message::{Head, Message};
 pub use options::{Opt, OptionList};
+pub use reading::{decode, head_of};
 pub use seq::Seq;
 pub use token::Token;
+pub use writing::encode_into;

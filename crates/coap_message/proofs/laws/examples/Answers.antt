@@ -3,10 +3,17 @@ use Rattle.coap_message.specs.Reading.{read_message, body_at, options_within, op
 use Rattle.coap_message.specs.Spelling.{spelling, option_spelling}
 use Rattle.coap_message.proofs.laws.examples.Goals as goal
 
-pub returns-clause-read : goal.returns-clause-read
-unfolding read_message body_at options_within option_at extended
-returns-clause-read c = refl
-
-pub returns-clause-spelled : goal.returns-clause-spelled
-unfolding spelling option_spelling
-returns-clause-spelled c = refl
+pub returns : goal.returns
+unfolding read_message body_at options_within option_at extended spelling option_spelling
+returns c = record {
+  get_is_read = refl;
+  get_is_spelled = refl;
+  content_is_read = refl;
+  content_is_spelled = refl;
+  last_option_is_read = refl;
+  last_option_is_spelled = refl;
+  short = refl;
+  version = refl;
+  format = (refl, (refl, (refl, (refl, (refl, (refl, tt))))));
+  boundaries = (refl, refl, refl, refl, refl, refl, refl, refl, refl, refl);
+}

@@ -1,6 +1,6 @@
 use Rattle.std.proofs.Common.{arith}
 use Rattle.coap_message.proofs.Refusals.{reads_spelled, reads_all, reads_short, reads_version, reads_format, reads_memory}
-use Rattle.coap_message.proofs.decode.decode.Goals as goal
+use Rattle.coap_message.proofs.reading.decode.Goals as goal
 
 pub returns-clause-spelled : goal.returns-clause-spelled
 returns-clause-spelled c = reads_spelled c.read.result c.args.bytes.now (λ i. omega (arith, c.type_inv.bytes i)) c.read.ensures

@@ -2,7 +2,7 @@ use Rattle.std.proofs.Common.{◌≡◌, length}
 use Rattle.coap_message.specs.Options.{last_number}
 use Rattle.coap_message.specs.Reading.{options_at}
 use Rattle.coap_message.proofs.Counting.{behind}
-use Rattle.coap_message.proofs.decode.read_options.Given as goal
+use Rattle.coap_message.proofs.reading.read_options.Given as goal
 
 abbrev pub invariant-options : goal.invariant-options
 invariant-options l = record {

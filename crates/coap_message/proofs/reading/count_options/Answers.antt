@@ -2,7 +2,7 @@ use Rattle.std.proofs.Common.{◌+◌, length, arith, sym}
 use Rattle.coap_message.specs.Parsing.{parsed}
 use Rattle.coap_message.proofs.Counting.{counted_step, counted_end, nothing_found, no_payload_found}
 use Rattle.coap_message.proofs.ManyOptions.{option_shortens}
-use Rattle.coap_message.proofs.decode.count_options.Goals as goal
+use Rattle.coap_message.proofs.reading.count_options.Goals as goal
 
 pub returns-in_err-option : goal.returns-in_err-option
 returns-in_err-option c =

@@ -2,20 +2,20 @@
 ghost use Rattle.std.specs.Prelude.{◌≡◌, ◌<◌, ◌≤◌, IfSome, IsSome, IfOk, Some, length, option_map, ◌↔◌, MatchResult, Err};
 ghost use Rattle.coap_message.specs.Message.{Message};
 ghost use Rattle.coap_message.specs.Spelling.{Spells, SpellsNone, IsVersionOne};
-ghost use Rattle.coap_message.specs.Reading.{extended, option_at, begins_option, payload_at, options_at, body_at, body_behind, read_message, Reads};
+ghost use Rattle.coap_message.specs.Reading.{extended, option_at, begins_option, payload_at, options_at, body_at, body_behind, read_message, head_at, Reads};
 ghost use Rattle.coap_message.specs.Parsing.{parsed, body_of, counted, Finds};
 
 use crate::code::Code;
 use crate::error::{DecodeError, OutOfMemory};
 use crate::kind::Kind;
-use crate::message::Message;
+use crate::message::{Head, Message};
 use crate::options::{Opt, OptionList};
 use crate::seq::Seq;
 use crate::token::Token;
 use std::alloc::Global;
 
 /// The byte between the options and a payload.
-const PAYLOAD_MARKER: u8 = 0xFF;
+pub(crate) const PAYLOAD_MARKER: u8 = 0xFF;
 
 /// An option in a datagram, and the bytes behind it.
 #[derive(Clone, Copy)]
@@ -210,4 +210,22 @@ pub fn decode(alloc: Global, bytes: &[u8]) -> Result<Message, DecodeError>
     ensures exact { Reads result (read_message bytes.now) }
 {
     read(alloc, bytes)
+}
+
+/// What any datagram of four bytes or more and version 1 begins with, whether or not a message is
+/// spelled behind it.
+pub fn head_of(bytes: &[u8]) -> Option<Head>
+    ensures { result ≡ head_at bytes.now }
+{
+    let [first, code, high, low, ..] = bytes else {
+        return None;
+    };
+    if *first >> 6 != 1 {
+        return None;
+    }
+    Some(Head {
+        kind: Kind::of_bits(*first >> 4 & 3),
+        code: Code(*code),
+        id: u16::from_be_bytes([*high, *low]),
+    })
 }

@@ -5,7 +5,7 @@ use Rattle.coap_message.specs.Parsing.{parsed}
 use Rattle.coap_message.proofs.Counting.{behind_step, behind_end, nothing_found, no_payload_found, last_number-push}
 use Rattle.coap_message.proofs.OneOption.{option_is}
 use Rattle.coap_message.proofs.ManyOptions.{option_shortens}
-use Rattle.coap_message.proofs.decode.read_options.Goals as goal
+use Rattle.coap_message.proofs.reading.read_options.Goals as goal
 
 pub unreachable-requires : goal.unreachable-requires
 unreachable-requires c =

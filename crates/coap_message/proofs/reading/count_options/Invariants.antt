@@ -1,7 +1,7 @@
 use Rattle.std.proofs.Common.{◌≡◌, ◌+◌, ◌≤◌, length}
 use Rattle.coap_message.specs.Reading.{options_at}
 use Rattle.coap_message.specs.Parsing.{counted}
-use Rattle.coap_message.proofs.decode.count_options.Given as goal
+use Rattle.coap_message.proofs.reading.count_options.Given as goal
 
 abbrev pub invariant-options : goal.invariant-options
 invariant-options l = record {

@@ -1,0 +1,50 @@
+-- One write behind another.
+use Rattle.std.proofs.Common.{◌≡◌, ℕ, ◌+◌, ◌-◌, ◌*◌, ◌<◌, ◌≤◌, List, [], ◌∷◌, ◌++◌, length, drop, get_or, Result, Ok, Err, refl, sym, ap, ◌∙◌, append_assoc, arith}
+use Rattle.std.proofs.lemmas.List.{length-append, append-nil, drop_more, drop_all}
+use Rattle.coap_message.specs.declared.error.Full.{Full}
+use Rattle.coap_message.specs.declared.options.Opt.{Opt}
+use Rattle.coap_message.specs.Spelling.{bits_of, more_of, option_spelling, options_spelling}
+use Rattle.coap_message.specs.Datagram.{Datagram, holding, Appends}
+
+-- a write that fails fails with more behind it
+pub Appends-full : (old new : Datagram) (room : ℕ) (xs ys : List ℕ) (e f : Full) → Appends old new room xs (Err e) → Appends old new room (xs ++ ys) (Err f)
+Appends-full old new room xs ys e f a = (a.0, omega (arith, a.1, length-append xs ys))
+
+-- and after one that didn't fail
+pub Appends-behind : (old mid new : Datagram) (room : ℕ) (xs ys : List ℕ) (u : Unit {0}) (r : Result (Unit {0}) Full) → Appends old mid room xs (Ok u) → Appends mid new room ys r → Appends old new room (xs ++ ys) r
+Appends-behind old mid new room xs ys u (Ok v) a b =
+    let held : length mid.bytes ≡ length old.bytes + length xs = rw a.0 (length-append old.bytes xs) in
+    (b.0 ∙ rw a.0 (ap (holding old) (append_assoc old.bytes xs ys)), omega (arith, held, b.1, length-append xs ys))
+Appends-behind old mid new room xs ys u (Err e) a b =
+    let held : length mid.bytes ≡ length old.bytes + length xs = rw a.0 (length-append old.bytes xs) in
+    (b.0 ∙ rw a.0 refl, omega (arith, held, b.1, length-append xs ys))
+
+-- nothing is written with success where what is held is within the room
+pub Appends-nothing : (old : Datagram) (room : ℕ) → length old.bytes ≤ room → Appends old old room [] (Ok tt)
+Appends-nothing old room le = (ap (holding old) (sym (append-nil old.bytes)), omega arith)
+
+-- ---- an option, part by part
+
+pub option_written : (before : ℕ) (o : Opt) (delta len delta_bits length_bits : ℕ) → delta ≡ o.number - before → len ≡ length o.value → delta_bits ≡ bits_of delta → length_bits ≡ bits_of len
+    → (16 * delta_bits + length_bits) ∷ (more_of delta ++ (more_of len ++ o.value)) ≡ option_spelling before o
+unfolding option_spelling
+option_written before o delta len delta_bits length_bits d l db lb = rw (db, lb, d, l) refl
+
+-- ---- options one behind the other: those that are written, and those still to come
+
+pub options_full : (old out new : Datagram) (room before index : ℕ) (o : Opt) (whole : List Opt) (e f : Full) → out.room ≡ old.room → out.bytes ++ options_spelling before (drop index whole) ≡ old.bytes ++ options_spelling 0 whole
+    → index < length whole → o ≡ get_or whole index o → Appends out new room (option_spelling before o) (Err e) → Appends old new room (options_spelling 0 whole) (Err f)
+options_full old out new room before index o whole e f same written lt item a =
+    let next : drop index whole ≡ o ∷ drop (index + 1) whole = drop_more whole index o lt ∙ ap (λ (x : Opt). x ∷ drop (index + 1) whole) (sym item) in
+    let lengths = ap length (sym (ap (λ (os : List Opt). out.bytes ++ options_spelling before os) next) ∙ written) in
+    (a.0 ∙ same, omega (arith, a.1, lengths, length-append out.bytes (option_spelling before o ++ options_spelling o.number (drop (index + 1) whole)), length-append (option_spelling before o) (options_spelling o.number (drop (index + 1) whole)), length-append old.bytes (options_spelling 0 whole)))
+
+pub options_done : (old out : Datagram) (room before index : ℕ) (whole : List Opt) → out.room ≡ old.room → out.bytes ++ options_spelling before (drop index whole) ≡ old.bytes ++ options_spelling 0 whole
+    → length whole ≤ index → length out.bytes ≤ room → Appends old out room (options_spelling 0 whole) (Ok tt)
+options_done old out room before index whole same written done within =
+    let none = drop_all index whole done in
+    let bytes : out.bytes ≡ old.bytes ++ options_spelling 0 whole = sym (append-nil out.bytes) ∙ sym (ap (λ (os : List Opt). out.bytes ++ options_spelling before os) none) ∙ written in
+    (both same bytes, omega (arith, ap length bytes, length-append old.bytes (options_spelling 0 whole)))
+  where
+    both : {r r' : ℕ} {b b' : List ℕ} → r ≡ r' → b ≡ b' → ◌≡◌ {A = Datagram} (record { room = r; bytes = b }) (record { room = r'; bytes = b' })
+    both p q = cc

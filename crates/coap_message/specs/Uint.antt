@@ -1,0 +1,27 @@
+-- Integers as option values (RFC 7252, 3.2).
+use Rattle.std.specs.Prelude.{◌≢◌, ℕ, zero, suc, ◌+◌, ◌*◌, ◌^◌, ◌<◌, List, [], ◌∷◌, length, slice_index}
+use Rattle.std.specs.Int.{w64, to_be_bytes}
+
+-- numbers that are bytes
+abbrev pub IsBytes : List ℕ → Type 0
+IsBytes bytes = (i : ℕ) → slice_index bytes i < 256
+
+-- the number that bytes stand for in network byte order
+abbrev pub uint_of : List ℕ → ℕ
+uint_of [] = 0
+uint_of (b ∷ bytes) = b * 256 ^ length bytes + uint_of bytes
+
+-- bytes without the zeros at their head
+abbrev pub without_zeros : List ℕ → List ℕ
+without_zeros [] = []
+without_zeros (zero ∷ bytes) = without_zeros bytes
+without_zeros (suc b ∷ bytes) = suc b ∷ bytes
+
+-- the bytes that stand for a number below 2 ^ 64, as few as will do
+unfoldable pub uint_spelling : ℕ → List ℕ
+uint_spelling n = without_zeros (to_be_bytes w64 n)
+
+-- no zero stands at the head
+abbrev pub IsShortest : List ℕ → Type 0
+IsShortest [] = Unit {0}
+IsShortest (b ∷ bytes) = b ≢ 0

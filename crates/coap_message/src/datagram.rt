@@ -1,0 +1,71 @@
+//! Buffers for datagrams.
+ghost use Rattle.std.specs.Prelude.{◌≡◌, ◌++◌, ◌≤◌, [], IfOk, length, take};
+
+use crate::error::OutOfMemory;
+use std::alloc::Global;
+use std::marker::Model;
+
+/// A buffer for one datagram, whose room is reserved once. A contract sees its room and the bytes
+/// that it holds.
+#[derive(Debug, Drop)]
+pub struct Datagram {
+    places: Vec<u8>,
+    held: usize,
+}
+
+impl Model for Datagram {
+    ghost use Rattle.std.specs.Prelude.{◌≤◌, length, take};
+    ghost use Rattle.coap_message.specs.Datagram.{Datagram};
+
+    ghost Value = { Datagram };
+
+    ghost view = { λ d. record { room = length d.places.items; bytes = take d.held d.places.items } };
+
+    ghost invariant = { λ d. d.held ≤ length d.places.items };
+}
+
+impl Datagram {
+    ghost use Rattle.coap_message.specs.Datagram.{holding};
+
+    /// An empty datagram with room for so many bytes. No other call takes memory.
+    pub fn new(alloc: Global, room: usize) -> Result<Datagram, OutOfMemory>
+        ensures { IfOk result (λ d. d ≡ record { room = room; bytes = [] }) }
+    {
+        Ok(Datagram {
+            places: vec![in alloc; 0; room]?,
+            held: 0,
+        })
+    }
+
+    /// How many bytes it has room for.
+    pub fn room(&self) -> usize
+        ensures { result ≡ self.now.room }
+    {
+        self.places.len()
+    }
+
+    /// The bytes that it holds.
+    pub fn bytes(&self) -> &[u8]
+        ensures bytes { result.now ≡ self.now.bytes }
+        ensures within { length self.now.bytes ≤ self.now.room }
+    {
+        &self.places[..self.held]
+    }
+
+    /// Lets go of the bytes that it holds.
+    pub fn clear(&mut self)
+        ensures { self.new ≡ holding self.old [] }
+    {
+        self.held = 0;
+    }
+
+    /// Adds bytes behind those that it holds, as many as there is room for.
+    pub fn put(&mut self, bytes: &[u8])
+        ensures { self.new ≡ holding self.old (take self.old.room (self.old.bytes ++ bytes.now)) }
+    {
+        let count = bytes.len().min(self.places.len() - self.held);
+        let end = self.held + count;
+        self.places[self.held..end].copy_from_slice(&bytes[..count]);
+        self.held = end;
+    }
+}

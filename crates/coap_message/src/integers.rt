@@ -1,0 +1,41 @@
+//! Integers as option values (RFC 7252, 3.2).
+ghost use Rattle.std.specs.Prelude.{◌≡◌, ◌≤◌, ◌<◌, ◌^◌, IfOk, length};
+ghost use Rattle.coap_message.specs.Uint.{uint_of, uint_spelling, without_zeros, IsShortest};
+
+use crate::error::OutOfMemory;
+use crate::seq::Seq;
+use std::alloc::Global;
+
+/// The number that at most eight bytes stand for, in network byte order. Zeros at the head are
+/// allowed, and no byte is 0.
+pub fn uint(value: &[u8]) -> u64
+    requires { length value.now ≤ 8 }
+    ensures { result ≡ uint_of value.now }
+{
+    let mut number = 0;
+    for byte in value {
+        number = 256 * number + u64::from(*byte);
+    }
+    number
+}
+
+/// The bytes that stand for a number, as few as will do: none for 0, and never a zero at the head.
+#[tactic(auto, unfolding(crate::specs::Uint::uint_spelling))]
+pub fn uint_bytes(alloc: Global, number: u64) -> Result<Seq<u8>, OutOfMemory>
+    ensures value { IfOk result (λ bytes. uint_of bytes ≡ number) }
+    ensures shortest { IfOk result (λ bytes. IsShortest bytes) }
+    ensures exact { IfOk result (λ bytes. bytes ≡ uint_spelling number) }
+{
+    let bytes = number.to_be_bytes();
+    Seq::from_slice(alloc, without_zeros(&bytes))
+}
+
+fn without_zeros(bytes: &[u8]) -> &[u8]
+    ensures { result.now ≡ without_zeros bytes.now }
+{
+    let mut rest = bytes;
+    while let [0, behind @ ..] = rest {
+        rest = behind;
+    }
+    rest
+}

@@ -1,0 +1,131 @@
+//! Writing a message as bytes (RFC 7252, 3).
+ghost use Rattle.std.specs.Prelude.{◌≡◌, ◌<◌, ◌≤◌, ◌↔◌, ◌+◌, ◌*◌, ◌/◌, ◌%◌, [], ◌∷◌, ◌++◌, length, OnOk, OnErr, IsErr};
+ghost use Rattle.coap_message.specs.Datagram.{Appends, holding};
+ghost use Rattle.coap_message.specs.Kind.{kind_number};
+ghost use Rattle.coap_message.specs.Options.{AreOptions};
+ghost use Rattle.coap_message.specs.Spelling.{IsMessage, Spells, bits_of, more_of, option_spelling, options_spelling, payload_spelling, spelling};
+
+use crate::code::Code;
+use crate::datagram::Datagram;
+use crate::error::Full;
+use crate::kind::Kind;
+use crate::message::Message;
+use crate::options::Opt;
+use crate::reading::PAYLOAD_MARKER;
+
+/// Adds bytes, if at most `room` bytes are held then.
+fn append(out: &mut Datagram, room: usize, bytes: &[u8]) -> Result<(), Full>
+    requires { room ≤ out.old.room }
+    ensures { Appends out.old out.new room bytes.now result }
+{
+    let held = out.bytes().len();
+    if held > room || bytes.len() > room - held {
+        return Err(Full);
+    }
+    out.put(bytes);
+    Ok(())
+}
+
+/// The four bits for a delta or a length (RFC 7252, 3.1).
+fn bits(n: usize) -> u8
+    ensures value { result ≡ bits_of n }
+    ensures within { result < 15 }
+{
+    match n {
+        0..=12 => n as u8,
+        13..=268 => 13,
+        _ => 14,
+    }
+}
+
+/// Adds the bytes that extend them.
+fn put_more(out: &mut Datagram, room: usize, n: usize) -> Result<(), Full>
+    requires room { room ≤ out.old.room }
+    requires within { n ≤ 65804 }
+    ensures { Appends out.old out.new room (more_of n) result }
+{
+    match n {
+        0..=12 => append(out, room, &[]),
+        13..=268 => append(out, room, &[(n - 13) as u8]),
+        _ => append(out, room, &((n - 269) as u16).to_be_bytes()),
+    }
+}
+
+/// Adds an option behind one of the number `before` (RFC 7252, 3.1).
+fn put_option(out: &mut Datagram, room: usize, before: u16, option: &Opt) -> Result<(), Full>
+    requires room { room ≤ out.old.room }
+    requires above { before ≤ option.now.number }
+    requires within { length option.now.value ≤ 65804 }
+    ensures { Appends out.old out.new room (option_spelling before option.now) result }
+{
+    let delta = usize::from(option.number - before);
+    let length = option.value.len();
+    append(out, room, &[16 * bits(delta) + bits(length)])?;
+    put_more(out, room, delta)?;
+    put_more(out, room, length)?;
+    append(out, room, option.value.as_slice())
+}
+
+fn put_options(out: &mut Datagram, room: usize, options: &[Opt]) -> Result<(), Full>
+    requires room { room ≤ out.old.room }
+    requires held { length out.old.bytes ≤ room }
+    requires in_order { AreOptions 0 options.now }
+    ensures { Appends out.old out.new room (options_spelling 0 options.now) result }
+{
+    let mut before = 0;
+    for option in options {
+        put_option(out, room, before, option)?;
+        before = option.number;
+    }
+    Ok(())
+}
+
+fn put_payload(out: &mut Datagram, room: usize, payload: &[u8]) -> Result<(), Full>
+    requires { room ≤ out.old.room }
+    ensures { Appends out.old out.new room (payload_spelling payload.now) result }
+{
+    if payload.is_empty() {
+        return append(out, room, &[]);
+    }
+    append(out, room, &[PAYLOAD_MARKER])?;
+    append(out, room, payload)
+}
+
+/// The four bytes before the token (RFC 7252, 3).
+fn header_of(kind: Kind, token_length: usize, code: Code, id: u16) -> [u8; 4]
+    requires { token_length ≤ 8 }
+    ensures { result ≡ (64 + 16 * kind_number kind + token_length) ∷ code.0 ∷ id / 256 ∷ id % 256 ∷ [] }
+{
+    let first = 0x40 + 16 * kind.number() + token_length as u8;
+    [first, code.0, (id / 256) as u8, (id % 256) as u8]
+}
+
+#[tactic(auto, unfolding(crate::specs::Spelling::spelling))]
+fn put_message(out: &mut Datagram, room: usize, message: &Message) -> Result<(), Full>
+    requires { room ≤ out.old.room }
+    ensures written { Appends out.old out.new room (spelling message.now) result }
+    ensures valid { OnOk result (IsMessage message.now) }
+{
+    let token = message.token.as_slice();
+    let header = header_of(message.kind, token.len(), message.code, message.id);
+    append(out, room, &header)?;
+    append(out, room, token)?;
+    put_options(out, room, message.options.as_slice())?;
+    put_payload(out, room, message.payload.as_slice())
+}
+
+/// Writes the one spelling of a message, which takes no memory. The datagram is cleared first.
+pub fn encode_into(message: &Message, out: &mut Datagram, room: usize) -> Result<(), Full>
+    requires { room ≤ out.old.room }
+    ensures ok { OnOk result (out.new ≡ holding out.old (spelling message.now)) }
+    ensures spelled { OnOk result (Spells out.new.bytes message.now) }
+    ensures full { IsErr result ↔ (room < length (spelling message.now)) }
+    ensures err { OnErr result (out.new ≡ holding out.old []) }
+{
+    out.clear();
+    if let Err(full) = put_message(out, room, message) {
+        out.clear();
+        return Err(full);
+    }
+    Ok(())
+}
