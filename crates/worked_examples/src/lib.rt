@@ -1,0 +1,5 @@
+//! Tests that cross crates: examples worked out by hand, from the bytes in to the bytes out.
+#![tactic(auto)]
+
+#[cfg(test)]
+mod messages;
