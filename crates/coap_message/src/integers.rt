@@ -10,7 +10,8 @@ use std::alloc::Global;
 /// allowed, and no byte is 0.
 pub fn uint(value: &[u8]) -> u64
     requires { length value.now ≤ 8 }
-    ensures { result ≡ uint_of value.now }
+    ensures value { result ≡ uint_of value.now }
+    ensures below { result < 256 ^ length value.now }
 {
     let mut number = 0;
     for byte in value {

@@ -3,3 +3,5 @@
 
 #[cfg(test)]
 mod messages;
+#[cfg(test)]
+mod options;

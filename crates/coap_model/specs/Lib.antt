@@ -1,0 +1,10 @@
+pub mod Limits
+pub mod LimitsView
+pub mod Messages
+pub mod Events
+pub mod World
+pub mod Requests
+pub mod Responses
+pub mod Ticks
+pub mod Step
+pub mod Examples

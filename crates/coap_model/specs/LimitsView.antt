@@ -1,0 +1,9 @@
+-- Limits of the program as contracts see them.
+use Rattle.coap_model.specs.declared.limits.Limits.TheInside.{Inside}
+use Rattle.coap_model.specs.Limits.{Limits}
+
+abbrev pub seen : Inside → Limits
+seen l = record { cache_bytes = l.cache_bytes; cache_entries = l.cache_entries; con_records = l.con_records; non_records = l.non_records; exchanges = l.exchanges; waiters = l.waiters; nstart = l.nstart; datagram = l.datagram; exchange_ms = l.exchange_ms; retry_s = l.retry_s }
+
+abbrev pub kept : Limits → Inside
+kept l = record { cache_bytes = l.cache_bytes; cache_entries = l.cache_entries; con_records = l.con_records; non_records = l.non_records; exchanges = l.exchanges; waiters = l.waiters; nstart = l.nstart; datagram = l.datagram; exchange_ms = l.exchange_ms; retry_s = l.retry_s }

@@ -1,0 +1,165 @@
+-- What messages mean to a proxy: words that the step and the history share. They speak of messages
+-- alone, and of no table.
+use Rattle.std.specs.Prelude.{◌≡◌, ℕ, ◌+◌, ◌-◌, ◌/◌, ◌%◌, ◌^◌, ◌==◌, ◌&&◌, ◌||◌, Bool, true, false, not, nat_le, if◌then◌else◌, List, [], ◌∷◌, ◌++◌, length, map, filter, Option, Some, None, unwrap_or}
+use Rattle.std.specs.List.{list_all}
+use Rattle.std.specs.Int.{w64, to_be_bytes}
+use Rattle.coap_message.specs.declared.kind.Kind.{Kind}
+use Rattle.coap_message.specs.declared.kind.Kind.TheVariants.{Con, Non, Ack, Rst}
+use Rattle.coap_message.specs.declared.code.Code.{Code}
+use Rattle.coap_message.specs.declared.code.TheConstants.Code.{EMPTY, GET, VALID, CONTENT, BAD_OPTION, NOT_FOUND, METHOD_NOT_ALLOWED, REQUEST_ENTITY_TOO_LARGE, BAD_GATEWAY, SERVICE_UNAVAILABLE}
+use Rattle.coap_message.specs.declared.options.Opt.{Opt}
+use Rattle.coap_message.specs.Message.{Message}
+use Rattle.coap_message.specs.Spelling.{spelling}
+use Rattle.coap_message.specs.Uint.{uint_of, uint_spelling}
+use Rattle.coap_target.specs.declared.endpoint.Endpoint.{Endpoint}
+use Rattle.coap_target.specs.declared.target.Target.{Target}
+use Rattle.coap_target.specs.declared.routes.Routes.{Routes}
+use Rattle.coap_target.specs.Routes.{values_of, target_of}
+use Rattle.coap_exchange.specs.declared.exchange.Answer.{Answer}
+
+-- ---- codes and types
+
+abbrev pub is_code : Code → Code → Bool
+is_code a b = a.0 == b.0
+
+-- a method: class 0, but not 0.00 (RFC 7252, 5.2 and 12.1.1)
+abbrev pub is_request : Code → Bool
+is_request c = (c.0 / 32 == 0) && not (c.0 == 0)
+
+-- a response code: class 2, 3, 4 or 5
+abbrev pub is_response : Code → Bool
+is_response c = nat_le 2 (c.0 / 32) && nat_le (c.0 / 32) 5
+
+abbrev pub is_con : Kind → Bool
+is_con Con = true
+is_con Non = false
+is_con Ack = false
+is_con Rst = false
+
+abbrev pub is_non : Kind → Bool
+is_non Con = false
+is_non Non = true
+is_non Ack = false
+is_non Rst = false
+
+abbrev pub is_ack : Kind → Bool
+is_ack Con = false
+is_ack Non = false
+is_ack Ack = true
+is_ack Rst = false
+
+-- ---- what the proxy says of its own
+
+-- a message without token, options and payload: a Reset of a message with this id (RFC 7252, 4.2)
+abbrev pub reset : ℕ → Message
+reset id = record { kind = Rst; code = EMPTY; id = id; token = []; options = []; payload = [] }
+
+-- a reply of the proxy's own to a client's token
+abbrev pub own_reply : Code → List Opt → ℕ → List ℕ → Message
+own_reply code options id token = record { kind = Non; code = code; id = id; token = token; options = options; payload = [] }
+
+-- a Max-Age of so many seconds (RFC 7252, 5.10.5)
+abbrev pub max_age_option : ℕ → Opt
+max_age_option seconds = record { number = 14; value = uint_spelling seconds }
+
+-- 5.03, with the seconds after which to try again (RFC 7252, 5.9.3.4)
+abbrev pub busy_reply : ℕ → ℕ → List ℕ → Message
+busy_reply seconds id token = own_reply SERVICE_UNAVAILABLE (max_age_option seconds ∷ []) id token
+
+-- ---- the request that is sent on
+
+-- the token of the request of an exchange: the salt and its number, in eight bytes
+unfoldable pub token_of : ℕ → ℕ → List ℕ
+token_of salt number = to_be_bytes w64 ((salt + number) % 2 ^ 64)
+
+abbrev pub option_of : ℕ → List ℕ → Opt
+option_of number value = record { number = number; value = value }
+
+abbrev pub host_options : Option (List ℕ) → List Opt
+host_options None = []
+host_options (Some host) = option_of 3 host ∷ []
+
+-- Uri-Host where the target has a host, a Uri-Path for each segment, a Uri-Query for each part (RFC
+-- 7252, 5.10.1)
+unfoldable pub target_options : Target → List Opt
+target_options t = host_options t.host ++ (map (option_of 11) t.path ++ map (option_of 15) t.query)
+
+-- a confirmable GET of the target
+abbrev pub forwarded : List ℕ → Target → ℕ → Message
+forwarded token t id = record { kind = Con; code = GET; id = id; token = token; options = target_options t; payload = [] }
+
+-- the target of a request that was sent to an endpoint, read off the request
+abbrev pub first_value : List (List ℕ) → Option (List ℕ)
+first_value [] = None
+first_value (value ∷ values) = Some value
+
+unfoldable pub target_sent : Endpoint → Message → Target
+target_sent to m = record { host = first_value (values_of 3 m.options); at = to; path = values_of 11 m.options; query = values_of 15 m.options }
+
+-- ---- what becomes of a request
+
+pub data Verdict : Type 0 where
+  refused_with : Code → Verdict
+  may_open : Target → Verdict
+
+-- a Uri-Path of at most 255 bytes is the one option that is understood so far
+abbrev pub is_path_option : Opt → Bool
+is_path_option o = (o.number == 11) && nat_le (length o.value) 255
+
+-- a form that is too long for a datagram isn't sent on
+abbrev pub verdict_of_target : ℕ → List ℕ → Option Target → Verdict
+verdict_of_target most token None = refused_with NOT_FOUND
+verdict_of_target most token (Some t) = if nat_le (length (spelling (forwarded token t 0))) most then may_open t else refused_with REQUEST_ENTITY_TOO_LARGE
+
+-- the method, the options, the target, the length: the first that is at fault decides
+unfoldable pub verdict_of : Routes → ℕ → List ℕ → Message → Verdict
+verdict_of routes most token m =
+    if is_code m.code GET then (if list_all is_path_option m.options then verdict_of_target most token (target_of routes m) else refused_with BAD_OPTION) else refused_with METHOD_NOT_ALLOWED
+
+-- ---- answers
+
+-- at most one Max-Age of at most four bytes is understood in a response so far
+abbrev pub are_understood : List Opt → Bool
+are_understood [] = true
+are_understood (o ∷ []) = (o.number == 14) && nat_le (length o.value) 4
+are_understood (o ∷ p ∷ more) = false
+
+-- a response fits where it fits a datagram with a token of eight bytes and a Max-Age of four
+abbrev pub widest : Message → Message
+widest m = record { kind = Non; code = m.code; id = 0; token = 0 ∷ 0 ∷ 0 ∷ 0 ∷ 0 ∷ 0 ∷ 0 ∷ 0 ∷ []; options = option_of 14 (0 ∷ 0 ∷ 0 ∷ 0 ∷ []) ∷ []; payload = m.payload }
+
+abbrev pub fits : ℕ → Message → Bool
+fits most m = nat_le (length (spelling (widest m))) most
+
+-- 5.02, in place of a response that can't be passed on (RFC 7252, 5.9.3.3)
+abbrev pub bad_gateway : Message
+bad_gateway = record { kind = Non; code = BAD_GATEWAY; id = 0; token = []; options = []; payload = [] }
+
+abbrev pub is_passed_on : ℕ → Message → Bool
+is_passed_on most m = are_understood m.options && (not (is_code m.code VALID) && fits most m)
+
+-- the answer that a response gives, got at a moment
+unfoldable pub answer_of : ℕ → ℕ → Message → Answer
+answer_of most now m =
+    if is_passed_on most m then record { message = m; got = now; own = false } else record { message = bad_gateway; got = now; own = true }
+
+-- the Max-Age of a response, in seconds: 60 where there is none (RFC 7252, 5.10.5)
+abbrev pub max_age_of : List Opt → ℕ
+max_age_of [] = 60
+max_age_of (o ∷ more) = uint_of o.value
+
+-- what is left of a Max-Age: less the age, rounded up to whole seconds, and not below 0
+abbrev pub left_of : ℕ → Answer → ℕ
+left_of now a = max_age_of a.message.options - (now - a.got + 999) / 1000
+
+-- an origin's 2.05 and its errors carry their age (RFC 7252, 5.6.1)
+abbrev pub carries_max_age : Answer → Bool
+carries_max_age a = not a.own && (is_code a.message.code CONTENT || nat_le 4 (a.message.code.0 / 32))
+
+abbrev pub shown_options : ℕ → Answer → List Opt
+shown_options now a = if carries_max_age a then max_age_option (left_of now a) ∷ [] else a.message.options
+
+-- what a client is given for an answer: the client's token, a new id, and exactly one Max-Age with what
+-- is left where the answer carries one
+abbrev pub shown : ℕ → Answer → ℕ → List ℕ → Message
+shown now a id token = record { kind = Non; code = a.message.code; id = id; token = token; options = shown_options now a; payload = a.message.payload }

@@ -1,0 +1,53 @@
+-- The step of a request (RFC 7252, 5.7.2).
+use Rattle.std.specs.Prelude.{ℕ, ◌+◌, if◌then◌else◌, List, [], ◌∷◌, ◌++◌}
+use Rattle.coap_message.specs.declared.code.Code.{Code}
+use Rattle.coap_message.specs.declared.code.TheConstants.Code.{SERVICE_UNAVAILABLE}
+use Rattle.coap_message.specs.Message.{Message}
+use Rattle.coap_message.specs.Spelling.{spelling}
+use Rattle.coap_target.specs.declared.endpoint.Endpoint.{Endpoint}
+use Rattle.coap_target.specs.declared.target.Target.{Target}
+use Rattle.coap_exchange.specs.declared.exchange.ExchangeState.TheVariants.{Queued}
+use Rattle.coap_exchange.specs.declared.exchange.Exchange.{Exchange}
+use Rattle.coap_exchange.specs.declared.waiter.Waiter.{Waiter}
+use Rattle.coap_model.specs.declared.report.Outcome.TheVariants.{Refused, Overloaded, NoId, Opened}
+use Rattle.coap_model.specs.Messages.{own_reply, busy_reply, forwarded, token_of, Verdict, refused_with, may_open, verdict_of}
+use Rattle.coap_model.specs.World.{World, Step, Numbered, later, silent, says, next_id, has_ids, has_room}
+
+-- no id is free for a reply: silence
+abbrev pub lacks_id : World → ℕ → Step
+lacks_id w now = silent NoId (later w now)
+
+-- the client is refused with a code
+abbrev pub refuses : World → ℕ → Endpoint → Message → Code → Step
+refuses w now client m code = says (Refused code) client (own_reply code [] (next_id w) m.token) (record (later w now) { given = w.given + 1 })
+
+-- there is no room for the client: try again later
+abbrev pub overloads : World → ℕ → Endpoint → Message → Step
+overloads w now client m = says Overloaded client (busy_reply w.limits.retry_s (next_id w) m.token) (record (later w now) { given = w.given + 1 })
+
+abbrev pub new_exchange : World → ℕ → Target → Numbered Exchange
+new_exchange w now t = (w.opened + 1, record { target = t; form = spelling (forwarded (token_of w.salt (w.opened + 1)) t 0); admitted = now; state = Queued })
+
+abbrev pub new_waiter : World → Endpoint → Message → Numbered Waiter
+new_waiter w client m = (w.admitted + 1, record { client = client; token = m.token; exchange = w.opened + 1 })
+
+-- an exchange is opened, and the client waits for it
+abbrev pub opens : World → ℕ → Endpoint → Message → Target → Step
+opens w now client m t =
+    silent Opened (record (later w now) {
+      exchanges = w.exchanges ++ new_exchange w now t ∷ [];
+      waiters = w.waiters ++ new_waiter w client m ∷ [];
+      opened = w.opened + 1;
+      admitted = w.admitted + 1;
+    })
+
+-- the request of the exchange that would be opened would have this token
+abbrev pub next_token : World → List ℕ
+next_token w = token_of w.salt (w.opened + 1)
+
+abbrev pub on_verdict : World → ℕ → Endpoint → Message → Verdict → Step
+on_verdict w now client m (refused_with code) = if has_ids 1 w then refuses w now client m code else lacks_id w now
+on_verdict w now client m (may_open t) = if has_room w then opens w now client m t else (if has_ids 1 w then overloads w now client m else lacks_id w now)
+
+abbrev pub on_request : World → ℕ → Endpoint → Message → Step
+on_request w now client m = on_verdict w now client m (verdict_of w.routes w.limits.datagram (next_token w) m)

@@ -1,0 +1,49 @@
+-- One step: a datagram or a tick at a moment.
+use Rattle.std.specs.Prelude.{ℕ, ◌&&◌, nat_le, if◌then◌else◌, List, length, Option, Some, None}
+use Rattle.std.specs.Result.{result_ok}
+use Rattle.coap_message.specs.declared.kind.Kind.{Kind}
+use Rattle.coap_message.specs.declared.message.Head.{Head}
+use Rattle.coap_message.specs.Message.{Message}
+use Rattle.coap_message.specs.Reading.{read_message, head_at}
+use Rattle.coap_target.specs.declared.endpoint.Endpoint.{Endpoint}
+use Rattle.coap_model.specs.declared.report.Outcome.TheVariants.{Ignored, Rejected}
+use Rattle.coap_model.specs.Events.{Event, arrival, tick}
+use Rattle.coap_model.specs.Messages.{is_con, is_non, is_ack, is_request, is_response, reset}
+use Rattle.coap_model.specs.World.{World, Step, later, silent, says}
+use Rattle.coap_model.specs.Requests.{on_request}
+use Rattle.coap_model.specs.Responses.{awaiting, on_response}
+use Rattle.coap_model.specs.Ticks.{on_tick}
+
+abbrev pub ignores : World → ℕ → Step
+ignores w now = silent Ignored (later w now)
+
+-- a Reset with the id of what can't be processed (RFC 7252, 4.2)
+abbrev pub rejects : World → ℕ → Endpoint → ℕ → Step
+rejects w now source id = says Rejected source (reset id) (later w now)
+
+-- what can't be processed is rejected where it is confirmable, and ignored otherwise
+abbrev pub unprocessed : World → ℕ → Endpoint → Kind → ℕ → Step
+unprocessed w now source kind id = if is_con kind then rejects w now source id else ignores w now
+
+-- Non-confirmable requests, and responses in acknowledgements, are what is processed so far.
+abbrev pub on_message : World → ℕ → Endpoint → Message → Step
+on_message w now source m =
+    if is_non m.kind && is_request m.code then on_request w now source m else (if is_ack m.kind && is_response m.code then on_response w now m (awaiting w source m) else unprocessed w now source m.kind m.id)
+
+-- the message that a datagram spells, if it isn't too long
+unfoldable pub message_in : ℕ → List ℕ → Option Message
+message_in most bytes = if nat_le (length bytes) most then result_ok (read_message bytes) else None
+
+abbrev pub on_read : World → ℕ → Endpoint → Option Head → Option Message → Step
+on_read w now source None m = ignores w now
+on_read w now source (Some head) None = unprocessed w now source head.kind head.id
+on_read w now source (Some head) (Some m) = on_message w now source m
+
+-- fewer than four bytes, or another version, are ignored
+abbrev pub on_datagram : World → ℕ → Endpoint → List ℕ → Step
+on_datagram w now source bytes = on_read w now source (head_at bytes) (message_in w.limits.datagram bytes)
+
+-- one step, at a moment, with a draw that is kept for later use
+abbrev pub step_of : World → ℕ → ℕ → Event → Step
+step_of w now draw (arrival source bytes) = on_datagram w now source bytes
+step_of w now draw tick = on_tick w now

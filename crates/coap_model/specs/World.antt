@@ -1,0 +1,90 @@
+-- The tables of a proxy as one value, and what a step makes of them.
+use Rattle.std.specs.Prelude.{◌≡◌, ℕ, ◌+◌, ◌%◌, ◌^◌, ◌<◌, ◌≤◌, ◌==◌, ◌&&◌, Bool, true, false, not, nat_le, nat_lt, if◌then◌else◌, List, [], ◌∷◌, length, Option, Some, None, option_map}
+use Rattle.std.specs.List.{list_any}
+use Rattle.coap_message.specs.Message.{Message}
+use Rattle.coap_message.specs.Spelling.{spelling}
+use Rattle.coap_target.specs.declared.endpoint.Endpoint.{Endpoint}
+use Rattle.coap_target.specs.declared.routes.Routes.{Routes}
+use Rattle.coap_exchange.specs.declared.exchange.ExchangeState.{ExchangeState}
+use Rattle.coap_exchange.specs.declared.exchange.ExchangeState.TheVariants.{Queued, Sent, Done}
+use Rattle.coap_exchange.specs.declared.exchange.Exchange.{Exchange}
+use Rattle.coap_exchange.specs.declared.waiter.Waiter.{Waiter}
+use Rattle.coap_model.specs.declared.report.Outcome.{Outcome}
+use Rattle.coap_model.specs.declared.report.Report.{Report}
+use Rattle.coap_model.specs.declared.report.Counts.{Counts}
+use Rattle.coap_model.specs.Limits.{Limits}
+
+-- an exchange, or a waiter, under its number
+abbrev pub Numbered : Type 0 → Type 0
+Numbered A = ℕ × A
+
+pub record World : Type 0 where
+  -- what it was made with
+  pub limits : Limits
+  pub routes : Routes
+  pub first_id : ℕ
+  pub salt : ℕ
+  -- the exchanges under way and the clients that wait, in order of number
+  pub exchanges : List (Numbered Exchange)
+  pub waiters : List (Numbered Waiter)
+  -- how many of each there ever were
+  pub opened : ℕ
+  pub admitted : ℕ
+  -- how many message ids were given
+  pub given : ℕ
+  -- the last moment, and the number of events
+  pub last : ℕ
+  pub events : ℕ
+
+-- what a step answers, the bytes of its datagram (none where it sends none), and the tables after it
+pub record Step : Type 0 where
+  pub report : Report
+  pub bytes : List ℕ
+  pub world : World
+
+-- a proxy that has done nothing
+abbrev pub new_world : Limits → Routes → ℕ → ℕ → World
+new_world limits routes first_id salt = record { limits = limits; routes = routes; first_id = first_id; salt = salt; exchanges = []; waiters = []; opened = 0; admitted = 0; given = 0; last = 0; events = 0 }
+
+-- the clock, one event on
+abbrev pub later : World → ℕ → World
+later w now = record w { last = now; events = w.events + 1 }
+
+abbrev pub silent : Outcome → World → Step
+silent outcome w = record { report = record { send = None; outcome = outcome }; bytes = []; world = w }
+
+abbrev pub says : Outcome → Endpoint → Message → World → Step
+says outcome to m w = record { report = record { send = Some to; outcome = outcome }; bytes = spelling m; world = w }
+
+-- ---- message ids
+
+-- the id that is given next: each is the former plus one, modulo 65,536 (RFC 7252, 4.4)
+abbrev pub next_id : World → ℕ
+next_id w = (w.first_id + w.given) % 65536
+
+abbrev pub is_queued : ExchangeState → Bool
+is_queued Queued = true
+is_queued (Sent s) = false
+is_queued (Done a) = false
+
+abbrev pub queued_count : List (Numbered Exchange) → ℕ
+queued_count [] = 0
+queued_count (x ∷ xs) = (if is_queued x.1.state then 1 else 0) + queued_count xs
+
+-- ids that are kept for exchanges which are still to be sent, and for clients which are still to be served
+abbrev pub reserved : World → ℕ
+reserved w = length w.waiters + queued_count w.exchanges
+
+-- so many ids are free
+abbrev pub has_ids : ℕ → World → Bool
+has_ids k w = nat_le (w.given + reserved w + k) 32768
+
+-- ---- room
+
+abbrev pub has_room : World → Bool
+has_room w = nat_lt (length w.exchanges) w.limits.exchanges && (nat_lt (length w.waiters) w.limits.waiters && has_ids 2 w)
+
+-- ---- how much a proxy holds
+
+abbrev pub counts : World → Counts
+counts w = record { cached_bytes = 0; entries = 0; con_records = 0; non_records = 0; exchanges = length w.exchanges; waiters = length w.waiters }

@@ -1,0 +1,10 @@
+//! What a proxy means: its tables as one value, one step over them, histories, and the laws that join
+//! them. There is next to no code here.
+#![tactic(auto)]
+
+pub mod laws;
+mod limits;
+mod report;
+
+pub use limits::Limits;
+pub use report::{Counts, Outcome, Report, Storing};

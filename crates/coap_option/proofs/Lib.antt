@@ -1,0 +1,3 @@
+pub mod MaxAges
+pub mod Passing
+pub mod Picking

@@ -1,0 +1,8 @@
+pub mod Classes
+pub mod Side
+pub mod Table
+pub mod Recognition
+pub mod Places
+pub mod Screening
+pub mod Selection
+pub mod Examples

@@ -1,0 +1,45 @@
+//! Examples, computed on the definitions.
+ghost use Rattle.std.specs.Prelude.{◌≡◌, ◌&&◌, ◌∷◌, [], true};
+ghost use Rattle.std.specs.List.{list_all};
+ghost use Rattle.coap_option.specs.Table.{option_table};
+ghost use Rattle.coap_option.specs.Screening.{first_refused};
+ghost use Rattle.coap_option.specs.Selection.{forwarded, key_of, max_age_of, tags_of};
+ghost use Rattle.coap_option.specs.Examples.{content, get, has_its_range, put, with_value, zeros};
+
+use crate::numbers::{BLOCK1, BLOCK2};
+use crate::side::Side;
+
+/// What screening says of some messages: Block1 and Block2 refuse a message, and so does a second
+/// Uri-Host, while a second Accept passes. What isn't known at all goes by its number.
+pub fn screened()
+    ensures block2_in_request { first_refused Side.Request (zeros BLOCK2 1 ∷ []) ≡ Some 23 }
+    ensures block2_in_response { first_refused Side.Response (zeros BLOCK2 1 ∷ []) ≡ Some 23 }
+    ensures block1_in_request { first_refused Side.Request (zeros BLOCK1 1 ∷ []) ≡ Some 27 }
+    ensures two_hosts { first_refused Side.Request (zeros 3 4 ∷ zeros 3 4 ∷ []) ≡ Some 3 }
+    ensures two_accepts { first_refused Side.Request (zeros 17 1 ∷ zeros 17 1 ∷ []) ≡ None }
+    ensures host_in_response { first_refused Side.Response (zeros 3 4 ∷ []) ≡ Some 3 }
+    ensures critical_safe { first_refused Side.Request (zeros 2049 1 ∷ []) ≡ None }
+    ensures elective_unsafe { first_refused Side.Request (zeros 2050 1 ∷ []) ≡ Some 2050 }
+    ensures ranges { list_all (λ row. has_its_range Side.Request row && has_its_range Side.Response row) option_table ≡ true }
+{}
+
+/// Which options of some messages are sent on, are part of the key, or say how the message is cached.
+pub fn selected()
+    ensures accepts { forwarded (get (zeros 17 1 ∷ zeros 17 1 ∷ [])) ≡ zeros 17 1 ∷ zeros 17 1 ∷ [] }
+    ensures observe { forwarded (get (zeros 6 0 ∷ zeros 17 1 ∷ [])) ≡ zeros 17 1 ∷ [] }
+    ensures long_observe { forwarded (get (zeros 6 4 ∷ [])) ≡ zeros 6 4 ∷ [] }
+    ensures max_age_of_request { forwarded (get (zeros 14 1 ∷ [])) ≡ [] }
+    ensures tag_of_get { forwarded (get (zeros 4 1 ∷ zeros 4 9 ∷ [])) ≡ zeros 4 9 ∷ [] }
+    ensures tag_of_put { forwarded (put (zeros 4 1 ∷ [])) ≡ zeros 4 1 ∷ [] }
+    ensures size1 { forwarded (get (zeros 17 1 ∷ zeros 60 1 ∷ [])) ≡ zeros 17 1 ∷ zeros 60 1 ∷ [] }
+    ensures key { key_of (get (zeros 17 1 ∷ zeros 60 1 ∷ [])) ≡ zeros 17 1 ∷ [] }
+
+    ensures tags_of_request { tags_of (get (with_value 4 (1 ∷ []) ∷ with_value 4 (2 ∷ []) ∷ [])) ≡ (1 ∷ []) ∷ (2 ∷ []) ∷ [] }
+    ensures tag_of_response { tags_of (content (with_value 4 (1 ∷ []) ∷ with_value 4 (2 ∷ []) ∷ [])) ≡ (1 ∷ []) ∷ [] }
+    ensures bad_first_tag { tags_of (content (zeros 4 9 ∷ zeros 4 1 ∷ [])) ≡ [] }
+
+    ensures no_max_age { max_age_of (content []) ≡ 60 }
+    ensures leading_zeros { max_age_of (content (with_value 14 (0 ∷ 0 ∷ 1 ∷ 44 ∷ []) ∷ [])) ≡ 300 }
+    ensures empty_max_age { max_age_of (content (zeros 14 0 ∷ [])) ≡ 0 }
+    ensures long_max_age { max_age_of (content (zeros 14 5 ∷ [])) ≡ 60 }
+{}

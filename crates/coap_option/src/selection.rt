@@ -1,0 +1,114 @@
+//! Which options of a message are sent on, are part of the cache key, or say how it is cached
+//! (RFC 7252, 5.4.2, 5.6, 5.7 and 5.10).
+ghost use Rattle.std.specs.Prelude.{◌≡◌, ◌≢◌, [], IfOk, OnErr, not};
+ghost use Rattle.coap_option.specs.Selection.{forwarded, is_key, is_of, key_of, max_age_of, stays, tags_of};
+
+use crate::classes::is_no_cache_key;
+use crate::numbers;
+use crate::places::{Test, first, select, values};
+use crate::recognition::option_recognised;
+use crate::side::Side;
+use coap_message::{Code, Message, Opt, OptionList, OutOfMemory, Seq, uint};
+use std::alloc::Global;
+
+/// The Max-Age of a response that has none, in seconds (RFC 7252, 5.10.5).
+const DEFAULT_MAX_AGE: u32 = 60;
+
+/// In a request with this code, sent on: not recognised, or not one that stays at the proxy.
+#[derive(Clone, Copy)]
+struct Forwarded(Code);
+
+impl Test for Forwarded {
+    ghost holds = { λ t p. not (stays t.0 p) };
+
+    fn holds_of(&self, option: &Opt, before: usize) -> bool {
+        let used_up = match option.number {
+            numbers::URI_HOST
+            | numbers::OBSERVE
+            | numbers::URI_PORT
+            | numbers::URI_PATH
+            | numbers::MAX_AGE
+            | numbers::URI_QUERY
+            | numbers::PROXY_URI
+            | numbers::PROXY_SCHEME => true,
+            numbers::ETAG => self.0 == Code::GET,
+            _ => false,
+        };
+        !(used_up && option_recognised(Side::Request, option, before))
+    }
+}
+
+/// In a request with this code, sent on and part of the cache key.
+#[derive(Clone, Copy)]
+struct InKey(Code);
+
+impl Test for InKey {
+    ghost holds = { λ t p. is_key t.0 p };
+
+    fn holds_of(&self, option: &Opt, before: usize) -> bool {
+        !is_no_cache_key(option.number) && Forwarded(self.0).holds_of(option, before)
+    }
+}
+
+/// Recognised on this side, and of this number.
+#[derive(Clone, Copy)]
+struct Numbered {
+    side: Side,
+    number: u16,
+}
+
+impl Test for Numbered {
+    ghost holds = { λ t p. is_of t.side t.number p };
+
+    fn holds_of(&self, option: &Opt, before: usize) -> bool {
+        option.number == self.number && option_recognised(self.side, option, before)
+    }
+}
+
+/// The options of a request that are sent on, in order: all but the recognised ones of Uri-Host,
+/// Observe, Uri-Port, Uri-Path, Max-Age, Uri-Query, Proxy-Uri and Proxy-Scheme, and in a GET all but
+/// the recognised ETags, too. An `Err` is for want of memory; where no option is sent on, none is taken.
+pub fn forward_options(alloc: Global, message: &Message) -> Result<OptionList, OutOfMemory>
+    ensures ok { IfOk result (λ list. list ≡ forwarded message.now) }
+    ensures err { OnErr result (forwarded message.now ≢ []) }
+{
+    select(alloc, &message.options, &Forwarded(message.code))
+}
+
+/// The options of a request that are part of its cache key, in order: those that are sent on, less
+/// the NoCacheKey ones (RFC 7252, 5.4.2 and 5.6). An `Err` is for want of memory; for an empty key,
+/// none is taken.
+pub fn key_options(alloc: Global, message: &Message) -> Result<OptionList, OutOfMemory>
+    ensures ok { IfOk result (λ list. list ≡ key_of message.now) }
+    ensures err { OnErr result (key_of message.now ≢ []) }
+{
+    select(alloc, &message.options, &InKey(message.code))
+}
+
+/// The values of the recognised ETags, in order: of a request any number, of a response the first
+/// alone, and that only if its length is in range (RFC 7252, 5.10.6). An `Err` is for want of memory;
+/// without a recognised ETag, none is taken.
+pub fn tags(alloc: Global, message: &Message) -> Result<Seq<Seq<u8>>, OutOfMemory>
+    ensures ok { IfOk result (λ tags. tags ≡ tags_of message.now) }
+    ensures err { OnErr result (tags_of message.now ≢ []) }
+{
+    let tag = Numbered {
+        side: Side::of(message.code),
+        number: numbers::ETAG,
+    };
+    values(alloc, &message.options, &tag)
+}
+
+/// The recognised Max-Age of a response, in seconds: 60 where it has none (RFC 7252, 5.10.5).
+pub fn max_age(message: &Message) -> u32
+    ensures { result ≡ max_age_of message.now }
+{
+    let max_age = Numbered {
+        side: Side::Response,
+        number: numbers::MAX_AGE,
+    };
+    match first(&message.options, &max_age) {
+        Some(option) => uint(option.value.as_slice()) as u32,
+        None => DEFAULT_MAX_AGE,
+    }
+}

@@ -1,0 +1,27 @@
+//! The two sides of an exchange (RFC 7252, 5.1 and 5.2).
+ghost use Rattle.std.specs.Prelude.{◌≡◌};
+
+use coap_message::Code;
+
+/// Requests or responses: an option may be defined for either, or for both.
+#[derive(Clone, Copy, Debug, PartialEq, Eq, Hash)]
+pub enum Side {
+    Request,
+    Response,
+}
+
+impl Side {
+    ghost use Rattle.coap_option.specs.Side.{side_of};
+
+    /// The side of a message with this code: a code of class 0 is that of a request, each other that
+    /// of a response.
+    pub fn of(code: Code) -> Side
+        ensures { result ≡ side_of code }
+    {
+        if code.class() == 0 {
+            Side::Request
+        } else {
+            Side::Response
+        }
+    }
+}

@@ -1,0 +1,3 @@
+pub mod Endpoint
+pub mod Routes
+pub mod Target

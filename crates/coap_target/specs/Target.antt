@@ -1,0 +1,13 @@
+-- What a target is.
+use Rattle.std.specs.Prelude.{ℕ, ◌≤◌, List, length, IfSome}
+use Rattle.std.specs.List.{AllByRecursion}
+use Rattle.coap_target.specs.declared.target.Target.{Target}
+
+-- hosts, segments and parts of a query have at most 255 bytes (RFC 7252, 5.10)
+abbrev pub IsSegment : List ℕ → Type 0
+IsSegment bytes = length bytes ≤ 255
+
+pub record IsTarget (t : Target) : Type 0 where
+  pub host : IfSome t.host IsSegment
+  pub path : AllByRecursion IsSegment t.path
+  pub query : AllByRecursion IsSegment t.query
