@@ -14,7 +14,7 @@ use Rattle.coap_message.specs.Options.{AreOptions}
 use Rattle.coap_message.specs.Message.{Message}
 use Rattle.coap_message.specs.Uint.{IsBytes}
 use Rattle.coap_message.specs.Spelling.{SpellsOptions, SpellsPayload, header, Spells}
-use Rattle.coap_message.specs.Reading.{Body, options_at, body_at, body_behind, with_header, read_message}
+use Rattle.coap_message.specs.Reading.{Body, options_at, body_at, body_behind, with_header, read_message, head_at}
 use Rattle.coap_message.proofs.Extensions.{IsBytes-right, some_is}
 use Rattle.coap_message.proofs.ManyOptions.{mapped_is, options_is, options_again}
 
@@ -185,3 +185,15 @@ read_again bytes m s =
 -- the bytes of one message spell no other
 pub one_message : (bytes : List ℕ) (m n : Message) → Spells bytes m → Spells bytes n → m ≡ n
 one_message bytes m n s t = let e = sym (read_again bytes m s) ∙ read_again bytes n t in cc
+
+-- the head of what is read is the message's
+pub head_read : (bytes : List ℕ) (m : Message) → read_message bytes ≡ Ok m → head_at bytes ≡ Some (record { kind = m.kind; code = m.code; id = m.id })
+unfolding read_message
+head_read [] m e = absurd cc
+head_read (a ∷ []) m e = absurd cc
+head_read (a ∷ b ∷ []) m e = absurd cc
+head_read (a ∷ b ∷ c ∷ []) m e = absurd cc
+head_read (first ∷ code ∷ high ∷ low ∷ rest) m e =
+    let v = version_is (eqb (first / 64) 1) (with_header first code (256 * high + low) (body_behind code (first % 16) rest)) m e in
+    let h = with_header_is first code (256 * high + low) (body_behind code (first % 16) rest) m v.1 in
+    rw v.0 (ap (λ (n : Message). Some (record { kind = n.kind; code = n.code; id = n.id })) h.2)

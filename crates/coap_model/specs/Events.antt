@@ -1,7 +1,6 @@
 -- What happens to a proxy, and what a step answers.
 use Rattle.std.specs.Prelude.{ℕ, List}
 use Rattle.coap_target.specs.declared.endpoint.Endpoint.{Endpoint}
-use Rattle.coap_model.specs.declared.report.Report.{Report}
 
 -- a datagram with its source, or a tick
 pub data Event : Type 0 where

@@ -3,8 +3,7 @@ use Rattle.std.specs.Prelude.{ℕ, ◌+◌, List, [], ◌∷◌, Option, Some, N
 use Rattle.coap_target.specs.declared.endpoint.Ip.TheVariants.{V4}
 use Rattle.coap_target.specs.declared.endpoint.Endpoint.{Endpoint}
 use Rattle.coap_target.specs.Routes.{fixed_routes}
-use Rattle.coap_model.specs.declared.report.Report.{Report}
-use Rattle.coap_model.specs.Limits.{Limits, default_limits}
+use Rattle.coap_model.specs.Limits.{default_limits}
 use Rattle.coap_model.specs.Events.{Event, arrival, tick}
 use Rattle.coap_model.specs.World.{World, Step, new_world}
 use Rattle.coap_model.specs.Step.{step_of}
@@ -49,11 +48,11 @@ abbrev pub to : Endpoint → List ℕ → Sent
 to at bytes = (Some at, bytes)
 
 abbrev pub proxy : World
-proxy = new_world default_limits fixed_routes 1 0
+proxy = new_world (record { limits = default_limits; routes = fixed_routes; first_id = 1; salt = 0 })
 
 -- a proxy with room for one exchange
 abbrev pub small_proxy : World
-small_proxy = new_world (record default_limits { exchanges = 1 }) fixed_routes 1 0
+small_proxy = new_world (record { limits = record default_limits { exchanges = 1 }; routes = fixed_routes; first_id = 1; salt = 0 })
 
 -- a Non-confirmable GET of the path `t`, with the id 7
 abbrev pub get_t : List ℕ

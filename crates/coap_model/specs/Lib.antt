@@ -1,5 +1,6 @@
 pub mod Limits
 pub mod LimitsView
+pub mod Setting
 pub mod Messages
 pub mod Events
 pub mod World
@@ -8,3 +9,6 @@ pub mod Responses
 pub mod Ticks
 pub mod Step
 pub mod Examples
+pub mod History
+pub mod Justified
+pub mod Carries

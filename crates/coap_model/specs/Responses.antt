@@ -24,7 +24,7 @@ abbrev pub awaits : ℕ → Endpoint → Message → Numbered Exchange → Bool
 awaits salt source m x = has_id m.id x.1.state && (same_endpoint x.1.target.at source && pointwise nat_eq (token_of salt x.0) m.token)
 
 abbrev pub awaiting : World → Endpoint → Message → Option (Numbered Exchange)
-awaiting w source m = find (awaits w.salt source m) w.exchanges
+awaiting w source m = find (awaits w.setting.salt source m) w.exchanges
 
 -- the exchange of this number comes to this state
 abbrev pub moved : ℕ → ExchangeState → Numbered Exchange → Numbered Exchange
@@ -35,7 +35,7 @@ with_state number state exchanges = map (moved number state) exchanges
 
 -- the exchange has its answer
 abbrev pub answers : World → ℕ → Message → Numbered Exchange → Step
-answers w now m x = silent (Answered NotStored) (record (later w now) { exchanges = with_state x.0 (Done (answer_of w.limits.datagram now m)) w.exchanges })
+answers w now m x = silent (Answered NotStored) (record (later w now) { exchanges = with_state x.0 (Done (answer_of w.setting.limits.datagram now m)) w.exchanges })
 
 abbrev pub on_response : World → ℕ → Message → Option (Numbered Exchange) → Step
 on_response w now m None = silent Ignored (later w now)

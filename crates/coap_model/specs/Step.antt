@@ -41,7 +41,7 @@ on_read w now source (Some head) (Some m) = on_message w now source m
 
 -- fewer than four bytes, or another version, are ignored
 abbrev pub on_datagram : World → ℕ → Endpoint → List ℕ → Step
-on_datagram w now source bytes = on_read w now source (head_at bytes) (message_in w.limits.datagram bytes)
+on_datagram w now source bytes = on_read w now source (head_at bytes) (message_in w.setting.limits.datagram bytes)
 
 -- one step, at a moment, with a draw that is kept for later use
 abbrev pub step_of : World → ℕ → ℕ → Event → Step

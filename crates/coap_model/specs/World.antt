@@ -1,10 +1,8 @@
 -- The tables of a proxy as one value, and what a step makes of them.
-use Rattle.std.specs.Prelude.{◌≡◌, ℕ, ◌+◌, ◌%◌, ◌^◌, ◌<◌, ◌≤◌, ◌==◌, ◌&&◌, Bool, true, false, not, nat_le, nat_lt, if◌then◌else◌, List, [], ◌∷◌, length, Option, Some, None, option_map}
-use Rattle.std.specs.List.{list_any}
+use Rattle.std.specs.Prelude.{ℕ, ◌+◌, ◌%◌, ◌&&◌, Bool, true, false, nat_le, nat_lt, if◌then◌else◌, List, [], ◌∷◌, length, Some, None}
 use Rattle.coap_message.specs.Message.{Message}
 use Rattle.coap_message.specs.Spelling.{spelling}
 use Rattle.coap_target.specs.declared.endpoint.Endpoint.{Endpoint}
-use Rattle.coap_target.specs.declared.routes.Routes.{Routes}
 use Rattle.coap_exchange.specs.declared.exchange.ExchangeState.{ExchangeState}
 use Rattle.coap_exchange.specs.declared.exchange.ExchangeState.TheVariants.{Queued, Sent, Done}
 use Rattle.coap_exchange.specs.declared.exchange.Exchange.{Exchange}
@@ -12,18 +10,14 @@ use Rattle.coap_exchange.specs.declared.waiter.Waiter.{Waiter}
 use Rattle.coap_model.specs.declared.report.Outcome.{Outcome}
 use Rattle.coap_model.specs.declared.report.Report.{Report}
 use Rattle.coap_model.specs.declared.report.Counts.{Counts}
-use Rattle.coap_model.specs.Limits.{Limits}
+use Rattle.coap_model.specs.Setting.{Setting}
 
 -- an exchange, or a waiter, under its number
 abbrev pub Numbered : Type 0 → Type 0
 Numbered A = ℕ × A
 
 pub record World : Type 0 where
-  -- what it was made with
-  pub limits : Limits
-  pub routes : Routes
-  pub first_id : ℕ
-  pub salt : ℕ
+  pub setting : Setting
   -- the exchanges under way and the clients that wait, in order of number
   pub exchanges : List (Numbered Exchange)
   pub waiters : List (Numbered Waiter)
@@ -43,8 +37,8 @@ pub record Step : Type 0 where
   pub world : World
 
 -- a proxy that has done nothing
-abbrev pub new_world : Limits → Routes → ℕ → ℕ → World
-new_world limits routes first_id salt = record { limits = limits; routes = routes; first_id = first_id; salt = salt; exchanges = []; waiters = []; opened = 0; admitted = 0; given = 0; last = 0; events = 0 }
+abbrev pub new_world : Setting → World
+new_world setting = record { setting = setting; exchanges = []; waiters = []; opened = 0; admitted = 0; given = 0; last = 0; events = 0 }
 
 -- the clock, one event on
 abbrev pub later : World → ℕ → World
@@ -60,7 +54,7 @@ says outcome to m w = record { report = record { send = Some to; outcome = outco
 
 -- the id that is given next: each is the former plus one, modulo 65,536 (RFC 7252, 4.4)
 abbrev pub next_id : World → ℕ
-next_id w = (w.first_id + w.given) % 65536
+next_id w = (w.setting.first_id + w.given) % 65536
 
 abbrev pub is_queued : ExchangeState → Bool
 is_queued Queued = true
@@ -82,7 +76,7 @@ has_ids k w = nat_le (w.given + reserved w + k) 32768
 -- ---- room
 
 abbrev pub has_room : World → Bool
-has_room w = nat_lt (length w.exchanges) w.limits.exchanges && (nat_lt (length w.waiters) w.limits.waiters && has_ids 2 w)
+has_room w = nat_lt (length w.exchanges) w.setting.limits.exchanges && (nat_lt (length w.waiters) w.setting.limits.waiters && has_ids 2 w)
 
 -- ---- how much a proxy holds
 

@@ -11,5 +11,4 @@ pub fn examples()
     ensures refusals { play proxy refusals ≡ refusals_sent }
     ensures full { play small_proxy full ≡ full_sent }
     ensures unprocessed { play proxy unprocessed_messages ≡ unprocessed_messages_sent }
-{
-}
+{}

@@ -1,0 +1,133 @@
+-- Sending a request on keeps what is carried.
+use Rattle.std.proofs.Common.{◌≡◌, inl, inr, ⊎_elim, ℕ, ◌^◌, ◌<◌, ◌≤◌, true, List, [], ◌∷◌, length, Some, refl, sym, ap, ◌∙◌, subst, arith}
+use Rattle.std.specs.List.{AllByRecursion}
+use Rattle.coap_message.specs.Message.{Message}
+use Rattle.coap_message.specs.Spelling.{Spells, spelling}
+use Rattle.coap_message.proofs.Spellings.{spelled}
+use Rattle.coap_message.proofs.WholeMessages.{one_message}
+use Rattle.coap_target.specs.declared.target.Target.{Target}
+use Rattle.coap_exchange.specs.declared.exchange.ExchangeState.{ExchangeState}
+use Rattle.coap_exchange.specs.declared.exchange.ExchangeState.TheVariants.{Queued, Sent, Done}
+use Rattle.coap_exchange.specs.declared.exchange.Exchange.{Exchange}
+use Rattle.coap_model.specs.Events.{tick}
+use Rattle.coap_model.specs.Messages.{token_of, forwarded}
+use Rattle.coap_model.specs.World.{World, Numbered, is_queued, next_id}
+use Rattle.coap_model.specs.Responses.{moved}
+use Rattle.coap_model.specs.Ticks.{sending, least, items_of, if_due, with_id, sends}
+use Rattle.coap_target.specs.Routes.{target_of}
+use Rattle.coap_model.specs.History.{Entry, Place, Opens, Sends, Gets}
+use Rattle.coap_model.specs.Justified.{IsRequestOf, on_exchange, asked}
+use Rattle.coap_model.specs.Carries.{IsState, IsExchangeOf, IsWaiterOf, Carries, entry_of}
+use Rattle.coap_model.proofs.Lists.{All-map}
+use Rattle.coap_model.proofs.Places.{here, Opens-number, Opens-unique, request-unique}
+use Rattle.coap_model.proofs.Spelled.{forwarded-is, length-token_of, token-same, with_id-forwarded, target_sent-forwarded}
+use Rattle.coap_model.proofs.Tables.{due-sending, moved-cases, length-with_state, IsRising-with_state, ArePaired-with_state, HasNumber-with_state, HasQueued, queued-there, queued-sent}
+use Rattle.coap_model.proofs.Frames.{exchange_frame, waiters_frame, fresh_frame, gets-not, number-small}
+use Rattle.coap_model.proofs.Replying.{id-same}
+
+pub queued_state : (s : ExchangeState) → is_queued s ≡ true → s ≡ Queued
+queued_state Queued e = refl
+queued_state (Sent s) e = absurd cc
+queued_state (Done a) e = absurd cc
+
+-- exchanges of one number have one target
+pub same_target : (w : World) (history : List Entry) (x y : Numbered Exchange) → IsExchangeOf w.setting history x → IsExchangeOf w.setting history y → x.0 ≡ y.0 → x.1.target ≡ y.1.target
+same_target w history x y f g same =
+    let place = Opens-unique history f.opening g.opening y.0 f.was_opened g.was_opened (subst (λ (n : ℕ). Opens n f.opening) same f.opens) g.opens in
+    let request = request-unique w.setting g.opening.entry.event f.client g.client f.request g.request (subst (λ (p : Place). IsRequestOf w.setting f.client f.request p.entry.event) place f.asked) g.asked in
+    let targets : Some x.1.target ≡ Some y.1.target = sym f.target_is ∙ ap (target_of w.setting.routes) request.1 ∙ g.target_is in
+    some-same x.1.target y.1.target targets
+  where
+    some-same : (a b : Target) → Some a ≡ Some b → a ≡ b
+    some-same a b e = cc
+
+-- both facts of what is found
+pub record Found (w : World) (history : List Entry) (x : Numbered Exchange) : Type 0 where
+  pub exchange : IsExchangeOf w.setting history x
+  pub there : is_queued x.1.state ≡ true → HasQueued x.0 w.exchanges
+
+found-all : (w : World) (history : List Entry) (xs : List (Numbered Exchange)) → AllByRecursion (IsExchangeOf w.setting history) xs → AllByRecursion (λ x. is_queued x.1.state ≡ true → HasQueued x.0 w.exchanges) xs → AllByRecursion (Found w history) xs
+found-all w history [] p q = tt
+found-all w history (x ∷ xs) p q = (record { exchange = p.0; there = q.0 }, found-all w history xs p.1 q.1)
+
+pub keeps_forwarding : (w : World) (history : List Entry) (c : Carries history w) → w.events < 2 ^ 63 → (now draw : ℕ) (x : Numbered Exchange) → w.last ≤ now → if_due now (least (items_of w)) ≡ Some (sending x)
+    → Carries (entry_of now draw tick (sends w now x) ∷ history) (sends w now x).world
+keeps_forwarding w history c few now draw x onward due =
+    let e = entry_of now draw tick (sends w now x) in
+    let p = here history e in
+    let salt = w.setting.salt in
+    let id = next_id w in
+    let small : length history < 2 ^ 63 = let h = c.clock.events in omega arith in
+    let one = due-sending (Found w history) (IsWaiterOf w.setting history c.acts) w.exchanges w.waiters now x (found-all w history w.exchanges c.exchanges (queued-there w.exchanges)) c.waiters due in
+    let f = one.0.exchange in
+    let state : IsState w.setting history x.0 x.1.target Queued = subst (IsState w.setting history x.0 x.1.target) (queued_state x.1.state one.1) f.state in
+    let request = forwarded (token_of salt x.0) x.1.target id in
+    let is = forwarded-is (token_of salt x.0) x.1.target id f.sound (omega (arith, length-token_of salt x.0)) in
+    let bytes_are : e.bytes ≡ spelling request = ap (with_id id) f.form_is ∙ with_id-forwarded id (token_of salt x.0) x.1.target in
+    let spells : Spells e.bytes request = subst (λ (b : List ℕ). Spells b request) (sym bytes_are) (spelled request is) in
+    let ungot : (n : ℕ) → Gets salt n p → ⊥ = gets-not w.setting history e (λ o. cc) in
+    let number : (n : ℕ) → n < 2 ^ 64 → Sends salt n p → n ≡ x.0 = λ n below s. sym (token-same salt x.0 n (number-small w.setting history x small f) below (ap (λ (m : Message). m.token) (one_message e.bytes request s.message spells s.spells) ∙ s.token)) in
+    let there = one.0.there one.1 in
+    let next : ExchangeState = Sent (record { asked = w.events; id = id }) in
+    let fewer = queued-sent x.0 0 next w.exchanges refl c.whole.rising there in
+    let first_is : Sends salt x.0 p = record { outcome = refl; to = x.1.target.at; sent = refl; message = request; spells = spells; token = refl } in
+    record {
+      acts = on_exchange x.0 ∷ c.acts;
+      routes = c.routes;
+      clock = record { events = let h = c.clock.events in omega arith; last = refl; in_order = (let h = c.clock.last in omega arith, c.clock.in_order) };
+      numbers = record { opened = let h = c.numbers.opened in omega arith; admitted = let h = c.numbers.admitted in omega arith; given = let h = c.numbers.given in omega arith };
+      ids = ((λ g. record { gives = refl; message = request; spells = spells; id_is = id-same w history c }), c.ids);
+      fresh = fresh_frame w.setting history e (λ n above below s. let i = number n below s in let j = Opens-number history f.opening x.0 f.was_opened f.opens in omega (arith, j.1)) (λ n above below g. ungot n g) c.fresh;
+      exchanges =
+          All-map (IsExchangeOf w.setting history) (IsExchangeOf w.setting (e ∷ history)) (moved x.0 next) w.exchanges
+          (λ y g.
+          moved-cases (IsExchangeOf w.setting (e ∷ history)) x.0 next y
+          (λ same. record {
+            opening = g.opening;
+            client = g.client;
+            request = g.request;
+            was_opened = inr g.was_opened;
+            opens = g.opens;
+            asked = g.asked;
+            target_is = g.target_is;
+            sound = g.sound;
+            form_is = g.form_is;
+            form_short = g.form_short;
+            state = subst (λ (n : ℕ). IsState w.setting (e ∷ history) n y.1.target next) (sym same) (
+              record {
+                asking = p;
+                was_asked = inl refl;
+                asks = record { sends = first_is; first = state.0 };
+                asked_target = target_sent-forwarded (token_of salt x.0) x.1.target id ∙ same_target w history x y f g (sym same);
+                to = ap (λ (t : Target). t.at) (same_target w history x y f g (sym same));
+                id_is = refl;
+                number = c.clock.events;
+              },
+              (ungot x.0, state.1),
+            );
+          })
+          (λ other. exchange_frame w.setting history e y (λ s. other (number y.0 (number-small w.setting history y small g) s)) (ungot y.0) g))
+          c.exchanges;
+      waiters = waiters_frame w.setting history c.acts (on_exchange x.0 ∷ c.acts) e w.waiters refl c.waiters;
+      whole = record {
+        rising = IsRising-with_state x.0 0 next w.exchanges c.whole.rising;
+        paired = ArePaired-with_state x.0 next w.exchanges w.waiters c.whole.paired;
+        complete = λ n positive le. ⊎_elim (λ here. inl (HasNumber-with_state x.0 n next w.exchanges here)) (λ served. inr served) (c.whole.complete n positive (omega arith));
+        under_way = let h = c.whole.under_way in let l = length-with_state x.0 next w.exchanges in omega arith;
+        unsent = let h = c.whole.unsent in omega arith;
+      };
+      within = record { exchanges = let h = c.within.exchanges in let l = length-with_state x.0 next w.exchanges in omega arith; waiters = c.within.waiters; ids = let h = c.within.ids in omega arith };
+      past = asked e x.0 c.past refl (record {
+        opening = f.opening;
+        client = f.client;
+        request = f.request;
+        target = x.1.target;
+        id = id;
+        was_opened = f.was_opened;
+        opens = f.opens;
+        asked = f.asked;
+        target_is = f.target_is;
+        first = state.0;
+        tells = record { sent = refl; spells = spells };
+      });
+    }

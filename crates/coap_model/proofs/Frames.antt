@@ -1,0 +1,97 @@
+-- What stays as the history grows by an entry.
+use Rattle.std.proofs.Common.{◌≡◌, ◌≢◌, inr, ℕ, ◌^◌, ◌<◌, ◌≤◌, List, [], ◌∷◌, length, subst, arith}
+use Rattle.std.specs.List.{AllByRecursion}
+use Rattle.coap_target.specs.declared.target.Target.{Target}
+use Rattle.coap_exchange.specs.declared.exchange.ExchangeState.{ExchangeState}
+use Rattle.coap_exchange.specs.declared.exchange.ExchangeState.TheVariants.{Queued, Sent, Done}
+use Rattle.coap_exchange.specs.declared.exchange.Exchange.{Exchange}
+use Rattle.coap_exchange.specs.declared.waiter.Waiter.{Waiter}
+use Rattle.coap_model.specs.declared.report.Outcome.{Outcome}
+use Rattle.coap_model.specs.declared.report.Outcome.TheVariants.{Opened, Answered, SentRequest}
+use Rattle.coap_model.specs.declared.report.Storing.TheVariants.{NotStored}
+use Rattle.coap_model.specs.Setting.{Setting}
+use Rattle.coap_model.specs.World.{Numbered}
+use Rattle.coap_model.specs.History.{Entry, index, opens_one, opened_in, Sends, Gets}
+use Rattle.coap_model.specs.Justified.{IsMember, Act, served_by}
+use Rattle.coap_model.specs.Carries.{IsState, IsExchangeOf, IsWaiterOf, IsFresh}
+use Rattle.coap_model.proofs.Lists.{All-weaken}
+use Rattle.coap_model.proofs.Places.{here, index_below, Opens-number}
+
+-- a state stays where nothing is sent or got for the exchange
+pub state_frame : (setting : Setting) (history : List Entry) (e : Entry) (x : ℕ) (target : Target) (s : ExchangeState) → ¬ Sends setting.salt x (here history e) → ¬ Gets setting.salt x (here history e) → IsState setting history x target s → IsState setting (e ∷ history) x target s
+state_frame setting history e x target Queued unsent ungot s = ((unsent, s.0), (ungot, s.1))
+state_frame setting history e x target (Sent sending) unsent ungot s =
+    let a = s.0 in
+    (record { asking = a.asking; was_asked = inr a.was_asked; asks = a.asks; asked_target = a.asked_target; to = a.to; id_is = a.id_is; number = a.number }, (ungot, s.1))
+state_frame setting history e x target (Done answer) unsent ungot s =
+    record { getting = s.getting; was_got = inr s.was_got; gets = s.gets; asked_target = s.asked_target; answer_is = s.answer_is }
+
+pub exchange_frame : (setting : Setting) (history : List Entry) (e : Entry) (x : Numbered Exchange) → ¬ Sends setting.salt x.0 (here history e) → ¬ Gets setting.salt x.0 (here history e) → IsExchangeOf setting history x → IsExchangeOf setting (e ∷ history) x
+exchange_frame setting history e x unsent ungot f =
+    record {
+      opening = f.opening;
+      client = f.client;
+      request = f.request;
+      was_opened = inr f.was_opened;
+      opens = f.opens;
+      asked = f.asked;
+      target_is = f.target_is;
+      sound = f.sound;
+      form_is = f.form_is;
+      form_short = f.form_short;
+      state = state_frame setting history e x.0 x.1.target x.1.state unsent ungot f.state;
+    }
+
+pub exchanges_frame : (setting : Setting) (history : List Entry) (e : Entry) (xs : List (Numbered Exchange)) → ((x : ℕ) → ¬ Sends setting.salt x (here history e)) → ((x : ℕ) → ¬ Gets setting.salt x (here history e))
+    → AllByRecursion (IsExchangeOf setting history) xs → AllByRecursion (IsExchangeOf setting (e ∷ history)) xs
+exchanges_frame setting history e xs unsent ungot all =
+    All-weaken (IsExchangeOf setting history) (IsExchangeOf setting (e ∷ history)) xs (λ x f. exchange_frame setting history e x (unsent x.0) (ungot x.0) f) all
+
+-- a waiter stays that isn't served
+pub waiter_frame : (setting : Setting) (history : List Entry) (acts after : List Act) (e : Entry) (v : Numbered Waiter) → ¬ IsMember v.0 (served_by after) → IsWaiterOf setting history acts v → IsWaiterOf setting (e ∷ history) after v
+waiter_frame setting history acts after e v unserved f =
+    record {
+      admission = f.admission;
+      client = f.client;
+      request = f.request;
+      was_admitted = inr f.was_admitted;
+      opens = f.opens;
+      asked = f.asked;
+      exchange = f.exchange;
+      client_is = f.client_is;
+      token_is = f.token_is;
+      not_got_by = ((λ g. let i = index_below history f.admission f.was_admitted in let j : length history ≤ index f.admission = g.1 in omega arith), f.not_got_by);
+      unserved = unserved;
+    }
+
+-- all waiters stay where none is served
+pub waiters_frame : (setting : Setting) (history : List Entry) (acts after : List Act) (e : Entry) (vs : List (Numbered Waiter)) → served_by after ≡ served_by acts → AllByRecursion (IsWaiterOf setting history acts) vs → AllByRecursion (IsWaiterOf setting (e ∷ history) after) vs
+waiters_frame setting history acts after e vs same all =
+    All-weaken (IsWaiterOf setting history acts) (IsWaiterOf setting (e ∷ history) after) vs (λ v f. waiter_frame setting history acts after e v (λ m. f.unserved (subst (IsMember v.0) same m)) f) all
+
+pub fresh_frame : (setting : Setting) (history : List Entry) (e : Entry) → ((x : ℕ) → opened_in history < x → x < 2 ^ 64 → ¬ Sends setting.salt x (here history e)) → ((x : ℕ) → opened_in history < x → x < 2 ^ 64 → ¬ Gets setting.salt x (here history e))
+    → IsFresh setting history → IsFresh setting (e ∷ history)
+fresh_frame setting history e unsent ungot fresh x above small =
+    let below : opened_in history < x = omega arith in
+    let f = fresh x below small in
+    ((unsent x below small, f.0), (ungot x below small, f.1))
+
+-- an entry with another outcome sends no request, and gets no answer
+pub sends-not : (setting : Setting) (history : List Entry) (e : Entry) → e.report.outcome ≢ SentRequest → (x : ℕ) → ¬ Sends setting.salt x (here history e)
+sends-not setting history e other x s = other s.outcome
+
+pub gets-not : (setting : Setting) (history : List Entry) (e : Entry) → e.report.outcome ≢ Answered NotStored → (x : ℕ) → ¬ Gets setting.salt x (here history e)
+gets-not setting history e other x g = other g.outcome
+
+-- ---- numbers are small
+
+pub opened-length : (history : List Entry) → opened_in history ≤ length history
+opened-length [] = omega arith
+opened-length (e ∷ past) = let i = opened-length past in let j = one_at_most e.report.outcome in omega arith
+  where
+    one_at_most : (o : Outcome) → opens_one o ≤ 1
+    one_at_most Opened = omega arith
+    one_at_most _ = omega arith
+
+pub number-small : (setting : Setting) (history : List Entry) (x : Numbered Exchange) → length history < 2 ^ 63 → IsExchangeOf setting history x → x.0 < 2 ^ 64
+number-small setting history x small f = let i = Opens-number history f.opening x.0 f.was_opened f.opens in let j = opened-length history in omega (arith, i.1, j)

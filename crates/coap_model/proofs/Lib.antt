@@ -1,0 +1,13 @@
+pub mod Spelled
+pub mod Lists
+pub mod Places
+pub mod Verdicts
+pub mod Rules
+pub mod Tables
+pub mod Frames
+pub mod Splitting
+pub mod Room
+pub mod Quiet
+pub mod Replying
+pub mod Opening
+pub mod Forwarding

@@ -1,0 +1,124 @@
+-- Refusals, silence, Resets and idle ticks keep what is carried.
+use Rattle.std.proofs.Common.{◌≡◌, ℕ, ◌+◌, ◌%◌, ◌≤◌, true, false, List, [], ◌∷◌, length, Some, None, Ok, refl, sym, ap, ◌∙◌, arith}
+use Rattle.std.specs.Prelude.{◌&&◌}
+use Rattle.std.proofs.lemmas.Bool.{leb-true, and_parts, and_from}
+use Rattle.coap_message.specs.declared.kind.Kind.{Kind}
+use Rattle.coap_message.specs.declared.kind.Kind.TheVariants.{Con, Non, Ack, Rst}
+use Rattle.coap_message.specs.declared.code.Code.{Code}
+use Rattle.coap_message.specs.declared.message.Head.{Head}
+use Rattle.coap_message.specs.Uint.{IsBytes}
+use Rattle.coap_message.specs.Message.{Message}
+use Rattle.coap_message.specs.Reading.{head_at, read_message}
+use Rattle.coap_message.specs.Spelling.{Spells, spelling}
+use Rattle.coap_message.proofs.Spellings.{spelled}
+use Rattle.coap_message.proofs.WholeMessages.{read_again}
+use Rattle.coap_target.specs.declared.endpoint.Endpoint.{Endpoint}
+use Rattle.coap_target.specs.declared.target.Target.{Target}
+use Rattle.coap_model.specs.Events.{arrival, tick}
+use Rattle.coap_model.specs.Messages.{is_con, is_non, is_request, reset, own_reply, busy_reply, token_of, refused_with, may_open, verdict_of}
+use Rattle.coap_model.specs.World.{World, reserved, next_id, has_ids, has_room}
+use Rattle.coap_model.specs.Requests.{lacks_id, refuses, overloads, next_token}
+use Rattle.coap_model.specs.Ticks.{on_item}
+use Rattle.coap_model.specs.Step.{ignores, rejects, message_in}
+use Rattle.coap_model.specs.History.{Entry, ids_in}
+use Rattle.coap_model.specs.Justified.{IsRequestOf, verdict_on, refused, overloaded, lacking, rejected, ignored, idle}
+use Rattle.coap_model.specs.Carries.{Carries, entry_of}
+use Rattle.coap_model.proofs.Spelled.{reset-is, own_reply-is, busy_reply-is, message_in-is, message_in-again}
+use Rattle.coap_model.proofs.Places.{arrival-same}
+use Rattle.coap_model.proofs.Verdicts.{refused-code}
+use Rattle.coap_model.proofs.Rules.{Asked, verdict_in}
+use Rattle.coap_model.proofs.Room.{ids-free, ids-none, room-none}
+use Rattle.coap_model.proofs.Quiet.{keeps_quiet}
+
+-- ---- what came
+
+pub non_is : (k : Kind) → is_non k ≡ true → k ≡ Non
+non_is Con e = absurd cc
+non_is Non e = refl
+non_is Ack e = absurd cc
+non_is Rst e = absurd cc
+
+con_is : (k : Kind) → is_con k ≡ true → k ≡ Con
+con_is Con e = refl
+con_is Non e = absurd cc
+con_is Ack e = absurd cc
+con_is Rst e = absurd cc
+
+-- a request that is processed, as the history says it
+pub request-came : (w : World) (client : Endpoint) (bytes : List ℕ) (m : Message) → IsBytes bytes → Asked w bytes m → IsRequestOf w.setting client m (arrival client bytes)
+request-came w client bytes m fits asked =
+    let read = message_in-is w.setting.limits.datagram bytes m fits asked.read in
+    let tests = and_parts (is_non m.kind) (is_request m.code) asked.request in
+    record { bytes = bytes; came = refl; spells = read.0; short = read.1; kind = non_is m.kind tests.0; method = tests.1 }
+
+-- the verdict, as the history says it
+pub verdict-same : (w : World) (history : List Entry) (c : Carries history w) (m : Message) → verdict_on w.setting history m ≡ verdict_in w m
+verdict-same w history c m = ap (λ (n : ℕ). verdict_of w.setting.routes w.setting.limits.datagram (token_of w.setting.salt (n + 1)) m) (sym c.numbers.opened)
+
+pub id-same : (w : World) (history : List Entry) (c : Carries history w) → next_id w ≡ (w.setting.first_id + ids_in history) % 65536
+id-same w history c = ap (λ (n : ℕ). (w.setting.first_id + n) % 65536) c.numbers.given
+
+pub free-one : (w : World) → has_ids 1 w ≡ true → w.given + 1 + reserved w ≤ 32768
+free-one w e = let le = leb-true (w.given + reserved w + 1) 32768 e in omega arith
+
+-- ---- refusals
+
+pub keeps_refusing : (w : World) (history : List Entry) (c : Carries history w) (now draw : ℕ) (client : Endpoint) (bytes : List ℕ) (m : Message) (code : Code) → w.last ≤ now → IsBytes bytes → Asked w bytes m → verdict_in w m ≡ refused_with code → has_ids 1 w ≡ true
+    → Carries (entry_of now draw (arrival client bytes) (refuses w now client m code) ∷ history) (refuses w now client m code).world
+keeps_refusing w history c now draw client bytes m code onward fits asked verdict free =
+    let e = entry_of now draw (arrival client bytes) (refuses w now client m code) in
+    let came = request-came w client bytes m fits asked in
+    let some = refused-code w.setting.routes w.setting.limits.datagram (next_token w) m code c.routes verdict in
+    let reply = own_reply code [] (next_id w) m.token in
+    let spells : Spells (spelling reply) reply = spelled reply (own_reply-is code [] (next_id w) m.token some tt came.spells.message.token) in
+    keeps_quiet w history c e (w.given + 1) (record { opens = refl; sends = refl; serves = refl; unsent = λ o. cc; ungot = λ o. cc }) onward refl
+    (λ g. record { gives = refl; message = reply; spells = spells; id_is = id-same w history c }) (free-one w free)
+    (refused e code c.past refl (record { client = client; request = m; id = next_id w; asked = came; verdict = verdict-same w history c m ∙ verdict; ids = ids-free 1 history w c free; tells = record { sent = refl; spells = spells } }))
+
+pub keeps_overloading : (w : World) (history : List Entry) (c : Carries history w) (now draw : ℕ) (client : Endpoint) (bytes : List ℕ) (m : Message) (t : Target) → w.last ≤ now → IsBytes bytes → Asked w bytes m → verdict_in w m ≡ may_open t → has_room w ≡ false → has_ids 1 w ≡ true
+    → Carries (entry_of now draw (arrival client bytes) (overloads w now client m) ∷ history) (overloads w now client m).world
+keeps_overloading w history c now draw client bytes m t onward fits asked verdict full free =
+    let e = entry_of now draw (arrival client bytes) (overloads w now client m) in
+    let came = request-came w client bytes m fits asked in
+    let reply = busy_reply w.setting.limits.retry_s (next_id w) m.token in
+    let spells : Spells (spelling reply) reply = spelled reply (busy_reply-is w.setting.limits.retry_s (next_id w) m.token came.spells.message.token) in
+    keeps_quiet w history c e (w.given + 1) (record { opens = refl; sends = refl; serves = refl; unsent = λ o. cc; ungot = λ o. cc }) onward refl
+    (λ g. record { gives = refl; message = reply; spells = spells; id_is = id-same w history c }) (free-one w free)
+    (overloaded e c.past refl (record { client = client; request = m; target = t; id = next_id w; asked = came; verdict = verdict-same w history c m ∙ verdict; no_room = room-none history w c full; ids = ids-free 1 history w c free; tells = record { sent = refl; spells = spells } }))
+
+pub keeps_lacking : (w : World) (history : List Entry) (c : Carries history w) (now draw : ℕ) (client : Endpoint) (bytes : List ℕ) (m : Message) → w.last ≤ now → IsBytes bytes → Asked w bytes m → ((t : Target) → verdict_in w m ≡ may_open t → has_room w ≡ false) → has_ids 1 w ≡ false
+    → Carries (entry_of now draw (arrival client bytes) (lacks_id w now) ∷ history) (lacks_id w now).world
+keeps_lacking w history c now draw client bytes m onward fits asked full free =
+    let e = entry_of now draw (arrival client bytes) (lacks_id w now) in
+    keeps_quiet w history c e w.given (record { opens = refl; sends = refl; serves = refl; unsent = λ o. cc; ungot = λ o. cc }) onward (omega arith) (λ g. absurd (omega arith)) c.within.ids
+    (lacking e c.past refl (record { client = client; request = m; asked = request-came w client bytes m fits asked; no_room = λ t v. room-none history w c (full t (sym (verdict-same w history c m) ∙ v)); no_ids = ids-none 1 history w c free; silent = refl }))
+
+-- ---- what isn't processed
+
+pub keeps_rejecting : (w : World) (history : List Entry) (c : Carries history w) (now draw : ℕ) (source : Endpoint) (bytes : List ℕ) (head : Head) → w.last ≤ now → head_at bytes ≡ Some head → is_con head.kind ≡ true
+    → Carries (entry_of now draw (arrival source bytes) (rejects w now source head.id) ∷ history) (rejects w now source head.id).world
+keeps_rejecting w history c now draw source bytes head onward is con =
+    let e = entry_of now draw (arrival source bytes) (rejects w now source head.id) in
+    keeps_quiet w history c e w.given (record { opens = refl; sends = refl; serves = refl; unsent = λ o. cc; ungot = λ o. cc }) onward (omega arith) (λ g. absurd (omega arith)) c.within.ids
+    (rejected e c.past refl (record { source = source; bytes = bytes; head = head; came = refl; head_is = is; con = con_is head.kind con; tells = record { sent = refl; spells = spelled (reset head.id) (reset-is head.id) } }))
+
+-- a request that would be processed was read
+request-read : (w : World) (source client : Endpoint) (bytes : List ℕ) (m : Message) → IsRequestOf w.setting client m (arrival source bytes) → (message_in w.setting.limits.datagram bytes ≡ Some m) × ((is_non m.kind && is_request m.code) ≡ true)
+request-read w source client bytes m r =
+    let same = arrival-same source client bytes r.bytes r.came in
+    let read : read_message bytes ≡ Ok m = ap read_message same.1 ∙ read_again r.bytes m r.spells in
+    let short : length bytes ≤ w.setting.limits.datagram = rw same.1 r.short in
+    (message_in-again w.setting.limits.datagram bytes m read short, and_from (is_non m.kind) (is_request m.code) (ap is_non r.kind) r.method)
+
+pub keeps_ignoring : (w : World) (history : List Entry) (c : Carries history w) (now draw : ℕ) (source : Endpoint) (bytes : List ℕ) → w.last ≤ now → ((m : Message) → message_in w.setting.limits.datagram bytes ≡ Some m → (is_non m.kind && is_request m.code) ≡ false)
+    → Carries (entry_of now draw (arrival source bytes) (ignores w now) ∷ history) (ignores w now).world
+keeps_ignoring w history c now draw source bytes onward none =
+    let e = entry_of now draw (arrival source bytes) (ignores w now) in
+    keeps_quiet w history c e w.given (record { opens = refl; sends = refl; serves = refl; unsent = λ o. cc; ungot = λ o. cc }) onward (omega arith) (λ g. absurd (omega arith)) c.within.ids
+    (ignored e c.past refl (record { source = source; bytes = bytes; came = refl; no_request = λ client m r. let read = request-read w source client bytes m r in let test = none m read.0 in absurd (let both = sym test ∙ read.1 in cc); silent = refl }))
+
+pub keeps_idling : (w : World) (history : List Entry) (c : Carries history w) (now draw : ℕ) → w.last ≤ now → Carries (entry_of now draw tick (on_item w now None) ∷ history) (on_item w now None).world
+keeps_idling w history c now draw onward =
+    let e = entry_of now draw tick (on_item w now None) in
+    keeps_quiet w history c e w.given (record { opens = refl; sends = refl; serves = refl; unsent = λ o. cc; ungot = λ o. cc }) onward (omega arith) (λ g. absurd (omega arith)) c.within.ids
+    (idle e c.past refl refl refl)

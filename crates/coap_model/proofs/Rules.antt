@@ -1,0 +1,122 @@
+-- The cases of a step, each with what is known there.
+use Rattle.std.proofs.Common.{◌≡◌, ℕ, Bool, true, false, cond, List, Option, Some, None, refl, sym, ◌∙◌, subst}
+use Rattle.std.specs.Prelude.{◌&&◌}
+use Rattle.coap_message.specs.declared.code.Code.{Code}
+use Rattle.coap_message.specs.declared.message.Head.{Head}
+use Rattle.coap_message.specs.Uint.{IsBytes}
+use Rattle.coap_message.specs.Message.{Message}
+use Rattle.coap_message.specs.Reading.{head_at}
+use Rattle.coap_message.proofs.WholeMessages.{head_read}
+use Rattle.coap_target.specs.declared.endpoint.Endpoint.{Endpoint}
+use Rattle.coap_target.specs.declared.target.Target.{Target}
+use Rattle.coap_exchange.specs.declared.exchange.Answer.{Answer}
+use Rattle.coap_exchange.specs.declared.exchange.Exchange.{Exchange}
+use Rattle.coap_exchange.specs.declared.waiter.Waiter.{Waiter}
+use Rattle.coap_model.specs.Events.{Event, arrival, tick}
+use Rattle.coap_model.specs.Messages.{is_con, is_non, is_ack, is_request, is_response, Verdict, refused_with, may_open, verdict_of}
+use Rattle.coap_model.specs.World.{World, Step, Numbered, has_ids, has_room}
+use Rattle.coap_model.specs.Requests.{lacks_id, refuses, overloads, opens, next_token, on_verdict, on_request}
+use Rattle.coap_model.specs.Responses.{awaiting, answers, on_response}
+use Rattle.coap_model.specs.Ticks.{Item, sending, serving, least, items_of, if_due, sends, delivers, on_item}
+use Rattle.coap_model.specs.Step.{ignores, rejects, unprocessed, on_message, message_in, on_read, step_of}
+use Rattle.coap_model.specs.Carries.{IsEvent}
+use Rattle.coap_model.proofs.Spelled.{message_in-is}
+
+-- a request that is processed came in these bytes
+pub record Asked (w : World) (bytes : List ℕ) (m : Message) : Type 0 where
+  pub read : message_in w.setting.limits.datagram bytes ≡ Some m
+  pub request : (is_non m.kind && is_request m.code) ≡ true
+
+abbrev pub verdict_in : World → Message → Verdict
+verdict_in w m = verdict_of w.setting.routes w.setting.limits.datagram (next_token w) m
+
+pub data Rule (w : World) (now draw : ℕ) : Event → Step → Type 0 where
+  refusing : (client : Endpoint) (bytes : List ℕ) (m : Message) (code : Code) → IsBytes bytes → Asked w bytes m → verdict_in w m ≡ refused_with code → has_ids 1 w ≡ true → Rule w now draw (arrival client bytes) (refuses w now client m code)
+  lacking : (client : Endpoint) (bytes : List ℕ) (m : Message) → IsBytes bytes → Asked w bytes m → ((t : Target) → verdict_in w m ≡ may_open t → has_room w ≡ false) → has_ids 1 w ≡ false → Rule w now draw (arrival client bytes) (lacks_id w now)
+  overloading : (client : Endpoint) (bytes : List ℕ) (m : Message) (t : Target) → IsBytes bytes → Asked w bytes m → verdict_in w m ≡ may_open t → has_room w ≡ false → has_ids 1 w ≡ true → Rule w now draw (arrival client bytes) (overloads w now client m)
+  opening : (client : Endpoint) (bytes : List ℕ) (m : Message) (t : Target) → IsBytes bytes → Asked w bytes m → verdict_in w m ≡ may_open t → has_room w ≡ true → Rule w now draw (arrival client bytes) (opens w now client m t)
+  answering : (source : Endpoint) (bytes : List ℕ) (m : Message) (x : Numbered Exchange) → IsBytes bytes → message_in w.setting.limits.datagram bytes ≡ Some m → (is_ack m.kind && is_response m.code) ≡ true → awaiting w source m ≡ Some x → Rule w now draw (arrival source bytes) (answers w now m x)
+  rejecting : (source : Endpoint) (bytes : List ℕ) (head : Head) → head_at bytes ≡ Some head → is_con head.kind ≡ true → Rule w now draw (arrival source bytes) (rejects w now source head.id)
+  ignoring : (source : Endpoint) (bytes : List ℕ) → ((m : Message) → message_in w.setting.limits.datagram bytes ≡ Some m → (is_non m.kind && is_request m.code) ≡ false) → Rule w now draw (arrival source bytes) (ignores w now)
+  forwarding : (x : Numbered Exchange) → if_due now (least (items_of w)) ≡ Some (sending x) → Rule w now draw tick (sends w now x)
+  delivering : (v : Numbered Waiter) (a : Answer) → if_due now (least (items_of w)) ≡ Some (serving v a) → Rule w now draw tick (delivers w now v a)
+  idling : if_due now (least (items_of w)) ≡ None → Rule w now draw tick (on_item w now None)
+
+-- ---- requests
+
+other_verdict : (w : World) (m : Message) (code : Code) (t : Target) → verdict_in w m ≡ refused_with code → verdict_in w m ≡ may_open t → has_room w ≡ false
+other_verdict w m code t p q = absurd (let e = sym p ∙ q in cc)
+
+same_room : (w : World) → has_room w ≡ false → (m : Message) (t : Target) → verdict_in w m ≡ may_open t → has_room w ≡ false
+same_room w full m t e = full
+
+rule_verdict : (w : World) (now draw : ℕ) (client : Endpoint) (bytes : List ℕ) (m : Message) → IsBytes bytes → Asked w bytes m → (v : Verdict) → verdict_in w m ≡ v → Rule w now draw (arrival client bytes) (on_verdict w now client m v)
+rule_verdict w now draw client bytes m fits asked (refused_with code) e = go (has_ids 1 w) refl
+  where
+    go : (b : Bool) → has_ids 1 w ≡ b → Rule w now draw (arrival client bytes) (cond b (refuses w now client m code) (lacks_id w now))
+    go true free = refusing client bytes m code fits asked e free
+    go false free = lacking client bytes m fits asked (λ t f. other_verdict w m code t e f) free
+rule_verdict w now draw client bytes m fits asked (may_open t) e = go (has_room w) refl
+  where
+    ids : has_room w ≡ false → (b : Bool) → has_ids 1 w ≡ b → Rule w now draw (arrival client bytes) (cond b (overloads w now client m) (lacks_id w now))
+    ids full true free = overloading client bytes m t fits asked e full free
+    ids full false free = lacking client bytes m fits asked (λ u f. same_room w full m u f) free
+
+    go : (b : Bool) → has_room w ≡ b → Rule w now draw (arrival client bytes) (cond b (opens w now client m t) (cond (has_ids 1 w) (overloads w now client m) (lacks_id w now)))
+    go true room = opening client bytes m t fits asked e room
+    go false full = ids full (has_ids 1 w) refl
+
+-- ---- what came
+
+-- what isn't processed is rejected where it is confirmable
+rule_unprocessed : (w : World) (now draw : ℕ) (source : Endpoint) (bytes : List ℕ) (head : Head) → head_at bytes ≡ Some head → ((m : Message) → message_in w.setting.limits.datagram bytes ≡ Some m → (is_non m.kind && is_request m.code) ≡ false) → Rule w now draw (arrival source bytes) (unprocessed w now source head.kind head.id)
+rule_unprocessed w now draw source bytes head is none = go (is_con head.kind) refl
+  where
+    go : (b : Bool) → is_con head.kind ≡ b → Rule w now draw (arrival source bytes) (cond b (rejects w now source head.id) (ignores w now))
+    go true con = rejecting source bytes head is con
+    go false con = ignoring source bytes none
+
+-- the message that was read is the only one
+only_read : (w : World) (bytes : List ℕ) (m n : Message) → message_in w.setting.limits.datagram bytes ≡ Some m → message_in w.setting.limits.datagram bytes ≡ Some n → (is_non m.kind && is_request m.code) ≡ false → (is_non n.kind && is_request n.code) ≡ false
+only_read w bytes m n e f is = let same : m ≡ n = some-same m n (sym e ∙ f) in subst (λ (k : Message). (is_non k.kind && is_request k.code) ≡ false) same is
+  where
+    some-same : (a b : Message) → Some a ≡ Some b → a ≡ b
+    some-same a b g = cc
+
+rule_response : (w : World) (now draw : ℕ) (source : Endpoint) (bytes : List ℕ) (m : Message) → IsBytes bytes → message_in w.setting.limits.datagram bytes ≡ Some m → (is_non m.kind && is_request m.code) ≡ false → (is_ack m.kind && is_response m.code) ≡ true
+    → (o : Option (Numbered Exchange)) → awaiting w source m ≡ o → Rule w now draw (arrival source bytes) (on_response w now m o)
+rule_response w now draw source bytes m fits read request response None e = ignoring source bytes (λ n f. only_read w bytes m n read f request)
+rule_response w now draw source bytes m fits read request response (Some x) e = answering source bytes m x fits read response e
+
+rule_message : (w : World) (now draw : ℕ) (source : Endpoint) (bytes : List ℕ) (m : Message) → IsBytes bytes → message_in w.setting.limits.datagram bytes ≡ Some m → Rule w now draw (arrival source bytes) (on_message w now source m)
+rule_message w now draw source bytes m fits read = request (is_non m.kind && is_request m.code) refl
+  where
+    head : head_at bytes ≡ Some (record { kind = m.kind; code = m.code; id = m.id })
+    head = head_read bytes m (message_in-is w.setting.limits.datagram bytes m fits read).2
+
+    response : (is_non m.kind && is_request m.code) ≡ false → (b : Bool) → (is_ack m.kind && is_response m.code) ≡ b → Rule w now draw (arrival source bytes) (cond b (on_response w now m (awaiting w source m)) (unprocessed w now source m.kind m.id))
+    response other true e = rule_response w now draw source bytes m fits read other e (awaiting w source m) refl
+    response other false e = rule_unprocessed w now draw source bytes (record { kind = m.kind; code = m.code; id = m.id }) head (λ n f. only_read w bytes m n read f other)
+
+    request : (b : Bool) → (is_non m.kind && is_request m.code) ≡ b → Rule w now draw (arrival source bytes) (cond b (on_request w now source m) (cond (is_ack m.kind && is_response m.code) (on_response w now m (awaiting w source m)) (unprocessed w now source m.kind m.id)))
+    request true e = rule_verdict w now draw source bytes m fits (record { read = read; request = e }) (verdict_in w m) refl
+    request false e = response e (is_ack m.kind && is_response m.code) refl
+
+rule_read : (w : World) (now draw : ℕ) (source : Endpoint) (bytes : List ℕ) → IsBytes bytes → (h : Option Head) → head_at bytes ≡ h → (o : Option Message) → message_in w.setting.limits.datagram bytes ≡ o → Rule w now draw (arrival source bytes) (on_read w now source h o)
+rule_read w now draw source bytes fits None is None read = ignoring source bytes (λ n f. absurd (let g = sym read ∙ f in cc))
+rule_read w now draw source bytes fits None is (Some m) read =
+    absurd (let head = head_read bytes m (message_in-is w.setting.limits.datagram bytes m fits read).2 in let g = sym is ∙ head in cc)
+rule_read w now draw source bytes fits (Some head) is None read = rule_unprocessed w now draw source bytes head is (λ n f. absurd (let g = sym read ∙ f in cc))
+rule_read w now draw source bytes fits (Some head) is (Some m) read = rule_message w now draw source bytes m fits read
+
+-- ---- ticks
+
+rule_item : (w : World) (now draw : ℕ) (o : Option Item) → if_due now (least (items_of w)) ≡ o → Rule w now draw tick (on_item w now o)
+rule_item w now draw None e = idling e
+rule_item w now draw (Some (sending x)) e = forwarding x e
+rule_item w now draw (Some (serving v a)) e = delivering v a e
+
+-- a step is one of the cases
+pub rule_of : (w : World) (now draw : ℕ) (event : Event) → IsEvent event → Rule w now draw event (step_of w now draw event)
+rule_of w now draw (arrival source bytes) fits = rule_read w now draw source bytes fits (head_at bytes) refl (message_in w.setting.limits.datagram bytes) refl
+rule_of w now draw tick fits = rule_item w now draw (if_due now (least (items_of w))) refl

@@ -1,0 +1,304 @@
+-- Tables in order of number: what is found in them, and what is left of them.
+use Rattle.std.proofs.Common.{◌≡◌, ◌≢◌, ◌⊎◌, inl, inr, ⊎_elim, ℕ, suc, ◌+◌, ◌<◌, ◌≤◌, List, [], ◌∷◌, ◌++◌, length, Bool, true, false, cond, eqb, leb, Option, Some, None, refl, sym, ap, ◌∙◌, subst, arith}
+use Rattle.std.specs.Prelude.{not}
+use Rattle.std.specs.List.{AllByRecursion}
+use Rattle.std.proofs.lemmas.Bool.{eqb-true, eqb-false, ne_eqb, leb-true}
+use Rattle.coap_exchange.specs.declared.exchange.Answer.{Answer}
+use Rattle.coap_exchange.specs.declared.exchange.ExchangeState.{ExchangeState}
+use Rattle.coap_exchange.specs.declared.exchange.ExchangeState.TheVariants.{Queued, Sent, Done}
+use Rattle.coap_exchange.specs.declared.exchange.Exchange.{Exchange}
+use Rattle.coap_exchange.specs.declared.waiter.Waiter.{Waiter}
+use Rattle.coap_model.specs.World.{Numbered, is_queued, queued_count}
+use Rattle.coap_model.specs.Responses.{moved, with_state}
+use Rattle.coap_model.specs.Ticks.{Item, sending, serving, due_of, exchange_items, answer_at, answer_in, with_item, waiter_items, earlier, least, if_due, without, is_awaited}
+use Rattle.coap_model.specs.Carries.{IsRising, ArePaired, HasNumber}
+
+-- ---- what is due
+
+abbrev pub AllItems : (Item → Type 0) → List Item → Type 0
+AllItems P [] = Unit {0}
+AllItems P (i ∷ items) = P i × AllItems P items
+
+AllItems-append : (P : Item → Type 0) (xs ys : List Item) → AllItems P xs → AllItems P ys → AllItems P (xs ++ ys)
+AllItems-append P [] ys p q = q
+AllItems-append P (x ∷ xs) ys p q = (p.0, AllItems-append P xs ys p.1 q)
+
+-- the least item is one of them
+least-holds : (P : Item → Type 0) (items : List Item) (i : Item) → AllItems P items → least items ≡ Some i → P i
+least-holds P [] i all e = absurd cc
+least-holds P (j ∷ items) i all e = go (least items) (λ k f. least-holds P items k all.1 f) refl e
+  where
+    some-same : (a b : Item) → Some a ≡ Some b → a ≡ b
+    some-same a b g = cc
+
+    go : (o : Option Item) → ((k : Item) → least items ≡ Some k → P k) → least items ≡ o → earlier j o ≡ Some i → P i
+    go None rest is f = subst P (some-same j i f) all.0
+    go (Some k) rest is f = test (leb (due_of j) (due_of k)) f
+      where
+        test : (b : Bool) → cond b (Some j) (Some k) ≡ Some i → P i
+        test true g = subst P (some-same j i g) all.0
+        test false g = subst P (some-same k i g) (rest k is)
+
+if_due-is : (now : ℕ) (o : Option Item) (i : Item) → if_due now o ≡ Some i → (o ≡ Some i) × (due_of i ≤ now)
+if_due-is now None i e = absurd cc
+if_due-is now (Some j) i e = go (leb (due_of j) now) refl e
+  where
+    go : (b : Bool) → leb (due_of j) now ≡ b → cond b (Some j) None ≡ Some i → (Some j ≡ Some i) × (due_of i ≤ now)
+    go true t f = let same : j ≡ i = cc in (ap (λ (k : Item). Some k) same, subst (λ (k : Item). due_of k ≤ now) same (leb-true _ _ t))
+    go false t f = absurd cc
+
+-- an exchange that is due is queued; a waiter that is due waits for an exchange with this answer
+abbrev IsDueOf : (Numbered Exchange → Type 0) → (Numbered Waiter → Type 0) → List (Numbered Exchange) → Item → Type 0
+IsDueOf P Q exchanges (sending x) = P x × (is_queued x.1.state ≡ true)
+IsDueOf P Q exchanges (serving v a) = Q v × (answer_in v.1.exchange exchanges ≡ Some a)
+
+exchange_items-are : (P : Numbered Exchange → Type 0) (Q : Numbered Waiter → Type 0) (all xs : List (Numbered Exchange)) → AllByRecursion P xs → AllItems (IsDueOf P Q all) (exchange_items xs)
+exchange_items-are P Q all [] p = tt
+exchange_items-are P Q all (x ∷ xs) p = go (is_queued x.1.state) refl (exchange_items-are P Q all xs p.1)
+  where
+    go : (b : Bool) → is_queued x.1.state ≡ b → AllItems (IsDueOf P Q all) (exchange_items xs) → AllItems (IsDueOf P Q all) (cond b (sending x ∷ exchange_items xs) (exchange_items xs))
+    go true t rest = ((p.0, t), rest)
+    go false t rest = rest
+
+waiter_items-are : (P : Numbered Exchange → Type 0) (Q : Numbered Waiter → Type 0) (all : List (Numbered Exchange)) (vs : List (Numbered Waiter)) → AllByRecursion Q vs → AllItems (IsDueOf P Q all) (waiter_items all vs)
+waiter_items-are P Q all [] q = tt
+waiter_items-are P Q all (v ∷ vs) q = go (answer_in v.1.exchange all) refl (waiter_items-are P Q all vs q.1)
+  where
+    go : (o : Option Answer) → answer_in v.1.exchange all ≡ o → AllItems (IsDueOf P Q all) (waiter_items all vs) → AllItems (IsDueOf P Q all) (with_item v o (waiter_items all vs))
+    go None e rest = rest
+    go (Some a) e rest = ((q.0, e), rest)
+
+pub due-sending : (P : Numbered Exchange → Type 0) (Q : Numbered Waiter → Type 0) (xs : List (Numbered Exchange)) (vs : List (Numbered Waiter)) (now : ℕ) (x : Numbered Exchange) → AllByRecursion P xs → AllByRecursion Q vs
+    → if_due now (least (exchange_items xs ++ waiter_items xs vs)) ≡ Some (sending x) → P x × (is_queued x.1.state ≡ true)
+due-sending P Q xs vs now x p q e =
+    least-holds (IsDueOf P Q xs) (exchange_items xs ++ waiter_items xs vs) (sending x) (AllItems-append (IsDueOf P Q xs) (exchange_items xs) (waiter_items xs vs) (exchange_items-are P Q xs xs p) (waiter_items-are P Q xs vs q)) (if_due-is now _ (sending x) e).0
+
+pub due-serving : (P : Numbered Exchange → Type 0) (Q : Numbered Waiter → Type 0) (xs : List (Numbered Exchange)) (vs : List (Numbered Waiter)) (now : ℕ) (v : Numbered Waiter) (a : Answer) → AllByRecursion P xs → AllByRecursion Q vs
+    → if_due now (least (exchange_items xs ++ waiter_items xs vs)) ≡ Some (serving v a) → Q v × (answer_in v.1.exchange xs ≡ Some a)
+due-serving P Q xs vs now v a p q e =
+    least-holds (IsDueOf P Q xs) (exchange_items xs ++ waiter_items xs vs) (serving v a) (AllItems-append (IsDueOf P Q xs) (exchange_items xs) (waiter_items xs vs) (exchange_items-are P Q xs xs p) (waiter_items-are P Q xs vs q)) (if_due-is now _ (serving v a) e).0
+
+-- the exchange that has the answer
+pub answer-holds : (P : Numbered Exchange → Type 0) (xs : List (Numbered Exchange)) (n : ℕ) (a : Answer) → AllByRecursion P xs → answer_in n xs ≡ Some a → (x : Numbered Exchange) × P x × (x.0 ≡ n) × (x.1.state ≡ Done a)
+answer-holds P [] n a all e = absurd cc
+answer-holds P (x ∷ xs) n a all e = go (eqb x.0 n) refl (λ f. answer-holds P xs n a all.1 f) e
+  where
+    state : (s : ExchangeState) → answer_at s ≡ Some a → s ≡ Done a
+    state Queued f = absurd cc
+    state (Sent s) f = absurd cc
+    state (Done b) f = let same : b ≡ a = cc in ap Done same
+
+    go : (b : Bool) → eqb x.0 n ≡ b → (answer_in n xs ≡ Some a → (y : Numbered Exchange) × P y × (y.0 ≡ n) × (y.1.state ≡ Done a)) → cond b (answer_at x.1.state) (answer_in n xs) ≡ Some a → (y : Numbered Exchange) × P y × (y.0 ≡ n) × (y.1.state ≡ Done a)
+    go true t rest f = (x, all.0, eqb-true x.0 n t, state x.1.state f)
+    go false t rest f = rest f
+
+pub answer-number : (xs : List (Numbered Exchange)) (n : ℕ) (a : Answer) → answer_in n xs ≡ Some a → HasNumber n xs
+answer-number [] n a e = absurd cc
+answer-number (x ∷ xs) n a e = go (eqb x.0 n) refl (λ f. answer-number xs n a f) e
+  where
+    go : (b : Bool) → eqb x.0 n ≡ b → (answer_in n xs ≡ Some a → HasNumber n xs) → cond b (answer_at x.1.state) (answer_in n xs) ≡ Some a → (n ≡ x.0) ⊎ HasNumber n xs
+    go true t rest f = inl (sym (eqb-true x.0 n t))
+    go false t rest f = inr (rest f)
+
+-- ---- one exchange comes to another state
+
+pub moved-cases : (P : Numbered Exchange → Type 0) (n : ℕ) (s : ExchangeState) (y : Numbered Exchange) → (y.0 ≡ n → P (y.0, record { target = y.1.target; form = y.1.form; admitted = y.1.admitted; state = s })) → (y.0 ≢ n → P y) → P (moved n s y)
+moved-cases P n s y same other = go (eqb y.0 n) refl
+  where
+    go : (b : Bool) → eqb y.0 n ≡ b → P (cond b (y.0, record { target = y.1.target; form = y.1.form; admitted = y.1.admitted; state = s }) y)
+    go true e = same (eqb-true y.0 n e)
+    go false e = other (eqb-false y.0 n e)
+
+moved-number : (n : ℕ) (s : ExchangeState) (y : Numbered Exchange) → (moved n s y).0 ≡ y.0
+moved-number n s y = moved-cases (λ z. z.0 ≡ y.0) n s y (λ e. refl) (λ e. refl)
+
+pub length-with_state : (n : ℕ) (s : ExchangeState) (xs : List (Numbered Exchange)) → length (with_state n s xs) ≡ length xs
+length-with_state n s [] = refl
+length-with_state n s (x ∷ xs) = let i = length-with_state n s xs in omega arith
+
+pub IsRising-with_state : (n least : ℕ) (s : ExchangeState) (xs : List (Numbered Exchange)) → IsRising least xs → IsRising least (with_state n s xs)
+IsRising-with_state n least s [] r = tt
+IsRising-with_state n least s (x ∷ xs) r =
+    let e = moved-number n s x in
+    (rw e r.0, rw e (IsRising-with_state n x.0 s xs r.1))
+
+pub ArePaired-with_state : (n : ℕ) (s : ExchangeState) (xs : List (Numbered Exchange)) (vs : List (Numbered Waiter)) → ArePaired xs vs → ArePaired (with_state n s xs) vs
+ArePaired-with_state n s [] [] p = tt
+ArePaired-with_state n s [] (v ∷ vs) p = absurd p
+ArePaired-with_state n s (x ∷ xs) [] p = absurd p
+ArePaired-with_state n s (x ∷ xs) (v ∷ vs) p = (moved-number n s x ∙ p.0, ArePaired-with_state n s xs vs p.1)
+
+pub HasNumber-with_state : (n m : ℕ) (s : ExchangeState) (xs : List (Numbered Exchange)) → HasNumber m xs → HasNumber m (with_state n s xs)
+HasNumber-with_state n m s [] h = h
+HasNumber-with_state n m s (x ∷ xs) h = ⊎_elim (λ (e : m ≡ x.0). inl (e ∙ sym (moved-number n s x))) (λ (t : HasNumber m xs). inr (HasNumber-with_state n m s xs t)) h
+
+-- ---- one element is closed
+
+pub IsRising-lower : {A : Type 0} (low high : ℕ) (xs : List (Numbered A)) → low ≤ high → IsRising high xs → IsRising low xs
+IsRising-lower low high [] le r = tt
+IsRising-lower low high (x ∷ xs) le r = (omega (arith, r.0), r.1)
+
+pub IsRising-without : {A : Type 0} (n least : ℕ) (xs : List (Numbered A)) → IsRising least xs → IsRising least (without n xs)
+IsRising-without n least [] r = tt
+IsRising-without n least (x ∷ xs) r = go (eqb x.0 n) (IsRising-without n x.0 xs r.1)
+  where
+    go : (b : Bool) → IsRising x.0 (without n xs) → IsRising least (cond (not b) (x ∷ without n xs) (without n xs))
+    go true rest = IsRising-lower least x.0 (without n xs) (omega (arith, r.0)) rest
+    go false rest = (r.0, rest)
+
+pub ArePaired-without : (n : ℕ) (xs : List (Numbered Exchange)) (vs : List (Numbered Waiter)) → ArePaired xs vs → ArePaired (without n xs) (without n vs)
+ArePaired-without n [] [] p = tt
+ArePaired-without n [] (v ∷ vs) p = absurd p
+ArePaired-without n (x ∷ xs) [] p = absurd p
+ArePaired-without n (x ∷ xs) (v ∷ vs) p = go (eqb x.0 n) (eqb v.0 n) (ap (λ (m : ℕ). eqb m n) p.0) (ArePaired-without n xs vs p.1)
+  where
+    go : (b c : Bool) → b ≡ c → ArePaired (without n xs) (without n vs) → ArePaired (cond (not b) (x ∷ without n xs) (without n xs)) (cond (not c) (v ∷ without n vs) (without n vs))
+    go true true e rest = rest
+    go true false e rest = absurd cc
+    go false true e rest = absurd cc
+    go false false e rest = (p.0, rest)
+
+pub length-paired : (xs : List (Numbered Exchange)) (vs : List (Numbered Waiter)) → ArePaired xs vs → length vs ≡ length xs
+length-paired [] [] p = refl
+length-paired [] (v ∷ vs) p = absurd p
+length-paired (x ∷ xs) [] p = absurd p
+length-paired (x ∷ xs) (v ∷ vs) p = let i = length-paired xs vs p.1 in omega arith
+
+-- above the least nothing has its number or a lower one
+none-below : {A : Type 0} (n least : ℕ) (xs : List (Numbered A)) → n ≤ least → IsRising least xs → without n xs ≡ xs
+none-below n least [] le r = refl
+none-below n least (x ∷ xs) le r =
+    let other : eqb x.0 n ≡ false = ne_eqb _ _ (λ e. let above = r.0 in omega arith) in
+    rw other (ap (λ (l : List (Numbered _)). x ∷ l) (none-below n x.0 xs (omega (arith, r.0)) r.1))
+
+-- one that is there is gone, and no other
+pub length-without : {A : Type 0} (n least : ℕ) (xs : List (Numbered A)) → HasNumber n xs → IsRising least xs → length (without n xs) + 1 ≡ length xs
+length-without n least [] h r = absurd h
+length-without {A} n least (x ∷ xs) h r = go (eqb x.0 n) refl (λ there. length-without n x.0 xs there r.1)
+  where
+    go : (b : Bool) → eqb x.0 n ≡ b → (HasNumber n xs → length (without n xs) + 1 ≡ length xs) → length (cond (not b) (x ∷ without n xs) (without n xs)) + 1 ≡ suc (length xs)
+    go true e rest = let same = eqb-true x.0 n e in rw (none-below n x.0 xs (omega arith) r.1) (omega arith)
+    go false e rest = ⊎_elim (λ (same : n ≡ x.0). absurd (eqb-false x.0 n e (sym same))) (λ (there : HasNumber n xs). let i = rest there in omega arith) h
+
+pub HasNumber-without : {A : Type 0} (n m : ℕ) (xs : List (Numbered A)) → m ≢ n → HasNumber m xs → HasNumber m (without n xs)
+HasNumber-without n m [] other h = h
+HasNumber-without {A} n m (x ∷ xs) other h = go (eqb x.0 n) refl (λ there. HasNumber-without n m xs other there)
+  where
+    go : (b : Bool) → eqb x.0 n ≡ b → (HasNumber m xs → HasNumber m (without n xs)) → HasNumber m (cond (not b) (x ∷ without n xs) (without n xs))
+    go true e rest = ⊎_elim (λ (same : m ≡ x.0). absurd (other (same ∙ eqb-true x.0 n e))) rest h
+    go false e rest = ⊎_elim (λ (same : m ≡ x.0). inl same) (λ (there : HasNumber m xs). inr (rest there)) h
+
+pub HasNumber-paired : (n : ℕ) (xs : List (Numbered Exchange)) (vs : List (Numbered Waiter)) → ArePaired xs vs → HasNumber n xs → HasNumber n vs
+HasNumber-paired n [] vs p h = absurd h
+HasNumber-paired n (x ∷ xs) [] p h = absurd p
+HasNumber-paired n (x ∷ xs) (v ∷ vs) p h = ⊎_elim (λ (e : n ≡ x.0). inl (e ∙ p.0)) (λ (t : HasNumber n xs). inr (HasNumber-paired n xs vs p.1 t)) h
+
+-- ---- one is added at the end
+
+abbrev pub AllBelow : {A : Type 0} → ℕ → List (Numbered A) → Type 0
+AllBelow n xs = AllByRecursion (λ x. x.0 < n) xs
+
+pub IsRising-push : {A : Type 0} (least n : ℕ) (xs : List (Numbered A)) (a : A) → least < n → AllBelow n xs → IsRising least xs → IsRising least (xs ++ (n, a) ∷ [])
+IsRising-push least n [] a lt below r = (lt, tt)
+IsRising-push least n (x ∷ xs) a lt below r = (r.0, IsRising-push x.0 n xs a below.0 below.1 r.1)
+
+pub ArePaired-push : (n : ℕ) (xs : List (Numbered Exchange)) (vs : List (Numbered Waiter)) (x : Exchange) (v : Waiter) → ArePaired xs vs → ArePaired (xs ++ (n, x) ∷ []) (vs ++ (n, v) ∷ [])
+ArePaired-push n [] [] x v p = (refl, tt)
+ArePaired-push n [] (u ∷ us) x v p = absurd p
+ArePaired-push n (y ∷ ys) [] x v p = absurd p
+ArePaired-push n (y ∷ ys) (u ∷ us) x v p = (p.0, ArePaired-push n ys us x v p.1)
+
+pub HasNumber-push : {A : Type 0} (m : ℕ) (xs ys : List (Numbered A)) → HasNumber m xs → HasNumber m (xs ++ ys)
+HasNumber-push m [] ys h = absurd h
+HasNumber-push m (x ∷ xs) ys h = ⊎_elim (λ (e : m ≡ x.0). inl e) (λ (t : HasNumber m xs). inr (HasNumber-push m xs ys t)) h
+
+pub HasNumber-last : {A : Type 0} (n : ℕ) (xs : List (Numbered A)) (a : A) → HasNumber n (xs ++ (n, a) ∷ [])
+HasNumber-last n [] a = inl refl
+HasNumber-last n (x ∷ xs) a = inr (HasNumber-last n xs a)
+
+-- ---- how many are queued
+
+pub queued-push : (n : ℕ) (xs : List (Numbered Exchange)) (x : Exchange) → x.state ≡ Queued → queued_count (xs ++ (n, x) ∷ []) ≡ queued_count xs + 1
+queued-push n [] x e = rw e refl
+queued-push n (y ∷ ys) x e = let i = queued-push n ys x e in omega arith
+
+pub queued-below : (xs : List (Numbered Exchange)) → queued_count xs ≤ length xs
+queued-below [] = omega arith
+queued-below (x ∷ xs) = go (is_queued x.1.state) (queued-below xs)
+  where
+    go : (b : Bool) → queued_count xs ≤ length xs → cond b 1 0 + queued_count xs ≤ suc (length xs)
+    go true i = omega arith
+    go false i = omega arith
+
+-- an exchange of this number is there, and queued
+abbrev pub HasQueued : ℕ → List (Numbered Exchange) → Type 0
+HasQueued n [] = ⊥
+HasQueued n (x ∷ xs) = ((n ≡ x.0) × (is_queued x.1.state ≡ true)) ⊎ HasQueued n xs
+
+-- each that is queued is there
+pub queued-there : (xs : List (Numbered Exchange)) → AllByRecursion (λ x. is_queued x.1.state ≡ true → HasQueued x.0 xs) xs
+queued-there [] = tt
+queued-there (x ∷ xs) = ((λ t. inl (refl, t)), later xs (queued-there xs))
+  where
+    later : (ys : List (Numbered Exchange)) → AllByRecursion (λ y. is_queued y.1.state ≡ true → HasQueued y.0 xs) ys → AllByRecursion (λ y. is_queued y.1.state ≡ true → HasQueued y.0 (x ∷ xs)) ys
+    later [] all = tt
+    later (y ∷ ys) all = ((λ t. inr (all.0 t)), later ys all.1)
+
+-- numbers at or below the least are not moved
+with_state-below : (n least : ℕ) (s : ExchangeState) (xs : List (Numbered Exchange)) → n ≤ least → IsRising least xs → with_state n s xs ≡ xs
+with_state-below n least s [] le r = refl
+with_state-below n least s (x ∷ xs) le r =
+    let other : eqb x.0 n ≡ false = ne_eqb _ _ (λ e. let above = r.0 in omega arith) in
+    rw other (ap (λ (l : List (Numbered Exchange)). x ∷ l) (with_state-below n x.0 s xs (omega (arith, r.0)) r.1))
+
+-- one that was queued is sent
+pub queued-sent : (n least : ℕ) (s : ExchangeState) (xs : List (Numbered Exchange)) → is_queued s ≡ false → IsRising least xs → HasQueued n xs → queued_count (with_state n s xs) + 1 ≡ queued_count xs
+queued-sent n least s [] sent r h = absurd h
+queued-sent n least s (x ∷ xs) sent r h = go (eqb x.0 n) refl (λ there. queued-sent n x.0 s xs sent r.1 there)
+  where
+    after : Numbered Exchange
+    after = (x.0, record { target = x.1.target; form = x.1.form; admitted = x.1.admitted; state = s })
+
+    go : (b : Bool) → eqb x.0 n ≡ b → (HasQueued n xs → queued_count (with_state n s xs) + 1 ≡ queued_count xs) → queued_count (cond b after x ∷ with_state n s xs) + 1 ≡ cond (is_queued x.1.state) 1 0 + queued_count xs
+    go true e rest =
+        let same : x.0 ≡ n = eqb-true x.0 n e in
+        let rest_same = with_state-below n x.0 s xs (omega arith) r.1 in
+        let was : is_queued x.1.state ≡ true = ⊎_elim (λ (p : (n ≡ x.0) × (is_queued x.1.state ≡ true)). p.1) (λ (t : HasQueued n xs). absurd (above n x.0 xs (omega arith) r.1 t)) h in
+        rw (sent, was, rest_same) (omega arith)
+      where
+        above : (m low : ℕ) (ys : List (Numbered Exchange)) → m ≤ low → IsRising low ys → HasQueued m ys → ⊥
+        above m low [] le rising t = t
+        above m low (y ∷ ys) le rising t = ⊎_elim (λ (p : (m ≡ y.0) × (is_queued y.1.state ≡ true)). let a = p.0 in let b = rising.0 in omega arith) (λ (u : HasQueued m ys). above m y.0 ys (omega (arith, rising.0)) rising.1 u) t
+    go false e rest = ⊎_elim (λ (p : (n ≡ x.0) × (is_queued x.1.state ≡ true)). absurd (eqb-false x.0 n e (sym p.0))) (λ (t : HasQueued n xs). let i = rest t in omega arith) h
+
+-- none of this number is queued
+abbrev pub NotQueued : ℕ → Numbered Exchange → Type 0
+NotQueued n x = x.0 ≡ n → is_queued x.1.state ≡ false
+
+pub queued-same : (n : ℕ) (s : ExchangeState) (xs : List (Numbered Exchange)) → is_queued s ≡ false → AllByRecursion (NotQueued n) xs → queued_count (with_state n s xs) ≡ queued_count xs
+queued-same n s [] done all = refl
+queued-same n s (x ∷ xs) done all = go (eqb x.0 n) refl (queued-same n s xs done all.1)
+  where
+    after : Numbered Exchange
+    after = (x.0, record { target = x.1.target; form = x.1.form; admitted = x.1.admitted; state = s })
+
+    go : (b : Bool) → eqb x.0 n ≡ b → queued_count (with_state n s xs) ≡ queued_count xs → queued_count (cond b after x ∷ with_state n s xs) ≡ cond (is_queued x.1.state) 1 0 + queued_count xs
+    go true e rest = rw (done, all.0 (eqb-true x.0 n e), rest) refl
+    go false e rest = rw rest refl
+
+pub queued-without : (n : ℕ) (xs : List (Numbered Exchange)) → AllByRecursion (NotQueued n) xs → queued_count (without n xs) ≡ queued_count xs
+queued-without n [] all = refl
+queued-without n (x ∷ xs) all = go (eqb x.0 n) refl (queued-without n xs all.1)
+  where
+    go : (b : Bool) → eqb x.0 n ≡ b → queued_count (without n xs) ≡ queued_count xs → queued_count (cond (not b) (x ∷ without n xs) (without n xs)) ≡ cond (is_queued x.1.state) 1 0 + queued_count xs
+    go true e rest = rw (all.0 (eqb-true x.0 n e)) (rest ∙ omega arith)
+    go false e rest = rw rest refl
+
+-- nobody waits any more for an exchange whose waiter is gone
+pub not_awaited : (n : ℕ) (vs : List (Numbered Waiter)) → AllByRecursion (λ v. v.1.exchange ≡ v.0) vs → is_awaited n (without n vs) ≡ false
+not_awaited n [] all = refl
+not_awaited n (v ∷ vs) all = go (eqb v.0 n) refl (not_awaited n vs all.1)
+  where
+    go : (b : Bool) → eqb v.0 n ≡ b → is_awaited n (without n vs) ≡ false → is_awaited n (cond (not b) (v ∷ without n vs) (without n vs)) ≡ false
+    go true e rest = rest
+    go false e rest = let other : eqb v.1.exchange n ≡ false = rw all.0 e in rw (other, rest) refl

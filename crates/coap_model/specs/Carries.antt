@@ -1,0 +1,177 @@
+-- A proxy carries a history: each part of its tables is what the history says.
+use Rattle.std.specs.Prelude.{◌≡◌, ◌⊎◌, ℕ, ◌+◌, ◌%◌, ◌^◌, ◌<◌, ◌≤◌, List, [], ◌∷◌, length, Some}
+use Rattle.std.specs.List.{AllByRecursion}
+use Rattle.coap_message.specs.Message.{Message}
+use Rattle.coap_message.specs.Spelling.{spelling, Spells}
+use Rattle.coap_message.specs.Uint.{IsBytes}
+use Rattle.coap_target.specs.declared.endpoint.Endpoint.{Endpoint}
+use Rattle.coap_target.specs.declared.target.Target.{Target}
+use Rattle.coap_target.specs.Target.{IsTarget}
+use Rattle.coap_target.specs.Routes.{target_of, AreRoutes}
+use Rattle.coap_exchange.specs.declared.exchange.Answer.{Answer}
+use Rattle.coap_exchange.specs.declared.exchange.ExchangeState.{ExchangeState}
+use Rattle.coap_exchange.specs.declared.exchange.ExchangeState.TheVariants.{Queued, Sent, Done}
+use Rattle.coap_exchange.specs.declared.exchange.Exchange.{Exchange}
+use Rattle.coap_exchange.specs.declared.waiter.Waiter.{Waiter}
+use Rattle.coap_model.specs.Setting.{Setting}
+use Rattle.coap_model.specs.Events.{Event, arrival, tick}
+use Rattle.coap_model.specs.Messages.{token_of, forwarded, target_sent, answer_of}
+use Rattle.coap_model.specs.World.{World, Step, Numbered, queued_count, reserved}
+use Rattle.coap_model.specs.History.{Entry, Place, index, IsPlaceOf, Never, opened_in, sent_in, served_in, ids_in, gives_id, Opens, Sends, Asks, Gets}
+use Rattle.coap_model.specs.Justified.{IsRequestOf, IsMember, Act, served_by, IsJustified}
+
+-- ---- the clock, the numbers and the ids
+
+abbrev pub last_of : List Entry → ℕ
+last_of [] = 0
+last_of (e ∷ past) = e.now
+
+-- moments don't go back
+abbrev pub IsInOrder : List Entry → Type 0
+IsInOrder [] = Unit {0}
+IsInOrder (e ∷ past) = (last_of past ≤ e.now) × IsInOrder past
+
+pub record Clock (history : List Entry) (w : World) : Type 0 where
+  pub events : w.events ≡ length history
+  pub last : w.last ≡ last_of history
+  pub in_order : IsInOrder history
+
+pub record Numbers (history : List Entry) (w : World) : Type 0 where
+  pub opened : w.opened ≡ opened_in history
+  pub admitted : w.admitted ≡ opened_in history
+  pub given : w.given ≡ ids_in history
+
+-- an id that an entry gave
+pub record Gives (id : ℕ) (e : Entry) : Type 0 where
+  pub gives : gives_id e.report.outcome ≡ 1
+  pub message : Message
+  pub spells : Spells e.bytes message
+  pub id_is : message.id ≡ id
+
+-- each id is the one before plus one, modulo 65,536 (RFC 7252, 4.4)
+abbrev pub AreIds : ℕ → List Entry → Type 0
+AreIds first [] = Unit {0}
+AreIds first (e ∷ past) = (gives_id e.report.outcome ≡ 1 → Gives ((first + ids_in past) % 65536) e) × AreIds first past
+
+-- ---- exchanges
+
+-- the exchange was asked in the history, for this target, with this id
+pub record WasAsked (setting : Setting) (history : List Entry) (x : ℕ) (target : Target) (id asked : ℕ) : Type 0 where
+  pub asking : Place
+  pub was_asked : IsPlaceOf history asking
+  pub asks : Asks setting.salt x asking
+  pub asked_target : target_sent asks.sends.to asks.sends.message ≡ target
+  pub to : asks.sends.to ≡ target.at
+  pub id_is : id ≡ asks.sends.message.id
+  pub number : asked ≡ index asking
+
+-- the exchange was got in the history, with this answer
+pub record WasGot (setting : Setting) (history : List Entry) (x : ℕ) (target : Target) (answer : Answer) : Type 0 where
+  pub getting : Place
+  pub was_got : IsPlaceOf history getting
+  pub gets : Gets setting.salt x getting
+  pub asked_target : target_sent gets.asks.sends.to gets.asks.sends.message ≡ target
+  pub answer_is : answer ≡ answer_of setting.limits.datagram getting.entry.now gets.response
+
+-- the state is how far the history brought the exchange
+abbrev pub IsState : Setting → List Entry → ℕ → Target → ExchangeState → Type 0
+IsState setting history x target Queued = Never (Sends setting.salt x) history × Never (Gets setting.salt x) history
+IsState setting history x target (Sent s) = WasAsked setting history x target s.id s.asked × Never (Gets setting.salt x) history
+IsState setting history x target (Done a) = WasGot setting history x target a
+
+-- the exchange is the one that the history opened under its number
+pub record IsExchangeOf (setting : Setting) (history : List Entry) (x : Numbered Exchange) : Type 0 where
+  pub opening : Place
+  pub client : Endpoint
+  pub request : Message
+  pub was_opened : IsPlaceOf history opening
+  pub opens : Opens x.0 opening
+  pub asked : IsRequestOf setting client request opening.entry.event
+  pub target_is : target_of setting.routes request ≡ Some x.1.target
+  pub sound : IsTarget x.1.target
+  pub form_is : x.1.form ≡ spelling (forwarded (token_of setting.salt x.0) x.1.target 0)
+  pub form_short : length x.1.form ≤ setting.limits.datagram
+  pub state : IsState setting history x.0 x.1.target x.1.state
+
+-- ---- waiters
+
+-- the answer was got no later than the place
+abbrev pub IsGotBy : ℕ → ℕ → Place → Place → Type 0
+IsGotBy salt x p q = Gets salt x q × (index q ≤ index p)
+
+-- the waiter is the one that the history admitted under its number, with an exchange of its own, and
+-- wasn't served
+pub record IsWaiterOf (setting : Setting) (history : List Entry) (acts : List Act) (v : Numbered Waiter) : Type 0 where
+  pub admission : Place
+  pub client : Endpoint
+  pub request : Message
+  pub was_admitted : IsPlaceOf history admission
+  pub opens : Opens v.0 admission
+  pub asked : IsRequestOf setting client request admission.entry.event
+  pub exchange : v.1.exchange ≡ v.0
+  pub client_is : v.1.client ≡ client
+  pub token_is : v.1.token ≡ request.token
+  pub not_got_by : Never (IsGotBy setting.salt v.0 admission) history
+  pub unserved : ¬ IsMember v.0 (served_by acts)
+
+-- ---- the tables as wholes
+
+-- numbers rise, and are above the least
+abbrev pub IsRising : {A : Type 0} → ℕ → List (Numbered A) → Type 0
+IsRising least [] = Unit {0}
+IsRising least (x ∷ xs) = (least < x.0) × IsRising x.0 xs
+
+-- the exchange of each waiter, in the same order
+abbrev pub ArePaired : List (Numbered Exchange) → List (Numbered Waiter) → Type 0
+ArePaired [] [] = Unit {0}
+ArePaired (x ∷ xs) (v ∷ vs) = (x.0 ≡ v.0) × ArePaired xs vs
+ArePaired [] (v ∷ vs) = ⊥
+ArePaired (x ∷ xs) [] = ⊥
+
+abbrev pub HasNumber : {A : Type 0} → ℕ → List (Numbered A) → Type 0
+HasNumber n [] = ⊥
+HasNumber n (x ∷ xs) = (n ≡ x.0) ⊎ HasNumber n xs
+
+-- Nothing is missing and nothing is there twice: what was opened waits or was served, and the lengths
+-- are what the history counts.
+pub record AreWhole (history : List Entry) (acts : List Act) (w : World) : Type 0 where
+  pub rising : IsRising 0 w.exchanges
+  pub paired : ArePaired w.exchanges w.waiters
+  pub complete : (n : ℕ) → 0 < n → n ≤ opened_in history → HasNumber n w.exchanges ⊎ IsMember n (served_by acts)
+  pub under_way : length w.exchanges + served_in history ≡ opened_in history
+  pub unsent : queued_count w.exchanges + sent_in history ≡ opened_in history
+
+-- no exchange that isn't opened was sent or got
+abbrev pub IsFresh : Setting → List Entry → Type 0
+IsFresh setting history = (x : ℕ) → opened_in history < x → x < 2 ^ 64 → Never (Sends setting.salt x) history × Never (Gets setting.salt x) history
+
+-- ---- limits
+
+pub record IsWithin (w : World) : Type 0 where
+  pub exchanges : length w.exchanges ≤ w.setting.limits.exchanges
+  pub waiters : length w.waiters ≤ w.setting.limits.waiters
+  pub ids : w.given + reserved w ≤ 32768
+
+-- ---- all of it
+
+pub record Carries (history : List Entry) (w : World) : Type 0 where
+  pub acts : List Act
+  pub routes : AreRoutes w.setting.routes
+  pub clock : Clock history w
+  pub numbers : Numbers history w
+  pub ids : AreIds w.setting.first_id history
+  pub fresh : IsFresh w.setting history
+  pub exchanges : AllByRecursion (IsExchangeOf w.setting history) w.exchanges
+  pub waiters : AllByRecursion (IsWaiterOf w.setting history acts) w.waiters
+  pub whole : AreWhole history acts w
+  pub within : IsWithin w
+  pub past : IsJustified w.setting history acts
+
+-- the entry of a step
+abbrev pub entry_of : ℕ → ℕ → Event → Step → Entry
+entry_of now draw event s = record { now = now; draw = draw; event = event; report = s.report; bytes = s.bytes }
+
+-- datagrams are bytes
+abbrev pub IsEvent : Event → Type 0
+IsEvent (arrival source bytes) = IsBytes bytes
+IsEvent tick = Unit {0}
