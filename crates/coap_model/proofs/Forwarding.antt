@@ -1,5 +1,5 @@
 -- Sending a request on keeps what is carried.
-use Rattle.std.proofs.Common.{◌≡◌, inl, inr, ⊎_elim, ℕ, ◌^◌, ◌<◌, ◌≤◌, true, List, [], ◌∷◌, length, Some, refl, sym, ap, ◌∙◌, subst, arith}
+use Rattle.std.proofs.Common.{◌≡◌, inl, inr, ⊎_elim, ℕ, ◌^◌, ◌<◌, ◌≤◌, true, List, [], ◌∷◌, Some, refl, sym, ap, ◌∙◌, subst, arith}
 use Rattle.std.specs.List.{AllByRecursion}
 use Rattle.coap_message.specs.Message.{Message}
 use Rattle.coap_message.specs.Spelling.{Spells, spelling}
@@ -50,14 +50,13 @@ found-all : (w : World) (history : List Entry) (xs : List (Numbered Exchange)) �
 found-all w history [] p q = tt
 found-all w history (x ∷ xs) p q = (record { exchange = p.0; there = q.0 }, found-all w history xs p.1 q.1)
 
-pub keeps_forwarding : (w : World) (history : List Entry) (c : Carries history w) → w.events < 2 ^ 63 → (now draw : ℕ) (x : Numbered Exchange) → w.last ≤ now → if_due now (least (items_of w)) ≡ Some (sending x)
+pub keeps_forwarding : (w : World) (history : List Entry) (c : Carries history w) → (now draw : ℕ) (x : Numbered Exchange) → w.last ≤ now → if_due now (least (items_of w)) ≡ Some (sending x)
     → Carries (entry_of now draw tick (sends w now x) ∷ history) (sends w now x).world
-keeps_forwarding w history c few now draw x onward due =
+keeps_forwarding w history c now draw x onward due =
     let e = entry_of now draw tick (sends w now x) in
     let p = here history e in
     let salt = w.setting.salt in
     let id = next_id w in
-    let small : length history < 2 ^ 63 = let h = c.clock.events in omega arith in
     let one = due-sending (Found w history) (IsWaiterOf w.setting history c.acts) w.exchanges w.waiters now x (found-all w history w.exchanges c.exchanges (queued-there w.exchanges)) c.waiters due in
     let f = one.0.exchange in
     let state : IsState w.setting history x.0 x.1.target Queued = subst (IsState w.setting history x.0 x.1.target) (queued_state x.1.state one.1) f.state in
@@ -66,7 +65,7 @@ keeps_forwarding w history c few now draw x onward due =
     let bytes_are : e.bytes ≡ spelling request = ap (with_id id) f.form_is ∙ with_id-forwarded id (token_of salt x.0) x.1.target in
     let spells : Spells e.bytes request = subst (λ (b : List ℕ). Spells b request) (sym bytes_are) (spelled request is) in
     let ungot : (n : ℕ) → Gets salt n p → ⊥ = gets-not w.setting history e (λ o. cc) in
-    let number : (n : ℕ) → n < 2 ^ 64 → Sends salt n p → n ≡ x.0 = λ n below s. sym (token-same salt x.0 n (number-small w.setting history x small f) below (ap (λ (m : Message). m.token) (one_message e.bytes request s.message spells s.spells) ∙ s.token)) in
+    let number : (n : ℕ) → n < 2 ^ 64 → Sends salt n p → n ≡ x.0 = λ n below s. sym (token-same salt x.0 n (number-small history w c x f) below (ap (λ (m : Message). m.token) (one_message e.bytes request s.message spells s.spells) ∙ s.token)) in
     let there = one.0.there one.1 in
     let next : ExchangeState = Sent (record { asked = w.events; id = id }) in
     let fewer = queued-sent x.0 0 next w.exchanges refl c.whole.rising there in
@@ -106,7 +105,7 @@ keeps_forwarding w history c few now draw x onward due =
               (ungot x.0, state.1),
             );
           })
-          (λ other. exchange_frame w.setting history e y (λ s. other (number y.0 (number-small w.setting history y small g) s)) (ungot y.0) g))
+          (λ other. exchange_frame w.setting history e y (λ s. other (number y.0 (number-small history w c y g) s)) (ungot y.0) g))
           c.exchanges;
       waiters = waiters_frame w.setting history c.acts (on_exchange x.0 ∷ c.acts) e w.waiters refl c.waiters;
       whole = record {

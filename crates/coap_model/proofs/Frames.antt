@@ -7,15 +7,16 @@ use Rattle.coap_exchange.specs.declared.exchange.ExchangeState.TheVariants.{Queu
 use Rattle.coap_exchange.specs.declared.exchange.Exchange.{Exchange}
 use Rattle.coap_exchange.specs.declared.waiter.Waiter.{Waiter}
 use Rattle.coap_model.specs.declared.report.Outcome.{Outcome}
-use Rattle.coap_model.specs.declared.report.Outcome.TheVariants.{Opened, Answered, SentRequest}
+use Rattle.coap_model.specs.declared.report.Outcome.TheVariants.{Answered, SentRequest, Delivered}
 use Rattle.coap_model.specs.declared.report.Storing.TheVariants.{NotStored}
 use Rattle.coap_model.specs.Setting.{Setting}
-use Rattle.coap_model.specs.World.{Numbered}
-use Rattle.coap_model.specs.History.{Entry, index, opens_one, opened_in, Sends, Gets}
+use Rattle.coap_model.specs.World.{World, Numbered}
+use Rattle.coap_model.specs.History.{Entry, index, serves_one, gives_id, opened_in, served_in, ids_in, Sends, Gets}
 use Rattle.coap_model.specs.Justified.{IsMember, Act, served_by}
-use Rattle.coap_model.specs.Carries.{IsState, IsExchangeOf, IsWaiterOf, IsFresh}
+use Rattle.coap_model.specs.Carries.{IsState, IsExchangeOf, IsWaiterOf, IsFresh, Carries}
 use Rattle.coap_model.proofs.Lists.{All-weaken}
 use Rattle.coap_model.proofs.Places.{here, index_below, Opens-number}
+use Rattle.coap_model.proofs.Tables.{length-paired}
 
 -- a state stays where nothing is sent or got for the exchange
 pub state_frame : (setting : Setting) (history : List Entry) (e : Entry) (x : ℕ) (target : Target) (s : ExchangeState) → ¬ Sends setting.salt x (here history e) → ¬ Gets setting.salt x (here history e) → IsState setting history x target s → IsState setting (e ∷ history) x target s
@@ -85,13 +86,23 @@ gets-not setting history e other x g = other g.outcome
 
 -- ---- numbers are small
 
-pub opened-length : (history : List Entry) → opened_in history ≤ length history
-opened-length [] = omega arith
-opened-length (e ∷ past) = let i = opened-length past in let j = one_at_most e.report.outcome in omega arith
+-- what was served was given an id
+served-ids : (history : List Entry) → served_in history ≤ ids_in history
+served-ids [] = omega arith
+served-ids (e ∷ past) = let i = served-ids past in let j = one_at_most e.report.outcome in omega arith
   where
-    one_at_most : (o : Outcome) → opens_one o ≤ 1
-    one_at_most Opened = omega arith
+    one_at_most : (o : Outcome) → serves_one o ≤ gives_id o
+    one_at_most Delivered = omega arith
     one_at_most _ = omega arith
 
-pub number-small : (setting : Setting) (history : List Entry) (x : Numbered Exchange) → length history < 2 ^ 63 → IsExchangeOf setting history x → x.0 < 2 ^ 64
-number-small setting history x small f = let i = Opens-number history f.opening x.0 f.was_opened f.opens in let j = opened-length history in omega (arith, i.1, j)
+-- ids are kept for what is opened, so no more is opened than there are ids
+pub opened-few : (history : List Entry) (w : World) → Carries history w → opened_in history ≤ 32768
+opened-few history w c =
+    let pairs = length-paired w.exchanges w.waiters c.whole.paired in
+    let under_way = c.whole.under_way in
+    let given = c.numbers.given in
+    let ids = c.within.ids in
+    omega (arith, served-ids history)
+
+pub number-small : (history : List Entry) (w : World) → Carries history w → (x : Numbered Exchange) → IsExchangeOf w.setting history x → x.0 < 2 ^ 64
+number-small history w c x f = let i = Opens-number history f.opening x.0 f.was_opened f.opens in let j = opened-few history w c in omega (arith, i.1)

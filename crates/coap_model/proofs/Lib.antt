@@ -11,3 +11,6 @@ pub mod Quiet
 pub mod Replying
 pub mod Opening
 pub mod Forwarding
+pub mod Answering
+pub mod Delivering
+pub mod Carrying

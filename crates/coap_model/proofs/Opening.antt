@@ -21,7 +21,7 @@ use Rattle.coap_model.proofs.Verdicts.{openable}
 use Rattle.coap_model.proofs.Rules.{Asked, verdict_in}
 use Rattle.coap_model.proofs.Tables.{IsRising-push, ArePaired-push, HasNumber-push, HasNumber-last, queued-push}
 use Rattle.coap_model.proofs.Room.{room-there}
-use Rattle.coap_model.proofs.Frames.{exchanges_frame, waiters_frame, fresh_frame, sends-not, gets-not, opened-length}
+use Rattle.coap_model.proofs.Frames.{exchanges_frame, waiters_frame, fresh_frame, sends-not, gets-not, opened-few}
 use Rattle.coap_model.proofs.Replying.{request-came, verdict-same}
 
 -- a waiter that was served has a number that was opened
@@ -47,15 +47,15 @@ pub exchanges-below : (w : World) (history : List Entry) → Carries history w �
 exchanges-below w history c =
     All-weaken (IsExchangeOf w.setting history) (λ x. x.0 < opened_in history + 1) w.exchanges (λ x f. let i = Opens-number history f.opening x.0 f.was_opened f.opens in omega (arith, i.1)) c.exchanges
 
-pub keeps_opening : (w : World) (history : List Entry) (c : Carries history w) → w.events < 2 ^ 63 → (now draw : ℕ) (client : Endpoint) (bytes : List ℕ) (m : Message) (t : Target) → w.last ≤ now → IsBytes bytes → Asked w bytes m → verdict_in w m ≡ may_open t → has_room w ≡ true
+pub keeps_opening : (w : World) (history : List Entry) (c : Carries history w) → (now draw : ℕ) (client : Endpoint) (bytes : List ℕ) (m : Message) (t : Target) → w.last ≤ now → IsBytes bytes → Asked w bytes m → verdict_in w m ≡ may_open t → has_room w ≡ true
     → Carries (entry_of now draw (arrival client bytes) (opens w now client m t) ∷ history) (opens w now client m t).world
-keeps_opening w history c few now draw client bytes m t onward fits asks verdict room =
+keeps_opening w history c now draw client bytes m t onward fits asks verdict room =
     let e = entry_of now draw (arrival client bytes) (opens w now client m t) in
     let came = request-came w client bytes m fits asks in
     let may = openable w.setting.routes w.setting.limits.datagram (next_token w) m t c.routes verdict in
     let number : w.opened + 1 ≡ opened_in history + 1 = let h = c.numbers.opened in omega arith in
     let same : w.admitted + 1 ≡ w.opened + 1 = let h = c.numbers.opened in let k = c.numbers.admitted in omega arith in
-    let small : w.opened + 1 < 2 ^ 64 = let h = c.numbers.opened in let k = c.clock.events in let l = opened-length history in omega arith in
+    let small : w.opened + 1 < 2 ^ 64 = let h = c.numbers.opened in let l = opened-few history w c in omega arith in
     let new = c.fresh (w.opened + 1) (omega arith) small in
     let unsent = sends-not w.setting history e (λ o. cc) in
     let ungot = gets-not w.setting history e (λ o. cc) in

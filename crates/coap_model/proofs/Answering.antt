@@ -1,0 +1,168 @@
+-- An answer that is got keeps what is carried.
+use Rattle.std.proofs.Common.{◌≡◌, inl, inr, ⊎_elim, ℕ, ◌^◌, ◌<◌, ◌≤◌, true, false, eqb, List, ◌∷◌, Some, refl, sym, ap, ◌∙◌, subst, arith}
+use Rattle.std.specs.Prelude.{◌&&◌, nat_eq}
+use Rattle.std.specs.List.{AllByRecursion}
+use Rattle.std.specs.Cmp.Lexicographic.{pointwise, same_text}
+use Rattle.std.proofs.lemmas.Bool.{eqb-true, and_parts}
+use Rattle.coap_message.specs.declared.kind.Kind.{Kind}
+use Rattle.coap_message.specs.declared.kind.Kind.TheVariants.{Con, Non, Ack, Rst}
+use Rattle.coap_message.specs.Uint.{IsBytes}
+use Rattle.coap_message.specs.Message.{Message}
+use Rattle.coap_message.specs.Spelling.{Spells}
+use Rattle.coap_message.proofs.WholeMessages.{one_message}
+use Rattle.coap_target.specs.declared.endpoint.Ip.{Ip}
+use Rattle.coap_target.specs.declared.endpoint.Ip.TheVariants.{V4, V6}
+use Rattle.coap_target.specs.declared.endpoint.Endpoint.{Endpoint}
+use Rattle.coap_target.specs.Endpoint.{same_ip, same_endpoint}
+use Rattle.coap_target.specs.declared.target.Target.{Target}
+use Rattle.coap_exchange.specs.declared.exchange.ExchangeState.{ExchangeState}
+use Rattle.coap_exchange.specs.declared.exchange.ExchangeState.TheVariants.{Queued, Sent, Done}
+use Rattle.coap_exchange.specs.declared.exchange.Exchange.{Exchange}
+use Rattle.coap_exchange.specs.declared.exchange.Sending.{Sending}
+use Rattle.coap_model.specs.Events.{arrival}
+use Rattle.coap_model.specs.Messages.{is_ack, is_response, token_of, answer_of}
+use Rattle.coap_model.specs.World.{World, Numbered, is_queued}
+use Rattle.coap_model.specs.Step.{message_in}
+use Rattle.coap_model.specs.Responses.{has_id, awaits, awaiting, moved, answers}
+use Rattle.coap_model.specs.History.{Entry, Never, Sends, Gets}
+use Rattle.coap_model.specs.Justified.{on_exchange, answered}
+use Rattle.coap_model.specs.Carries.{WasAsked, IsState, IsExchangeOf, Carries, entry_of}
+use Rattle.coap_model.proofs.Lists.{find-holds, All-map, All-weaken}
+use Rattle.coap_model.proofs.Places.{here, Never-at, Opens-number, arrival-same}
+use Rattle.coap_model.proofs.Spelled.{token-same, message_in-is}
+use Rattle.coap_model.proofs.Tables.{moved-cases, length-with_state, IsRising-with_state, ArePaired-with_state, HasNumber-with_state, NotQueued, queued-same}
+use Rattle.coap_model.proofs.Frames.{exchange_frame, waiters_frame, fresh_frame, sends-not, number-small}
+use Rattle.coap_model.proofs.Forwarding.{same_target}
+
+-- ---- what was awaited
+
+text_is : (xs ys : List ℕ) → pointwise nat_eq xs ys ≡ true → xs ≡ ys
+text_is xs ys e = same_text xs ys (sym e)
+
+ip_is : (a b : Ip) → same_ip a b ≡ true → a ≡ b
+ip_is (V4 a) (V4 b) e = ap V4 (text_is a b e)
+ip_is (V6 a) (V6 b) e = ap V6 (text_is a b e)
+ip_is (V4 a) (V6 b) e = absurd cc
+ip_is (V6 a) (V4 b) e = absurd cc
+
+endpoint_is : (a b : Endpoint) → same_endpoint a b ≡ true → a ≡ b
+endpoint_is a b e =
+    let both = and_parts (same_ip a.ip b.ip) (eqb a.port b.port) e in
+    made (ip_is a.ip b.ip both.0) (eqb-true a.port b.port both.1)
+  where
+    made : {i j : Ip} {p q : ℕ} → i ≡ j → p ≡ q → ◌≡◌ {A = Endpoint} (record { ip = i; port = p }) (record { ip = j; port = q })
+    made f g = cc
+
+ack_is : (k : Kind) → is_ack k ≡ true → k ≡ Ack
+ack_is Con e = absurd cc
+ack_is Non e = absurd cc
+ack_is Ack e = refl
+ack_is Rst e = absurd cc
+
+-- an exchange that awaits a response was sent with its id
+sent_with : (id : ℕ) (s : ExchangeState) → has_id id s ≡ true → (sending : Sending) × (s ≡ Sent sending) × (sending.id ≡ id)
+sent_with id Queued e = absurd cc
+sent_with id (Sent s) e = (s, refl, eqb-true s.id id e)
+sent_with id (Done a) e = absurd cc
+
+-- what is known of an exchange that awaits this response
+record IsAwaited (w : World) (history : List Entry) (source : Endpoint) (m : Message) (x : Numbered Exchange) : Type 0 where
+  pub exchange : IsExchangeOf w.setting history x
+  pub sending : Sending
+  pub was : WasAsked w.setting history x.0 x.1.target sending.id sending.asked
+  pub ungot : Never (Gets w.setting.salt x.0) history
+  pub source_is : x.1.target.at ≡ source
+  pub id_is : sending.id ≡ m.id
+  pub token_is : m.token ≡ token_of w.setting.salt x.0
+
+awaited : (w : World) (history : List Entry) → Carries history w → (source : Endpoint) (m : Message) (x : Numbered Exchange) → awaiting w source m ≡ Some x → IsAwaited w history source m x
+awaited w history c source m x found =
+    let f = find-holds (IsExchangeOf w.setting history) (awaits w.setting.salt source m) w.exchanges x c.exchanges found in
+    let parts = and_parts (has_id m.id x.1.state) (same_endpoint x.1.target.at source && pointwise nat_eq (token_of w.setting.salt x.0) m.token) f.1 in
+    let more = and_parts (same_endpoint x.1.target.at source) (pointwise nat_eq (token_of w.setting.salt x.0) m.token) parts.1 in
+    let sent = sent_with m.id x.1.state parts.0 in
+    let state : IsState w.setting history x.0 x.1.target (Sent sent.0) = subst (IsState w.setting history x.0 x.1.target) sent.1 f.0.state in
+    record { exchange = f.0; sending = sent.0; was = state.0; ungot = state.1; source_is = endpoint_is x.1.target.at source more.0; id_is = sent.2; token_is = sym (text_is _ _ more.1) }
+
+-- what was asked is queued no more
+asked_once : (w : World) (history : List Entry) (x : ℕ) (target : Target) (id number : ℕ) → WasAsked w.setting history x target id number → (y : Numbered Exchange) → IsExchangeOf w.setting history y → NotQueued x y
+asked_once w history x target id number was y g same = go y.1.state g.state
+  where
+    go : (s : ExchangeState) → IsState w.setting history y.0 y.1.target s → is_queued s ≡ false
+    go Queued state = absurd (Never-at (Sends w.setting.salt y.0) history was.asking state.0 was.was_asked (subst (λ (n : ℕ). Sends w.setting.salt n was.asking) (sym same) was.asks.sends))
+    go (Sent s) state = refl
+    go (Done a) state = refl
+
+-- ---- the rule
+
+pub keeps_answering : (w : World) (history : List Entry) (c : Carries history w) → (now draw : ℕ) (source : Endpoint) (bytes : List ℕ) (m : Message) (x : Numbered Exchange) → w.last ≤ now → IsBytes bytes → message_in w.setting.limits.datagram bytes ≡ Some m → (is_ack m.kind && is_response m.code) ≡ true → awaiting w source m ≡ Some x
+    → Carries (entry_of now draw (arrival source bytes) (answers w now m x) ∷ history) (answers w now m x).world
+keeps_answering w history c now draw source bytes m x onward fits read response found =
+    let e = entry_of now draw (arrival source bytes) (answers w now m x) in
+    let p = here history e in
+    let salt = w.setting.salt in
+    let a = awaited w history c source m x found in
+    let f = a.exchange in
+    let tests = and_parts (is_ack m.kind) (is_response m.code) response in
+    let spells : Spells bytes m = (message_in-is w.setting.limits.datagram bytes m fits read).0 in
+    let unsent : (n : ℕ) → Sends salt n p → ⊥ = sends-not w.setting history e (λ o. cc) in
+    let gets : Gets salt x.0 p = record {
+      outcome = refl;
+      source = source;
+      response = m;
+      came = record { bytes = bytes; event = refl; spells = spells };
+      kind = ack_is m.kind tests.0;
+      code = tests.1;
+      token = a.token_is;
+      asking = a.was.asking;
+      asked = a.was.was_asked;
+      asks = a.was.asks;
+      same_source = sym (a.was.to ∙ a.source_is);
+      same_id = sym a.id_is ∙ a.was.id_is;
+    } in
+    let number : (n : ℕ) → n < 2 ^ 64 → Gets salt n p → n ≡ x.0 = λ n below g.
+    let came = arrival-same source g.source bytes g.came.bytes g.came.event in
+    let same : m ≡ g.response = one_message g.came.bytes m g.response (subst (λ (b : List ℕ). Spells b m) came.1 spells) g.came.spells in
+    sym (token-same salt x.0 n (number-small history w c x f) below (sym a.token_is ∙ ap (λ (r : Message). r.token) same ∙ g.token)) in
+    let next : ExchangeState = Done (answer_of w.setting.limits.datagram now m) in
+    let unqueued : AllByRecursion (NotQueued x.0) w.exchanges = All-weaken (IsExchangeOf w.setting history) (NotQueued x.0) w.exchanges (λ y g. asked_once w history x.0 x.1.target a.sending.id a.sending.asked a.was y g) c.exchanges in
+    let as_many = queued-same x.0 next w.exchanges refl unqueued in
+    record {
+      acts = on_exchange x.0 ∷ c.acts;
+      routes = c.routes;
+      clock = record { events = let h = c.clock.events in omega arith; last = refl; in_order = (let h = c.clock.last in omega arith, c.clock.in_order) };
+      numbers = record { opened = let h = c.numbers.opened in omega arith; admitted = let h = c.numbers.admitted in omega arith; given = let h = c.numbers.given in omega arith };
+      ids = ((λ g. absurd (omega arith)), c.ids);
+      fresh = fresh_frame w.setting history e (λ n above below s. unsent n s) (λ n above below g. let i = number n below g in let j = Opens-number history f.opening x.0 f.was_opened f.opens in omega (arith, j.1)) c.fresh;
+      exchanges =
+          All-map (IsExchangeOf w.setting history) (IsExchangeOf w.setting (e ∷ history)) (moved x.0 next) w.exchanges
+          (λ y g.
+          moved-cases (IsExchangeOf w.setting (e ∷ history)) x.0 next y
+          (λ same. record {
+            opening = g.opening;
+            client = g.client;
+            request = g.request;
+            was_opened = inr g.was_opened;
+            opens = g.opens;
+            asked = g.asked;
+            target_is = g.target_is;
+            sound = g.sound;
+            form_is = g.form_is;
+            form_short = g.form_short;
+            state = subst (λ (n : ℕ). IsState w.setting (e ∷ history) n y.1.target next) (sym same) (
+                record { getting = p; was_got = inl refl; gets = gets; asked_target = a.was.asked_target ∙ same_target w history x y f g (sym same); answer_is = refl }
+                );
+          })
+          (λ other. exchange_frame w.setting history e y (unsent y.0) (λ h. other (number y.0 (number-small history w c y g) h)) g))
+          c.exchanges;
+      waiters = waiters_frame w.setting history c.acts (on_exchange x.0 ∷ c.acts) e w.waiters refl c.waiters;
+      whole = record {
+        rising = IsRising-with_state x.0 0 next w.exchanges c.whole.rising;
+        paired = ArePaired-with_state x.0 next w.exchanges w.waiters c.whole.paired;
+        complete = λ n positive le. ⊎_elim (λ there. inl (HasNumber-with_state x.0 n next w.exchanges there)) (λ served. inr served) (c.whole.complete n positive (omega arith));
+        under_way = let h = c.whole.under_way in let l = length-with_state x.0 next w.exchanges in omega arith;
+        unsent = let h = c.whole.unsent in omega arith;
+      };
+      within = record { exchanges = let h = c.within.exchanges in let l = length-with_state x.0 next w.exchanges in omega arith; waiters = c.within.waiters; ids = let h = c.within.ids in omega arith };
+      past = answered e x.0 c.past refl (record { gets = gets; first = a.ungot; silent = refl });
+    }

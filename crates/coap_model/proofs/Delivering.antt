@@ -1,0 +1,171 @@
+-- Serving a client keeps what is carried.
+use Rattle.std.proofs.Common.{◌≡◌, ◌⊎◌, inl, inr, ⊎_elim, ℕ, ◌+◌, ◌<◌, ◌≤◌, Bool, true, false, eqb, List, ◌∷◌, length, Some, refl, sym, ap, ◌∙◌, subst, arith}
+use Rattle.std.specs.Prelude.{not}
+use Rattle.std.specs.List.{AllByRecursion}
+use Rattle.std.proofs.lemmas.Bool.{eqb-true, eqb-false, eq-eqb, cases_lt}
+use Rattle.coap_message.specs.Spelling.{IsMessage, Spells, spelling}
+use Rattle.coap_message.proofs.Spellings.{spelled}
+use Rattle.coap_target.specs.declared.target.Target.{Target}
+use Rattle.coap_target.specs.Routes.{target_of}
+use Rattle.coap_exchange.specs.declared.exchange.Answer.{Answer}
+use Rattle.coap_exchange.specs.declared.exchange.ExchangeState.{ExchangeState}
+use Rattle.coap_exchange.specs.declared.exchange.ExchangeState.TheVariants.{Queued, Sent, Done}
+use Rattle.coap_exchange.specs.declared.exchange.Exchange.{Exchange}
+use Rattle.coap_exchange.specs.declared.waiter.Waiter.{Waiter}
+use Rattle.coap_model.specs.Events.{tick}
+use Rattle.coap_model.specs.Messages.{answer_of, shown}
+use Rattle.coap_model.specs.World.{World, Numbered, is_queued, next_id, later}
+use Rattle.coap_model.specs.Ticks.{serving, least, items_of, if_due, answer_in, without, without_idle, delivers}
+use Rattle.coap_model.specs.History.{Entry, Place, index, Opens, Gets}
+use Rattle.coap_model.specs.Justified.{IsRequestOf, IsMember, Act, served_by, on_waiter, delivered, IsDelivery}
+use Rattle.coap_model.specs.Carries.{WasGot, IsState, IsExchangeOf, IsGotBy, IsWaiterOf, HasNumber, Carries, entry_of}
+use Rattle.coap_model.proofs.Lists.{All-weaken, All-filter}
+use Rattle.coap_model.proofs.Places.{Never-at, Opens-unique, request-unique}
+use Rattle.coap_model.proofs.Spelled.{shown-is}
+use Rattle.coap_model.proofs.Tables.{due-serving, answer-holds, answer-number, IsRising-without, ArePaired-without, length-paired, length-without, HasNumber-without, HasNumber-paired, NotQueued, queued-without, not_awaited}
+use Rattle.coap_model.proofs.Frames.{exchange_frame, waiter_frame, fresh_frame, sends-not, gets-not}
+use Rattle.coap_model.proofs.Replying.{id-same}
+
+-- ---- what is served
+
+-- what is known of a waiter that is served with an answer
+record IsServed (w : World) (history : List Entry) (acts : List Act) (v : Numbered Waiter) (a : Answer) : Type 0 where
+  pub waiter : IsWaiterOf w.setting history acts v
+  pub there : HasNumber v.0 w.exchanges
+  pub target : Target
+  pub target_is : target_of w.setting.routes waiter.request ≡ Some target
+  pub got : WasGot w.setting history v.0 target a
+
+served : (w : World) (history : List Entry) (c : Carries history w) (now : ℕ) (v : Numbered Waiter) (a : Answer) → if_due now (least (items_of w)) ≡ Some (serving v a) → IsServed w history c.acts v a
+served w history c now v a due =
+    let one = due-serving (IsExchangeOf w.setting history) (IsWaiterOf w.setting history c.acts) w.exchanges w.waiters now v a c.exchanges c.waiters due in
+    let g = one.0 in
+    let answer : answer_in v.0 w.exchanges ≡ Some a = subst (λ (n : ℕ). answer_in n w.exchanges ≡ Some a) g.exchange one.1 in
+    let found = answer-holds (IsExchangeOf w.setting history) w.exchanges v.0 a c.exchanges answer in
+    let x = found.0 in
+    let f = found.1 in
+    let same : x.0 ≡ v.0 = found.2 in
+    let state : WasGot w.setting history x.0 x.1.target a = subst (IsState w.setting history x.0 x.1.target) found.3 f.state in
+    let place = Opens-unique history f.opening g.admission v.0 f.was_opened g.was_admitted (subst (λ (n : ℕ). Opens n f.opening) same f.opens) g.opens in
+    let request = request-unique w.setting g.admission.entry.event f.client g.client f.request g.request (subst (λ (p : Place). IsRequestOf w.setting f.client f.request p.entry.event) place f.asked) g.asked in
+    record {
+      waiter = g;
+      there = answer-number w.exchanges v.0 a answer;
+      target = x.1.target;
+      target_is = sym (ap (target_of w.setting.routes) request.1) ∙ f.target_is;
+      got = subst (λ (n : ℕ). WasGot w.setting history n x.1.target a) same state;
+    }
+
+-- what was got is queued no more
+got_once : (w : World) (history : List Entry) (n : ℕ) (target : Target) (a : Answer) → WasGot w.setting history n target a → (y : Numbered Exchange) → IsExchangeOf w.setting history y → NotQueued n y
+got_once w history n target a got y g same = go y.1.state g.state
+  where
+    go : (s : ExchangeState) → IsState w.setting history y.0 y.1.target s → is_queued s ≡ false
+    go Queued state = absurd (Never-at (Gets w.setting.salt y.0) history got.getting state.1 got.was_got (subst (λ (k : ℕ). Gets w.setting.salt k got.getting) (sym same) got.gets))
+    go (Sent s) state = refl
+    go (Done b) state = refl
+
+-- ---- what is told
+
+reply-is : (w : World) (history : List Entry) (acts : List Act) (now id : ℕ) (v : Numbered Waiter) (a : Answer) → IsServed w history acts v a → IsMessage (shown now a id v.1.token)
+reply-is w history acts now id v a s =
+    let got = s.got in
+    let short : length v.1.token ≤ 8 = subst (λ (t : List ℕ). length t ≤ 8) (sym s.waiter.token_is) s.waiter.asked.spells.message.token in
+    let is = shown-is w.setting.limits.datagram now got.getting.entry.now got.gets.response id v.1.token got.gets.came.spells.message got.gets.code short in
+    subst (λ (b : Answer). IsMessage (shown now b id v.1.token)) (sym got.answer_is) is
+
+delivery : (w : World) (history : List Entry) (acts : List Act) (e : Entry) (id : ℕ) (v : Numbered Waiter) (a : Answer) → IsServed w history acts v a → e.report.send ≡ Some v.1.client → Spells e.bytes (shown e.now a id v.1.token) → IsDelivery w.setting history e v.0
+delivery w history acts e id v a s sent spells =
+    let g = s.waiter in
+    let got = s.got in
+    let salt = w.setting.salt in
+    record {
+      admission = g.admission;
+      client = g.client;
+      request = g.request;
+      target = s.target;
+      getting = got.getting;
+      id = id;
+      was_admitted = g.was_admitted;
+      opens = g.opens;
+      asked = g.asked;
+      target_is = s.target_is;
+      was_got = got.was_got;
+      gets = got.gets;
+      got_later =
+          ⊎_elim
+          (λ (lt : index g.admission < index got.getting). lt)
+          (λ (ge : index got.getting ≤ index g.admission). absurd (Never-at (IsGotBy salt v.0 g.admission) history got.getting g.not_got_by got.was_got (got.gets, ge)))
+          (cases_lt (index g.admission) (index got.getting));
+      asked_target = got.asked_target;
+      tells = record {
+        sent = sent ∙ ap Some g.client_is;
+        spells =
+            subst (λ (t : List ℕ). Spells e.bytes (shown e.now (answer_of w.setting.limits.datagram got.getting.entry.now got.gets.response) id t)) g.token_is
+            (subst (λ (b : Answer). Spells e.bytes (shown e.now b id v.1.token)) got.answer_is spells);
+      };
+    }
+
+-- ---- what is left
+
+-- the exchange goes with its waiter
+exchanges_left : (w : World) (history : List Entry) (c : Carries history w) (v : Numbered Waiter) → v.1.exchange ≡ v.0 → without_idle v.1.exchange (without v.0 w.waiters) w.exchanges ≡ without v.0 w.exchanges
+exchanges_left w history c v own =
+    let idle = not_awaited v.0 w.waiters (All-weaken (IsWaiterOf w.setting history c.acts) (λ u. u.1.exchange ≡ u.0) w.waiters (λ u f. f.exchange) c.waiters) in
+    rw (own, idle) refl
+
+-- the other waiters are not served
+others_wait : (w : World) (history : List Entry) (c : Carries history w) (e : Entry) (n : ℕ) → AllByRecursion (IsWaiterOf w.setting (e ∷ history) (on_waiter n ∷ c.acts)) (without n w.waiters)
+others_wait w history c e n =
+    All-weaken (λ u. IsWaiterOf w.setting history c.acts u × (not (eqb u.0 n) ≡ true)) (IsWaiterOf w.setting (e ∷ history) (on_waiter n ∷ c.acts)) (without n w.waiters)
+    (λ u f. waiter_frame w.setting history c.acts (on_waiter n ∷ c.acts) e u (unserved u.0 f.1 f.0.unserved) f.0)
+    (All-filter (IsWaiterOf w.setting history c.acts) (λ u. not (eqb u.0 n)) w.waiters c.waiters)
+  where
+    unserved : (m : ℕ) → not (eqb m n) ≡ true → ¬ IsMember m (served_by c.acts) → ¬ IsMember m (n ∷ served_by c.acts)
+    unserved m other never member = ⊎_elim (λ (same : m ≡ n). absurd (let f : false ≡ true = subst (λ (b : Bool). not b ≡ true) (eq-eqb m n same) other in cc)) never member
+
+-- ---- the rule
+
+pub keeps_delivering : (w : World) (history : List Entry) (c : Carries history w) (now draw : ℕ) (v : Numbered Waiter) (a : Answer) → w.last ≤ now → if_due now (least (items_of w)) ≡ Some (serving v a)
+    → Carries (entry_of now draw tick (delivers w now v a) ∷ history) (delivers w now v a).world
+keeps_delivering w history c now draw v a onward due =
+    let e = entry_of now draw tick (delivers w now v a) in
+    let s = served w history c now v a due in
+    let reply = shown now a (next_id w) v.1.token in
+    let spells : Spells (spelling reply) reply = spelled reply (reply-is w history c.acts now (next_id w) v a s) in
+    let unsent = sends-not w.setting history e (λ o. cc) in
+    let ungot = gets-not w.setting history e (λ o. cc) in
+    let waits : HasNumber v.0 w.waiters = HasNumber-paired v.0 w.exchanges w.waiters c.whole.paired s.there in
+    let left = ArePaired-without v.0 w.exchanges w.waiters c.whole.paired in
+    let fewer = length-without v.0 0 w.exchanges s.there c.whole.rising in
+    let paired_before = length-paired w.exchanges w.waiters c.whole.paired in
+    let paired_after = length-paired (without v.0 w.exchanges) (without v.0 w.waiters) left in
+    let as_many = queued-without v.0 w.exchanges (All-weaken (IsExchangeOf w.setting history) (NotQueued v.0) w.exchanges (λ y g. got_once w history v.0 s.target a s.got y g) c.exchanges) in
+    subst (λ (xs : List (Numbered Exchange)). Carries (e ∷ history) (record (later w now) { waiters = without v.0 w.waiters; exchanges = xs; given = w.given + 1 })) (sym (exchanges_left w history c v s.waiter.exchange)) (
+    record {
+      acts = on_waiter v.0 ∷ c.acts;
+      routes = c.routes;
+      clock = record { events = let h = c.clock.events in omega arith; last = refl; in_order = (let h = c.clock.last in omega arith, c.clock.in_order) };
+      numbers = record { opened = let h = c.numbers.opened in omega arith; admitted = let h = c.numbers.admitted in omega arith; given = let h = c.numbers.given in omega arith };
+      ids = ((λ g. record { gives = refl; message = reply; spells = spells; id_is = id-same w history c }), c.ids);
+      fresh = fresh_frame w.setting history e (λ n above below. unsent n) (λ n above below. ungot n) c.fresh;
+      exchanges =
+          All-weaken (λ y. IsExchangeOf w.setting history y × (not (eqb y.0 v.0) ≡ true)) (IsExchangeOf w.setting (e ∷ history)) (without v.0 w.exchanges)
+          (λ y g. exchange_frame w.setting history e y (unsent y.0) (ungot y.0) g.0)
+          (All-filter (IsExchangeOf w.setting history) (λ y. not (eqb y.0 v.0)) w.exchanges c.exchanges);
+      waiters = others_wait w history c e v.0;
+      whole = record {
+        rising = IsRising-without v.0 0 w.exchanges c.whole.rising;
+        paired = left;
+        complete = λ n positive le. complete_left (eqb n v.0) n refl (c.whole.complete n positive (omega arith));
+        under_way = let h = c.whole.under_way in omega arith;
+        unsent = let h = c.whole.unsent in omega arith;
+      };
+      within = record { exchanges = let h = c.within.exchanges in omega arith; waiters = let h = c.within.waiters in omega arith; ids = let h = c.within.ids in omega arith };
+      past = delivered e v.0 c.past refl (delivery w history c.acts e (next_id w) v a s refl spells) s.waiter.unserved;
+    }
+    )
+  where
+    complete_left : (b : Bool) (n : ℕ) → eqb n v.0 ≡ b → HasNumber n w.exchanges ⊎ IsMember n (served_by c.acts) → HasNumber n (without v.0 w.exchanges) ⊎ IsMember n (v.0 ∷ served_by c.acts)
+    complete_left true n t h = inr (inl (eqb-true n v.0 t))
+    complete_left false n t h = ⊎_elim (λ (there : HasNumber n w.exchanges). inl (HasNumber-without v.0 n w.exchanges (eqb-false n v.0 t) there)) (λ member. inr (inr member)) h
