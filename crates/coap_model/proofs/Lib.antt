@@ -14,3 +14,6 @@ pub mod Forwarding
 pub mod Answering
 pub mod Delivering
 pub mod Carrying
+pub mod Holding
+pub mod Promising
+pub mod Running

@@ -12,3 +12,6 @@ pub mod Examples
 pub mod History
 pub mod Justified
 pub mod Carries
+pub mod Held
+pub mod Promised
+pub mod Runs

@@ -1,5 +1,14 @@
 //! Laws of the step: public functions that do nothing, whose contracts are the laws.
-ghost use Rattle.std.specs.Prelude.{◌≡◌};
+ghost use Rattle.std.specs.Prelude.{◌≡◌, ℕ, ◌≤◌, List, [], ◌∷◌};
+ghost use Rattle.coap_target.specs.Routes.{AreRoutes};
+ghost use Rattle.coap_model.specs.Setting.{Setting};
+ghost use Rattle.coap_model.specs.Events.{Event};
+ghost use Rattle.coap_model.specs.World.{World, new_world};
+ghost use Rattle.coap_model.specs.Step.{step_of};
+ghost use Rattle.coap_model.specs.History.{Entry};
+ghost use Rattle.coap_model.specs.Carries.{Carries, entry_of, IsEvent};
+ghost use Rattle.coap_model.specs.Promised.{Promised};
+ghost use Rattle.coap_model.specs.Runs.{Turn, AreTurns, new_run, run_of};
 ghost use Rattle.coap_model.specs.Examples.{play, proxy, small_proxy, first_answer, first_answer_sent, late_answer, late_answer_sent, impostor, impostor_sent, block_in_response, block_in_response_sent, refusals, refusals_sent, full, full_sent, unprocessed_messages, unprocessed_messages_sent};
 
 /// Runs of the step, computed on the definitions.
@@ -11,4 +20,31 @@ pub fn examples()
     ensures refusals { play proxy refusals ≡ refusals_sent }
     ensures full { play small_proxy full ≡ full_sent }
     ensures unprocessed { play proxy unprocessed_messages ≡ unprocessed_messages_sent }
+{}
+
+/// Each step of a proxy that carries a history leaves a proxy that carries the history with the step's
+/// entry in front, where moments don't go back and datagrams are bytes.
+pub fn steps_are_carried()
+    ensures carried { (w : World) (history : List Entry) (now draw : ℕ) (event : Event) → Carries history w → w.last ≤ now → IsEvent event → Carries (entry_of now draw event (step_of w now draw event) ∷ history) (step_of w now draw event).world }
+{}
+
+/// A proxy that has done nothing carries the empty history.
+pub fn new_proxies_carry_nothing()
+    ensures carried { (setting : Setting) → AreRoutes setting.routes → Carries [] (new_world setting) }
+{}
+
+/// No step changes the limits, the routes, the first message id and the salt.
+pub fn settings_stay()
+    ensures stays { (w : World) (now draw : ℕ) (event : Event) → IsEvent event → (step_of w now draw event).world.setting ≡ w.setting }
+{}
+
+/// What a proxy carries it promises: each entry is justified by the entries before it, each client is
+/// served at most once, no message id comes back, and the limits hold, of the bytes held too.
+pub fn what_is_carried_is_promised()
+    ensures promised { (history : List Entry) (w : World) → Carries history w → Promised history w }
+{}
+
+/// Whatever happens to a new proxy, it promises the same of all that happened.
+pub fn runs_are_promised()
+    ensures promised { (setting : Setting) (turns : List Turn) → AreRoutes setting.routes → AreTurns 0 turns → Promised (run_of (new_run setting) turns).history (run_of (new_run setting) turns).world }
 {}

@@ -1,0 +1,112 @@
+-- The bytes that a proxy holds are within its bound.
+use Rattle.std.proofs.Common.{◌≡◌, ℕ, ◌+◌, ◌*◌, ◌≤◌, Bool, true, false, cond, eqb, leb, List, [], ◌∷◌, ◌++◌, map, length, Option, Some, None, refl, sym, ap, subst, arith}
+use Rattle.std.specs.Prelude.{◌&&◌, not}
+use Rattle.std.specs.List.{sum_by}
+use Rattle.std.proofs.lemmas.Bool.{leb-true, and_parts}
+use Rattle.std.proofs.lemmas.Nat.{mul-le}
+use Rattle.std.proofs.lemmas.List.{append-nil}
+use Rattle.std.proofs.lemmas.List.Elements.{All-from_recursion}
+use Rattle.std.proofs.lemmas.List.Sums.{sum_by-cons, sum_by-le}
+use Rattle.coap_message.specs.declared.code.TheConstants.Code.{VALID}
+use Rattle.coap_message.specs.declared.options.Opt.{Opt}
+use Rattle.coap_message.specs.Message.{Message}
+use Rattle.coap_message.specs.Spelling.{spelling, options_length, payload_length}
+use Rattle.coap_message.proofs.Spellings.{spelling-length}
+use Rattle.coap_target.specs.declared.target.Target.{Target}
+use Rattle.coap_exchange.specs.declared.exchange.Answer.{Answer}
+use Rattle.coap_exchange.specs.declared.exchange.ExchangeState.{ExchangeState}
+use Rattle.coap_exchange.specs.declared.exchange.ExchangeState.TheVariants.{Queued, Sent, Done}
+use Rattle.coap_exchange.specs.declared.exchange.Exchange.{Exchange}
+use Rattle.coap_exchange.specs.declared.waiter.Waiter.{Waiter}
+use Rattle.coap_model.specs.Setting.{Setting}
+use Rattle.coap_model.specs.Messages.{is_code, option_of, host_options, target_options, forwarded, are_understood, widest, fits, bad_gateway, is_passed_on, answer_of}
+use Rattle.coap_model.specs.World.{World, Numbered}
+use Rattle.coap_model.specs.History.{Entry}
+use Rattle.coap_model.specs.Justified.{Act}
+use Rattle.coap_model.specs.Carries.{IsState, IsExchangeOf, IsWaiterOf, Carries}
+use Rattle.coap_model.specs.Held.{value_bytes, host_bytes, target_bytes, response_bytes, state_bytes, exchange_bytes, waiter_bytes, held, most_held}
+use Rattle.coap_model.proofs.Lists.{All-weaken}
+
+-- ---- a target is held in no more than its form
+
+-- options of these values are spelled in at least these bytes
+length_at-least : (before number : ℕ) (values : List (List ℕ)) (os : List Opt) (n : ℕ) → ((low : ℕ) → n ≤ options_length low os) → sum_by value_bytes values + n ≤ options_length before (map (option_of number) values ++ os)
+length_at-least before number [] os n more = omega (arith, more before)
+length_at-least before number (v ∷ values) os n more = omega (arith, length_at-least number number values os n more, sum_by-cons value_bytes v values)
+
+target-short : (before : ℕ) (t : Target) → target_bytes t ≤ options_length before (target_options t)
+unfolding target_options
+target-short before t = go t.host
+  where
+    query : (low : ℕ) → sum_by value_bytes t.query + 0 ≤ options_length low (map (option_of 15) t.query ++ [])
+    query low = length_at-least low 15 t.query [] 0 (λ _. omega arith)
+
+    bare : (low : ℕ) → sum_by value_bytes t.query ≤ options_length low (map (option_of 15) t.query)
+    bare low = omega (arith, subst (λ (os : List Opt). sum_by value_bytes t.query + 0 ≤ options_length low os) (append-nil (map (option_of 15) t.query)) (query low))
+
+    path : (low : ℕ) → sum_by value_bytes t.path + sum_by value_bytes t.query ≤ options_length low (map (option_of 11) t.path ++ map (option_of 15) t.query)
+    path low = length_at-least low 11 t.path (map (option_of 15) t.query) (sum_by value_bytes t.query) bare
+
+    go : (host : Option (List ℕ)) → host_bytes host + (sum_by value_bytes t.path + sum_by value_bytes t.query) ≤ options_length before (host_options host ++ (map (option_of 11) t.path ++ map (option_of 15) t.query))
+    go None = omega (arith, path before)
+    go (Some h) = omega (arith, path 3)
+
+form-holds : (token : List ℕ) (t : Target) → target_bytes t ≤ length (spelling (forwarded token t 0))
+form-holds token t = omega (arith, spelling-length (forwarded token t 0), target-short 0 t)
+
+-- ---- an answer is held in no more than a datagram and a Max-Age
+
+options-short : (os : List Opt) → are_understood os ≡ true → sum_by (λ o. value_bytes o.value) os ≤ 5
+options-short [] e = omega arith
+options-short (o ∷ []) e = let parts = and_parts (eqb o.number 14) (leb (length o.value) 4) e in omega (arith, leb-true _ _ parts.1)
+options-short (o ∷ p ∷ more) e = absurd cc
+
+payload-short : (m : Message) → length m.payload ≤ length (spelling (widest m))
+payload-short m = omega (arith, spelling-length (widest m), least m.payload)
+  where
+    least : (payload : List ℕ) → length payload ≤ payload_length payload
+    least [] = omega arith
+    least (p ∷ ps) = omega arith
+
+answer-short : (most now : ℕ) (m : Message) → response_bytes (answer_of most now m).message ≤ most + 5
+unfolding answer_of
+answer-short most now m = go (is_passed_on most m) refl
+  where
+    go : (b : Bool) → is_passed_on most m ≡ b → response_bytes (cond {A = Answer} b (record { message = m; got = now; own = false }) (record { message = bad_gateway; got = now; own = true })).message ≤ most + 5
+    go true e =
+        let parts = and_parts (are_understood m.options) (not (is_code m.code VALID) && fits most m) e in
+        let more = and_parts (not (is_code m.code VALID)) (fits most m) parts.1 in
+        omega (arith, options-short m.options parts.0, payload-short m, leb-true (length (spelling (widest m))) most more.1)
+    go false e = omega arith
+
+-- ---- each element, and all of them
+
+exchange-held : (setting : Setting) (history : List Entry) (x : Numbered Exchange) → IsExchangeOf setting history x → exchange_bytes x ≤ 4 * setting.limits.datagram + 256
+exchange-held setting history x f = go x.1.state f.state
+  where
+    target : target_bytes x.1.target ≤ length x.1.form
+    target = subst (λ (form : List ℕ). target_bytes x.1.target ≤ length form) (sym f.form_is) (form-holds _ x.1.target)
+
+    go : (s : ExchangeState) → IsState setting history x.0 x.1.target s → length x.1.form + target_bytes x.1.target + state_bytes s ≤ 4 * setting.limits.datagram + 256
+    go Queued state = omega (arith, target, f.form_short)
+    go (Sent s) state = omega (arith, target, f.form_short)
+    go (Done a) state =
+        let short = answer-short setting.limits.datagram state.getting.entry.now state.gets.response in
+        omega (arith, target, f.form_short, subst (λ (b : Answer). response_bytes b.message ≤ setting.limits.datagram + 5) (sym state.answer_is) short)
+
+waiter-held : (setting : Setting) (history : List Entry) (acts : List Act) (v : Numbered Waiter) → IsWaiterOf setting history acts v → waiter_bytes v ≤ setting.limits.datagram + 256
+waiter-held setting history acts v f = omega (arith, ap length f.token_is, f.asked.spells.message.token)
+
+pub within-bound : (history : List Entry) (w : World) → Carries history w → held w ≤ most_held w.setting.limits
+within-bound history w c =
+    let d = w.setting.limits.datagram in
+    let xs = sum_by-le exchange_bytes (4 * d + 256) w.exchanges (All-from_recursion (λ x. exchange_bytes x ≤ 4 * d + 256) w.exchanges (All-weaken (IsExchangeOf w.setting history) (λ x. exchange_bytes x ≤ 4 * d + 256) w.exchanges (exchange-held w.setting history) c.exchanges)) in
+    let vs = sum_by-le waiter_bytes (d + 256) w.waiters (All-from_recursion (λ v. waiter_bytes v ≤ d + 256) w.waiters (All-weaken (IsWaiterOf w.setting history c.acts) (λ v. waiter_bytes v ≤ d + 256) w.waiters (waiter-held w.setting history c.acts) c.waiters)) in
+    let most_xs = mul-le (length w.exchanges) (4 * d + 256) w.setting.limits.exchanges (4 * d + 256) c.within.exchanges (omega arith) in
+    let most_vs = mul-le (length w.waiters) (d + 256) w.setting.limits.waiters (d + 256) c.within.waiters (omega arith) in
+    let l = w.setting.limits in
+    let other = l.cache_bytes + (l.con_records + l.non_records) * (d + 128) in
+    sum (sum_by exchange_bytes w.exchanges) (sum_by waiter_bytes w.waiters) (length w.exchanges * (4 * d + 256)) (length w.waiters * (d + 256)) other (l.waiters * (d + 256)) (l.exchanges * (4 * d + 256)) xs vs most_xs most_vs
+  where
+    sum : (a b c' d' p q r : ℕ) → a ≤ c' → b ≤ d' → c' ≤ r → d' ≤ q → a + b ≤ p + q + r
+    sum a b c' d' p q r i j k l = omega arith

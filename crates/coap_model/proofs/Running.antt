@@ -1,0 +1,37 @@
+-- Runs of any length keep what is carried, and no step changes the setting.
+use Rattle.std.proofs.Common.{◌≡◌, ℕ, List, [], ◌∷◌, refl, sym, subst}
+use Rattle.coap_target.specs.Routes.{AreRoutes}
+use Rattle.coap_model.specs.Setting.{Setting}
+use Rattle.coap_model.specs.Events.{Event}
+use Rattle.coap_model.specs.World.{World, Step}
+use Rattle.coap_model.specs.Step.{step_of}
+use Rattle.coap_model.specs.Carries.{Carries, IsEvent}
+use Rattle.coap_model.specs.Promised.{Promised}
+use Rattle.coap_model.specs.Runs.{Turn, AreTurns, Run, new_run, one_turn, run_of}
+use Rattle.coap_model.proofs.Rules.{Rule, refusing, lacking, overloading, opening, answering, rejecting, ignoring, forwarding, delivering, idling, rule_of}
+use Rattle.coap_model.proofs.Carrying.{keeps_step, starts}
+use Rattle.coap_model.proofs.Promising.{promises}
+
+rule_setting : {w : World} {now draw : ℕ} {event : Event} {s : Step} → Rule w now draw event s → s.world.setting ≡ w.setting
+rule_setting (refusing client bytes m code fits asked verdict free) = refl
+rule_setting (lacking client bytes m fits asked full free) = refl
+rule_setting (overloading client bytes m t fits asked verdict full free) = refl
+rule_setting (opening client bytes m t fits asked verdict room) = refl
+rule_setting (answering source bytes m x fits read response found) = refl
+rule_setting (rejecting source bytes head is con) = refl
+rule_setting (ignoring source bytes none) = refl
+rule_setting (forwarding x due) = refl
+rule_setting (delivering v a due) = refl
+rule_setting (idling nothing) = refl
+
+pub setting_stays : (w : World) (now draw : ℕ) (event : Event) → IsEvent event → (step_of w now draw event).world.setting ≡ w.setting
+setting_stays w now draw event fits = rule_setting (rule_of w now draw event fits)
+
+runs_carry : (r : Run) (turns : List Turn) → Carries r.history r.world → AreTurns r.world.last turns → Carries (run_of r turns).history (run_of r turns).world
+runs_carry r [] c are = c
+runs_carry r (t ∷ turns) c are =
+    let next = keeps_step r.world r.history t.now t.draw t.event c are.0 are.1 in
+    runs_carry (one_turn r t) turns next (subst (λ (last : ℕ). AreTurns last turns) (sym next.clock.last) are.2)
+
+pub runs_promise : (setting : Setting) (turns : List Turn) → AreRoutes setting.routes → AreTurns 0 turns → Promised (run_of (new_run setting) turns).history (run_of (new_run setting) turns).world
+runs_promise setting turns routes are = promises _ _ (runs_carry (new_run setting) turns (starts setting routes) are)

@@ -1,0 +1,5 @@
+use Rattle.coap_model.proofs.Carrying.{starts}
+use Rattle.coap_model.proofs.laws.new_proxies_carry_nothing.Goals as goal
+
+pub returns : goal.returns
+returns c = record { carried = starts }

@@ -1,0 +1,5 @@
+use Rattle.coap_model.proofs.Running.{setting_stays}
+use Rattle.coap_model.proofs.laws.settings_stay.Goals as goal
+
+pub returns : goal.returns
+returns c = record { stays = setting_stays }

@@ -1,0 +1,5 @@
+use Rattle.coap_model.proofs.Carrying.{keeps_step}
+use Rattle.coap_model.proofs.laws.steps_are_carried.Goals as goal
+
+pub returns : goal.returns
+returns c = record { carried = keeps_step }

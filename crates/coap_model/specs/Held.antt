@@ -1,0 +1,45 @@
+-- How many bytes a proxy holds, and the most that it holds by its limits.
+use Rattle.std.specs.Prelude.{ℕ, ◌+◌, ◌*◌, List, length, Option, Some, None}
+use Rattle.std.specs.List.{sum_by}
+use Rattle.coap_message.specs.Message.{Message}
+use Rattle.coap_target.specs.declared.target.Target.{Target}
+use Rattle.coap_exchange.specs.declared.exchange.ExchangeState.{ExchangeState}
+use Rattle.coap_exchange.specs.declared.exchange.ExchangeState.TheVariants.{Queued, Sent, Done}
+use Rattle.coap_exchange.specs.declared.exchange.Exchange.{Exchange}
+use Rattle.coap_exchange.specs.declared.waiter.Waiter.{Waiter}
+use Rattle.coap_model.specs.Limits.{Limits}
+use Rattle.coap_model.specs.World.{World, Numbered}
+
+-- a value counts with one byte more
+abbrev pub value_bytes : List ℕ → ℕ
+value_bytes value = length value + 1
+
+abbrev pub host_bytes : Option (List ℕ) → ℕ
+host_bytes None = 0
+host_bytes (Some host) = value_bytes host
+
+abbrev pub target_bytes : Target → ℕ
+target_bytes t = host_bytes t.host + (sum_by value_bytes t.path + sum_by value_bytes t.query)
+
+-- the token and the id of a response aren't kept
+abbrev pub response_bytes : Message → ℕ
+response_bytes m = sum_by (λ o. value_bytes o.value) m.options + length m.payload
+
+abbrev pub state_bytes : ExchangeState → ℕ
+state_bytes Queued = 0
+state_bytes (Sent s) = 0
+state_bytes (Done a) = response_bytes a.message
+
+-- the form that is sent on, the target and the answer
+abbrev pub exchange_bytes : Numbered Exchange → ℕ
+exchange_bytes x = length x.1.form + target_bytes x.1.target + state_bytes x.1.state
+
+abbrev pub waiter_bytes : Numbered Waiter → ℕ
+waiter_bytes v = length v.1.token
+
+abbrev pub held : World → ℕ
+held w = sum_by exchange_bytes w.exchanges + sum_by waiter_bytes w.waiters
+
+-- the most that the store, the records, the waiters and the exchanges hold
+abbrev pub most_held : Limits → ℕ
+most_held l = l.cache_bytes + (l.con_records + l.non_records) * (l.datagram + 128) + l.waiters * (l.datagram + 256) + l.exchanges * (4 * l.datagram + 256)

@@ -1,0 +1,34 @@
+-- Runs: the steps of a list of turns, one after the other, and the history that they leave.
+use Rattle.std.specs.Prelude.{ℕ, ◌≤◌, List, [], ◌∷◌}
+use Rattle.coap_model.specs.Setting.{Setting}
+use Rattle.coap_model.specs.Events.{Event}
+use Rattle.coap_model.specs.World.{World, new_world}
+use Rattle.coap_model.specs.Step.{step_of}
+use Rattle.coap_model.specs.History.{Entry}
+use Rattle.coap_model.specs.Carries.{entry_of, IsEvent}
+
+-- an event with its moment and its draw
+pub record Turn : Type 0 where
+  pub now : ℕ
+  pub draw : ℕ
+  pub event : Event
+
+-- moments don't go back, and datagrams are bytes
+abbrev pub AreTurns : ℕ → List Turn → Type 0
+AreTurns last [] = Unit {0}
+AreTurns last (t ∷ turns) = (last ≤ t.now) × IsEvent t.event × AreTurns t.now turns
+
+-- a proxy, and what happened to it
+pub record Run : Type 0 where
+  pub world : World
+  pub history : List Entry
+
+abbrev pub new_run : Setting → Run
+new_run setting = record { world = new_world setting; history = [] }
+
+abbrev pub one_turn : Run → Turn → Run
+one_turn r t = record { world = (step_of r.world t.now t.draw t.event).world; history = entry_of t.now t.draw t.event (step_of r.world t.now t.draw t.event) ∷ r.history }
+
+abbrev pub run_of : Run → List Turn → Run
+run_of r [] = r
+run_of r (t ∷ turns) = run_of (one_turn r t) turns
