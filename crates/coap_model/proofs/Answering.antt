@@ -1,8 +1,8 @@
 -- An answer that is got keeps what is carried.
-use Rattle.std.proofs.Common.{◌≡◌, inl, inr, ⊎_elim, ℕ, ◌^◌, ◌<◌, ◌≤◌, true, false, eqb, List, ◌∷◌, Some, refl, sym, ap, ◌∙◌, subst, arith}
+use Rattle.std.proofs.Common.{◌≡◌, inl, inr, ⊎_elim, ℕ, ◌^◌, ◌<◌, ◌≤◌, true, false, List, ◌∷◌, Some, refl, sym, ap, ◌∙◌, subst, arith}
 use Rattle.std.specs.Prelude.{◌&&◌, nat_eq}
 use Rattle.std.specs.List.{AllByRecursion}
-use Rattle.std.specs.Cmp.Lexicographic.{pointwise, same_text}
+use Rattle.std.specs.Cmp.Lexicographic.{pointwise}
 use Rattle.std.proofs.lemmas.Bool.{eqb-true, and_parts}
 use Rattle.coap_message.specs.declared.kind.Kind.{Kind}
 use Rattle.coap_message.specs.declared.kind.Kind.TheVariants.{Con, Non, Ack, Rst}
@@ -10,10 +10,8 @@ use Rattle.coap_message.specs.Uint.{IsBytes}
 use Rattle.coap_message.specs.Message.{Message}
 use Rattle.coap_message.specs.Spelling.{Spells}
 use Rattle.coap_message.proofs.WholeMessages.{one_message}
-use Rattle.coap_target.specs.declared.endpoint.Ip.{Ip}
-use Rattle.coap_target.specs.declared.endpoint.Ip.TheVariants.{V4, V6}
 use Rattle.coap_target.specs.declared.endpoint.Endpoint.{Endpoint}
-use Rattle.coap_target.specs.Endpoint.{same_ip, same_endpoint}
+use Rattle.coap_target.specs.Endpoint.{same_endpoint}
 use Rattle.coap_target.specs.declared.target.Target.{Target}
 use Rattle.coap_exchange.specs.declared.exchange.ExchangeState.{ExchangeState}
 use Rattle.coap_exchange.specs.declared.exchange.ExchangeState.TheVariants.{Queued, Sent, Done}
@@ -27,6 +25,7 @@ use Rattle.coap_model.specs.Responses.{has_id, awaits, awaiting, moved, answers}
 use Rattle.coap_model.specs.History.{Entry, Never, Sends, Gets}
 use Rattle.coap_model.specs.Justified.{on_exchange, answered}
 use Rattle.coap_model.specs.Carries.{WasAsked, IsState, IsExchangeOf, Carries, entry_of}
+use Rattle.coap_model.proofs.Endpoints.{text_is, endpoint_is}
 use Rattle.coap_model.proofs.Lists.{find-holds, All-map, All-weaken}
 use Rattle.coap_model.proofs.Places.{here, Never-at, Opens-number, arrival-same}
 use Rattle.coap_model.proofs.Spelled.{token-same, message_in-is}
@@ -35,23 +34,6 @@ use Rattle.coap_model.proofs.Frames.{exchange_frame, waiters_frame, fresh_frame,
 use Rattle.coap_model.proofs.Forwarding.{same_target}
 
 -- ---- what was awaited
-
-text_is : (xs ys : List ℕ) → pointwise nat_eq xs ys ≡ true → xs ≡ ys
-text_is xs ys e = same_text xs ys (sym e)
-
-ip_is : (a b : Ip) → same_ip a b ≡ true → a ≡ b
-ip_is (V4 a) (V4 b) e = ap V4 (text_is a b e)
-ip_is (V6 a) (V6 b) e = ap V6 (text_is a b e)
-ip_is (V4 a) (V6 b) e = absurd cc
-ip_is (V6 a) (V4 b) e = absurd cc
-
-endpoint_is : (a b : Endpoint) → same_endpoint a b ≡ true → a ≡ b
-endpoint_is a b e =
-    let both = and_parts (same_ip a.ip b.ip) (eqb a.port b.port) e in
-    made (ip_is a.ip b.ip both.0) (eqb-true a.port b.port both.1)
-  where
-    made : {i j : Ip} {p q : ℕ} → i ≡ j → p ≡ q → ◌≡◌ {A = Endpoint} (record { ip = i; port = p }) (record { ip = j; port = q })
-    made f g = cc
 
 ack_is : (k : Kind) → is_ack k ≡ true → k ≡ Ack
 ack_is Con e = absurd cc

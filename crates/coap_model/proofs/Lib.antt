@@ -17,3 +17,5 @@ pub mod Carrying
 pub mod Holding
 pub mod Promising
 pub mod Running
+pub mod Endpoints
+pub mod Awaiting

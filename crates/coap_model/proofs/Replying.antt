@@ -26,8 +26,9 @@ use Rattle.coap_model.specs.Carries.{Carries, entry_of}
 use Rattle.coap_model.proofs.Spelled.{reset-is, own_reply-is, busy_reply-is, message_in-is, message_in-again}
 use Rattle.coap_model.proofs.Places.{arrival-same}
 use Rattle.coap_model.proofs.Verdicts.{refused-code}
-use Rattle.coap_model.proofs.Rules.{Asked, verdict_in}
+use Rattle.coap_model.proofs.Rules.{Asked, IsNothing, verdict_in}
 use Rattle.coap_model.proofs.Room.{ids-free, ids-none, room-none}
+use Rattle.coap_model.proofs.Awaiting.{not-ignored}
 use Rattle.coap_model.proofs.Quiet.{keeps_quiet}
 
 -- ---- what came
@@ -110,12 +111,12 @@ request-read w source client bytes m r =
     let short : length bytes ≤ w.setting.limits.datagram = rw same.1 r.short in
     (message_in-again w.setting.limits.datagram bytes m read short, and_from (is_non m.kind) (is_request m.code) (ap is_non r.kind) r.method)
 
-pub keeps_ignoring : (w : World) (history : List Entry) (c : Carries history w) (now draw : ℕ) (source : Endpoint) (bytes : List ℕ) → w.last ≤ now → ((m : Message) → message_in w.setting.limits.datagram bytes ≡ Some m → (is_non m.kind && is_request m.code) ≡ false)
+pub keeps_ignoring : (w : World) (history : List Entry) (c : Carries history w) (now draw : ℕ) (source : Endpoint) (bytes : List ℕ) → w.last ≤ now → IsNothing w source bytes
     → Carries (entry_of now draw (arrival source bytes) (ignores w now) ∷ history) (ignores w now).world
 keeps_ignoring w history c now draw source bytes onward none =
     let e = entry_of now draw (arrival source bytes) (ignores w now) in
     keeps_quiet w history c e w.given (record { opens = refl; sends = refl; serves = refl; unsent = λ o. cc; ungot = λ o. cc }) onward (omega arith) (λ g. absurd (omega arith)) c.within.ids
-    (ignored e c.past refl (record { source = source; bytes = bytes; came = refl; no_request = λ client m r. let read = request-read w source client bytes m r in let test = none m read.0 in absurd (let both = sym test ∙ read.1 in cc); silent = refl }))
+    (ignored e c.past refl (record { source = source; bytes = bytes; came = refl; no_request = λ client m r. let read = request-read w source client bytes m r in let test = none.request m read.0 in absurd (let both = sym test ∙ read.1 in cc); no_answer = λ x a. not-ignored w history c x source bytes a none; silent = refl }))
 
 pub keeps_idling : (w : World) (history : List Entry) (c : Carries history w) (now draw : ℕ) → w.last ≤ now → Carries (entry_of now draw tick (on_item w now None) ∷ history) (on_item w now None).world
 keeps_idling w history c now draw onward =

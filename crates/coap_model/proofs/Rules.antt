@@ -27,6 +27,11 @@ pub record Asked (w : World) (bytes : List ℕ) (m : Message) : Type 0 where
   pub read : message_in w.setting.limits.datagram bytes ≡ Some m
   pub request : (is_non m.kind && is_request m.code) ≡ true
 
+-- a datagram that holds neither a request that is processed nor a response that is awaited
+pub record IsNothing (w : World) (source : Endpoint) (bytes : List ℕ) : Type 0 where
+  pub request : (m : Message) → message_in w.setting.limits.datagram bytes ≡ Some m → (is_non m.kind && is_request m.code) ≡ false
+  pub response : (m : Message) → message_in w.setting.limits.datagram bytes ≡ Some m → (is_ack m.kind && is_response m.code) ≡ true → awaiting w source m ≡ None
+
 abbrev pub verdict_in : World → Message → Verdict
 verdict_in w m = verdict_of w.setting.routes w.setting.limits.datagram (next_token w) m
 
@@ -37,7 +42,7 @@ pub data Rule (w : World) (now draw : ℕ) : Event → Step → Type 0 where
   opening : (client : Endpoint) (bytes : List ℕ) (m : Message) (t : Target) → IsBytes bytes → Asked w bytes m → verdict_in w m ≡ may_open t → has_room w ≡ true → Rule w now draw (arrival client bytes) (opens w now client m t)
   answering : (source : Endpoint) (bytes : List ℕ) (m : Message) (x : Numbered Exchange) → IsBytes bytes → message_in w.setting.limits.datagram bytes ≡ Some m → (is_ack m.kind && is_response m.code) ≡ true → awaiting w source m ≡ Some x → Rule w now draw (arrival source bytes) (answers w now m x)
   rejecting : (source : Endpoint) (bytes : List ℕ) (head : Head) → head_at bytes ≡ Some head → is_con head.kind ≡ true → Rule w now draw (arrival source bytes) (rejects w now source head.id)
-  ignoring : (source : Endpoint) (bytes : List ℕ) → ((m : Message) → message_in w.setting.limits.datagram bytes ≡ Some m → (is_non m.kind && is_request m.code) ≡ false) → Rule w now draw (arrival source bytes) (ignores w now)
+  ignoring : (source : Endpoint) (bytes : List ℕ) → IsNothing w source bytes → Rule w now draw (arrival source bytes) (ignores w now)
   forwarding : (x : Numbered Exchange) → if_due now (least (items_of w)) ≡ Some (sending x) → Rule w now draw tick (sends w now x)
   delivering : (v : Numbered Waiter) (a : Answer) → if_due now (least (items_of w)) ≡ Some (serving v a) → Rule w now draw tick (delivers w now v a)
   idling : if_due now (least (items_of w)) ≡ None → Rule w now draw tick (on_item w now None)
@@ -69,7 +74,7 @@ rule_verdict w now draw client bytes m fits asked (may_open t) e = go (has_room 
 -- ---- what came
 
 -- what isn't processed is rejected where it is confirmable
-rule_unprocessed : (w : World) (now draw : ℕ) (source : Endpoint) (bytes : List ℕ) (head : Head) → head_at bytes ≡ Some head → ((m : Message) → message_in w.setting.limits.datagram bytes ≡ Some m → (is_non m.kind && is_request m.code) ≡ false) → Rule w now draw (arrival source bytes) (unprocessed w now source head.kind head.id)
+rule_unprocessed : (w : World) (now draw : ℕ) (source : Endpoint) (bytes : List ℕ) (head : Head) → head_at bytes ≡ Some head → IsNothing w source bytes → Rule w now draw (arrival source bytes) (unprocessed w now source head.kind head.id)
 rule_unprocessed w now draw source bytes head is none = go (is_con head.kind) refl
   where
     go : (b : Bool) → is_con head.kind ≡ b → Rule w now draw (arrival source bytes) (cond b (rejects w now source head.id) (ignores w now))
@@ -77,15 +82,22 @@ rule_unprocessed w now draw source bytes head is none = go (is_con head.kind) re
     go false con = ignoring source bytes none
 
 -- the message that was read is the only one
-only_read : (w : World) (bytes : List ℕ) (m n : Message) → message_in w.setting.limits.datagram bytes ≡ Some m → message_in w.setting.limits.datagram bytes ≡ Some n → (is_non m.kind && is_request m.code) ≡ false → (is_non n.kind && is_request n.code) ≡ false
-only_read w bytes m n e f is = let same : m ≡ n = some-same m n (sym e ∙ f) in subst (λ (k : Message). (is_non k.kind && is_request k.code) ≡ false) same is
+nothing_else : (w : World) (source : Endpoint) (bytes : List ℕ) (m : Message) → message_in w.setting.limits.datagram bytes ≡ Some m → (is_non m.kind && is_request m.code) ≡ false → ((is_ack m.kind && is_response m.code) ≡ true → awaiting w source m ≡ None) → IsNothing w source bytes
+nothing_else w source bytes m read request response =
+    record {
+      request = λ n again. subst (λ (k : Message). (is_non k.kind && is_request k.code) ≡ false) (some-same m n (sym read ∙ again)) request;
+      response = λ n again. subst (λ (k : Message). (is_ack k.kind && is_response k.code) ≡ true → awaiting w source k ≡ None) (some-same m n (sym read ∙ again)) response;
+    }
   where
     some-same : (a b : Message) → Some a ≡ Some b → a ≡ b
     some-same a b g = cc
 
+nothing_read : (w : World) (source : Endpoint) (bytes : List ℕ) → message_in w.setting.limits.datagram bytes ≡ None → IsNothing w source bytes
+nothing_read w source bytes unread = record { request = λ n again. absurd (let g = sym unread ∙ again in cc); response = λ n again. absurd (let g = sym unread ∙ again in cc) }
+
 rule_response : (w : World) (now draw : ℕ) (source : Endpoint) (bytes : List ℕ) (m : Message) → IsBytes bytes → message_in w.setting.limits.datagram bytes ≡ Some m → (is_non m.kind && is_request m.code) ≡ false → (is_ack m.kind && is_response m.code) ≡ true
     → (o : Option (Numbered Exchange)) → awaiting w source m ≡ o → Rule w now draw (arrival source bytes) (on_response w now m o)
-rule_response w now draw source bytes m fits read request response None e = ignoring source bytes (λ n f. only_read w bytes m n read f request)
+rule_response w now draw source bytes m fits read request response None e = ignoring source bytes (nothing_else w source bytes m read request (λ _. e))
 rule_response w now draw source bytes m fits read request response (Some x) e = answering source bytes m x fits read response e
 
 rule_message : (w : World) (now draw : ℕ) (source : Endpoint) (bytes : List ℕ) (m : Message) → IsBytes bytes → message_in w.setting.limits.datagram bytes ≡ Some m → Rule w now draw (arrival source bytes) (on_message w now source m)
@@ -96,17 +108,17 @@ rule_message w now draw source bytes m fits read = request (is_non m.kind && is_
 
     response : (is_non m.kind && is_request m.code) ≡ false → (b : Bool) → (is_ack m.kind && is_response m.code) ≡ b → Rule w now draw (arrival source bytes) (cond b (on_response w now m (awaiting w source m)) (unprocessed w now source m.kind m.id))
     response other true e = rule_response w now draw source bytes m fits read other e (awaiting w source m) refl
-    response other false e = rule_unprocessed w now draw source bytes (record { kind = m.kind; code = m.code; id = m.id }) head (λ n f. only_read w bytes m n read f other)
+    response other false e = rule_unprocessed w now draw source bytes (record { kind = m.kind; code = m.code; id = m.id }) head (nothing_else w source bytes m read other (λ t. absurd (let g = sym t ∙ e in cc)))
 
     request : (b : Bool) → (is_non m.kind && is_request m.code) ≡ b → Rule w now draw (arrival source bytes) (cond b (on_request w now source m) (cond (is_ack m.kind && is_response m.code) (on_response w now m (awaiting w source m)) (unprocessed w now source m.kind m.id)))
     request true e = rule_verdict w now draw source bytes m fits (record { read = read; request = e }) (verdict_in w m) refl
     request false e = response e (is_ack m.kind && is_response m.code) refl
 
 rule_read : (w : World) (now draw : ℕ) (source : Endpoint) (bytes : List ℕ) → IsBytes bytes → (h : Option Head) → head_at bytes ≡ h → (o : Option Message) → message_in w.setting.limits.datagram bytes ≡ o → Rule w now draw (arrival source bytes) (on_read w now source h o)
-rule_read w now draw source bytes fits None is None read = ignoring source bytes (λ n f. absurd (let g = sym read ∙ f in cc))
+rule_read w now draw source bytes fits None is None read = ignoring source bytes (nothing_read w source bytes read)
 rule_read w now draw source bytes fits None is (Some m) read =
     absurd (let head = head_read bytes m (message_in-is w.setting.limits.datagram bytes m fits read).2 in let g = sym is ∙ head in cc)
-rule_read w now draw source bytes fits (Some head) is None read = rule_unprocessed w now draw source bytes head is (λ n f. absurd (let g = sym read ∙ f in cc))
+rule_read w now draw source bytes fits (Some head) is None read = rule_unprocessed w now draw source bytes head is (nothing_read w source bytes read)
 rule_read w now draw source bytes fits (Some head) is (Some m) read = rule_message w now draw source bytes m fits read
 
 -- ---- ticks

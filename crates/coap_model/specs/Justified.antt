@@ -1,6 +1,6 @@
 -- What justifies each entry of a history: the entries before it alone. No table is named.
 use Rattle.std.specs.Prelude.{◌≡◌, ◌⊎◌, ℕ, ◌+◌, ◌<◌, ◌≤◌, true, List, [], ◌∷◌, length, Some, None}
-use Rattle.coap_message.specs.declared.kind.Kind.TheVariants.{Con, Non}
+use Rattle.coap_message.specs.declared.kind.Kind.TheVariants.{Con, Non, Ack}
 use Rattle.coap_message.specs.declared.code.Code.{Code}
 use Rattle.coap_message.specs.declared.message.Head.{Head}
 use Rattle.coap_message.specs.Message.{Message}
@@ -13,8 +13,8 @@ use Rattle.coap_model.specs.declared.report.Outcome.TheVariants.{Ignored, Reject
 use Rattle.coap_model.specs.declared.report.Storing.TheVariants.{NotStored}
 use Rattle.coap_model.specs.Setting.{Setting}
 use Rattle.coap_model.specs.Events.{Event, arrival, tick}
-use Rattle.coap_model.specs.Messages.{is_request, reset, own_reply, busy_reply, token_of, forwarded, target_sent, Verdict, refused_with, may_open, verdict_of, answer_of, shown}
-use Rattle.coap_model.specs.History.{Entry, Place, index, IsPlaceOf, Never, opened_in, HasIds, HasRoom, Opens, Sends, Gets}
+use Rattle.coap_model.specs.Messages.{is_request, is_response, reset, own_reply, busy_reply, token_of, forwarded, target_sent, Verdict, refused_with, may_open, verdict_of, answer_of, shown}
+use Rattle.coap_model.specs.History.{Entry, Place, index, IsPlaceOf, Never, opened_in, HasIds, HasRoom, Opens, Sends, Asks, Gets}
 
 -- ---- requests
 
@@ -135,13 +135,36 @@ pub record IsRejection (e : Entry) : Type 0 where
   pub con : head.kind ≡ Con
   pub tells : Tells source (reset head.id) e
 
--- What is ignored came, and is neither a request that would be processed, nor an answer that an exchange
--- awaits: one that was asked and not got.
+-- An exchange awaits the response of an event: it was opened and asked, and wasn't got, and the response
+-- comes in an acknowledgement from the endpoint that was asked, with the token and the id of the request.
+pub record IsAwaited (setting : Setting) (past : List Entry) (exchange : ℕ) (event : Event) : Type 0 where
+  pub opening : Place
+  pub asking : Place
+  pub source : Endpoint
+  pub bytes : List ℕ
+  pub response : Message
+  pub was_opened : IsPlaceOf past opening
+  pub opens : Opens exchange opening
+  pub was_asked : IsPlaceOf past asking
+  pub asks : Asks setting.salt exchange asking
+  pub ungot : Never (Gets setting.salt exchange) past
+  pub came : event ≡ arrival source bytes
+  pub spells : Spells bytes response
+  pub short : length bytes ≤ setting.limits.datagram
+  pub kind : response.kind ≡ Ack
+  pub code : is_response response.code ≡ true
+  pub token : response.token ≡ token_of setting.salt exchange
+  pub same_source : source ≡ asks.sends.to
+  pub same_id : response.id ≡ asks.sends.message.id
+
+-- What is ignored came, and is neither a request that would be processed nor a response that an exchange
+-- awaits.
 pub record IsIgnored (setting : Setting) (past : List Entry) (e : Entry) : Type 0 where
   pub source : Endpoint
   pub bytes : List ℕ
   pub came : e.event ≡ arrival source bytes
   pub no_request : (client : Endpoint) (request : Message) → ¬ IsRequestOf setting client request e.event
+  pub no_answer : (exchange : ℕ) → ¬ IsAwaited setting past exchange e.event
   pub silent : IsSilent e
 
 -- ---- the whole history
