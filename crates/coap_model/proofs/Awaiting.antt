@@ -1,7 +1,7 @@
 -- A response that an exchange awaits is never ignored.
-use Rattle.std.proofs.Common.{◌≡◌, inr, ⊎_elim, ℕ, ◌<◌, ◌≤◌, Bool, true, false, cond, List, [], ◌∷◌, Some, None, refl, sym, ap, ◌∙◌, subst}
+use Rattle.std.proofs.Common.{◌≡◌, inr, ⊎_elim, ℕ, ◌<◌, ◌≤◌, true, false, List, [], ◌∷◌, Some, None, sym, ap, ◌∙◌, subst}
 use Rattle.std.specs.Prelude.{◌&&◌, nat_eq}
-use Rattle.std.specs.List.{AllByRecursion, find}
+use Rattle.std.specs.List.{AllByRecursion}
 use Rattle.std.specs.Cmp.Lexicographic.{pointwise}
 use Rattle.std.proofs.lemmas.Bool.{eq-eqb, and_from}
 use Rattle.coap_message.specs.Message.{Message}
@@ -22,6 +22,7 @@ use Rattle.coap_model.specs.Responses.{has_id, awaits, awaiting}
 use Rattle.coap_model.specs.History.{Entry, Place, IsPlaceOf, opened_in, Sends, Asks, Gets}
 use Rattle.coap_model.specs.Justified.{IsAwaited, IsMember, Act, served_by, IsJustified, nothing_yet, refused, overloaded, lacking, opened, asked, answered, delivered, rejected, ignored, idle}
 use Rattle.coap_model.specs.Carries.{IsState, IsExchangeOf, HasNumber, Carries}
+use Rattle.coap_model.proofs.Lists.{none-found}
 use Rattle.coap_model.proofs.Spelled.{message_in-again}
 use Rattle.coap_model.proofs.Endpoints.{text_same, endpoint_same}
 use Rattle.coap_model.proofs.Places.{Never-at, Opens-number, arrival-same}
@@ -73,15 +74,6 @@ served-got (ignored e j o r) n m = before e (served-got j n m)
 served-got (idle e j o t r) n m = before e (served-got j n m)
 
 -- ---- the table
-
--- what is not found passes no test
-none-found : {X : Type 0} (test : X → Bool) (xs : List X) → find test xs ≡ None → AllByRecursion (λ x. test x ≡ false) xs
-none-found test [] e = tt
-none-found test (y ∷ ys) e = go (test y) refl e (none-found test ys)
-  where
-    go : (b : Bool) → test y ≡ b → cond b (Some y) (find test ys) ≡ None → (find test ys ≡ None → AllByRecursion (λ x. test x ≡ false) ys) → (test y ≡ false) × AllByRecursion (λ x. test x ≡ false) ys
-    go true t f rest = absurd cc
-    go false t f rest = (t, rest f)
 
 -- the exchange of a number that is there
 at-number : (P Q : Numbered Exchange → Type 0) (n : ℕ) (xs : List (Numbered Exchange)) → HasNumber n xs → AllByRecursion P xs → AllByRecursion Q xs → (x : Numbered Exchange) × (n ≡ x.0) × P x × Q x

@@ -19,3 +19,4 @@ pub mod Promising
 pub mod Running
 pub mod Endpoints
 pub mod Awaiting
+pub mod Limiting

@@ -1,5 +1,6 @@
 pub mod Limits
 pub mod LimitsView
+pub mod Ranges
 pub mod Setting
 pub mod Messages
 pub mod Events

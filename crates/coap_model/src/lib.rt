@@ -6,5 +6,5 @@ pub mod laws;
 mod limits;
 mod report;
 
-pub use limits::Limits;
+pub use limits::{Limit, LimitError, LimitValues, Limits};
 pub use report::{Counts, Outcome, Report, Storing};

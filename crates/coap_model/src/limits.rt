@@ -1,5 +1,155 @@
 //! The limits of a proxy.
+ghost use Rattle.std.specs.Prelude.{◌≡◌, None, Some, not, IfOk, IfErr};
+ghost use Rattle.coap_model.specs.Limits.{default_limits};
+ghost use Rattle.coap_model.specs.LimitsView.{of_values};
+ghost use Rattle.coap_model.specs.Ranges.{range_of, value_of, is_out, first_fault};
+
 use std::marker::Model;
+use thiserror::Error;
+
+/// Each limit, by its name.
+#[derive(Clone, Copy, Debug, PartialEq, Eq)]
+pub enum Limit {
+    CacheBytes,
+    CacheEntries,
+    ConRecords,
+    NonRecords,
+    Exchanges,
+    Waiters,
+    Nstart,
+    Datagram,
+    ExchangeMs,
+    RetryS,
+}
+
+/// A limit is out of its range.
+#[derive(Clone, Copy, Debug, PartialEq, Eq, Error)]
+#[error("limit out of range")]
+pub struct LimitError {
+    /// The first such limit, in the order of `Limit`.
+    pub limit: Limit,
+}
+
+impl Limit {
+    /// All limits, in the order in which they are checked.
+    pub const ALL: [Limit; 10] = [
+        Limit::CacheBytes,
+        Limit::CacheEntries,
+        Limit::ConRecords,
+        Limit::NonRecords,
+        Limit::Exchanges,
+        Limit::Waiters,
+        Limit::Nstart,
+        Limit::Datagram,
+        Limit::ExchangeMs,
+        Limit::RetryS,
+    ];
+
+    /// The name under which it is written in a configuration.
+    pub fn name(self) -> &'static str {
+        match self {
+            Limit::CacheBytes => "cache_bytes",
+            Limit::CacheEntries => "cache_entries",
+            Limit::ConRecords => "con_records",
+            Limit::NonRecords => "non_records",
+            Limit::Exchanges => "exchanges",
+            Limit::Waiters => "waiters",
+            Limit::Nstart => "nstart",
+            Limit::Datagram => "datagram",
+            Limit::ExchangeMs => "exchange_ms",
+            Limit::RetryS => "retry_s",
+        }
+    }
+
+    /// The least and the greatest value.
+    pub fn range(self) -> (u64, u64)
+        ensures exact { result ≡ range_of self }
+    {
+        match self {
+            Limit::CacheBytes => (0, 268_435_456),
+            Limit::CacheEntries => (1, 65_536),
+            Limit::ConRecords => (1, 65_536),
+            Limit::NonRecords => (1, 65_536),
+            Limit::Exchanges => (1, 4_096),
+            Limit::Waiters => (1, 16_384),
+            Limit::Nstart => (1, 16),
+            Limit::Datagram => (128, 4_096),
+            Limit::ExchangeMs => (1_000, 600_000),
+            Limit::RetryS => (0, 3_600),
+        }
+    }
+
+    // Whether its value is within its range.
+    fn allows(self, values: &LimitValues) -> bool
+        ensures { result ≡ not (is_out (of_values values.now) self) }
+    {
+        let (least, most) = self.range();
+        let value = values.get(self);
+        least <= value && value <= most
+    }
+}
+
+/// Values for the limits, within their ranges or not. The units are those of `Limits`.
+#[derive(Clone, Copy, Debug, PartialEq, Eq)]
+pub struct LimitValues {
+    pub cache_bytes: u64,
+    pub cache_entries: u64,
+    pub con_records: u64,
+    pub non_records: u64,
+    pub exchanges: u64,
+    pub waiters: u64,
+    pub nstart: u64,
+    pub datagram: u64,
+    pub exchange_ms: u64,
+    pub retry_s: u64,
+}
+
+impl LimitValues {
+    /// The value of a limit.
+    pub fn get(&self, limit: Limit) -> u64
+        ensures exact { result ≡ value_of (of_values self.now) limit }
+    {
+        match limit {
+            Limit::CacheBytes => self.cache_bytes,
+            Limit::CacheEntries => self.cache_entries,
+            Limit::ConRecords => self.con_records,
+            Limit::NonRecords => self.non_records,
+            Limit::Exchanges => self.exchanges,
+            Limit::Waiters => self.waiters,
+            Limit::Nstart => self.nstart,
+            Limit::Datagram => self.datagram,
+            Limit::ExchangeMs => self.exchange_ms,
+            Limit::RetryS => self.retry_s,
+        }
+    }
+
+    // The first limit that is out of its range.
+    fn first_fault(&self) -> Option<Limit>
+        ensures { result ≡ first_fault (of_values self.now) }
+    {
+        Limit::ALL.iter().copied().find(|limit| !limit.allows(self))
+    }
+}
+
+impl Default for LimitValues {
+    /// Those of a proxy that is told nothing else.
+    fn default() -> LimitValues
+        ensures exact { of_values result ≡ default_limits }
+    {
+        LimitValues {
+            cache_bytes: 262_144,
+            cache_entries: 1_024,
+            con_records: 4_096,
+            non_records: 4_096,
+            exchanges: 256,
+            waiters: 1_024,
+            nstart: 1,
+            datagram: 1_500,
+            exchange_ms: 93_000,
+            retry_s: 5,
+        }
+    }
+}
 
 /// The limits that a proxy keeps, each within its range.
 #[derive(Clone, Copy, Debug, PartialEq, Eq)]
@@ -38,4 +188,32 @@ impl Model for Limits {
     ghost invariant = { λ limits. AreLimits (seen limits) };
 
     ghost inverse = { kept };
+}
+
+impl Limits {
+    /// Limits of these values, where each is within its range.
+    ///
+    /// # Errors
+    /// The first limit that is out of its range, in the order of `Limit`.
+    pub fn new(values: LimitValues) -> Result<Limits, LimitError>
+        ensures exact { IfOk result (λ limits. limits ≡ of_values values) }
+        ensures in_range { IfOk result (λ limits. first_fault (of_values values) ≡ None) }
+        ensures err { IfErr result (λ error. first_fault (of_values values) ≡ Some error.limit) }
+    {
+        match values.first_fault() {
+            Some(limit) => Err(LimitError { limit }),
+            None => Ok(Limits {
+                cache_bytes: values.cache_bytes,
+                cache_entries: values.cache_entries,
+                con_records: values.con_records,
+                non_records: values.non_records,
+                exchanges: values.exchanges,
+                waiters: values.waiters,
+                nstart: values.nstart,
+                datagram: values.datagram,
+                exchange_ms: values.exchange_ms,
+                retry_s: values.retry_s,
+            }),
+        }
+    }
 }
