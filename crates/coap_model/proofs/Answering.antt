@@ -86,7 +86,8 @@ keeps_answering w history c now draw source bytes m x onward fits read response 
     let a = awaited w history c source m x found in
     let f = a.exchange in
     let tests = and_parts (is_ack m.kind) (is_response m.code) response in
-    let spells : Spells bytes m = (message_in-is w.setting.limits.datagram bytes m fits read).0 in
+    let read_in = message_in-is w.setting.limits.datagram bytes m fits read in
+    let spells : Spells bytes m = read_in.0 in
     let unsent : (n : ℕ) → Sends salt n p → ⊥ = sends-not w.setting history e (λ o. cc) in
     let gets : Gets salt x.0 p = record {
       outcome = refl;
@@ -126,6 +127,7 @@ keeps_answering w history c now draw source bytes m x onward fits read response 
             request = g.request;
             was_opened = inr g.was_opened;
             opens = g.opens;
+            admitted = g.admitted;
             asked = g.asked;
             target_is = g.target_is;
             sound = g.sound;
@@ -146,5 +148,5 @@ keeps_answering w history c now draw source bytes m x onward fits read response 
         unsent = let h = c.whole.unsent in omega arith;
       };
       within = record { exchanges = let h = c.within.exchanges in let l = length-with_state x.0 next w.exchanges in omega arith; waiters = c.within.waiters; ids = let h = c.within.ids in omega arith };
-      past = answered e x.0 c.past refl (record { gets = gets; first = a.ungot; silent = refl });
+      past = answered e x.0 c.past refl (record { gets = gets; first = a.ungot; short = read_in.1; silent = record { sent = refl; bytes = refl } });
     }

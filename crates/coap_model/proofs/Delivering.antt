@@ -74,8 +74,8 @@ reply-is w history acts now id v a s =
     let is = shown-is w.setting.limits.datagram now got.getting.entry.now got.gets.response id v.1.token got.gets.came.spells.message got.gets.code short in
     subst (λ (b : Answer). IsMessage (shown now b id v.1.token)) (sym got.answer_is) is
 
-delivery : (w : World) (history : List Entry) (acts : List Act) (e : Entry) (id : ℕ) (v : Numbered Waiter) (a : Answer) → IsServed w history acts v a → e.report.send ≡ Some v.1.client → Spells e.bytes (shown e.now a id v.1.token) → IsDelivery w.setting history e v.0
-delivery w history acts e id v a s sent spells =
+delivery : (w : World) (history : List Entry) (acts : List Act) (e : Entry) (id : ℕ) (v : Numbered Waiter) (a : Answer) → IsServed w history acts v a → e.event ≡ tick → e.report.send ≡ Some v.1.client → Spells e.bytes (shown e.now a id v.1.token) → IsDelivery w.setting history e v.0
+delivery w history acts e id v a s due sent spells =
     let g = s.waiter in
     let got = s.got in
     let salt = w.setting.salt in
@@ -98,6 +98,7 @@ delivery w history acts e id v a s sent spells =
           (λ (ge : index got.getting ≤ index g.admission). absurd (Never-at (IsGotBy salt v.0 g.admission) history got.getting g.not_got_by got.was_got (got.gets, ge)))
           (cases_lt (index g.admission) (index got.getting));
       asked_target = got.asked_target;
+      due = due;
       tells = record {
         sent = sent ∙ ap Some g.client_is;
         spells =
@@ -162,7 +163,7 @@ keeps_delivering w history c now draw v a onward due =
         unsent = let h = c.whole.unsent in omega arith;
       };
       within = record { exchanges = let h = c.within.exchanges in omega arith; waiters = let h = c.within.waiters in omega arith; ids = let h = c.within.ids in omega arith };
-      past = delivered e v.0 c.past refl (delivery w history c.acts e (next_id w) v a s refl spells) s.waiter.unserved;
+      past = delivered e v.0 c.past refl (delivery w history c.acts e (next_id w) v a s refl refl spells) s.waiter.unserved;
     }
     )
   where

@@ -87,6 +87,7 @@ keeps_forwarding w history c now draw x onward due =
             request = g.request;
             was_opened = inr g.was_opened;
             opens = g.opens;
+            admitted = g.admitted;
             asked = g.asked;
             target_is = g.target_is;
             sound = g.sound;
@@ -127,6 +128,7 @@ keeps_forwarding w history c now draw x onward due =
         asked = f.asked;
         target_is = f.target_is;
         first = state.0;
+        due = refl;
         tells = record { sent = refl; spells = spells };
       });
     }

@@ -35,6 +35,7 @@ exchange_frame setting history e x unsent ungot f =
       request = f.request;
       was_opened = inr f.was_opened;
       opens = f.opens;
+      admitted = f.admitted;
       asked = f.asked;
       target_is = f.target_is;
       sound = f.sound;

@@ -83,6 +83,7 @@ keeps_opening w history c now draw client bytes m t onward fits asks verdict roo
             request = m;
             was_opened = inl refl;
             opens = (refl, number);
+            admitted = refl;
             asked = came;
             target_is = may.target_is;
             sound = may.sound;
@@ -117,5 +118,5 @@ keeps_opening w history c now draw client bytes m t onward fits asks verdict roo
         unsent = let h = c.whole.unsent in omega arith;
       };
       within = record { exchanges = omega arith; waiters = omega arith; ids = omega arith };
-      past = opened e c.past refl (record { client = client; request = m; target = t; asked = came; verdict = verdict-same w history c m ∙ verdict; room = room-there history w c room; silent = refl });
+      past = opened e c.past refl (record { client = client; request = m; target = t; asked = came; verdict = verdict-same w history c m ∙ verdict; room = room-there history w c room; silent = record { sent = refl; bytes = refl } });
     }

@@ -80,5 +80,6 @@ promises history w c =
       exchanges = c.within.exchanges;
       waiters = c.within.waiters;
       bytes = within-bound history w c;
+      sequence = c.ids;
       ids = ids-differ history w c;
     }

@@ -92,7 +92,7 @@ pub keeps_lacking : (w : World) (history : List Entry) (c : Carries history w) (
 keeps_lacking w history c now draw client bytes m onward fits asked full free =
     let e = entry_of now draw (arrival client bytes) (lacks_id w now) in
     keeps_quiet w history c e w.given (record { opens = refl; sends = refl; serves = refl; unsent = λ o. cc; ungot = λ o. cc }) onward (omega arith) (λ g. absurd (omega arith)) c.within.ids
-    (lacking e c.past refl (record { client = client; request = m; asked = request-came w client bytes m fits asked; no_room = λ t v. room-none history w c (full t (sym (verdict-same w history c m) ∙ v)); no_ids = ids-none 1 history w c free; silent = refl }))
+    (lacking e c.past refl (record { client = client; request = m; asked = request-came w client bytes m fits asked; no_room = λ t v. room-none history w c (full t (sym (verdict-same w history c m) ∙ v)); no_ids = ids-none 1 history w c free; silent = record { sent = refl; bytes = refl } }))
 
 -- ---- what isn't processed
 
@@ -116,10 +116,10 @@ pub keeps_ignoring : (w : World) (history : List Entry) (c : Carries history w) 
 keeps_ignoring w history c now draw source bytes onward none =
     let e = entry_of now draw (arrival source bytes) (ignores w now) in
     keeps_quiet w history c e w.given (record { opens = refl; sends = refl; serves = refl; unsent = λ o. cc; ungot = λ o. cc }) onward (omega arith) (λ g. absurd (omega arith)) c.within.ids
-    (ignored e c.past refl (record { source = source; bytes = bytes; came = refl; no_request = λ client m r. let read = request-read w source client bytes m r in let test = none.request m read.0 in absurd (let both = sym test ∙ read.1 in cc); no_answer = λ x a. not-ignored w history c x source bytes a none; silent = refl }))
+    (ignored e c.past refl (record { source = source; bytes = bytes; came = refl; no_con = λ head is con. absurd (let f = none.quiet head is in let g = sym f ∙ ap is_con con in cc); no_request = λ client m r. let read = request-read w source client bytes m r in let test = none.request m read.0 in absurd (let both = sym test ∙ read.1 in cc); no_answer = λ x a. not-ignored w history c x source bytes a none; silent = record { sent = refl; bytes = refl } }))
 
 pub keeps_idling : (w : World) (history : List Entry) (c : Carries history w) (now draw : ℕ) → w.last ≤ now → Carries (entry_of now draw tick (on_item w now None) ∷ history) (on_item w now None).world
 keeps_idling w history c now draw onward =
     let e = entry_of now draw tick (on_item w now None) in
     keeps_quiet w history c e w.given (record { opens = refl; sends = refl; serves = refl; unsent = λ o. cc; ungot = λ o. cc }) onward (omega arith) (λ g. absurd (omega arith)) c.within.ids
-    (idle e c.past refl refl refl)
+    (idle e c.past refl refl (record { sent = refl; bytes = refl }))

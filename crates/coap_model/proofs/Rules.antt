@@ -1,6 +1,8 @@
 -- The cases of a step, each with what is known there.
 use Rattle.std.proofs.Common.{◌≡◌, ℕ, Bool, true, false, cond, List, Option, Some, None, refl, sym, ◌∙◌, subst}
 use Rattle.std.specs.Prelude.{◌&&◌}
+use Rattle.coap_message.specs.declared.kind.Kind.{Kind}
+use Rattle.coap_message.specs.declared.kind.Kind.TheVariants.{Con, Non, Ack, Rst}
 use Rattle.coap_message.specs.declared.code.Code.{Code}
 use Rattle.coap_message.specs.declared.message.Head.{Head}
 use Rattle.coap_message.specs.Uint.{IsBytes}
@@ -27,8 +29,13 @@ pub record Asked (w : World) (bytes : List ℕ) (m : Message) : Type 0 where
   pub read : message_in w.setting.limits.datagram bytes ≡ Some m
   pub request : (is_non m.kind && is_request m.code) ≡ true
 
--- a datagram that holds neither a request that is processed nor a response that is awaited
+-- a datagram whose head isn't confirmable
+abbrev pub IsNotCon : List ℕ → Type 0
+IsNotCon bytes = (head : Head) → head_at bytes ≡ Some head → is_con head.kind ≡ false
+
+-- a datagram that isn't confirmable and holds neither a request that is processed nor a response that is awaited
 pub record IsNothing (w : World) (source : Endpoint) (bytes : List ℕ) : Type 0 where
+  pub quiet : IsNotCon bytes
   pub request : (m : Message) → message_in w.setting.limits.datagram bytes ≡ Some m → (is_non m.kind && is_request m.code) ≡ false
   pub response : (m : Message) → message_in w.setting.limits.datagram bytes ≡ Some m → (is_ack m.kind && is_response m.code) ≡ true → awaiting w source m ≡ None
 
@@ -73,18 +80,25 @@ rule_verdict w now draw client bytes m fits asked (may_open t) e = go (has_room 
 
 -- ---- what came
 
+one_head : (bytes : List ℕ) (head : Head) → head_at bytes ≡ Some head → is_con head.kind ≡ false → IsNotCon bytes
+one_head bytes head is other again also = let same : head ≡ again = some-same head again (sym is ∙ also) in subst (λ (h : Head). is_con h.kind ≡ false) same other
+  where
+    some-same : (a b : Head) → Some a ≡ Some b → a ≡ b
+    some-same a b g = cc
+
 -- what isn't processed is rejected where it is confirmable
-rule_unprocessed : (w : World) (now draw : ℕ) (source : Endpoint) (bytes : List ℕ) (head : Head) → head_at bytes ≡ Some head → IsNothing w source bytes → Rule w now draw (arrival source bytes) (unprocessed w now source head.kind head.id)
+rule_unprocessed : (w : World) (now draw : ℕ) (source : Endpoint) (bytes : List ℕ) (head : Head) → head_at bytes ≡ Some head → (IsNotCon bytes → IsNothing w source bytes) → Rule w now draw (arrival source bytes) (unprocessed w now source head.kind head.id)
 rule_unprocessed w now draw source bytes head is none = go (is_con head.kind) refl
   where
     go : (b : Bool) → is_con head.kind ≡ b → Rule w now draw (arrival source bytes) (cond b (rejects w now source head.id) (ignores w now))
     go true con = rejecting source bytes head is con
-    go false con = ignoring source bytes none
+    go false other = ignoring source bytes (none (one_head bytes head is other))
 
 -- the message that was read is the only one
-nothing_else : (w : World) (source : Endpoint) (bytes : List ℕ) (m : Message) → message_in w.setting.limits.datagram bytes ≡ Some m → (is_non m.kind && is_request m.code) ≡ false → ((is_ack m.kind && is_response m.code) ≡ true → awaiting w source m ≡ None) → IsNothing w source bytes
-nothing_else w source bytes m read request response =
+nothing_else : (w : World) (source : Endpoint) (bytes : List ℕ) (m : Message) → message_in w.setting.limits.datagram bytes ≡ Some m → (is_non m.kind && is_request m.code) ≡ false → ((is_ack m.kind && is_response m.code) ≡ true → awaiting w source m ≡ None) → IsNotCon bytes → IsNothing w source bytes
+nothing_else w source bytes m read request response quiet =
     record {
+      quiet = quiet;
       request = λ n again. subst (λ (k : Message). (is_non k.kind && is_request k.code) ≡ false) (some-same m n (sym read ∙ again)) request;
       response = λ n again. subst (λ (k : Message). (is_ack k.kind && is_response k.code) ≡ true → awaiting w source k ≡ None) (some-same m n (sym read ∙ again)) response;
     }
@@ -92,30 +106,36 @@ nothing_else w source bytes m read request response =
     some-same : (a b : Message) → Some a ≡ Some b → a ≡ b
     some-same a b g = cc
 
-nothing_read : (w : World) (source : Endpoint) (bytes : List ℕ) → message_in w.setting.limits.datagram bytes ≡ None → IsNothing w source bytes
-nothing_read w source bytes unread = record { request = λ n again. absurd (let g = sym unread ∙ again in cc); response = λ n again. absurd (let g = sym unread ∙ again in cc) }
+nothing_read : (w : World) (source : Endpoint) (bytes : List ℕ) → message_in w.setting.limits.datagram bytes ≡ None → IsNotCon bytes → IsNothing w source bytes
+nothing_read w source bytes unread quiet = record { quiet = quiet; request = λ n again. absurd (let g = sym unread ∙ again in cc); response = λ n again. absurd (let g = sym unread ∙ again in cc) }
+
+ack_not_con : (k : Kind) (b : Bool) → (is_ack k && b) ≡ true → is_con k ≡ false
+ack_not_con Con b e = absurd cc
+ack_not_con Non b e = refl
+ack_not_con Ack b e = refl
+ack_not_con Rst b e = refl
+
+head_of_read : (w : World) (bytes : List ℕ) (m : Message) → IsBytes bytes → message_in w.setting.limits.datagram bytes ≡ Some m → head_at bytes ≡ Some (record { kind = m.kind; code = m.code; id = m.id })
+head_of_read w bytes m fits read = head_read bytes m (message_in-is w.setting.limits.datagram bytes m fits read).2
 
 rule_response : (w : World) (now draw : ℕ) (source : Endpoint) (bytes : List ℕ) (m : Message) → IsBytes bytes → message_in w.setting.limits.datagram bytes ≡ Some m → (is_non m.kind && is_request m.code) ≡ false → (is_ack m.kind && is_response m.code) ≡ true
     → (o : Option (Numbered Exchange)) → awaiting w source m ≡ o → Rule w now draw (arrival source bytes) (on_response w now m o)
-rule_response w now draw source bytes m fits read request response None e = ignoring source bytes (nothing_else w source bytes m read request (λ _. e))
+rule_response w now draw source bytes m fits read request response None e = ignoring source bytes (nothing_else w source bytes m read request (λ _. e) (one_head bytes (record { kind = m.kind; code = m.code; id = m.id }) (head_of_read w bytes m fits read) (ack_not_con m.kind (is_response m.code) response)))
 rule_response w now draw source bytes m fits read request response (Some x) e = answering source bytes m x fits read response e
 
 rule_message : (w : World) (now draw : ℕ) (source : Endpoint) (bytes : List ℕ) (m : Message) → IsBytes bytes → message_in w.setting.limits.datagram bytes ≡ Some m → Rule w now draw (arrival source bytes) (on_message w now source m)
 rule_message w now draw source bytes m fits read = request (is_non m.kind && is_request m.code) refl
   where
-    head : head_at bytes ≡ Some (record { kind = m.kind; code = m.code; id = m.id })
-    head = head_read bytes m (message_in-is w.setting.limits.datagram bytes m fits read).2
-
     response : (is_non m.kind && is_request m.code) ≡ false → (b : Bool) → (is_ack m.kind && is_response m.code) ≡ b → Rule w now draw (arrival source bytes) (cond b (on_response w now m (awaiting w source m)) (unprocessed w now source m.kind m.id))
     response other true e = rule_response w now draw source bytes m fits read other e (awaiting w source m) refl
-    response other false e = rule_unprocessed w now draw source bytes (record { kind = m.kind; code = m.code; id = m.id }) head (nothing_else w source bytes m read other (λ t. absurd (let g = sym t ∙ e in cc)))
+    response other false e = rule_unprocessed w now draw source bytes (record { kind = m.kind; code = m.code; id = m.id }) (head_of_read w bytes m fits read) (nothing_else w source bytes m read other (λ t. absurd (let g = sym t ∙ e in cc)))
 
     request : (b : Bool) → (is_non m.kind && is_request m.code) ≡ b → Rule w now draw (arrival source bytes) (cond b (on_request w now source m) (cond (is_ack m.kind && is_response m.code) (on_response w now m (awaiting w source m)) (unprocessed w now source m.kind m.id)))
     request true e = rule_verdict w now draw source bytes m fits (record { read = read; request = e }) (verdict_in w m) refl
     request false e = response e (is_ack m.kind && is_response m.code) refl
 
 rule_read : (w : World) (now draw : ℕ) (source : Endpoint) (bytes : List ℕ) → IsBytes bytes → (h : Option Head) → head_at bytes ≡ h → (o : Option Message) → message_in w.setting.limits.datagram bytes ≡ o → Rule w now draw (arrival source bytes) (on_read w now source h o)
-rule_read w now draw source bytes fits None is None read = ignoring source bytes (nothing_read w source bytes read)
+rule_read w now draw source bytes fits None is None read = ignoring source bytes (nothing_read w source bytes read (λ head also. absurd (let g = sym is ∙ also in cc)))
 rule_read w now draw source bytes fits None is (Some m) read =
     absurd (let head = head_read bytes m (message_in-is w.setting.limits.datagram bytes m fits read).2 in let g = sym is ∙ head in cc)
 rule_read w now draw source bytes fits (Some head) is None read = rule_unprocessed w now draw source bytes head is (nothing_read w source bytes read)

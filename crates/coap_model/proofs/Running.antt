@@ -1,5 +1,5 @@
 -- Runs of any length keep what is carried, and no step changes the setting.
-use Rattle.std.proofs.Common.{◌≡◌, ℕ, List, [], ◌∷◌, refl, sym, subst}
+use Rattle.std.proofs.Common.{◌≡◌, ℕ, List, [], ◌∷◌, refl, sym, ◌∙◌, subst}
 use Rattle.coap_target.specs.Routes.{AreRoutes}
 use Rattle.coap_model.specs.Setting.{Setting}
 use Rattle.coap_model.specs.Events.{Event}
@@ -32,6 +32,15 @@ runs_carry r [] c are = c
 runs_carry r (t ∷ turns) c are =
     let next = keeps_step r.world r.history t.now t.draw t.event c are.0 are.1 in
     runs_carry (one_turn r t) turns next (subst (λ (last : ℕ). AreTurns last turns) (sym next.clock.last) are.2)
+
+pub setting_after : (r : Run) (turns : List Turn) → AreTurns r.world.last turns → Carries r.history r.world → (run_of r turns).world.setting ≡ r.world.setting
+setting_after r [] are c = refl
+setting_after r (t ∷ turns) are c =
+    let next = keeps_step r.world r.history t.now t.draw t.event c are.0 are.1 in
+    setting_after (one_turn r t) turns (subst (λ (last : ℕ). AreTurns last turns) (sym next.clock.last) are.2) next ∙ setting_stays r.world t.now t.draw t.event are.1
+
+pub runs_keep_setting : (setting : Setting) (turns : List Turn) → AreRoutes setting.routes → AreTurns 0 turns → (run_of (new_run setting) turns).world.setting ≡ setting
+runs_keep_setting setting turns routes are = setting_after (new_run setting) turns are (starts setting routes)
 
 pub runs_promise : (setting : Setting) (turns : List Turn) → AreRoutes setting.routes → AreTurns 0 turns → Promised (run_of (new_run setting) turns).history (run_of (new_run setting) turns).world
 runs_promise setting turns routes are = promises _ _ (runs_carry (new_run setting) turns (starts setting routes) are)

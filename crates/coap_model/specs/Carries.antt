@@ -86,6 +86,7 @@ pub record IsExchangeOf (setting : Setting) (history : List Entry) (x : Numbered
   pub request : Message
   pub was_opened : IsPlaceOf history opening
   pub opens : Opens x.0 opening
+  pub admitted : x.1.admitted ≡ opening.entry.now
   pub asked : IsRequestOf setting client request opening.entry.event
   pub target_is : target_of setting.routes request ≡ Some x.1.target
   pub sound : IsTarget x.1.target

@@ -1,5 +1,5 @@
 -- What justifies each entry of a history: the entries before it alone. No table is named.
-use Rattle.std.specs.Prelude.{◌≡◌, ◌⊎◌, ℕ, ◌+◌, ◌<◌, ◌≤◌, true, List, [], ◌∷◌, length, Some, None}
+use Rattle.std.specs.Prelude.{◌≡◌, ◌≢◌, ◌⊎◌, ℕ, ◌+◌, ◌<◌, ◌≤◌, true, List, [], ◌∷◌, length, Some, None}
 use Rattle.coap_message.specs.declared.kind.Kind.TheVariants.{Con, Non, Ack}
 use Rattle.coap_message.specs.declared.code.Code.{Code}
 use Rattle.coap_message.specs.declared.message.Head.{Head}
@@ -36,8 +36,10 @@ pub record Tells (to : Endpoint) (m : Message) (e : Entry) : Type 0 where
   pub sent : e.report.send ≡ Some to
   pub spells : Spells e.bytes m
 
-abbrev pub IsSilent : Entry → Type 0
-IsSilent e = e.report.send ≡ None
+-- no datagram goes out
+pub record IsSilent (e : Entry) : Type 0 where
+  pub sent : e.report.send ≡ None
+  pub bytes : e.bytes ≡ []
 
 -- a refusal: the code is the one that the request deserves
 pub record IsRefusal (setting : Setting) (past : List Entry) (e : Entry) (code : Code) : Type 0 where
@@ -95,12 +97,14 @@ pub record IsForwarding (setting : Setting) (past : List Entry) (e : Entry) (exc
   pub asked : IsRequestOf setting client request opening.entry.event
   pub target_is : target_of setting.routes request ≡ Some target
   pub first : Never (Sends setting.salt exchange) past
+  pub due : e.event ≡ tick
   pub tells : Tells target.at (forwarded (token_of setting.salt exchange) target id) e
 
 -- an answer is got for an exchange that had none
 pub record IsAnswer (setting : Setting) (past : List Entry) (e : Entry) (exchange : ℕ) : Type 0 where
   pub gets : Gets setting.salt exchange (record { before = past; entry = e })
   pub first : Never (Gets setting.salt exchange) past
+  pub short : length gets.came.bytes ≤ setting.limits.datagram
   pub silent : IsSilent e
 
 -- A delivery: the exchange that was opened for this client's request was got after that, its request
@@ -121,6 +125,7 @@ pub record IsDelivery (setting : Setting) (past : List Entry) (e : Entry) (waite
   pub gets : Gets setting.salt waiter getting
   pub got_later : index admission < index getting
   pub asked_target : target_sent gets.asks.sends.to gets.asks.sends.message ≡ target
+  pub due : e.event ≡ tick
   pub tells : Tells client (shown e.now (answer_of setting.limits.datagram getting.entry.now gets.response) id request.token) e
 
 -- ---- what isn't processed
@@ -157,12 +162,13 @@ pub record IsAwaited (setting : Setting) (past : List Entry) (exchange : ℕ) (e
   pub same_source : source ≡ asks.sends.to
   pub same_id : response.id ≡ asks.sends.message.id
 
--- What is ignored came, and is neither a request that would be processed nor a response that an exchange
--- awaits.
+-- What is ignored came; it isn't confirmable, and neither a request that would be processed nor a response
+-- that an exchange awaits.
 pub record IsIgnored (setting : Setting) (past : List Entry) (e : Entry) : Type 0 where
   pub source : Endpoint
   pub bytes : List ℕ
   pub came : e.event ≡ arrival source bytes
+  pub no_con : (head : Head) → head_at bytes ≡ Some head → head.kind ≢ Con
   pub no_request : (client : Endpoint) (request : Message) → ¬ IsRequestOf setting client request e.event
   pub no_answer : (exchange : ℕ) → ¬ IsAwaited setting past exchange e.event
   pub silent : IsSilent e

@@ -38,13 +38,15 @@ pub fn settings_stay()
     ensures stays { (w : World) (now draw : ℕ) (event : Event) → IsEvent event → (step_of w now draw event).world.setting ≡ w.setting }
 {}
 
-/// What a proxy carries it promises: each entry is justified by the entries before it, each client is
-/// served at most once, no message id comes back, and the limits hold, of the bytes held too.
+/// What a proxy carries it promises: each entry is justified by the entries before it, each waiter
+/// is served at most once, message ids count up and none comes back, and the limits hold, that of the
+/// bytes held too.
 pub fn what_is_carried_is_promised()
     ensures promised { (history : List Entry) (w : World) → Carries history w → Promised history w }
 {}
 
 /// Whatever happens to a new proxy, it promises the same of all that happened.
 pub fn runs_are_promised()
+    ensures kept { (setting : Setting) (turns : List Turn) → AreRoutes setting.routes → AreTurns 0 turns → (run_of (new_run setting) turns).world.setting ≡ setting }
     ensures promised { (setting : Setting) (turns : List Turn) → AreRoutes setting.routes → AreTurns 0 turns → Promised (run_of (new_run setting) turns).history (run_of (new_run setting) turns).world }
 {}
