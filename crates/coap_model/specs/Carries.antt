@@ -48,7 +48,7 @@ pub record Gives (id : ℕ) (e : Entry) : Type 0 where
   pub spells : Spells e.bytes message
   pub id_is : message.id ≡ id
 
--- each id is the one before plus one, modulo 65,536 (RFC 7252, 4.4)
+-- ids count up from the first, and begin anew at 0 behind 65,535 (RFC 7252, 4.4)
 abbrev pub AreIds : ℕ → List Entry → Type 0
 AreIds first [] = Unit {0}
 AreIds first (e ∷ past) = (gives_id e.report.outcome ≡ 1 → Gives ((first + ids_in past) % 65536) e) × AreIds first past

@@ -1,8 +1,13 @@
 -- Runs of the step, computed on the definitions.
-use Rattle.std.specs.Prelude.{ℕ, ◌+◌, List, [], ◌∷◌, Option, Some, None}
+use Rattle.std.specs.Prelude.{ℕ, ◌+◌, ◌-◌, List, [], ◌∷◌, replicate, Some, None}
+use Rattle.coap_message.specs.declared.code.TheConstants.Code.{BAD_OPTION, NOT_FOUND, METHOD_NOT_ALLOWED, REQUEST_ENTITY_TOO_LARGE}
 use Rattle.coap_target.specs.declared.endpoint.Ip.TheVariants.{V4}
 use Rattle.coap_target.specs.declared.endpoint.Endpoint.{Endpoint}
 use Rattle.coap_target.specs.Routes.{fixed_routes}
+use Rattle.coap_model.specs.declared.report.Outcome.{Outcome}
+use Rattle.coap_model.specs.declared.report.Outcome.TheVariants.{Ignored, Rejected, Refused, Opened, Overloaded, Answered, SentRequest, Delivered, Idle}
+use Rattle.coap_model.specs.declared.report.Storing.TheVariants.{NotStored}
+use Rattle.coap_model.specs.declared.report.Report.{Report}
 use Rattle.coap_model.specs.Limits.{default_limits}
 use Rattle.coap_model.specs.Events.{Event, arrival, tick}
 use Rattle.coap_model.specs.World.{World, Step, new_world}
@@ -13,12 +18,12 @@ pub record Moment : Type 0 where
   pub now : ℕ
   pub event : Event
 
--- what was sent, and where to; none where nothing was
+-- what a step answered, and the datagram that it sent
 abbrev pub Sent : Type 0
-Sent = Option Endpoint × List ℕ
+Sent = Report × List ℕ
 
 abbrev pub sent_by : Step → Sent
-sent_by s = (s.report.send, s.bytes)
+sent_by s = (s.report, s.bytes)
 
 -- what a proxy sends at these events, one after the other, all with the draw 0
 abbrev pub play : World → List Moment → List Sent
@@ -41,11 +46,11 @@ from now source bytes = record { now = now; event = arrival source bytes }
 abbrev pub tick_at : ℕ → Moment
 tick_at now = record { now = now; event = tick }
 
-abbrev pub nothing : Sent
-nothing = (None, [])
+abbrev pub nothing : Outcome → Sent
+nothing outcome = (record { send = None; outcome = outcome }, [])
 
-abbrev pub to : Endpoint → List ℕ → Sent
-to at bytes = (Some at, bytes)
+abbrev pub to : Outcome → Endpoint → List ℕ → Sent
+to outcome at bytes = (record { send = Some at; outcome = outcome }, bytes)
 
 abbrev pub proxy : World
 proxy = new_world (record { limits = default_limits; routes = fixed_routes; first_id = 1; salt = 0 })
@@ -54,51 +59,85 @@ proxy = new_world (record { limits = default_limits; routes = fixed_routes; firs
 abbrev pub small_proxy : World
 small_proxy = new_world (record { limits = record default_limits { exchanges = 1 }; routes = fixed_routes; first_id = 1; salt = 0 })
 
--- a Non-confirmable GET of the path `t`, with the id 7
-abbrev pub get_t : List ℕ
-get_t = 0x50 ∷ 1 ∷ 0 ∷ 7 ∷ 0xB1 ∷ 0x74 ∷ []
+-- a proxy whose datagrams have at most 128 bytes
+abbrev pub narrow_proxy : World
+narrow_proxy = new_world (record { limits = record default_limits { datagram = 128 }; routes = fixed_routes; first_id = 1; salt = 0 })
+
+-- a Non-confirmable GET of the path `t`, with the id 7, and what follows
+abbrev pub get_t : List ℕ → List ℕ
+get_t more = 0x50 ∷ 1 ∷ 0 ∷ 7 ∷ 0xB1 ∷ 0x74 ∷ more
 
 -- the request that the origin is sent, with the id 1 and the token of the first exchange
-abbrev pub get_temp : List ℕ
-get_temp = 0x48 ∷ 1 ∷ 0 ∷ 1 ∷ 0 ∷ 0 ∷ 0 ∷ 0 ∷ 0 ∷ 0 ∷ 0 ∷ 1 ∷ 0xB4 ∷ 0x74 ∷ 0x65 ∷ 0x6D ∷ 0x70 ∷ []
+abbrev pub get_temp : List ℕ → List ℕ
+get_temp more = 0x48 ∷ 1 ∷ 0 ∷ 1 ∷ 0 ∷ 0 ∷ 0 ∷ 0 ∷ 0 ∷ 0 ∷ 0 ∷ 1 ∷ 0xB4 ∷ 0x74 ∷ 0x65 ∷ 0x6D ∷ 0x70 ∷ more
 
--- its answer, 2.05 with a Max-Age of ten seconds, and what the client is given for it
+-- an answer to it, with its type, code, id, the last byte of its token, and what follows
+abbrev pub answer : ℕ → ℕ → ℕ → ℕ → List ℕ → List ℕ
+answer kind code id token more = kind ∷ code ∷ 0 ∷ id ∷ 0 ∷ 0 ∷ 0 ∷ 0 ∷ 0 ∷ 0 ∷ 0 ∷ token ∷ more
+
+-- 2.05 with a Max-Age of ten seconds, and what the client is given for it
 abbrev pub content : List ℕ
-content = 0x68 ∷ 0x45 ∷ 0 ∷ 1 ∷ 0 ∷ 0 ∷ 0 ∷ 0 ∷ 0 ∷ 0 ∷ 0 ∷ 1 ∷ 0xD1 ∷ 1 ∷ 10 ∷ 0xFF ∷ 0x32 ∷ 0x31 ∷ []
+content = answer 0x68 0x45 1 1 (0xD1 ∷ 1 ∷ 10 ∷ 0xFF ∷ 0x32 ∷ 0x31 ∷ [])
 
 abbrev pub content_for_client : ℕ → List ℕ
 content_for_client left = 0x50 ∷ 0x45 ∷ 0 ∷ 2 ∷ 0xD1 ∷ 1 ∷ left ∷ 0xFF ∷ 0x32 ∷ 0x31 ∷ []
 
--- the first answer: a request, a tick that sends it on, the answer, a tick that delivers it
+-- a request, a tick that sends it on, an answer, and a tick that delivers it
+abbrev pub answered_by : ℕ → List ℕ → List Moment
+answered_by served response = from 0 (client 1) (get_t []) ∷ tick_at 0 ∷ from 0 origin response ∷ tick_at served ∷ []
+
+abbrev pub delivered_as : List ℕ → List Sent
+delivered_as reply = nothing Opened ∷ to SentRequest origin (get_temp []) ∷ nothing (Answered NotStored) ∷ to Delivered (client 1) reply ∷ []
+
+-- the first answer
 abbrev pub first_answer : List Moment
-first_answer = from 0 (client 1) get_t ∷ tick_at 0 ∷ from 0 origin content ∷ tick_at 0 ∷ []
+first_answer = answered_by 0 content
 
 abbrev pub first_answer_sent : List Sent
-first_answer_sent = nothing ∷ to origin get_temp ∷ nothing ∷ to (client 1) (content_for_client 10) ∷ []
+first_answer_sent = delivered_as (content_for_client 10)
 
 -- the same, delivered 2,500 milliseconds after the answer came: seven seconds are left of its ten
 abbrev pub late_answer : List Moment
-late_answer = from 0 (client 1) get_t ∷ tick_at 0 ∷ from 0 origin content ∷ tick_at 2500 ∷ []
+late_answer = answered_by 2500 content
 
 abbrev pub late_answer_sent : List Sent
-late_answer_sent = nothing ∷ to origin get_temp ∷ nothing ∷ to (client 1) (content_for_client 7) ∷ []
+late_answer_sent = delivered_as (content_for_client 7)
 
--- the response of another endpoint, or with another token or id, is no one's
+-- an error without Max-Age is given one of sixty seconds
+abbrev pub error : List Moment
+error = answered_by 0 (answer 0x68 0x84 1 1 [])
+
+abbrev pub error_sent : List Sent
+error_sent = delivered_as (0x50 ∷ 0x84 ∷ 0 ∷ 2 ∷ 0xD1 ∷ 1 ∷ 60 ∷ [])
+
+-- a 2.04 goes on as it came
+abbrev pub changed : List Moment
+changed = answered_by 0 (answer 0x68 0x44 1 1 [])
+
+abbrev pub changed_sent : List Sent
+changed_sent = delivered_as (0x50 ∷ 0x44 ∷ 0 ∷ 2 ∷ [])
+
+-- a 2.03, and a response with an option that isn't understood, are replaced by 5.02
+abbrev pub valid : List Moment
+valid = answered_by 0 (answer 0x68 0x43 1 1 [])
+
+abbrev pub block_in_response : List Moment
+block_in_response = answered_by 0 (answer 0x68 0x45 1 1 (0xD1 ∷ 10 ∷ 6 ∷ 0xFF ∷ 0x32 ∷ 0x31 ∷ []))
+
+abbrev pub replaced_sent : List Sent
+replaced_sent = delivered_as (0x50 ∷ 0xA2 ∷ 0 ∷ 2 ∷ [])
+
+-- The response of another endpoint, or with another token or id, is no one's; in a confirmable message
+-- it is rejected. The right one is still taken after them.
 abbrev pub impostor : List Moment
 impostor =
-    from 0 (client 1) get_t ∷ tick_at 0 ∷ from 0 (client 2) content
-    ∷ from 0 origin (0x68 ∷ 0x45 ∷ 0 ∷ 1 ∷ 0 ∷ 0 ∷ 0 ∷ 0 ∷ 0 ∷ 0 ∷ 0 ∷ 2 ∷ 0xFF ∷ 0x39 ∷ [])
-    ∷ from 0 origin (0x68 ∷ 0x45 ∷ 0 ∷ 2 ∷ 0 ∷ 0 ∷ 0 ∷ 0 ∷ 0 ∷ 0 ∷ 0 ∷ 1 ∷ 0xFF ∷ 0x39 ∷ []) ∷ tick_at 0 ∷ []
+    from 0 (client 1) (get_t []) ∷ tick_at 0 ∷ from 0 (client 2) content ∷ from 0 origin (answer 0x68 0x45 1 2 (0xFF ∷ 0x39 ∷ [])) ∷ from 0 origin (answer 0x68 0x45 2 1 (0xFF ∷ 0x39 ∷ []))
+    ∷ from 0 origin (answer 0x48 0x45 9 1 (0xFF ∷ 0x39 ∷ [])) ∷ from 0 origin (answer 0x58 0x45 9 1 (0xFF ∷ 0x39 ∷ [])) ∷ tick_at 0 ∷ from 0 origin content ∷ tick_at 0 ∷ []
 
 abbrev pub impostor_sent : List Sent
-impostor_sent = nothing ∷ to origin get_temp ∷ nothing ∷ nothing ∷ nothing ∷ nothing ∷ []
-
--- a response with an option that isn't understood is replaced by 5.02
-abbrev pub block_in_response : List Moment
-block_in_response = from 0 (client 1) get_t ∷ tick_at 0 ∷ from 0 origin (0x68 ∷ 0x45 ∷ 0 ∷ 1 ∷ 0 ∷ 0 ∷ 0 ∷ 0 ∷ 0 ∷ 0 ∷ 0 ∷ 1 ∷ 0xD1 ∷ 10 ∷ 6 ∷ 0xFF ∷ 0x32 ∷ 0x31 ∷ []) ∷ tick_at 0 ∷ []
-
-abbrev pub block_in_response_sent : List Sent
-block_in_response_sent = nothing ∷ to origin get_temp ∷ nothing ∷ to (client 1) (0x50 ∷ 0xA2 ∷ 0 ∷ 2 ∷ []) ∷ []
+impostor_sent =
+    nothing Opened ∷ to SentRequest origin (get_temp []) ∷ nothing Ignored ∷ nothing Ignored ∷ nothing Ignored
+    ∷ to Rejected origin (0x70 ∷ 0 ∷ 0 ∷ 9 ∷ []) ∷ nothing Ignored ∷ nothing Idle ∷ nothing (Answered NotStored) ∷ to Delivered (client 1) (content_for_client 10) ∷ []
 
 -- refusals: a method other than GET, an option that isn't understood, a path without a map
 abbrev pub refusals : List Moment
@@ -107,21 +146,50 @@ refusals =
     ∷ from 0 (client 1) (0x50 ∷ 1 ∷ 0 ∷ 9 ∷ 0xB1 ∷ 0x75 ∷ []) ∷ []
 
 abbrev pub refusals_sent : List Sent
-refusals_sent = to (client 1) (0x50 ∷ 0x85 ∷ 0 ∷ 1 ∷ []) ∷ to (client 1) (0x50 ∷ 0x82 ∷ 0 ∷ 2 ∷ []) ∷ to (client 1) (0x50 ∷ 0x84 ∷ 0 ∷ 3 ∷ []) ∷ []
+refusals_sent =
+    to (Refused METHOD_NOT_ALLOWED) (client 1) (0x50 ∷ 0x85 ∷ 0 ∷ 1 ∷ []) ∷ to (Refused BAD_OPTION) (client 1) (0x50 ∷ 0x82 ∷ 0 ∷ 2 ∷ [])
+    ∷ to (Refused NOT_FOUND) (client 1) (0x50 ∷ 0x84 ∷ 0 ∷ 3 ∷ []) ∷ []
+
+-- a second segment of so many bytes, from 13 to 268
+abbrev pub segment : ℕ → List ℕ
+segment n = 0x0D ∷ (n - 13) ∷ replicate n 0x61
+
+-- with a segment of 110 bytes the request that would be sent on has 129 bytes, with one of 109 it has 128
+abbrev pub long_paths : List Moment
+long_paths = from 0 (client 1) (get_t (segment 110)) ∷ from 0 (client 1) (get_t (segment 109)) ∷ tick_at 0 ∷ []
+
+abbrev pub long_paths_sent : List Sent
+long_paths_sent = to (Refused REQUEST_ENTITY_TOO_LARGE) (client 1) (0x50 ∷ 0x8D ∷ 0 ∷ 1 ∷ []) ∷ nothing Opened ∷ to SentRequest origin (0x48 ∷ 1 ∷ 0 ∷ 2 ∷ 0 ∷ 0 ∷ 0 ∷ 0 ∷ 0 ∷ 0 ∷ 0 ∷ 1 ∷ 0xB4 ∷ 0x74 ∷ 0x65 ∷ 0x6D ∷ 0x70 ∷ segment 109) ∷ []
+
+-- the payload of a GET is ignored
+abbrev pub payload_in_get : List Moment
+payload_in_get = from 0 (client 1) (get_t (0xFF ∷ 0x39 ∷ [])) ∷ tick_at 0 ∷ []
+
+abbrev pub payload_in_get_sent : List Sent
+payload_in_get_sent = nothing Opened ∷ to SentRequest origin (get_temp []) ∷ []
 
 -- two clients where there is room for one exchange: the second is told to try again after five seconds
 abbrev pub full : List Moment
-full = from 0 (client 1) get_t ∷ from 0 (client 3) (0x50 ∷ 1 ∷ 0 ∷ 1 ∷ 0xB1 ∷ 0x74 ∷ []) ∷ []
+full = from 0 (client 1) (get_t []) ∷ from 0 (client 3) (get_t []) ∷ []
 
 abbrev pub full_sent : List Sent
-full_sent = nothing ∷ to (client 3) (0x50 ∷ 0xA3 ∷ 0 ∷ 1 ∷ 0xD1 ∷ 1 ∷ 5 ∷ []) ∷ []
+full_sent = nothing Opened ∷ to Overloaded (client 3) (0x50 ∷ 0xA3 ∷ 0 ∷ 1 ∷ 0xD1 ∷ 1 ∷ 5 ∷ []) ∷ []
 
--- empty and malformed messages: a Reset where they are confirmable, else silence
+-- empty and malformed messages, and one of a class that isn't used: a Reset where they are confirmable,
+-- else silence; fewer than four bytes, and another version, are no messages
 abbrev pub unprocessed_messages : List Moment
 unprocessed_messages =
     from 0 (client 1) (0x40 ∷ 0 ∷ 0 ∷ 9 ∷ []) ∷ from 0 (client 1) (0x50 ∷ 0 ∷ 0 ∷ 9 ∷ []) ∷ from 0 (client 1) (0x40 ∷ 0 ∷ 0 ∷ 9 ∷ 0 ∷ [])
-    ∷ from 0 (client 1) (0x40 ∷ 1 ∷ 0 ∷ 7 ∷ 0xFF ∷ []) ∷ from 0 (client 1) (0x40 ∷ 0x20 ∷ 0 ∷ 4 ∷ []) ∷ from 0 (client 1) (0x10 ∷ 1 ∷ 0 ∷ 7 ∷ []) ∷ []
+    ∷ from 0 (client 1) (0x40 ∷ 1 ∷ 0 ∷ 7 ∷ 0xFF ∷ []) ∷ from 0 (client 1) (0x40 ∷ 0x20 ∷ 0 ∷ 4 ∷ []) ∷ from 0 (client 1) (0x40 ∷ 1 ∷ 0 ∷ []) ∷ from 0 (client 1) (0 ∷ 1 ∷ 0 ∷ 7 ∷ []) ∷ []
 
 abbrev pub unprocessed_messages_sent : List Sent
 unprocessed_messages_sent =
-    to (client 1) (0x70 ∷ 0 ∷ 0 ∷ 9 ∷ []) ∷ nothing ∷ to (client 1) (0x70 ∷ 0 ∷ 0 ∷ 9 ∷ []) ∷ to (client 1) (0x70 ∷ 0 ∷ 0 ∷ 7 ∷ []) ∷ to (client 1) (0x70 ∷ 0 ∷ 0 ∷ 4 ∷ []) ∷ nothing ∷ []
+    to Rejected (client 1) (0x70 ∷ 0 ∷ 0 ∷ 9 ∷ []) ∷ nothing Ignored ∷ to Rejected (client 1) (0x70 ∷ 0 ∷ 0 ∷ 9 ∷ [])
+    ∷ to Rejected (client 1) (0x70 ∷ 0 ∷ 0 ∷ 7 ∷ []) ∷ to Rejected (client 1) (0x70 ∷ 0 ∷ 0 ∷ 4 ∷ []) ∷ nothing Ignored ∷ nothing Ignored ∷ []
+
+-- a confirmable message that is longer than a datagram may be
+abbrev pub too_long : List Moment
+too_long = from 0 (client 1) (0x40 ∷ 1 ∷ 0 ∷ 7 ∷ 0xFF ∷ replicate 124 0x39) ∷ []
+
+abbrev pub too_long_sent : List Sent
+too_long_sent = to Rejected (client 1) (0x70 ∷ 0 ∷ 0 ∷ 7 ∷ []) ∷ []

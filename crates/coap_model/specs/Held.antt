@@ -21,7 +21,7 @@ host_bytes (Some host) = value_bytes host
 abbrev pub target_bytes : Target → ℕ
 target_bytes t = host_bytes t.host + (sum_by value_bytes t.path + sum_by value_bytes t.query)
 
--- the token and the id of a response aren't kept
+-- a response counts without its token and its id
 abbrev pub response_bytes : Message → ℕ
 response_bytes m = sum_by (λ o. value_bytes o.value) m.options + length m.payload
 

@@ -88,11 +88,11 @@ target_options t = host_options t.host ++ (map (option_of 11) t.path ++ map (opt
 abbrev pub forwarded : List ℕ → Target → ℕ → Message
 forwarded token t id = record { kind = Con; code = GET; id = id; token = token; options = target_options t; payload = [] }
 
--- the target of a request that was sent to an endpoint, read off the request
 abbrev pub first_value : List (List ℕ) → Option (List ℕ)
 first_value [] = None
 first_value (value ∷ values) = Some value
 
+-- the target of a request that was sent to an endpoint, read off the request
 unfoldable pub target_sent : Endpoint → Message → Target
 target_sent to m = record { host = first_value (values_of 3 m.options); at = to; path = values_of 11 m.options; query = values_of 15 m.options }
 
@@ -148,18 +148,20 @@ abbrev pub max_age_of : List Opt → ℕ
 max_age_of [] = 60
 max_age_of (o ∷ more) = uint_of o.value
 
--- what is left of a Max-Age: less the age, rounded up to whole seconds, and not below 0
+-- How long an answer stays fresh from a moment on, in seconds. A second that has begun counts as gone (RFC
+-- 7252, 5.7.1).
 abbrev pub left_of : ℕ → Answer → ℕ
 left_of now a = max_age_of a.message.options - (now - a.got + 999) / 1000
 
--- an origin's 2.05 and its errors carry their age (RFC 7252, 5.6.1)
+-- a 2.05 and the errors of an origin are told with a Max-Age (RFC 7252, 5.7.1)
 abbrev pub carries_max_age : Answer → Bool
 carries_max_age a = not a.own && (is_code a.message.code CONTENT || nat_le 4 (a.message.code.0 / 32))
 
 abbrev pub shown_options : ℕ → Answer → List Opt
 shown_options now a = if carries_max_age a then max_age_option (left_of now a) ∷ [] else a.message.options
 
--- what a client is given for an answer: the client's token, a new id, and exactly one Max-Age with what
--- is left where the answer carries one
+-- What a client is given for an answer: its own token, an id, the code and the payload of the answer. Where
+-- a Max-Age is told, it says how long the answer still is fresh, and no other option goes with it; else the
+-- options are those of the answer.
 abbrev pub shown : ℕ → Answer → ℕ → List ℕ → Message
 shown now a id token = record { kind = Non; code = a.message.code; id = id; token = token; options = shown_options now a; payload = a.message.payload }

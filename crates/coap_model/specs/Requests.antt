@@ -1,4 +1,4 @@
--- The step of a request (RFC 7252, 5.7.2).
+-- The step of a request (RFC 7252, 5.7.3).
 use Rattle.std.specs.Prelude.{ℕ, ◌+◌, if◌then◌else◌, List, [], ◌∷◌, ◌++◌}
 use Rattle.coap_message.specs.declared.code.Code.{Code}
 use Rattle.coap_message.specs.Message.{Message}

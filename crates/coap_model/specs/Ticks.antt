@@ -93,7 +93,7 @@ without number xs = filter (λ x. not (x.0 == number)) xs
 abbrev pub is_awaited : ℕ → List (Numbered Waiter) → Bool
 is_awaited number waiters = list_any (λ v. v.1.exchange == number) waiters
 
--- an exchange is closed with its last waiter
+-- when nobody waits for an exchange any more, it is closed
 abbrev pub without_idle : ℕ → List (Numbered Waiter) → List (Numbered Exchange) → List (Numbered Exchange)
 without_idle number waiters exchanges = if is_awaited number waiters then exchanges else without number exchanges
 

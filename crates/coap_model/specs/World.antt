@@ -52,7 +52,7 @@ says outcome to m w = record { report = record { send = Some to; outcome = outco
 
 -- ---- message ids
 
--- the id that is given next: each is the former plus one, modulo 65,536 (RFC 7252, 4.4)
+-- the id that is given next: this proxy counts them up, and begins anew at 0 behind 65,535 (RFC 7252, 4.4)
 abbrev pub next_id : World → ℕ
 next_id w = (w.setting.first_id + w.given) % 65536
 

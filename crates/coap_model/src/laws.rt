@@ -9,17 +9,23 @@ ghost use Rattle.coap_model.specs.History.{Entry};
 ghost use Rattle.coap_model.specs.Carries.{Carries, entry_of, IsEvent};
 ghost use Rattle.coap_model.specs.Promised.{Promised};
 ghost use Rattle.coap_model.specs.Runs.{Turn, AreTurns, new_run, run_of};
-ghost use Rattle.coap_model.specs.Examples.{play, proxy, small_proxy, first_answer, first_answer_sent, late_answer, late_answer_sent, impostor, impostor_sent, block_in_response, block_in_response_sent, refusals, refusals_sent, full, full_sent, unprocessed_messages, unprocessed_messages_sent};
+ghost use Rattle.coap_model.specs.Examples.{play, proxy, small_proxy, narrow_proxy, first_answer, first_answer_sent, late_answer, late_answer_sent, error, error_sent, changed, changed_sent, valid, replaced_sent, block_in_response, impostor, impostor_sent, refusals, refusals_sent, long_paths, long_paths_sent, payload_in_get, payload_in_get_sent, full, full_sent, unprocessed_messages, unprocessed_messages_sent, too_long, too_long_sent};
 
 /// Runs of the step, computed on the definitions.
 pub fn examples()
     ensures first_answer { play proxy first_answer ≡ first_answer_sent }
     ensures late_answer { play proxy late_answer ≡ late_answer_sent }
+    ensures error { play proxy error ≡ error_sent }
+    ensures changed { play proxy changed ≡ changed_sent }
+    ensures valid { play proxy valid ≡ replaced_sent }
+    ensures block_in_response { play proxy block_in_response ≡ replaced_sent }
     ensures impostor { play proxy impostor ≡ impostor_sent }
-    ensures block_in_response { play proxy block_in_response ≡ block_in_response_sent }
     ensures refusals { play proxy refusals ≡ refusals_sent }
+    ensures long_paths { play narrow_proxy long_paths ≡ long_paths_sent }
+    ensures payload_in_get { play proxy payload_in_get ≡ payload_in_get_sent }
     ensures full { play small_proxy full ≡ full_sent }
     ensures unprocessed { play proxy unprocessed_messages ≡ unprocessed_messages_sent }
+    ensures too_long { play narrow_proxy too_long ≡ too_long_sent }
 {}
 
 /// Each step of a proxy that carries a history leaves a proxy that carries the history with the step's

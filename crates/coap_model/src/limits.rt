@@ -166,7 +166,7 @@ pub struct Limits {
     pub exchanges: u64,
     /// The greatest number of clients that wait.
     pub waiters: u64,
-    /// How many exchanges with one endpoint may be sent and unanswered (RFC 7252, 4.7).
+    /// How many requests to one endpoint may be neither acknowledged nor answered (RFC 7252, 4.7).
     pub nstart: u64,
     /// The greatest length of a datagram, in bytes.
     pub datagram: u64,

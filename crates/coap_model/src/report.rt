@@ -34,7 +34,7 @@ pub enum Outcome {
     Joined,
     /// An exchange was opened, and the client waits for it.
     Opened,
-    /// There was no room for an exchange or a client: 5.03.
+    /// There was no room for an exchange or a client, or too few message ids were free: 5.03.
     Overloaded,
     /// No message id was free for the reply.
     NoId,
@@ -48,7 +48,7 @@ pub enum Outcome {
     Resent,
     /// A client was given its answer.
     Delivered,
-    /// A message was sent for the last time, and no answer came.
+    /// No answer came in time, or no acknowledgement after the last repetition.
     GaveUp,
     /// Nothing was due.
     Idle,
