@@ -45,22 +45,6 @@ impl Limit {
         Limit::RetryS,
     ];
 
-    /// The name under which it is written in a configuration.
-    pub fn name(self) -> &'static str {
-        match self {
-            Limit::CacheBytes => "cache_bytes",
-            Limit::CacheEntries => "cache_entries",
-            Limit::ConRecords => "con_records",
-            Limit::NonRecords => "non_records",
-            Limit::Exchanges => "exchanges",
-            Limit::Waiters => "waiters",
-            Limit::Nstart => "nstart",
-            Limit::Datagram => "datagram",
-            Limit::ExchangeMs => "exchange_ms",
-            Limit::RetryS => "retry_s",
-        }
-    }
-
     /// The least and the greatest value.
     pub fn range(self) -> (u64, u64)
         ensures exact { result ≡ range_of self }
