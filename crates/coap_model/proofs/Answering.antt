@@ -1,7 +1,6 @@
 -- An answer that is got keeps what is carried.
-use Rattle.std.proofs.Common.{◌≡◌, inl, inr, ⊎_elim, ℕ, ◌^◌, ◌<◌, ◌≤◌, true, false, List, ◌∷◌, Some, refl, sym, ap, ◌∙◌, subst, arith}
+use Rattle.std.proofs.Common.{◌≡◌, inl, inr, ⊎_elim, ℕ, ◌^◌, ◌<◌, ◌≤◌, true, List, ◌∷◌, Some, refl, sym, ap, ◌∙◌, subst, arith}
 use Rattle.std.specs.Prelude.{◌&&◌, nat_eq}
-use Rattle.std.specs.List.{AllByRecursion}
 use Rattle.std.specs.Cmp.Lexicographic.{pointwise}
 use Rattle.std.proofs.lemmas.Bool.{eqb-true, and_parts}
 use Rattle.coap_message.specs.declared.kind.Kind.{Kind}
@@ -12,24 +11,23 @@ use Rattle.coap_message.specs.Spelling.{Spells}
 use Rattle.coap_message.proofs.WholeMessages.{one_message}
 use Rattle.coap_target.specs.declared.endpoint.Endpoint.{Endpoint}
 use Rattle.coap_target.specs.Endpoint.{same_endpoint}
-use Rattle.coap_target.specs.declared.target.Target.{Target}
 use Rattle.coap_exchange.specs.declared.exchange.ExchangeState.{ExchangeState}
 use Rattle.coap_exchange.specs.declared.exchange.ExchangeState.TheVariants.{Queued, Sent, Done}
 use Rattle.coap_exchange.specs.declared.exchange.Exchange.{Exchange}
 use Rattle.coap_exchange.specs.declared.exchange.Sending.{Sending}
 use Rattle.coap_model.specs.Events.{arrival}
 use Rattle.coap_model.specs.Messages.{is_ack, is_response, token_of, answer_of}
-use Rattle.coap_model.specs.World.{World, Numbered, is_queued}
+use Rattle.coap_model.specs.World.{World, Numbered, is_queued, is_done}
 use Rattle.coap_model.specs.Step.{message_in}
 use Rattle.coap_model.specs.Responses.{has_id, awaits, awaiting, moved, answers}
 use Rattle.coap_model.specs.History.{Entry, Never, Sends, Gets}
 use Rattle.coap_model.specs.Justified.{on_exchange, answered}
 use Rattle.coap_model.specs.Carries.{WasAsked, IsState, IsExchangeOf, Carries, entry_of}
 use Rattle.coap_model.proofs.Endpoints.{text_is, endpoint_is}
-use Rattle.coap_model.proofs.Lists.{find-holds, All-map, All-weaken}
-use Rattle.coap_model.proofs.Places.{here, Never-at, Opens-number, arrival-same}
+use Rattle.coap_model.proofs.Lists.{find-holds, All-map, Has, All-there}
+use Rattle.coap_model.proofs.Places.{here, Opens-number, arrival-same}
 use Rattle.coap_model.proofs.Spelled.{token-same, message_in-is}
-use Rattle.coap_model.proofs.Tables.{moved-cases, length-with_state, IsRising-with_state, ArePaired-with_state, HasNumber-with_state, NotQueued, queued-same}
+use Rattle.coap_model.proofs.Tables.{moved-cases, length-with_state, IsRising-with_state, ArePaired-with_state, HasNumber-with_state, one, count-moved}
 use Rattle.coap_model.proofs.Frames.{exchange_frame, waiters_frame, fresh_frame, sends-not, number-small}
 use Rattle.coap_model.proofs.Forwarding.{same_target}
 
@@ -50,7 +48,9 @@ sent_with id (Done a) e = absurd cc
 -- what is known of an exchange that awaits this response
 record IsAwaited (w : World) (history : List Entry) (source : Endpoint) (m : Message) (x : Numbered Exchange) : Type 0 where
   pub exchange : IsExchangeOf w.setting history x
+  pub there : Has x w.exchanges
   pub sending : Sending
+  pub state_is : x.1.state ≡ Sent sending
   pub was : WasAsked w.setting history x.0 x.1.target sending.id sending.asked
   pub ungot : Never (Gets w.setting.salt x.0) history
   pub source_is : x.1.target.at ≡ source
@@ -59,21 +59,12 @@ record IsAwaited (w : World) (history : List Entry) (source : Endpoint) (m : Mes
 
 awaited : (w : World) (history : List Entry) → Carries history w → (source : Endpoint) (m : Message) (x : Numbered Exchange) → awaiting w source m ≡ Some x → IsAwaited w history source m x
 awaited w history c source m x found =
-    let f = find-holds (IsExchangeOf w.setting history) (awaits w.setting.salt source m) w.exchanges x c.exchanges found in
+    let f = find-holds (λ y. IsExchangeOf w.setting history y × Has y w.exchanges) (awaits w.setting.salt source m) w.exchanges x (All-there (IsExchangeOf w.setting history) w.exchanges c.exchanges) found in
     let parts = and_parts (has_id m.id x.1.state) (same_endpoint x.1.target.at source && pointwise nat_eq (token_of w.setting.salt x.0) m.token) f.1 in
     let more = and_parts (same_endpoint x.1.target.at source) (pointwise nat_eq (token_of w.setting.salt x.0) m.token) parts.1 in
     let sent = sent_with m.id x.1.state parts.0 in
-    let state : IsState w.setting history x.0 x.1.target (Sent sent.0) = subst (IsState w.setting history x.0 x.1.target) sent.1 f.0.state in
-    record { exchange = f.0; sending = sent.0; was = state.0; ungot = state.1; source_is = endpoint_is x.1.target.at source more.0; id_is = sent.2; token_is = sym (text_is _ _ more.1) }
-
--- what was asked is queued no more
-asked_once : (w : World) (history : List Entry) (x : ℕ) (target : Target) (id number : ℕ) → WasAsked w.setting history x target id number → (y : Numbered Exchange) → IsExchangeOf w.setting history y → NotQueued x y
-asked_once w history x target id number was y g same = go y.1.state g.state
-  where
-    go : (s : ExchangeState) → IsState w.setting history y.0 y.1.target s → is_queued s ≡ false
-    go Queued state = absurd (Never-at (Sends w.setting.salt y.0) history was.asking state.0 was.was_asked (subst (λ (n : ℕ). Sends w.setting.salt n was.asking) (sym same) was.asks.sends))
-    go (Sent s) state = refl
-    go (Done a) state = refl
+    let state : IsState w.setting history x.0 x.1.target (Sent sent.0) = subst (IsState w.setting history x.0 x.1.target) sent.1 f.0.0.state in
+    record { exchange = f.0.0; there = f.0.1; sending = sent.0; state_is = sent.1; was = state.0; ungot = state.1; source_is = endpoint_is x.1.target.at source more.0; id_is = sent.2; token_is = sym (text_is _ _ more.1) }
 
 -- ---- the rule
 
@@ -108,8 +99,10 @@ keeps_answering w history c now draw source bytes m x onward fits read response 
     let same : m ≡ g.response = one_message g.came.bytes m g.response (subst (λ (b : List ℕ). Spells b m) came.1 spells) g.came.spells in
     sym (token-same salt x.0 n (number-small history w c x f) below (sym a.token_is ∙ ap (λ (r : Message). r.token) same ∙ g.token)) in
     let next : ExchangeState = Done (answer_of w.setting.limits.datagram now m) in
-    let unqueued : AllByRecursion (NotQueued x.0) w.exchanges = All-weaken (IsExchangeOf w.setting history) (NotQueued x.0) w.exchanges (λ y g. asked_once w history x.0 x.1.target a.sending.id a.sending.asked a.was y g) c.exchanges in
-    let as_many = queued-same x.0 next w.exchanges refl unqueued in
+    let as_many_queued = count-moved is_queued x 0 next w.exchanges c.whole.rising a.there in
+    let more_done = count-moved is_done x 0 next w.exchanges c.whole.rising a.there in
+    let was_sent : one (is_queued x.1.state) ≡ 0 = ap (λ (s : ExchangeState). one (is_queued s)) a.state_is in
+    let was_not_done : one (is_done x.1.state) ≡ 0 = ap (λ (s : ExchangeState). one (is_done s)) a.state_is in
     record {
       acts = on_exchange x.0 ∷ c.acts;
       routes = c.routes;
@@ -146,6 +139,7 @@ keeps_answering w history c now draw source bytes m x onward fits read response 
         complete = λ n positive le. ⊎_elim (λ there. inl (HasNumber-with_state x.0 n next w.exchanges there)) (λ served. inr served) (c.whole.complete n positive (omega arith));
         under_way = let h = c.whole.under_way in let l = length-with_state x.0 next w.exchanges in omega arith;
         unsent = let h = c.whole.unsent in omega arith;
+        unserved = let h = c.whole.unserved in omega arith;
       };
       within = record { exchanges = let h = c.within.exchanges in let l = length-with_state x.0 next w.exchanges in omega arith; waiters = c.within.waiters; ids = let h = c.within.ids in omega arith };
       past = answered e x.0 c.past refl (record { gets = gets; first = a.ungot; short = read_in.1; silent = record { sent = refl; bytes = refl } });

@@ -71,7 +71,7 @@ served-got {setting = setting} (delivered {past = past} e waiter j o d fresh) n 
     m
 served-got (rejected e j o r) n m = before e (served-got j n m)
 served-got (ignored e j o r) n m = before e (served-got j n m)
-served-got (idle e j o t r) n m = before e (served-got j n m)
+served-got (idle e j o r) n m = before e (served-got j n m)
 
 -- ---- the table
 

@@ -9,7 +9,8 @@ use Rattle.coap_model.specs.History.{Entry}
 use Rattle.coap_model.specs.Justified.{nothing_yet}
 use Rattle.coap_model.specs.Carries.{Carries, IsEvent, entry_of}
 use Rattle.coap_model.proofs.Rules.{Rule, refusing, lacking, overloading, opening, answering, rejecting, ignoring, forwarding, delivering, idling, rule_of}
-use Rattle.coap_model.proofs.Replying.{keeps_refusing, keeps_overloading, keeps_lacking, keeps_rejecting, keeps_ignoring, keeps_idling}
+use Rattle.coap_model.proofs.Replying.{keeps_refusing, keeps_overloading, keeps_lacking, keeps_rejecting, keeps_ignoring}
+use Rattle.coap_model.proofs.Idling.{keeps_idling}
 use Rattle.coap_model.proofs.Opening.{keeps_opening}
 use Rattle.coap_model.proofs.Forwarding.{keeps_forwarding}
 use Rattle.coap_model.proofs.Answering.{keeps_answering}
@@ -25,7 +26,7 @@ keeps_rule {w = w} {now = now} {draw = draw} history c onward (rejecting source 
 keeps_rule {w = w} {now = now} {draw = draw} history c onward (ignoring source bytes none) = keeps_ignoring w history c now draw source bytes onward none
 keeps_rule {w = w} {now = now} {draw = draw} history c onward (forwarding x due) = keeps_forwarding w history c now draw x onward due
 keeps_rule {w = w} {now = now} {draw = draw} history c onward (delivering v a due) = keeps_delivering w history c now draw v a onward due
-keeps_rule {w = w} {now = now} {draw = draw} history c onward (idling nothing) = keeps_idling w history c now draw onward
+keeps_rule {w = w} {now = now} {draw = draw} history c onward (idling nothing) = keeps_idling w history c now draw onward nothing
 
 pub keeps_step : (w : World) (history : List Entry) (now draw : ℕ) (event : Event) → Carries history w → w.last ≤ now → IsEvent event → Carries (entry_of now draw event (step_of w now draw event) ∷ history) (step_of w now draw event).world
 keeps_step w history now draw event c onward fits = keeps_rule history c onward (rule_of w now draw event fits)
@@ -41,7 +42,7 @@ starts setting are =
       fresh = λ x above small. (tt, tt);
       exchanges = tt;
       waiters = tt;
-      whole = record { rising = tt; paired = tt; complete = λ n positive le. absurd (omega arith); under_way = refl; unsent = refl };
+      whole = record { rising = tt; paired = tt; complete = λ n positive le. absurd (omega arith); under_way = refl; unsent = refl; unserved = refl };
       within = record { exchanges = omega arith; waiters = omega arith; ids = omega arith };
       past = nothing_yet;
     }

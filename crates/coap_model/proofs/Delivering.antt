@@ -9,20 +9,20 @@ use Rattle.coap_target.specs.declared.target.Target.{Target}
 use Rattle.coap_target.specs.Routes.{target_of}
 use Rattle.coap_exchange.specs.declared.exchange.Answer.{Answer}
 use Rattle.coap_exchange.specs.declared.exchange.ExchangeState.{ExchangeState}
-use Rattle.coap_exchange.specs.declared.exchange.ExchangeState.TheVariants.{Queued, Sent, Done}
+use Rattle.coap_exchange.specs.declared.exchange.ExchangeState.TheVariants.{Done}
 use Rattle.coap_exchange.specs.declared.exchange.Exchange.{Exchange}
 use Rattle.coap_exchange.specs.declared.waiter.Waiter.{Waiter}
 use Rattle.coap_model.specs.Events.{tick}
 use Rattle.coap_model.specs.Messages.{answer_of, shown}
-use Rattle.coap_model.specs.World.{World, Numbered, is_queued, next_id, later}
+use Rattle.coap_model.specs.World.{World, Numbered, is_queued, is_done, count_of, next_id, later}
 use Rattle.coap_model.specs.Ticks.{serving, least, items_of, if_due, answer_in, without, without_idle, delivers}
-use Rattle.coap_model.specs.History.{Entry, Place, index, Opens, Gets}
+use Rattle.coap_model.specs.History.{Entry, Place, index, Opens}
 use Rattle.coap_model.specs.Justified.{IsRequestOf, IsMember, Act, served_by, on_waiter, delivered, IsDelivery}
 use Rattle.coap_model.specs.Carries.{WasGot, IsState, IsExchangeOf, IsGotBy, IsWaiterOf, HasNumber, Carries, entry_of}
-use Rattle.coap_model.proofs.Lists.{All-weaken, All-filter}
+use Rattle.coap_model.proofs.Lists.{All-weaken, All-filter, Has, All-there}
 use Rattle.coap_model.proofs.Places.{Never-at, Opens-unique, request-unique}
 use Rattle.coap_model.proofs.Spelled.{shown-is}
-use Rattle.coap_model.proofs.Tables.{due-serving, answer-holds, answer-number, IsRising-without, ArePaired-without, length-paired, length-without, HasNumber-without, HasNumber-paired, NotQueued, queued-without, not_awaited}
+use Rattle.coap_model.proofs.Tables.{due-serving, answer-holds, answer-number, IsRising-without, ArePaired-without, length-paired, length-without, HasNumber-without, HasNumber-paired, one, count-without, not_awaited}
 use Rattle.coap_model.proofs.Frames.{exchange_frame, waiter_frame, fresh_frame, sends-not, gets-not}
 use Rattle.coap_model.proofs.Replying.{id-same}
 
@@ -32,18 +32,19 @@ use Rattle.coap_model.proofs.Replying.{id-same}
 record IsServed (w : World) (history : List Entry) (acts : List Act) (v : Numbered Waiter) (a : Answer) : Type 0 where
   pub waiter : IsWaiterOf w.setting history acts v
   pub there : HasNumber v.0 w.exchanges
+  pub counted : (t : ExchangeState → Bool) → count_of t (without v.0 w.exchanges) + one (t (Done a)) ≡ count_of t w.exchanges
   pub target : Target
   pub target_is : target_of w.setting.routes waiter.request ≡ Some target
   pub got : WasGot w.setting history v.0 target a
 
 served : (w : World) (history : List Entry) (c : Carries history w) (now : ℕ) (v : Numbered Waiter) (a : Answer) → if_due now (least (items_of w)) ≡ Some (serving v a) → IsServed w history c.acts v a
 served w history c now v a due =
-    let one = due-serving (IsExchangeOf w.setting history) (IsWaiterOf w.setting history c.acts) w.exchanges w.waiters now v a c.exchanges c.waiters due in
-    let g = one.0 in
-    let answer : answer_in v.0 w.exchanges ≡ Some a = subst (λ (n : ℕ). answer_in n w.exchanges ≡ Some a) g.exchange one.1 in
-    let found = answer-holds (IsExchangeOf w.setting history) w.exchanges v.0 a c.exchanges answer in
+    let item = due-serving (IsExchangeOf w.setting history) (IsWaiterOf w.setting history c.acts) w.exchanges w.waiters now v a c.exchanges c.waiters due in
+    let g = item.0 in
+    let answer : answer_in v.0 w.exchanges ≡ Some a = subst (λ (n : ℕ). answer_in n w.exchanges ≡ Some a) g.exchange item.1 in
+    let found = answer-holds (λ y. IsExchangeOf w.setting history y × Has y w.exchanges) w.exchanges v.0 a (All-there (IsExchangeOf w.setting history) w.exchanges c.exchanges) answer in
     let x = found.0 in
-    let f = found.1 in
+    let f = found.1.0 in
     let same : x.0 ≡ v.0 = found.2 in
     let state : WasGot w.setting history x.0 x.1.target a = subst (IsState w.setting history x.0 x.1.target) found.3 f.state in
     let place = Opens-unique history f.opening g.admission v.0 f.was_opened g.was_admitted (subst (λ (n : ℕ). Opens n f.opening) same f.opens) g.opens in
@@ -51,19 +52,13 @@ served w history c now v a due =
     record {
       waiter = g;
       there = answer-number w.exchanges v.0 a answer;
+      counted = λ t.
+          subst (λ (s : ExchangeState). count_of t (without v.0 w.exchanges) + one (t s) ≡ count_of t w.exchanges) found.3
+          (subst (λ (n : ℕ). count_of t (without n w.exchanges) + one (t x.1.state) ≡ count_of t w.exchanges) same (count-without t x 0 w.exchanges c.whole.rising found.1.1));
       target = x.1.target;
       target_is = sym (ap (target_of w.setting.routes) request.1) ∙ f.target_is;
       got = subst (λ (n : ℕ). WasGot w.setting history n x.1.target a) same state;
     }
-
--- what was got is queued no more
-got_once : (w : World) (history : List Entry) (n : ℕ) (target : Target) (a : Answer) → WasGot w.setting history n target a → (y : Numbered Exchange) → IsExchangeOf w.setting history y → NotQueued n y
-got_once w history n target a got y g same = go y.1.state g.state
-  where
-    go : (s : ExchangeState) → IsState w.setting history y.0 y.1.target s → is_queued s ≡ false
-    go Queued state = absurd (Never-at (Gets w.setting.salt y.0) history got.getting state.1 got.was_got (subst (λ (k : ℕ). Gets w.setting.salt k got.getting) (sym same) got.gets))
-    go (Sent s) state = refl
-    go (Done b) state = refl
 
 -- ---- what is told
 
@@ -141,7 +136,8 @@ keeps_delivering w history c now draw v a onward due =
     let fewer = length-without v.0 0 w.exchanges s.there c.whole.rising in
     let paired_before = length-paired w.exchanges w.waiters c.whole.paired in
     let paired_after = length-paired (without v.0 w.exchanges) (without v.0 w.waiters) left in
-    let as_many = queued-without v.0 w.exchanges (All-weaken (IsExchangeOf w.setting history) (NotQueued v.0) w.exchanges (λ y g. got_once w history v.0 s.target a s.got y g) c.exchanges) in
+    let as_many_queued = s.counted is_queued in
+    let fewer_done = s.counted is_done in
     subst (λ (xs : List (Numbered Exchange)). Carries (e ∷ history) (record (later w now) { waiters = without v.0 w.waiters; exchanges = xs; given = w.given + 1 })) (sym (exchanges_left w history c v s.waiter.exchange)) (
     record {
       acts = on_waiter v.0 ∷ c.acts;
@@ -161,6 +157,7 @@ keeps_delivering w history c now draw v a onward due =
         complete = λ n positive le. complete_left (eqb n v.0) n refl (c.whole.complete n positive (omega arith));
         under_way = let h = c.whole.under_way in omega arith;
         unsent = let h = c.whole.unsent in omega arith;
+        unserved = let h = c.whole.unserved in omega arith;
       };
       within = record { exchanges = let h = c.within.exchanges in omega arith; waiters = let h = c.within.waiters in omega arith; ids = let h = c.within.ids in omega arith };
       past = delivered e v.0 c.past refl (delivery w history c.acts e (next_id w) v a s refl refl spells) s.waiter.unserved;

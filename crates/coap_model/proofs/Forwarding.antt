@@ -1,6 +1,5 @@
 -- Sending a request on keeps what is carried.
-use Rattle.std.proofs.Common.{◌≡◌, inl, inr, ⊎_elim, ℕ, ◌^◌, ◌<◌, ◌≤◌, true, List, [], ◌∷◌, Some, refl, sym, ap, ◌∙◌, subst, arith}
-use Rattle.std.specs.List.{AllByRecursion}
+use Rattle.std.proofs.Common.{◌≡◌, inl, inr, ⊎_elim, ℕ, ◌^◌, ◌<◌, ◌≤◌, true, List, ◌∷◌, Some, refl, sym, ap, ◌∙◌, subst, arith}
 use Rattle.coap_message.specs.Message.{Message}
 use Rattle.coap_message.specs.Spelling.{Spells, spelling}
 use Rattle.coap_message.proofs.Spellings.{spelled}
@@ -11,17 +10,17 @@ use Rattle.coap_exchange.specs.declared.exchange.ExchangeState.TheVariants.{Queu
 use Rattle.coap_exchange.specs.declared.exchange.Exchange.{Exchange}
 use Rattle.coap_model.specs.Events.{tick}
 use Rattle.coap_model.specs.Messages.{token_of, forwarded}
-use Rattle.coap_model.specs.World.{World, Numbered, is_queued, next_id}
+use Rattle.coap_model.specs.World.{World, Numbered, is_queued, is_done, next_id}
 use Rattle.coap_model.specs.Responses.{moved}
 use Rattle.coap_model.specs.Ticks.{sending, least, items_of, if_due, with_id, sends}
 use Rattle.coap_target.specs.Routes.{target_of}
 use Rattle.coap_model.specs.History.{Entry, Place, Opens, Sends, Gets}
 use Rattle.coap_model.specs.Justified.{IsRequestOf, on_exchange, asked}
 use Rattle.coap_model.specs.Carries.{IsState, IsExchangeOf, IsWaiterOf, Carries, entry_of}
-use Rattle.coap_model.proofs.Lists.{All-map}
+use Rattle.coap_model.proofs.Lists.{All-map, Has, All-there}
 use Rattle.coap_model.proofs.Places.{here, Opens-number, Opens-unique, request-unique}
 use Rattle.coap_model.proofs.Spelled.{forwarded-is, length-token_of, token-same, with_id-forwarded, target_sent-forwarded}
-use Rattle.coap_model.proofs.Tables.{due-sending, moved-cases, length-with_state, IsRising-with_state, ArePaired-with_state, HasNumber-with_state, HasQueued, queued-there, queued-sent}
+use Rattle.coap_model.proofs.Tables.{due-sending, moved-cases, length-with_state, IsRising-with_state, ArePaired-with_state, HasNumber-with_state, one, count-moved}
 use Rattle.coap_model.proofs.Frames.{exchange_frame, waiters_frame, fresh_frame, gets-not, number-small}
 use Rattle.coap_model.proofs.Replying.{id-same}
 
@@ -41,15 +40,6 @@ same_target w history x y f g same =
     some-same : (a b : Target) → Some a ≡ Some b → a ≡ b
     some-same a b e = cc
 
--- both facts of what is found
-pub record Found (w : World) (history : List Entry) (x : Numbered Exchange) : Type 0 where
-  pub exchange : IsExchangeOf w.setting history x
-  pub there : is_queued x.1.state ≡ true → HasQueued x.0 w.exchanges
-
-found-all : (w : World) (history : List Entry) (xs : List (Numbered Exchange)) → AllByRecursion (IsExchangeOf w.setting history) xs → AllByRecursion (λ x. is_queued x.1.state ≡ true → HasQueued x.0 w.exchanges) xs → AllByRecursion (Found w history) xs
-found-all w history [] p q = tt
-found-all w history (x ∷ xs) p q = (record { exchange = p.0; there = q.0 }, found-all w history xs p.1 q.1)
-
 pub keeps_forwarding : (w : World) (history : List Entry) (c : Carries history w) → (now draw : ℕ) (x : Numbered Exchange) → w.last ≤ now → if_due now (least (items_of w)) ≡ Some (sending x)
     → Carries (entry_of now draw tick (sends w now x) ∷ history) (sends w now x).world
 keeps_forwarding w history c now draw x onward due =
@@ -57,18 +47,22 @@ keeps_forwarding w history c now draw x onward due =
     let p = here history e in
     let salt = w.setting.salt in
     let id = next_id w in
-    let one = due-sending (Found w history) (IsWaiterOf w.setting history c.acts) w.exchanges w.waiters now x (found-all w history w.exchanges c.exchanges (queued-there w.exchanges)) c.waiters due in
-    let f = one.0.exchange in
-    let state : IsState w.setting history x.0 x.1.target Queued = subst (IsState w.setting history x.0 x.1.target) (queued_state x.1.state one.1) f.state in
+    let found = due-sending (λ y. IsExchangeOf w.setting history y × Has y w.exchanges) (IsWaiterOf w.setting history c.acts) w.exchanges w.waiters now x (All-there (IsExchangeOf w.setting history) w.exchanges c.exchanges) c.waiters due in
+    let f = found.0.0 in
+    let there = found.0.1 in
+    let queued = queued_state x.1.state found.1 in
+    let state : IsState w.setting history x.0 x.1.target Queued = subst (IsState w.setting history x.0 x.1.target) queued f.state in
     let request = forwarded (token_of salt x.0) x.1.target id in
     let is = forwarded-is (token_of salt x.0) x.1.target id f.sound (omega (arith, length-token_of salt x.0)) in
     let bytes_are : e.bytes ≡ spelling request = ap (with_id id) f.form_is ∙ with_id-forwarded id (token_of salt x.0) x.1.target in
     let spells : Spells e.bytes request = subst (λ (b : List ℕ). Spells b request) (sym bytes_are) (spelled request is) in
     let ungot : (n : ℕ) → Gets salt n p → ⊥ = gets-not w.setting history e (λ o. cc) in
     let number : (n : ℕ) → n < 2 ^ 64 → Sends salt n p → n ≡ x.0 = λ n below s. sym (token-same salt x.0 n (number-small history w c x f) below (ap (λ (m : Message). m.token) (one_message e.bytes request s.message spells s.spells) ∙ s.token)) in
-    let there = one.0.there one.1 in
     let next : ExchangeState = Sent (record { asked = w.events; id = id }) in
-    let fewer = queued-sent x.0 0 next w.exchanges refl c.whole.rising there in
+    let fewer_queued = count-moved is_queued x 0 next w.exchanges c.whole.rising there in
+    let as_many_done = count-moved is_done x 0 next w.exchanges c.whole.rising there in
+    let was_queued : one (is_queued x.1.state) ≡ 1 = ap one found.1 in
+    let was_not_done : one (is_done x.1.state) ≡ 0 = ap (λ (s : ExchangeState). one (is_done s)) queued in
     let first_is : Sends salt x.0 p = record { outcome = refl; to = x.1.target.at; sent = refl; message = request; spells = spells; token = refl } in
     record {
       acts = on_exchange x.0 ∷ c.acts;
@@ -115,6 +109,7 @@ keeps_forwarding w history c now draw x onward due =
         complete = λ n positive le. ⊎_elim (λ here. inl (HasNumber-with_state x.0 n next w.exchanges here)) (λ served. inr served) (c.whole.complete n positive (omega arith));
         under_way = let h = c.whole.under_way in let l = length-with_state x.0 next w.exchanges in omega arith;
         unsent = let h = c.whole.unsent in omega arith;
+        unserved = let h = c.whole.unserved in omega arith;
       };
       within = record { exchanges = let h = c.within.exchanges in let l = length-with_state x.0 next w.exchanges in omega arith; waiters = c.within.waiters; ids = let h = c.within.ids in omega arith };
       past = asked e x.0 c.past refl (record {

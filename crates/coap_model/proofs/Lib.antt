@@ -20,3 +20,4 @@ pub mod Running
 pub mod Endpoints
 pub mod Awaiting
 pub mod Limiting
+pub mod Idling

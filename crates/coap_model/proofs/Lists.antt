@@ -1,5 +1,5 @@
 -- Lists of which each element has a property.
-use Rattle.std.proofs.Common.{◌≡◌, List, [], ◌∷◌, ◌++◌, map, Bool, true, false, Some, None, refl, subst, cond}
+use Rattle.std.proofs.Common.{◌≡◌, ◌⊎◌, inl, inr, List, [], ◌∷◌, ◌++◌, map, Bool, true, false, Some, None, refl, subst, cond}
 use Rattle.std.specs.Prelude.{filter}
 use Rattle.std.specs.List.{AllByRecursion, find}
 
@@ -40,3 +40,22 @@ none-found test (y ∷ ys) e = go (test y) refl e (none-found test ys)
     go : (b : Bool) → test y ≡ b → cond b (Some y) (find test ys) ≡ None → (find test ys ≡ None → AllByRecursion (λ x. test x ≡ false) ys) → (test y ≡ false) × AllByRecursion (λ x. test x ≡ false) ys
     go true t f rest = absurd cc
     go false t f rest = (t, rest f)
+
+-- ---- elements
+
+-- the element is one of the list
+abbrev pub Has : {X : Type 0} → X → List X → Type 0
+Has x [] = ⊥
+Has x (y ∷ ys) = (x ≡ y) ⊎ Has x ys
+
+All-both : {X : Type 0} (P Q : X → Type 0) (xs : List X) → AllByRecursion P xs → AllByRecursion Q xs → AllByRecursion (λ x. P x × Q x) xs
+All-both P Q [] p q = tt
+All-both P Q (x ∷ xs) p q = ((p.0, q.0), All-both P Q xs p.1 q.1)
+
+Has-all : {X : Type 0} (xs : List X) → AllByRecursion (λ x. Has x xs) xs
+Has-all [] = tt
+Has-all (x ∷ xs) = (inl refl, All-weaken (λ y. Has y xs) (λ y. Has y (x ∷ xs)) xs (λ y h. inr h) (Has-all xs))
+
+-- what holds of each holds of each beside that it is there
+pub All-there : {X : Type 0} (P : X → Type 0) (xs : List X) → AllByRecursion P xs → AllByRecursion (λ x. P x × Has x xs) xs
+All-there P xs p = All-both P (λ x. Has x xs) xs p (Has-all xs)

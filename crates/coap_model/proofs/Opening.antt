@@ -10,7 +10,7 @@ use Rattle.coap_target.specs.declared.target.Target.{Target}
 use Rattle.coap_model.specs.Setting.{Setting}
 use Rattle.coap_model.specs.Events.{arrival}
 use Rattle.coap_model.specs.Messages.{may_open}
-use Rattle.coap_model.specs.World.{World, queued_count, has_ids, has_room}
+use Rattle.coap_model.specs.World.{World, is_queued, is_done, count_of, has_ids, has_room}
 use Rattle.coap_model.specs.Requests.{opens, new_exchange, new_waiter, next_token}
 use Rattle.coap_model.specs.History.{Entry, Never, opened_in, Gets}
 use Rattle.coap_model.specs.Justified.{IsMember, Act, served_by, on_nothing, opened, IsJustified, delivered, refused, overloaded, lacking, asked, answered, rejected, ignored, idle, nothing_yet}
@@ -19,7 +19,7 @@ use Rattle.coap_model.proofs.Lists.{All-push, All-weaken}
 use Rattle.coap_model.proofs.Places.{here, Never-weaken, Opens-number}
 use Rattle.coap_model.proofs.Verdicts.{openable}
 use Rattle.coap_model.proofs.Rules.{Asked, verdict_in}
-use Rattle.coap_model.proofs.Tables.{IsRising-push, ArePaired-push, HasNumber-push, HasNumber-last, queued-push}
+use Rattle.coap_model.proofs.Tables.{IsRising-push, ArePaired-push, HasNumber-push, HasNumber-last, count-push}
 use Rattle.coap_model.proofs.Room.{room-there}
 use Rattle.coap_model.proofs.Frames.{exchanges_frame, waiters_frame, fresh_frame, sends-not, gets-not, opened-few}
 use Rattle.coap_model.proofs.Replying.{request-came, verdict-same}
@@ -40,7 +40,7 @@ served-number (delivered {past = past} e waiter j o d fresh) n m =
     m
 served-number (rejected e j o r) n m = let i = served-number j n m in omega arith
 served-number (ignored e j o r) n m = let i = served-number j n m in omega arith
-served-number (idle e j o t r) n m = let i = served-number j n m in omega arith
+served-number (idle e j o r) n m = let i = served-number j n m in omega arith
 
 -- the numbers of exchanges that were opened are at most as many
 pub exchanges-below : (w : World) (history : List Entry) → Carries history w → AllByRecursion (λ x. x.0 < opened_in history + 1) w.exchanges
@@ -63,10 +63,11 @@ keeps_opening w history c now draw client bytes m t onward fits asks verdict roo
     let more = and_parts (ltb (length w.waiters) w.setting.limits.waiters) (has_ids 2 w) parts.1 in
     let exchange_room = ltb-true (length w.exchanges) w.setting.limits.exchanges parts.0 in
     let waiter_room = ltb-true (length w.waiters) w.setting.limits.waiters more.0 in
-    let ids_room = leb-true (w.given + (length w.waiters + queued_count w.exchanges) + 2) 32768 more.1 in
+    let ids_room = leb-true (w.given + (length w.waiters + count_of is_queued w.exchanges) + 2) 32768 more.1 in
     let longer_exchanges = length-append w.exchanges (new_exchange w now t ∷ []) in
     let longer_waiters = length-append w.waiters (new_waiter w client m ∷ []) in
-    let more_queued = queued-push (w.opened + 1) w.exchanges (new_exchange w now t).1 refl in
+    let more_queued = count-push is_queued (w.opened + 1) w.exchanges (new_exchange w now t).1 in
+    let as_many_done = count-push is_done (w.opened + 1) w.exchanges (new_exchange w now t).1 in
     let below : AllByRecursion (λ x. x.0 < w.opened + 1) w.exchanges = subst (λ (n : ℕ). AllByRecursion (λ x. x.0 < n) w.exchanges) (sym number) (exchanges-below w history c) in
     record {
       acts = on_nothing ∷ c.acts;
@@ -116,6 +117,7 @@ keeps_opening w history c now draw client bytes m t onward fits asks verdict roo
             (cases_lt n (w.opened + 1));
         under_way = let h = c.whole.under_way in omega arith;
         unsent = let h = c.whole.unsent in omega arith;
+        unserved = let h = c.whole.unserved in omega arith;
       };
       within = record { exchanges = omega arith; waiters = omega arith; ids = omega arith };
       past = opened e c.past refl (record { client = client; request = m; target = t; asked = came; verdict = verdict-same w history c m ∙ verdict; room = room-there history w c room; silent = record { sent = refl; bytes = refl } });

@@ -3,7 +3,7 @@ use Rattle.std.proofs.Common.{◌≡◌, ◌≢◌, ℕ, ◌+◌, ◌%◌, ◌�
 use Rattle.coap_model.specs.declared.report.Outcome.TheVariants.{Answered, SentRequest}
 use Rattle.coap_model.specs.declared.report.Storing.TheVariants.{NotStored}
 use Rattle.coap_model.specs.World.{World, reserved, later}
-use Rattle.coap_model.specs.History.{Entry, opens_one, sends_one, serves_one, gives_id, ids_in}
+use Rattle.coap_model.specs.History.{Entry, opens_one, sends_one, answers_one, serves_one, gives_id, ids_in}
 use Rattle.coap_model.specs.Justified.{on_nothing, IsJustified}
 use Rattle.coap_model.specs.Carries.{Gives, Carries}
 use Rattle.coap_model.proofs.Frames.{exchanges_frame, waiters_frame, fresh_frame, sends-not, gets-not}
@@ -12,6 +12,7 @@ use Rattle.coap_model.proofs.Frames.{exchanges_frame, waiters_frame, fresh_frame
 pub record IsQuiet (e : Entry) : Type 0 where
   pub opens : opens_one e.report.outcome ≡ 0
   pub sends : sends_one e.report.outcome ≡ 0
+  pub answers : answers_one e.report.outcome ≡ 0
   pub serves : serves_one e.report.outcome ≡ 0
   pub unsent : e.report.outcome ≢ SentRequest
   pub ungot : e.report.outcome ≢ Answered NotStored
@@ -25,6 +26,7 @@ pub keeps_quiet : (w : World) (history : List Entry) (c : Carries history w) (e 
 keeps_quiet w history c e given q onward given_is gives room past =
     let opens = q.opens in
     let sends = q.sends in
+    let answers = q.answers in
     let serves = q.serves in
     record {
       acts = on_nothing ∷ c.acts;
@@ -41,6 +43,7 @@ keeps_quiet w history c e given q onward given_is gives room past =
         complete = λ n positive le. c.whole.complete n positive (omega arith);
         under_way = let h = c.whole.under_way in omega arith;
         unsent = let h = c.whole.unsent in omega arith;
+        unserved = let h = c.whole.unserved in omega arith;
       };
       within = record { exchanges = c.within.exchanges; waiters = c.within.waiters; ids = room };
       past = past;

@@ -1,5 +1,5 @@
--- Refusals, silence, Resets and idle ticks keep what is carried.
-use Rattle.std.proofs.Common.{◌≡◌, ℕ, ◌+◌, ◌%◌, ◌≤◌, true, false, List, [], ◌∷◌, length, Some, None, Ok, refl, sym, ap, ◌∙◌, arith}
+-- Refusals, silence and Resets keep what is carried.
+use Rattle.std.proofs.Common.{◌≡◌, ℕ, ◌+◌, ◌%◌, ◌≤◌, true, false, List, [], ◌∷◌, length, Some, Ok, refl, sym, ap, ◌∙◌, arith}
 use Rattle.std.specs.Prelude.{◌&&◌}
 use Rattle.std.proofs.lemmas.Bool.{leb-true, and_parts, and_from}
 use Rattle.coap_message.specs.declared.kind.Kind.{Kind}
@@ -14,14 +14,13 @@ use Rattle.coap_message.proofs.Spellings.{spelled}
 use Rattle.coap_message.proofs.WholeMessages.{read_again}
 use Rattle.coap_target.specs.declared.endpoint.Endpoint.{Endpoint}
 use Rattle.coap_target.specs.declared.target.Target.{Target}
-use Rattle.coap_model.specs.Events.{arrival, tick}
+use Rattle.coap_model.specs.Events.{arrival}
 use Rattle.coap_model.specs.Messages.{is_con, is_non, is_request, reset, own_reply, busy_reply, token_of, refused_with, may_open, verdict_of}
 use Rattle.coap_model.specs.World.{World, reserved, next_id, has_ids, has_room}
 use Rattle.coap_model.specs.Requests.{lacks_id, refuses, overloads, next_token}
-use Rattle.coap_model.specs.Ticks.{on_item}
 use Rattle.coap_model.specs.Step.{ignores, rejects, message_in}
 use Rattle.coap_model.specs.History.{Entry, ids_in}
-use Rattle.coap_model.specs.Justified.{IsRequestOf, verdict_on, refused, overloaded, lacking, rejected, ignored, idle}
+use Rattle.coap_model.specs.Justified.{IsRequestOf, verdict_on, refused, overloaded, lacking, rejected, ignored}
 use Rattle.coap_model.specs.Carries.{Carries, entry_of}
 use Rattle.coap_model.proofs.Spelled.{reset-is, own_reply-is, busy_reply-is, message_in-is, message_in-again}
 use Rattle.coap_model.proofs.Places.{arrival-same}
@@ -72,7 +71,7 @@ keeps_refusing w history c now draw client bytes m code onward fits asked verdic
     let some = refused-code w.setting.routes w.setting.limits.datagram (next_token w) m code c.routes verdict in
     let reply = own_reply code [] (next_id w) m.token in
     let spells : Spells (spelling reply) reply = spelled reply (own_reply-is code [] (next_id w) m.token some tt came.spells.message.token) in
-    keeps_quiet w history c e (w.given + 1) (record { opens = refl; sends = refl; serves = refl; unsent = λ o. cc; ungot = λ o. cc }) onward refl
+    keeps_quiet w history c e (w.given + 1) (record { opens = refl; sends = refl; answers = refl; serves = refl; unsent = λ o. cc; ungot = λ o. cc }) onward refl
     (λ g. record { gives = refl; message = reply; spells = spells; id_is = id-same w history c }) (free-one w free)
     (refused e code c.past refl (record { client = client; request = m; id = next_id w; asked = came; verdict = verdict-same w history c m ∙ verdict; ids = ids-free 1 history w c free; tells = record { sent = refl; spells = spells } }))
 
@@ -83,7 +82,7 @@ keeps_overloading w history c now draw client bytes m t onward fits asked verdic
     let came = request-came w client bytes m fits asked in
     let reply = busy_reply w.setting.limits.retry_s (next_id w) m.token in
     let spells : Spells (spelling reply) reply = spelled reply (busy_reply-is w.setting.limits.retry_s (next_id w) m.token came.spells.message.token) in
-    keeps_quiet w history c e (w.given + 1) (record { opens = refl; sends = refl; serves = refl; unsent = λ o. cc; ungot = λ o. cc }) onward refl
+    keeps_quiet w history c e (w.given + 1) (record { opens = refl; sends = refl; answers = refl; serves = refl; unsent = λ o. cc; ungot = λ o. cc }) onward refl
     (λ g. record { gives = refl; message = reply; spells = spells; id_is = id-same w history c }) (free-one w free)
     (overloaded e c.past refl (record { client = client; request = m; target = t; id = next_id w; asked = came; verdict = verdict-same w history c m ∙ verdict; no_room = room-none history w c full; ids = ids-free 1 history w c free; tells = record { sent = refl; spells = spells } }))
 
@@ -91,7 +90,7 @@ pub keeps_lacking : (w : World) (history : List Entry) (c : Carries history w) (
     → Carries (entry_of now draw (arrival client bytes) (lacks_id w now) ∷ history) (lacks_id w now).world
 keeps_lacking w history c now draw client bytes m onward fits asked full free =
     let e = entry_of now draw (arrival client bytes) (lacks_id w now) in
-    keeps_quiet w history c e w.given (record { opens = refl; sends = refl; serves = refl; unsent = λ o. cc; ungot = λ o. cc }) onward (omega arith) (λ g. absurd (omega arith)) c.within.ids
+    keeps_quiet w history c e w.given (record { opens = refl; sends = refl; answers = refl; serves = refl; unsent = λ o. cc; ungot = λ o. cc }) onward (omega arith) (λ g. absurd (omega arith)) c.within.ids
     (lacking e c.past refl (record { client = client; request = m; asked = request-came w client bytes m fits asked; no_room = λ t v. room-none history w c (full t (sym (verdict-same w history c m) ∙ v)); no_ids = ids-none 1 history w c free; silent = record { sent = refl; bytes = refl } }))
 
 -- ---- what isn't processed
@@ -100,7 +99,7 @@ pub keeps_rejecting : (w : World) (history : List Entry) (c : Carries history w)
     → Carries (entry_of now draw (arrival source bytes) (rejects w now source head.id) ∷ history) (rejects w now source head.id).world
 keeps_rejecting w history c now draw source bytes head onward is con =
     let e = entry_of now draw (arrival source bytes) (rejects w now source head.id) in
-    keeps_quiet w history c e w.given (record { opens = refl; sends = refl; serves = refl; unsent = λ o. cc; ungot = λ o. cc }) onward (omega arith) (λ g. absurd (omega arith)) c.within.ids
+    keeps_quiet w history c e w.given (record { opens = refl; sends = refl; answers = refl; serves = refl; unsent = λ o. cc; ungot = λ o. cc }) onward (omega arith) (λ g. absurd (omega arith)) c.within.ids
     (rejected e c.past refl (record { source = source; bytes = bytes; head = head; came = refl; head_is = is; con = con_is head.kind con; tells = record { sent = refl; spells = spelled (reset head.id) (reset-is head.id) } }))
 
 -- a request that would be processed was read
@@ -115,11 +114,5 @@ pub keeps_ignoring : (w : World) (history : List Entry) (c : Carries history w) 
     → Carries (entry_of now draw (arrival source bytes) (ignores w now) ∷ history) (ignores w now).world
 keeps_ignoring w history c now draw source bytes onward none =
     let e = entry_of now draw (arrival source bytes) (ignores w now) in
-    keeps_quiet w history c e w.given (record { opens = refl; sends = refl; serves = refl; unsent = λ o. cc; ungot = λ o. cc }) onward (omega arith) (λ g. absurd (omega arith)) c.within.ids
+    keeps_quiet w history c e w.given (record { opens = refl; sends = refl; answers = refl; serves = refl; unsent = λ o. cc; ungot = λ o. cc }) onward (omega arith) (λ g. absurd (omega arith)) c.within.ids
     (ignored e c.past refl (record { source = source; bytes = bytes; came = refl; no_con = λ head is con. absurd (let f = none.quiet head is in let g = sym f ∙ ap is_con con in cc); no_request = λ client m r. let read = request-read w source client bytes m r in let test = none.request m read.0 in absurd (let both = sym test ∙ read.1 in cc); no_answer = λ x a. not-ignored w history c x source bytes a none; silent = record { sent = refl; bytes = refl } }))
-
-pub keeps_idling : (w : World) (history : List Entry) (c : Carries history w) (now draw : ℕ) → w.last ≤ now → Carries (entry_of now draw tick (on_item w now None) ∷ history) (on_item w now None).world
-keeps_idling w history c now draw onward =
-    let e = entry_of now draw tick (on_item w now None) in
-    keeps_quiet w history c e w.given (record { opens = refl; sends = refl; serves = refl; unsent = λ o. cc; ungot = λ o. cc }) onward (omega arith) (λ g. absurd (omega arith)) c.within.ids
-    (idle e c.past refl refl (record { sent = refl; bytes = refl }))

@@ -2,15 +2,16 @@
 use Rattle.std.proofs.Common.{◌≡◌, ◌≢◌, ◌⊎◌, inl, inr, ⊎_elim, ℕ, suc, ◌+◌, ◌<◌, ◌≤◌, List, [], ◌∷◌, ◌++◌, length, Bool, true, false, cond, eqb, leb, Option, Some, None, refl, sym, ap, ◌∙◌, subst, arith}
 use Rattle.std.specs.Prelude.{not}
 use Rattle.std.specs.List.{AllByRecursion}
-use Rattle.std.proofs.lemmas.Bool.{eqb-true, eqb-false, ne_eqb, leb-true}
+use Rattle.std.proofs.lemmas.Bool.{eqb-true, eqb-false, eq-eqb, ne_eqb, leb-true}
 use Rattle.coap_exchange.specs.declared.exchange.Answer.{Answer}
 use Rattle.coap_exchange.specs.declared.exchange.ExchangeState.{ExchangeState}
 use Rattle.coap_exchange.specs.declared.exchange.ExchangeState.TheVariants.{Queued, Sent, Done}
 use Rattle.coap_exchange.specs.declared.exchange.Exchange.{Exchange}
 use Rattle.coap_exchange.specs.declared.waiter.Waiter.{Waiter}
-use Rattle.coap_model.specs.World.{Numbered, is_queued, queued_count}
+use Rattle.coap_model.specs.World.{Numbered, is_queued, count_of}
 use Rattle.coap_model.specs.Responses.{moved, with_state}
 use Rattle.coap_model.specs.Ticks.{Item, sending, serving, due_of, exchange_items, answer_at, answer_in, with_item, waiter_items, earlier, least, if_due, without, is_awaited}
+use Rattle.coap_model.proofs.Lists.{Has}
 use Rattle.coap_model.specs.Carries.{IsRising, ArePaired, HasNumber}
 
 -- ---- what is due
@@ -24,7 +25,7 @@ AllItems-append P [] ys p q = q
 AllItems-append P (x ∷ xs) ys p q = (p.0, AllItems-append P xs ys p.1 q)
 
 -- the least item is one of them
-least-holds : (P : Item → Type 0) (items : List Item) (i : Item) → AllItems P items → least items ≡ Some i → P i
+pub least-holds : (P : Item → Type 0) (items : List Item) (i : Item) → AllItems P items → least items ≡ Some i → P i
 least-holds P [] i all e = absurd cc
 least-holds P (j ∷ items) i all e = go (least items) (λ k f. least-holds P items k all.1 f) refl e
   where
@@ -48,7 +49,7 @@ if_due-is now (Some j) i e = go (leb (due_of j) now) refl e
     go false t f = absurd cc
 
 -- an exchange that is due is queued; a waiter that is due waits for an exchange with this answer
-abbrev IsDueOf : (Numbered Exchange → Type 0) → (Numbered Waiter → Type 0) → List (Numbered Exchange) → Item → Type 0
+abbrev pub IsDueOf : (Numbered Exchange → Type 0) → (Numbered Waiter → Type 0) → List (Numbered Exchange) → Item → Type 0
 IsDueOf P Q exchanges (sending x) = P x × (is_queued x.1.state ≡ true)
 IsDueOf P Q exchanges (serving v a) = Q v × (answer_in v.1.exchange exchanges ≡ Some a)
 
@@ -68,15 +69,18 @@ waiter_items-are P Q all (v ∷ vs) q = go (answer_in v.1.exchange all) refl (wa
     go None e rest = rest
     go (Some a) e rest = ((q.0, e), rest)
 
+pub items-are : (P : Numbered Exchange → Type 0) (Q : Numbered Waiter → Type 0) (xs : List (Numbered Exchange)) (vs : List (Numbered Waiter)) → AllByRecursion P xs → AllByRecursion Q vs → AllItems (IsDueOf P Q xs) (exchange_items xs ++ waiter_items xs vs)
+items-are P Q xs vs p q = AllItems-append (IsDueOf P Q xs) (exchange_items xs) (waiter_items xs vs) (exchange_items-are P Q xs xs p) (waiter_items-are P Q xs vs q)
+
 pub due-sending : (P : Numbered Exchange → Type 0) (Q : Numbered Waiter → Type 0) (xs : List (Numbered Exchange)) (vs : List (Numbered Waiter)) (now : ℕ) (x : Numbered Exchange) → AllByRecursion P xs → AllByRecursion Q vs
     → if_due now (least (exchange_items xs ++ waiter_items xs vs)) ≡ Some (sending x) → P x × (is_queued x.1.state ≡ true)
 due-sending P Q xs vs now x p q e =
-    least-holds (IsDueOf P Q xs) (exchange_items xs ++ waiter_items xs vs) (sending x) (AllItems-append (IsDueOf P Q xs) (exchange_items xs) (waiter_items xs vs) (exchange_items-are P Q xs xs p) (waiter_items-are P Q xs vs q)) (if_due-is now _ (sending x) e).0
+    least-holds (IsDueOf P Q xs) (exchange_items xs ++ waiter_items xs vs) (sending x) (items-are P Q xs vs p q) (if_due-is now _ (sending x) e).0
 
 pub due-serving : (P : Numbered Exchange → Type 0) (Q : Numbered Waiter → Type 0) (xs : List (Numbered Exchange)) (vs : List (Numbered Waiter)) (now : ℕ) (v : Numbered Waiter) (a : Answer) → AllByRecursion P xs → AllByRecursion Q vs
     → if_due now (least (exchange_items xs ++ waiter_items xs vs)) ≡ Some (serving v a) → Q v × (answer_in v.1.exchange xs ≡ Some a)
 due-serving P Q xs vs now v a p q e =
-    least-holds (IsDueOf P Q xs) (exchange_items xs ++ waiter_items xs vs) (serving v a) (AllItems-append (IsDueOf P Q xs) (exchange_items xs) (waiter_items xs vs) (exchange_items-are P Q xs xs p) (waiter_items-are P Q xs vs q)) (if_due-is now _ (serving v a) e).0
+    least-holds (IsDueOf P Q xs) (exchange_items xs ++ waiter_items xs vs) (serving v a) (items-are P Q xs vs p q) (if_due-is now _ (serving v a) e).0
 
 -- the exchange that has the answer
 pub answer-holds : (P : Numbered Exchange → Type 0) (xs : List (Numbered Exchange)) (n : ℕ) (a : Answer) → AllByRecursion P xs → answer_in n xs ≡ Some a → (x : Numbered Exchange) × P x × (x.0 ≡ n) × (x.1.state ≡ Done a)
@@ -216,33 +220,14 @@ pub HasNumber-last : {A : Type 0} (n : ℕ) (xs : List (Numbered A)) (a : A) →
 HasNumber-last n [] a = inl refl
 HasNumber-last n (x ∷ xs) a = inr (HasNumber-last n xs a)
 
--- ---- how many are queued
+-- ---- how many are in a state
 
-pub queued-push : (n : ℕ) (xs : List (Numbered Exchange)) (x : Exchange) → x.state ≡ Queued → queued_count (xs ++ (n, x) ∷ []) ≡ queued_count xs + 1
-queued-push n [] x e = rw e refl
-queued-push n (y ∷ ys) x e = let i = queued-push n ys x e in omega arith
+abbrev pub one : Bool → ℕ
+one b = cond b 1 0
 
-pub queued-below : (xs : List (Numbered Exchange)) → queued_count xs ≤ length xs
-queued-below [] = omega arith
-queued-below (x ∷ xs) = go (is_queued x.1.state) (queued-below xs)
-  where
-    go : (b : Bool) → queued_count xs ≤ length xs → cond b 1 0 + queued_count xs ≤ suc (length xs)
-    go true i = omega arith
-    go false i = omega arith
-
--- an exchange of this number is there, and queued
-abbrev pub HasQueued : ℕ → List (Numbered Exchange) → Type 0
-HasQueued n [] = ⊥
-HasQueued n (x ∷ xs) = ((n ≡ x.0) × (is_queued x.1.state ≡ true)) ⊎ HasQueued n xs
-
--- each that is queued is there
-pub queued-there : (xs : List (Numbered Exchange)) → AllByRecursion (λ x. is_queued x.1.state ≡ true → HasQueued x.0 xs) xs
-queued-there [] = tt
-queued-there (x ∷ xs) = ((λ t. inl (refl, t)), later xs (queued-there xs))
-  where
-    later : (ys : List (Numbered Exchange)) → AllByRecursion (λ y. is_queued y.1.state ≡ true → HasQueued y.0 xs) ys → AllByRecursion (λ y. is_queued y.1.state ≡ true → HasQueued y.0 (x ∷ xs)) ys
-    later [] all = tt
-    later (y ∷ ys) all = ((λ t. inr (all.0 t)), later ys all.1)
+pub count-push : (t : ExchangeState → Bool) (n : ℕ) (xs : List (Numbered Exchange)) (x : Exchange) → count_of t (xs ++ (n, x) ∷ []) ≡ count_of t xs + one (t x.state)
+count-push t n [] x = omega arith
+count-push t n (y ∷ ys) x = let i = count-push t n ys x in omega arith
 
 -- numbers at or below the least are not moved
 with_state-below : (n least : ℕ) (s : ExchangeState) (xs : List (Numbered Exchange)) → n ≤ least → IsRising least xs → with_state n s xs ≡ xs
@@ -251,48 +236,56 @@ with_state-below n least s (x ∷ xs) le r =
     let other : eqb x.0 n ≡ false = ne_eqb _ _ (λ e. let above = r.0 in omega arith) in
     rw other (ap (λ (l : List (Numbered Exchange)). x ∷ l) (with_state-below n x.0 s xs (omega (arith, r.0)) r.1))
 
--- one that was queued is sent
-pub queued-sent : (n least : ℕ) (s : ExchangeState) (xs : List (Numbered Exchange)) → is_queued s ≡ false → IsRising least xs → HasQueued n xs → queued_count (with_state n s xs) + 1 ≡ queued_count xs
-queued-sent n least s [] sent r h = absurd h
-queued-sent n least s (x ∷ xs) sent r h = go (eqb x.0 n) refl (λ there. queued-sent n x.0 s xs sent r.1 there)
+-- what is there is above the least
+Has-above : (least : ℕ) (xs : List (Numbered Exchange)) (x : Numbered Exchange) → IsRising least xs → Has x xs → least < x.0
+Has-above least [] x r h = absurd h
+Has-above least (y ∷ ys) x r h =
+    ⊎_elim
+    (λ (same : x ≡ y). let n : x.0 ≡ y.0 = ap (λ (z : Numbered Exchange). z.0) same in let above = r.0 in omega arith)
+    (λ (there : Has x ys). let above = r.0 in let i = Has-above y.0 ys x r.1 there in omega arith)
+    h
+
+-- one comes to another state
+pub count-moved : (t : ExchangeState → Bool) (x : Numbered Exchange) (least : ℕ) (s : ExchangeState) (xs : List (Numbered Exchange)) → IsRising least xs → Has x xs → count_of t (with_state x.0 s xs) + one (t x.1.state) ≡ count_of t xs + one (t s)
+count-moved t x least s [] r h = absurd h
+count-moved t x least s (y ∷ ys) r h =
+    ⊎_elim
+    (λ (same : x ≡ y).
+    let n : x.0 ≡ y.0 = ap (λ (z : Numbered Exchange). z.0) same in
+    let state : t x.1.state ≡ t y.1.state = ap (λ (z : Numbered Exchange). t z.1.state) same in
+    let here : eqb y.0 x.0 ≡ true = eq-eqb _ _ (sym n) in
+    let rest = with_state-below x.0 y.0 s ys (omega (arith, n)) r.1 in
+    rw (here, rest, state) (swap (one (t s)) (count_of t ys) (one (t y.1.state))))
+    (λ (there : Has x ys).
+    let above = Has-above y.0 ys x r.1 there in
+    let other : eqb y.0 x.0 ≡ false = ne_eqb _ _ (λ e. omega arith) in
+    let i = count-moved t x y.0 s ys r.1 there in
+    rw other (omega arith))
+    h
   where
-    after : Numbered Exchange
-    after = (x.0, record { target = x.1.target; form = x.1.form; admitted = x.1.admitted; state = s })
+    swap : (p q k : ℕ) → p + q + k ≡ k + q + p
+    swap p q k = omega arith
 
-    go : (b : Bool) → eqb x.0 n ≡ b → (HasQueued n xs → queued_count (with_state n s xs) + 1 ≡ queued_count xs) → queued_count (cond b after x ∷ with_state n s xs) + 1 ≡ cond (is_queued x.1.state) 1 0 + queued_count xs
-    go true e rest =
-        let same : x.0 ≡ n = eqb-true x.0 n e in
-        let rest_same = with_state-below n x.0 s xs (omega arith) r.1 in
-        let was : is_queued x.1.state ≡ true = ⊎_elim (λ (p : (n ≡ x.0) × (is_queued x.1.state ≡ true)). p.1) (λ (t : HasQueued n xs). absurd (above n x.0 xs (omega arith) r.1 t)) h in
-        rw (sent, was, rest_same) (omega arith)
-      where
-        above : (m low : ℕ) (ys : List (Numbered Exchange)) → m ≤ low → IsRising low ys → HasQueued m ys → ⊥
-        above m low [] le rising t = t
-        above m low (y ∷ ys) le rising t = ⊎_elim (λ (p : (m ≡ y.0) × (is_queued y.1.state ≡ true)). let a = p.0 in let b = rising.0 in omega arith) (λ (u : HasQueued m ys). above m y.0 ys (omega (arith, rising.0)) rising.1 u) t
-    go false e rest = ⊎_elim (λ (p : (n ≡ x.0) × (is_queued x.1.state ≡ true)). absurd (eqb-false x.0 n e (sym p.0))) (λ (t : HasQueued n xs). let i = rest t in omega arith) h
-
--- none of this number is queued
-abbrev pub NotQueued : ℕ → Numbered Exchange → Type 0
-NotQueued n x = x.0 ≡ n → is_queued x.1.state ≡ false
-
-pub queued-same : (n : ℕ) (s : ExchangeState) (xs : List (Numbered Exchange)) → is_queued s ≡ false → AllByRecursion (NotQueued n) xs → queued_count (with_state n s xs) ≡ queued_count xs
-queued-same n s [] done all = refl
-queued-same n s (x ∷ xs) done all = go (eqb x.0 n) refl (queued-same n s xs done all.1)
+-- one is closed
+pub count-without : (t : ExchangeState → Bool) (x : Numbered Exchange) (least : ℕ) (xs : List (Numbered Exchange)) → IsRising least xs → Has x xs → count_of t (without x.0 xs) + one (t x.1.state) ≡ count_of t xs
+count-without t x least [] r h = absurd h
+count-without t x least (y ∷ ys) r h =
+    ⊎_elim
+    (λ (same : x ≡ y).
+    let n : x.0 ≡ y.0 = ap (λ (z : Numbered Exchange). z.0) same in
+    let state : t x.1.state ≡ t y.1.state = ap (λ (z : Numbered Exchange). t z.1.state) same in
+    let here : eqb y.0 x.0 ≡ true = eq-eqb _ _ (sym n) in
+    let rest = none-below x.0 y.0 ys (omega (arith, n)) r.1 in
+    rw (here, rest, state) (swap (count_of t ys) (one (t y.1.state))))
+    (λ (there : Has x ys).
+    let above = Has-above y.0 ys x r.1 there in
+    let other : eqb y.0 x.0 ≡ false = ne_eqb _ _ (λ e. omega arith) in
+    let i = count-without t x y.0 ys r.1 there in
+    rw other (omega arith))
+    h
   where
-    after : Numbered Exchange
-    after = (x.0, record { target = x.1.target; form = x.1.form; admitted = x.1.admitted; state = s })
-
-    go : (b : Bool) → eqb x.0 n ≡ b → queued_count (with_state n s xs) ≡ queued_count xs → queued_count (cond b after x ∷ with_state n s xs) ≡ cond (is_queued x.1.state) 1 0 + queued_count xs
-    go true e rest = rw (done, all.0 (eqb-true x.0 n e), rest) refl
-    go false e rest = rw rest refl
-
-pub queued-without : (n : ℕ) (xs : List (Numbered Exchange)) → AllByRecursion (NotQueued n) xs → queued_count (without n xs) ≡ queued_count xs
-queued-without n [] all = refl
-queued-without n (x ∷ xs) all = go (eqb x.0 n) refl (queued-without n xs all.1)
-  where
-    go : (b : Bool) → eqb x.0 n ≡ b → queued_count (without n xs) ≡ queued_count xs → queued_count (cond (not b) (x ∷ without n xs) (without n xs)) ≡ cond (is_queued x.1.state) 1 0 + queued_count xs
-    go true e rest = rw (all.0 (eqb-true x.0 n e)) (rest ∙ omega arith)
-    go false e rest = rw rest refl
+    swap : (p q : ℕ) → p + q ≡ q + p
+    swap p q = omega arith
 
 -- nobody waits any more for an exchange whose waiter is gone
 pub not_awaited : (n : ℕ) (vs : List (Numbered Waiter)) → AllByRecursion (λ v. v.1.exchange ≡ v.0) vs → is_awaited n (without n vs) ≡ false

@@ -16,8 +16,8 @@ use Rattle.coap_exchange.specs.declared.waiter.Waiter.{Waiter}
 use Rattle.coap_model.specs.Setting.{Setting}
 use Rattle.coap_model.specs.Events.{Event, arrival, tick}
 use Rattle.coap_model.specs.Messages.{token_of, forwarded, target_sent, answer_of}
-use Rattle.coap_model.specs.World.{World, Step, Numbered, queued_count, reserved}
-use Rattle.coap_model.specs.History.{Entry, Place, index, IsPlaceOf, Never, opened_in, sent_in, served_in, ids_in, gives_id, Opens, Sends, Asks, Gets}
+use Rattle.coap_model.specs.World.{World, Step, Numbered, is_queued, is_done, count_of, reserved}
+use Rattle.coap_model.specs.History.{Entry, Place, index, IsPlaceOf, Never, opened_in, sent_in, answered_in, served_in, ids_in, gives_id, Opens, Sends, Asks, Gets}
 use Rattle.coap_model.specs.Justified.{IsRequestOf, IsMember, Act, served_by, IsJustified}
 
 -- ---- the clock, the numbers and the ids
@@ -140,7 +140,8 @@ pub record AreWhole (history : List Entry) (acts : List Act) (w : World) : Type 
   pub paired : ArePaired w.exchanges w.waiters
   pub complete : (n : ℕ) → 0 < n → n ≤ opened_in history → HasNumber n w.exchanges ⊎ IsMember n (served_by acts)
   pub under_way : length w.exchanges + served_in history ≡ opened_in history
-  pub unsent : queued_count w.exchanges + sent_in history ≡ opened_in history
+  pub unsent : count_of is_queued w.exchanges + sent_in history ≡ opened_in history
+  pub unserved : count_of is_done w.exchanges + served_in history ≡ answered_in history
 
 -- no exchange that isn't opened was sent or got
 abbrev pub IsFresh : Setting → List Entry → Type 0

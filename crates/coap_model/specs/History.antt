@@ -54,6 +54,10 @@ abbrev pub sends_one : Outcome → ℕ
 sends_one SentRequest = 1
 sends_one _ = 0
 
+abbrev pub answers_one : Outcome → ℕ
+answers_one (Answered storing) = 1
+answers_one _ = 0
+
 abbrev pub serves_one : Outcome → ℕ
 serves_one Delivered = 1
 serves_one _ = 0
@@ -66,12 +70,16 @@ gives_id SentRequest = 1
 gives_id Delivered = 1
 gives_id _ = 0
 
--- exchanges that were opened, requests that were sent on, clients that were served, ids that were given
+-- exchanges that were opened, requests that were sent on, answers that were got, waiters that were served,
+-- ids that were given
 abbrev pub opened_in : List Entry → ℕ
 opened_in history = count_in opens_one history
 
 abbrev pub sent_in : List Entry → ℕ
 sent_in history = count_in sends_one history
+
+abbrev pub answered_in : List Entry → ℕ
+answered_in history = count_in answers_one history
 
 abbrev pub served_in : List Entry → ℕ
 served_in history = count_in serves_one history

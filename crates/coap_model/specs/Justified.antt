@@ -14,7 +14,7 @@ use Rattle.coap_model.specs.declared.report.Storing.TheVariants.{NotStored}
 use Rattle.coap_model.specs.Setting.{Setting}
 use Rattle.coap_model.specs.Events.{Event, arrival, tick}
 use Rattle.coap_model.specs.Messages.{is_request, is_response, reset, own_reply, busy_reply, token_of, forwarded, target_sent, Verdict, refused_with, may_open, verdict_of, answer_of, shown}
-use Rattle.coap_model.specs.History.{Entry, Place, index, IsPlaceOf, Never, opened_in, HasIds, HasRoom, Opens, Sends, Asks, Gets}
+use Rattle.coap_model.specs.History.{Entry, Place, index, IsPlaceOf, Never, opened_in, sent_in, answered_in, served_in, HasIds, HasRoom, Opens, Sends, Asks, Gets}
 
 -- ---- requests
 
@@ -173,6 +173,14 @@ pub record IsIgnored (setting : Setting) (past : List Entry) (e : Entry) : Type 
   pub no_answer : (exchange : ℕ) → ¬ IsAwaited setting past exchange e.event
   pub silent : IsSilent e
 
+-- nothing was left to do: each exchange that was opened was asked, and whoever waits for an answer that was
+-- got was served
+pub record IsIdle (past : List Entry) (e : Entry) : Type 0 where
+  pub due : e.event ≡ tick
+  pub all_asked : opened_in past ≡ sent_in past
+  pub all_served : answered_in past ≡ served_in past
+  pub silent : IsSilent e
+
 -- ---- the whole history
 
 abbrev pub IsMember : ℕ → List ℕ → Type 0
@@ -215,4 +223,4 @@ pub data IsJustified (setting : Setting) : List Entry → List Act → Type 0 wh
   ignored : {past : List Entry} {acts : List Act} (e : Entry) → IsJustified setting past acts
       → e.report.outcome ≡ Ignored → IsIgnored setting past e → IsJustified setting (e ∷ past) (on_nothing ∷ acts)
   idle : {past : List Entry} {acts : List Act} (e : Entry) → IsJustified setting past acts
-      → e.report.outcome ≡ Idle → e.event ≡ tick → IsSilent e → IsJustified setting (e ∷ past) (on_nothing ∷ acts)
+      → e.report.outcome ≡ Idle → IsIdle past e → IsJustified setting (e ∷ past) (on_nothing ∷ acts)

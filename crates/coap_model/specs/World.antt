@@ -61,13 +61,19 @@ is_queued Queued = true
 is_queued (Sent s) = false
 is_queued (Done a) = false
 
-abbrev pub queued_count : List (Numbered Exchange) → ℕ
-queued_count [] = 0
-queued_count (x ∷ xs) = (if is_queued x.1.state then 1 else 0) + queued_count xs
+abbrev pub is_done : ExchangeState → Bool
+is_done Queued = false
+is_done (Sent s) = false
+is_done (Done a) = true
+
+-- how many exchanges are in a state that passes the test
+abbrev pub count_of : (ExchangeState → Bool) → List (Numbered Exchange) → ℕ
+count_of test [] = 0
+count_of test (x ∷ xs) = (if test x.1.state then 1 else 0) + count_of test xs
 
 -- ids that are kept for exchanges which are still to be sent, and for clients which are still to be served
 abbrev pub reserved : World → ℕ
-reserved w = length w.waiters + queued_count w.exchanges
+reserved w = length w.waiters + count_of is_queued w.exchanges
 
 -- so many ids are free
 abbrev pub has_ids : ℕ → World → Bool
