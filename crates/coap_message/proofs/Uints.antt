@@ -3,7 +3,7 @@ use Rattle.std.proofs.Common.{◌≡◌, ◌≢◌, ℕ, zero, suc, ◌+◌, ◌
 use Rattle.std.specs.Int.{w64, to_be_bytes, from_be_bytes}
 use Rattle.std.proofs.Math.Nat.{pow-suc, pow-le-pow_right, mul-le-mul_right}
 use Rattle.std.proofs.lemmas.List.{drop_more}
-use Rattle.std.proofs.lemmas.Bool.{cases_order}
+use Rattle.std.proofs.lemmas.Bool.{cases_lt, cases_order}
 use Rattle.std.proofs.lemmas.Nat.{same_from_place, from_be_bytes-to_be_bytes_8}
 use Rattle.coap_message.specs.Uint.{IsBytes, uint_of, without_zeros, uint_spelling, IsShortest}
 
@@ -51,7 +51,7 @@ uint_spelling-shortest n = shortest (to_be_bytes w64 n)
 
 -- ---- one shortest form
 
-uint_bound : (bytes : List ℕ) → IsBytes bytes → uint_of bytes < 256 ^ length bytes
+pub uint_bound : (bytes : List ℕ) → IsBytes bytes → uint_of bytes < 256 ^ length bytes
 uint_bound [] fits = omega arith
 uint_bound (b ∷ bytes) fits =
     let rest = uint_bound bytes (λ i. fits (suc i)) in
@@ -102,3 +102,15 @@ one_shortest (x ∷ xs) (y ∷ ys) fa fb sa sb e =
             | inr more ↦ absurd (shorter_less (y ∷ ys) xs x fb sa (omega arith) (sym e))
           ]
     ]
+
+-- a number below 2 ^ 32 has at most four bytes
+pub uint_spelling-four : (n : ℕ) → n < 2 ^ 32 → length (uint_spelling n) ≤ 4
+uint_spelling-four n small = go (uint_spelling n) (uint_spelling-shortest n) (uint-uint_spelling n (omega arith))
+  where
+    go : (bytes : List ℕ) → IsShortest bytes → uint_of bytes ≡ n → length bytes ≤ 4
+    go [] shortest e = omega arith
+    go (b ∷ bytes) positive e =
+        elim (cases_lt (length bytes) 4) [
+          | inl lt ↦ omega arith
+          | inr ge ↦ let large = uint_large b bytes positive in let powers : 256 ^ 4 ≤ 256 ^ length bytes = pow-le-pow_right {n = 256} (omega arith) {i = 4} {j = length bytes} ge in absurd (omega (arith, large, powers, e))
+        ]

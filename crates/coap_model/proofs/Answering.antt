@@ -84,7 +84,7 @@ keeps_answering w history c now draw source bytes m x onward fits read response 
       outcome = refl;
       source = source;
       response = m;
-      came = record { bytes = bytes; event = refl; spells = spells };
+      came = record { bytes = bytes; event = refl; fits = fits; spells = spells };
       kind = ack_is m.kind tests.0;
       code = tests.1;
       token = a.token_is;

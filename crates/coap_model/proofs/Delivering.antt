@@ -29,7 +29,7 @@ use Rattle.coap_model.proofs.Replying.{id-same}
 -- ---- what is served
 
 -- what is known of a waiter that is served with an answer
-record IsServed (w : World) (history : List Entry) (acts : List Act) (v : Numbered Waiter) (a : Answer) : Type 0 where
+pub record IsServed (w : World) (history : List Entry) (acts : List Act) (v : Numbered Waiter) (a : Answer) : Type 0 where
   pub waiter : IsWaiterOf w.setting history acts v
   pub there : HasNumber v.0 w.exchanges
   pub counted : (t : ExchangeState → Bool) → count_of t (without v.0 w.exchanges) + one (t (Done a)) ≡ count_of t w.exchanges
@@ -37,7 +37,7 @@ record IsServed (w : World) (history : List Entry) (acts : List Act) (v : Number
   pub target_is : target_of w.setting.routes waiter.request ≡ Some target
   pub got : WasGot w.setting history v.0 target a
 
-served : (w : World) (history : List Entry) (c : Carries history w) (now : ℕ) (v : Numbered Waiter) (a : Answer) → if_due now (least (items_of w)) ≡ Some (serving v a) → IsServed w history c.acts v a
+pub served : (w : World) (history : List Entry) (c : Carries history w) (now : ℕ) (v : Numbered Waiter) (a : Answer) → if_due now (least (items_of w)) ≡ Some (serving v a) → IsServed w history c.acts v a
 served w history c now v a due =
     let item = due-serving (IsExchangeOf w.setting history) (IsWaiterOf w.setting history c.acts) w.exchanges w.waiters now v a c.exchanges c.waiters due in
     let g = item.0 in

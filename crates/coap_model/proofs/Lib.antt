@@ -21,3 +21,4 @@ pub mod Endpoints
 pub mod Awaiting
 pub mod Limiting
 pub mod Idling
+pub mod Fitting

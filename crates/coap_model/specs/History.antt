@@ -2,6 +2,7 @@
 -- names no table. A history has its newest entry first.
 use Rattle.std.specs.Prelude.{◌≡◌, ◌⊎◌, ℕ, ◌+◌, ◌-◌, ◌<◌, ◌≤◌, List, [], ◌∷◌, length, true, Some}
 use Rattle.coap_message.specs.declared.kind.Kind.TheVariants.{Ack}
+use Rattle.coap_message.specs.Uint.{IsBytes}
 use Rattle.coap_message.specs.Message.{Message}
 use Rattle.coap_message.specs.Spelling.{Spells}
 use Rattle.coap_target.specs.declared.endpoint.Endpoint.{Endpoint}
@@ -109,10 +110,11 @@ pub record HasRoom (limits : Limits) (history : List Entry) : Type 0 where
 abbrev pub Opens : ℕ → Place → Type 0
 Opens x p = (p.entry.report.outcome ≡ Opened) × (x ≡ opened_in p.before + 1)
 
--- a message came there from a source
+-- a message came there from a source, in a datagram of bytes
 pub record Receives (source : Endpoint) (m : Message) (p : Place) : Type 0 where
   pub bytes : List ℕ
   pub event : p.entry.event ≡ arrival source bytes
+  pub fits : IsBytes bytes
   pub spells : Spells bytes m
 
 -- the request of this exchange was sent there: by its token, read off the datagram

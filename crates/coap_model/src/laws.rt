@@ -1,6 +1,7 @@
 //! Laws of the step: public functions that do nothing, whose contracts are the laws.
-ghost use Rattle.std.specs.Prelude.{◌≡◌, ℕ, ◌≤◌, List, [], ◌∷◌};
+ghost use Rattle.std.specs.Prelude.{◌≡◌, ℕ, ◌≤◌, List, [], ◌∷◌, length};
 ghost use Rattle.coap_target.specs.Routes.{AreRoutes};
+ghost use Rattle.coap_model.specs.Limits.{AreLimits};
 ghost use Rattle.coap_model.specs.Setting.{Setting};
 ghost use Rattle.coap_model.specs.Events.{Event};
 ghost use Rattle.coap_model.specs.World.{World, new_world};
@@ -49,6 +50,12 @@ pub fn settings_stay()
 /// bytes held too.
 pub fn what_is_carried_is_promised()
     ensures promised { (history : List Entry) (w : World) → Carries history w → Promised history w }
+{}
+
+/// No datagram that a step sends is longer than the limit `datagram`, where the limits are within their
+/// ranges.
+pub fn datagrams_fit()
+    ensures fits { (w : World) (history : List Entry) (now draw : ℕ) (event : Event) → Carries history w → AreLimits w.setting.limits → IsEvent event → length (step_of w now draw event).bytes ≤ w.setting.limits.datagram }
 {}
 
 /// Whatever happens to a new proxy, it promises the same of all that happened.
