@@ -2,7 +2,9 @@
 #![tactic(auto)]
 
 mod exchange;
+mod table;
 mod waiter;
 
 pub use exchange::{Answer, Exchange, ExchangeState, Sending};
+pub use table::{AdmitError, Table};
 pub use waiter::Waiter;

@@ -15,11 +15,13 @@ use Rattle.coap_exchange.specs.declared.exchange.ExchangeState.{ExchangeState}
 use Rattle.coap_exchange.specs.declared.exchange.ExchangeState.TheVariants.{Queued, Sent, Done}
 use Rattle.coap_exchange.specs.declared.exchange.Exchange.{Exchange}
 use Rattle.coap_exchange.specs.declared.exchange.Sending.{Sending}
+use Rattle.coap_exchange.specs.Exchanges.{moved}
+use Rattle.coap_exchange.specs.Table.{Numbered}
 use Rattle.coap_model.specs.Events.{arrival}
 use Rattle.coap_model.specs.Messages.{is_ack, is_response, token_of, answer_of}
-use Rattle.coap_model.specs.World.{World, Numbered, is_queued, is_done}
+use Rattle.coap_model.specs.World.{World, is_queued, is_done}
 use Rattle.coap_model.specs.Step.{message_in}
-use Rattle.coap_model.specs.Responses.{has_id, awaits, awaiting, moved, answers}
+use Rattle.coap_model.specs.Responses.{has_id, awaits, awaiting, answers}
 use Rattle.coap_model.specs.History.{Entry, Never, Sends, Gets}
 use Rattle.coap_model.specs.Justified.{on_exchange, answered}
 use Rattle.coap_model.specs.Carries.{WasAsked, IsState, IsExchangeOf, Carries, entry_of}

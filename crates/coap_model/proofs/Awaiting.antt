@@ -14,10 +14,11 @@ use Rattle.coap_target.specs.Endpoint.{same_endpoint}
 use Rattle.coap_exchange.specs.declared.exchange.ExchangeState.{ExchangeState}
 use Rattle.coap_exchange.specs.declared.exchange.ExchangeState.TheVariants.{Queued, Sent, Done}
 use Rattle.coap_exchange.specs.declared.exchange.Exchange.{Exchange}
+use Rattle.coap_exchange.specs.Table.{Numbered}
 use Rattle.coap_model.specs.Setting.{Setting}
 use Rattle.coap_model.specs.Events.{arrival}
 use Rattle.coap_model.specs.Messages.{is_ack, is_response, token_of}
-use Rattle.coap_model.specs.World.{World, Numbered}
+use Rattle.coap_model.specs.World.{World}
 use Rattle.coap_model.specs.Responses.{has_id, awaits, awaiting}
 use Rattle.coap_model.specs.History.{Entry, Place, IsPlaceOf, opened_in, Sends, Asks, Gets}
 use Rattle.coap_model.specs.Justified.{IsAwaited, IsMember, Act, served_by, IsJustified, nothing_yet, refused, overloaded, lacking, opened, asked, answered, delivered, rejected, ignored, idle}

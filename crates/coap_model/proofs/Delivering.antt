@@ -12,17 +12,19 @@ use Rattle.coap_exchange.specs.declared.exchange.ExchangeState.{ExchangeState}
 use Rattle.coap_exchange.specs.declared.exchange.ExchangeState.TheVariants.{Done}
 use Rattle.coap_exchange.specs.declared.exchange.Exchange.{Exchange}
 use Rattle.coap_exchange.specs.declared.waiter.Waiter.{Waiter}
+use Rattle.coap_exchange.proofs.Tables.{IsRising-without}
+use Rattle.coap_exchange.specs.Table.{Numbered, without}
 use Rattle.coap_model.specs.Events.{tick}
 use Rattle.coap_model.specs.Messages.{answer_of, shown}
-use Rattle.coap_model.specs.World.{World, Numbered, is_queued, is_done, count_of, next_id, later}
-use Rattle.coap_model.specs.Ticks.{serving, least, items_of, if_due, answer_in, without, without_idle, delivers}
+use Rattle.coap_model.specs.World.{World, is_queued, is_done, count_of, next_id, later}
+use Rattle.coap_model.specs.Ticks.{serving, least, items_of, if_due, answer_in, without_idle, delivers}
 use Rattle.coap_model.specs.History.{Entry, Place, index, Opens}
 use Rattle.coap_model.specs.Justified.{IsRequestOf, IsMember, Act, served_by, on_waiter, delivered, IsDelivery}
 use Rattle.coap_model.specs.Carries.{WasGot, IsState, IsExchangeOf, IsGotBy, IsWaiterOf, HasNumber, Carries, entry_of}
 use Rattle.coap_model.proofs.Lists.{All-weaken, All-filter, Has, All-there}
 use Rattle.coap_model.proofs.Places.{Never-at, Opens-unique, request-unique}
 use Rattle.coap_model.proofs.Spelled.{shown-is}
-use Rattle.coap_model.proofs.Tables.{due-serving, answer-holds, answer-number, IsRising-without, ArePaired-without, length-paired, length-without, HasNumber-without, HasNumber-paired, one, count-without, not_awaited}
+use Rattle.coap_model.proofs.Tables.{due-serving, answer-holds, answer-number, ArePaired-without, length-paired, length-without, HasNumber-without, HasNumber-paired, one, count-without, not_awaited}
 use Rattle.coap_model.proofs.Frames.{exchange_frame, waiter_frame, fresh_frame, sends-not, gets-not}
 use Rattle.coap_model.proofs.Replying.{id-same}
 

@@ -8,10 +8,11 @@ use Rattle.coap_target.specs.declared.target.Target.{Target}
 use Rattle.coap_exchange.specs.declared.exchange.ExchangeState.{ExchangeState}
 use Rattle.coap_exchange.specs.declared.exchange.ExchangeState.TheVariants.{Queued, Sent, Done}
 use Rattle.coap_exchange.specs.declared.exchange.Exchange.{Exchange}
+use Rattle.coap_exchange.specs.Exchanges.{moved}
+use Rattle.coap_exchange.specs.Table.{Numbered}
 use Rattle.coap_model.specs.Events.{tick}
 use Rattle.coap_model.specs.Messages.{token_of, forwarded}
-use Rattle.coap_model.specs.World.{World, Numbered, is_queued, is_done, next_id}
-use Rattle.coap_model.specs.Responses.{moved}
+use Rattle.coap_model.specs.World.{World, is_queued, is_done, next_id}
 use Rattle.coap_model.specs.Ticks.{sending, least, items_of, if_due, with_id, sends}
 use Rattle.coap_target.specs.Routes.{target_of}
 use Rattle.coap_model.specs.History.{Entry, Place, Opens, Sends, Gets}

@@ -6,11 +6,12 @@ use Rattle.coap_exchange.specs.declared.exchange.ExchangeState.{ExchangeState}
 use Rattle.coap_exchange.specs.declared.exchange.ExchangeState.TheVariants.{Queued, Sent, Done}
 use Rattle.coap_exchange.specs.declared.exchange.Exchange.{Exchange}
 use Rattle.coap_exchange.specs.declared.waiter.Waiter.{Waiter}
+use Rattle.coap_exchange.specs.Table.{Numbered}
 use Rattle.coap_model.specs.declared.report.Outcome.{Outcome}
 use Rattle.coap_model.specs.declared.report.Outcome.TheVariants.{Answered, SentRequest, Delivered}
 use Rattle.coap_model.specs.declared.report.Storing.TheVariants.{NotStored}
 use Rattle.coap_model.specs.Setting.{Setting}
-use Rattle.coap_model.specs.World.{World, Numbered}
+use Rattle.coap_model.specs.World.{World}
 use Rattle.coap_model.specs.History.{Entry, index, serves_one, gives_id, opened_in, served_in, ids_in, Sends, Gets}
 use Rattle.coap_model.specs.Justified.{IsMember, Act, served_by}
 use Rattle.coap_model.specs.Carries.{IsState, IsExchangeOf, IsWaiterOf, IsFresh, Carries}

@@ -7,6 +7,7 @@ use Rattle.coap_message.specs.Uint.{IsBytes}
 use Rattle.coap_message.specs.Message.{Message}
 use Rattle.coap_target.specs.declared.endpoint.Endpoint.{Endpoint}
 use Rattle.coap_target.specs.declared.target.Target.{Target}
+use Rattle.coap_exchange.proofs.Tables.{IsRising-push}
 use Rattle.coap_model.specs.Setting.{Setting}
 use Rattle.coap_model.specs.Events.{arrival}
 use Rattle.coap_model.specs.Messages.{may_open}
@@ -19,7 +20,7 @@ use Rattle.coap_model.proofs.Lists.{All-push, All-weaken}
 use Rattle.coap_model.proofs.Places.{here, Never-weaken, Opens-number}
 use Rattle.coap_model.proofs.Verdicts.{openable}
 use Rattle.coap_model.proofs.Rules.{Asked, verdict_in}
-use Rattle.coap_model.proofs.Tables.{IsRising-push, ArePaired-push, HasNumber-push, HasNumber-last, count-push}
+use Rattle.coap_model.proofs.Tables.{ArePaired-push, HasNumber-push, HasNumber-last, count-push}
 use Rattle.coap_model.proofs.Room.{room-there}
 use Rattle.coap_model.proofs.Frames.{exchanges_frame, waiters_frame, fresh_frame, sends-not, gets-not, opened-few}
 use Rattle.coap_model.proofs.Replying.{request-came, verdict-same}

@@ -14,9 +14,10 @@ use Rattle.coap_target.specs.declared.target.Target.{Target}
 use Rattle.coap_exchange.specs.declared.exchange.Answer.{Answer}
 use Rattle.coap_exchange.specs.declared.exchange.Exchange.{Exchange}
 use Rattle.coap_exchange.specs.declared.waiter.Waiter.{Waiter}
+use Rattle.coap_exchange.specs.Table.{Numbered}
 use Rattle.coap_model.specs.Events.{Event, arrival, tick}
 use Rattle.coap_model.specs.Messages.{is_con, is_non, is_ack, is_request, is_response, Verdict, refused_with, may_open, verdict_of}
-use Rattle.coap_model.specs.World.{World, Step, Numbered, has_ids, has_room}
+use Rattle.coap_model.specs.World.{World, Step, has_ids, has_room}
 use Rattle.coap_model.specs.Requests.{lacks_id, refuses, overloads, opens, next_token, on_verdict, on_request}
 use Rattle.coap_model.specs.Responses.{awaiting, answers, on_response}
 use Rattle.coap_model.specs.Ticks.{Item, sending, serving, least, items_of, if_due, sends, delivers, on_item}

@@ -8,11 +8,13 @@ use Rattle.coap_exchange.specs.declared.exchange.ExchangeState.{ExchangeState}
 use Rattle.coap_exchange.specs.declared.exchange.ExchangeState.TheVariants.{Queued, Sent, Done}
 use Rattle.coap_exchange.specs.declared.exchange.Exchange.{Exchange}
 use Rattle.coap_exchange.specs.declared.waiter.Waiter.{Waiter}
-use Rattle.coap_model.specs.World.{Numbered, is_queued, count_of}
-use Rattle.coap_model.specs.Responses.{moved, with_state}
-use Rattle.coap_model.specs.Ticks.{Item, sending, serving, due_of, exchange_items, answer_at, answer_in, with_item, waiter_items, earlier, least, if_due, without, is_awaited}
+use Rattle.coap_exchange.proofs.Tables.{none-below}
+use Rattle.coap_exchange.specs.Exchanges.{moved, with_state}
+use Rattle.coap_exchange.specs.Table.{Numbered, without, IsRising}
+use Rattle.coap_model.specs.World.{is_queued, count_of}
+use Rattle.coap_model.specs.Ticks.{Item, sending, serving, due_of, exchange_items, answer_at, answer_in, with_item, waiter_items, earlier, least, if_due, is_awaited}
 use Rattle.coap_model.proofs.Lists.{Has}
-use Rattle.coap_model.specs.Carries.{IsRising, ArePaired, HasNumber}
+use Rattle.coap_model.specs.Carries.{ArePaired, HasNumber}
 
 -- ---- what is due
 
@@ -138,18 +140,6 @@ HasNumber-with_state n m s (x ∷ xs) h = ⊎_elim (λ (e : m ≡ x.0). inl (e �
 
 -- ---- one element is closed
 
-pub IsRising-lower : {A : Type 0} (low high : ℕ) (xs : List (Numbered A)) → low ≤ high → IsRising high xs → IsRising low xs
-IsRising-lower low high [] le r = tt
-IsRising-lower low high (x ∷ xs) le r = (omega (arith, r.0), r.1)
-
-pub IsRising-without : {A : Type 0} (n least : ℕ) (xs : List (Numbered A)) → IsRising least xs → IsRising least (without n xs)
-IsRising-without n least [] r = tt
-IsRising-without n least (x ∷ xs) r = go (eqb x.0 n) (IsRising-without n x.0 xs r.1)
-  where
-    go : (b : Bool) → IsRising x.0 (without n xs) → IsRising least (cond (not b) (x ∷ without n xs) (without n xs))
-    go true rest = IsRising-lower least x.0 (without n xs) (omega (arith, r.0)) rest
-    go false rest = (r.0, rest)
-
 pub ArePaired-without : (n : ℕ) (xs : List (Numbered Exchange)) (vs : List (Numbered Waiter)) → ArePaired xs vs → ArePaired (without n xs) (without n vs)
 ArePaired-without n [] [] p = tt
 ArePaired-without n [] (v ∷ vs) p = absurd p
@@ -167,13 +157,6 @@ length-paired [] [] p = refl
 length-paired [] (v ∷ vs) p = absurd p
 length-paired (x ∷ xs) [] p = absurd p
 length-paired (x ∷ xs) (v ∷ vs) p = let i = length-paired xs vs p.1 in omega arith
-
--- above the least nothing has its number or a lower one
-none-below : {A : Type 0} (n least : ℕ) (xs : List (Numbered A)) → n ≤ least → IsRising least xs → without n xs ≡ xs
-none-below n least [] le r = refl
-none-below n least (x ∷ xs) le r =
-    let other : eqb x.0 n ≡ false = ne_eqb _ _ (λ e. let above = r.0 in omega arith) in
-    rw other (ap (λ (l : List (Numbered _)). x ∷ l) (none-below n x.0 xs (omega (arith, r.0)) r.1))
 
 -- one that is there is gone, and no other
 pub length-without : {A : Type 0} (n least : ℕ) (xs : List (Numbered A)) → HasNumber n xs → IsRising least xs → length (without n xs) + 1 ≡ length xs
@@ -198,13 +181,6 @@ HasNumber-paired n (x ∷ xs) [] p h = absurd p
 HasNumber-paired n (x ∷ xs) (v ∷ vs) p h = ⊎_elim (λ (e : n ≡ x.0). inl (e ∙ p.0)) (λ (t : HasNumber n xs). inr (HasNumber-paired n xs vs p.1 t)) h
 
 -- ---- one is added at the end
-
-abbrev pub AllBelow : {A : Type 0} → ℕ → List (Numbered A) → Type 0
-AllBelow n xs = AllByRecursion (λ x. x.0 < n) xs
-
-pub IsRising-push : {A : Type 0} (least n : ℕ) (xs : List (Numbered A)) (a : A) → least < n → AllBelow n xs → IsRising least xs → IsRising least (xs ++ (n, a) ∷ [])
-IsRising-push least n [] a lt below r = (lt, tt)
-IsRising-push least n (x ∷ xs) a lt below r = (r.0, IsRising-push x.0 n xs a below.0 below.1 r.1)
 
 pub ArePaired-push : (n : ℕ) (xs : List (Numbered Exchange)) (vs : List (Numbered Waiter)) (x : Exchange) (v : Waiter) → ArePaired xs vs → ArePaired (xs ++ (n, x) ∷ []) (vs ++ (n, v) ∷ [])
 ArePaired-push n [] [] x v p = (refl, tt)

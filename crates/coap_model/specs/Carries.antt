@@ -13,10 +13,11 @@ use Rattle.coap_exchange.specs.declared.exchange.ExchangeState.{ExchangeState}
 use Rattle.coap_exchange.specs.declared.exchange.ExchangeState.TheVariants.{Queued, Sent, Done}
 use Rattle.coap_exchange.specs.declared.exchange.Exchange.{Exchange}
 use Rattle.coap_exchange.specs.declared.waiter.Waiter.{Waiter}
+use Rattle.coap_exchange.specs.Table.{Numbered, IsRising}
 use Rattle.coap_model.specs.Setting.{Setting}
 use Rattle.coap_model.specs.Events.{Event, arrival, tick}
 use Rattle.coap_model.specs.Messages.{token_of, forwarded, target_sent, answer_of}
-use Rattle.coap_model.specs.World.{World, Step, Numbered, is_queued, is_done, count_of, reserved}
+use Rattle.coap_model.specs.World.{World, Step, is_queued, is_done, count_of, reserved}
 use Rattle.coap_model.specs.History.{Entry, Place, index, IsPlaceOf, Never, opened_in, sent_in, answered_in, served_in, ids_in, gives_id, Opens, Sends, Asks, Gets}
 use Rattle.coap_model.specs.Justified.{IsRequestOf, IsMember, Act, served_by, IsJustified}
 
@@ -116,11 +117,6 @@ pub record IsWaiterOf (setting : Setting) (history : List Entry) (acts : List Ac
   pub unserved : ¬ IsMember v.0 (served_by acts)
 
 -- ---- the tables as wholes
-
--- numbers rise, and are above the least
-abbrev pub IsRising : {A : Type 0} → ℕ → List (Numbered A) → Type 0
-IsRising least [] = Unit {0}
-IsRising least (x ∷ xs) = (least < x.0) × IsRising x.0 xs
 
 -- the exchange of each waiter, in the same order
 abbrev pub ArePaired : List (Numbered Exchange) → List (Numbered Waiter) → Type 0

@@ -7,8 +7,9 @@ use Rattle.coap_exchange.specs.declared.exchange.ExchangeState.{ExchangeState}
 use Rattle.coap_exchange.specs.declared.exchange.ExchangeState.TheVariants.{Queued, Sent, Done}
 use Rattle.coap_exchange.specs.declared.exchange.Exchange.{Exchange}
 use Rattle.coap_exchange.specs.declared.waiter.Waiter.{Waiter}
+use Rattle.coap_exchange.specs.Table.{Numbered}
 use Rattle.coap_model.specs.Limits.{Limits}
-use Rattle.coap_model.specs.World.{World, Numbered}
+use Rattle.coap_model.specs.World.{World}
 
 -- a value counts with one byte more
 abbrev pub value_bytes : List ℕ → ℕ

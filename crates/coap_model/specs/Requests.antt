@@ -8,9 +8,10 @@ use Rattle.coap_target.specs.declared.target.Target.{Target}
 use Rattle.coap_exchange.specs.declared.exchange.ExchangeState.TheVariants.{Queued}
 use Rattle.coap_exchange.specs.declared.exchange.Exchange.{Exchange}
 use Rattle.coap_exchange.specs.declared.waiter.Waiter.{Waiter}
+use Rattle.coap_exchange.specs.Table.{Numbered}
 use Rattle.coap_model.specs.declared.report.Outcome.TheVariants.{Refused, Overloaded, NoId, Opened}
 use Rattle.coap_model.specs.Messages.{own_reply, busy_reply, forwarded, token_of, Verdict, refused_with, may_open, verdict_of}
-use Rattle.coap_model.specs.World.{World, Step, Numbered, later, silent, says, next_id, has_ids, has_room}
+use Rattle.coap_model.specs.World.{World, Step, later, silent, says, next_id, has_ids, has_room}
 
 -- no id is free for a reply: silence
 abbrev pub lacks_id : World → ℕ → Step

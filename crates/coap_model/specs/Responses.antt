@@ -1,5 +1,5 @@
 -- The step of a response that comes in an acknowledgement (RFC 7252, 5.2.1 and 5.3.2).
-use Rattle.std.specs.Prelude.{ℕ, ◌==◌, ◌&&◌, Bool, false, nat_eq, if◌then◌else◌, List, map, Option, Some, None}
+use Rattle.std.specs.Prelude.{ℕ, ◌==◌, ◌&&◌, Bool, false, nat_eq, Option, Some, None}
 use Rattle.std.specs.List.{find}
 use Rattle.std.specs.Cmp.Lexicographic.{pointwise}
 use Rattle.coap_message.specs.Message.{Message}
@@ -8,10 +8,12 @@ use Rattle.coap_target.specs.Endpoint.{same_endpoint}
 use Rattle.coap_exchange.specs.declared.exchange.ExchangeState.{ExchangeState}
 use Rattle.coap_exchange.specs.declared.exchange.ExchangeState.TheVariants.{Queued, Sent, Done}
 use Rattle.coap_exchange.specs.declared.exchange.Exchange.{Exchange}
+use Rattle.coap_exchange.specs.Exchanges.{with_state}
+use Rattle.coap_exchange.specs.Table.{Numbered}
 use Rattle.coap_model.specs.declared.report.Outcome.TheVariants.{Ignored, Answered}
 use Rattle.coap_model.specs.declared.report.Storing.TheVariants.{NotStored}
 use Rattle.coap_model.specs.Messages.{token_of, answer_of}
-use Rattle.coap_model.specs.World.{World, Step, Numbered, later, silent}
+use Rattle.coap_model.specs.World.{World, Step, later, silent}
 
 -- whether it was sent with this id, and no answer has come
 abbrev pub has_id : ℕ → ExchangeState → Bool
@@ -25,13 +27,6 @@ awaits salt source m x = has_id m.id x.1.state && (same_endpoint x.1.target.at s
 
 abbrev pub awaiting : World → Endpoint → Message → Option (Numbered Exchange)
 awaiting w source m = find (awaits w.setting.salt source m) w.exchanges
-
--- the exchange of this number comes to this state
-abbrev pub moved : ℕ → ExchangeState → Numbered Exchange → Numbered Exchange
-moved number state x = if x.0 == number then (x.0, record { target = x.1.target; form = x.1.form; admitted = x.1.admitted; state = state }) else x
-
-abbrev pub with_state : ℕ → ExchangeState → List (Numbered Exchange) → List (Numbered Exchange)
-with_state number state exchanges = map (moved number state) exchanges
 
 -- the exchange has its answer
 abbrev pub answers : World → ℕ → Message → Numbered Exchange → Step

@@ -1,15 +1,16 @@
 -- The step of a tick: what is due is done, one thing at a time.
-use Rattle.std.specs.Prelude.{ℕ, ◌+◌, ◌/◌, ◌%◌, ◌==◌, Bool, not, nat_le, if◌then◌else◌, List, [], ◌∷◌, ◌++◌, filter, Option, Some, None, option_map}
+use Rattle.std.specs.Prelude.{ℕ, ◌+◌, ◌/◌, ◌%◌, ◌==◌, Bool, nat_le, if◌then◌else◌, List, [], ◌∷◌, ◌++◌, Option, Some, None, option_map}
 use Rattle.std.specs.List.{list_any}
 use Rattle.coap_exchange.specs.declared.exchange.Answer.{Answer}
 use Rattle.coap_exchange.specs.declared.exchange.ExchangeState.{ExchangeState}
 use Rattle.coap_exchange.specs.declared.exchange.ExchangeState.TheVariants.{Queued, Sent, Done}
 use Rattle.coap_exchange.specs.declared.exchange.Exchange.{Exchange}
 use Rattle.coap_exchange.specs.declared.waiter.Waiter.{Waiter}
+use Rattle.coap_exchange.specs.Exchanges.{with_state}
+use Rattle.coap_exchange.specs.Table.{Numbered, without}
 use Rattle.coap_model.specs.declared.report.Outcome.TheVariants.{SentRequest, Delivered, Idle}
 use Rattle.coap_model.specs.Messages.{shown}
-use Rattle.coap_model.specs.World.{World, Step, Numbered, later, silent, says, next_id, is_queued}
-use Rattle.coap_model.specs.Responses.{with_state}
+use Rattle.coap_model.specs.World.{World, Step, later, silent, says, next_id, is_queued}
 
 -- ---- what is due
 
@@ -86,9 +87,6 @@ sends w now x =
         given = w.given + 1;
       };
     }
-
-abbrev pub without : {A : Type 0} → ℕ → List (Numbered A) → List (Numbered A)
-without number xs = filter (λ x. not (x.0 == number)) xs
 
 abbrev pub is_awaited : ℕ → List (Numbered Waiter) → Bool
 is_awaited number waiters = list_any (λ v. v.1.exchange == number) waiters

@@ -7,14 +7,11 @@ use Rattle.coap_exchange.specs.declared.exchange.ExchangeState.{ExchangeState}
 use Rattle.coap_exchange.specs.declared.exchange.ExchangeState.TheVariants.{Queued, Sent, Done}
 use Rattle.coap_exchange.specs.declared.exchange.Exchange.{Exchange}
 use Rattle.coap_exchange.specs.declared.waiter.Waiter.{Waiter}
+use Rattle.coap_exchange.specs.Table.{Numbered}
 use Rattle.coap_model.specs.declared.report.Outcome.{Outcome}
 use Rattle.coap_model.specs.declared.report.Report.{Report}
 use Rattle.coap_model.specs.declared.report.Counts.{Counts}
 use Rattle.coap_model.specs.Setting.{Setting}
-
--- an exchange, or a waiter, under its number
-abbrev pub Numbered : Type 0 → Type 0
-Numbered A = ℕ × A
 
 pub record World : Type 0 where
   pub setting : Setting
