@@ -1,3 +1,6 @@
 pub mod Endpoint
-pub mod Routes
 pub mod Target
+pub mod Answer
+pub mod Address
+pub mod Uri
+pub mod Routes

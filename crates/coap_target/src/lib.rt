@@ -1,10 +1,16 @@
-//! Where requests go: endpoints, targets and routes (RFC 7252, 5.7).
+//! Where requests go: endpoints, URIs, targets and routes (RFC 7252, 5.7 and 6).
 #![tactic(auto)]
 
+mod address;
 mod endpoint;
+mod error;
+mod parts;
 mod routes;
 mod target;
+mod uri;
 
 pub use endpoint::{Endpoint, Ip};
+pub use error::UriError;
 pub use routes::{Map, Routes};
 pub use target::Target;
+pub use uri::{HostPart, UriParts, split_uri};
