@@ -10,13 +10,14 @@ use Rattle.url.specs.declared.host.Host.TheVariants.{Domain, Ipv4, Ipv6}
 use Rattle.url.specs.Ascii.{slash}
 use Rattle.url.specs.Parser.{parse_url}
 use Rattle.url.specs.Parts.{Parts, nonempty_host, has_credentials}
+use Rattle.coap_target.specs.declared.endpoint.Ip.{Ip}
 use Rattle.coap_target.specs.declared.endpoint.Ip.TheVariants.{V4, V6}
 use Rattle.coap_target.specs.declared.uri.HostPart.{HostPart}
 use Rattle.coap_target.specs.declared.uri.HostPart.TheVariants.{Name, Addr}
 use Rattle.coap_target.specs.declared.uri.UriParts.{UriParts}
 use Rattle.coap_target.specs.declared.error.UriError.{UriError}
 use Rattle.coap_target.specs.declared.error.UriError.TheVariants.{Bad, Scheme}
-use Rattle.coap_target.specs.Address.{ipv4_of}
+use Rattle.coap_target.specs.Address.{ipv4_of, ip_of}
 
 -- the parts of a text between separators, if there is one
 abbrev pub parts_left : ℕ → Option (List ℕ) → List (List ℕ)
@@ -49,6 +50,15 @@ abbrev pub host_part : Host (List ℕ) → HostPart
 host_part (Domain text) = name_or (ipv4_of text) text
 host_part (Ipv4 address) = Addr (V4 (ipv4_octets address))
 host_part (Ipv6 address) = Addr (V6 (ipv6_octets address))
+
+-- a host that stands alone, as in Uri-Host (RFC 7252, 5.10.1): in ASCII lower case, an address, or else
+-- a name as it stands
+abbrev pub host_or : Option Ip → List ℕ → HostPart
+host_or (Some ip) lower = Addr ip
+host_or None lower = Name lower
+
+abbrev pub host_of : List ℕ → HostPart
+host_of text = let lower : List ℕ = map to_ascii_lowercase text in host_or (ip_of lower) lower
 
 -- hosts, segments and parts of a query have at most 255 bytes (RFC 7252, 5.10)
 abbrev pub is_short : List ℕ → Bool

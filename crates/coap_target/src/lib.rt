@@ -9,6 +9,7 @@ mod routes;
 mod target;
 mod uri;
 
+pub use address::read_ip;
 pub use endpoint::{Endpoint, Ip};
 pub use error::UriError;
 pub use routes::{Map, Routes};
