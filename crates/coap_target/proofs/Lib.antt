@@ -1,3 +1,6 @@
 pub mod Addresses
+pub mod Beginnings
 pub mod Cutting
+pub mod MapSearch
+pub mod Numbered
 pub mod Targets

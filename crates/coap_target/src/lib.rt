@@ -4,14 +4,18 @@
 mod address;
 mod endpoint;
 mod error;
+mod map;
+mod options;
 mod parts;
 mod routes;
+mod segment;
 mod target;
 mod uri;
 
 pub use address::read_ip;
 pub use endpoint::{Endpoint, Ip};
 pub use error::UriError;
-pub use routes::{Map, Routes};
+pub use map::{KnownHost, Map};
+pub use routes::Routes;
 pub use target::Target;
 pub use uri::{HostPart, UriParts, split_uri};
