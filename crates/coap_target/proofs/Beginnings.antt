@@ -1,6 +1,6 @@
 -- Whether a path begins with a prefix, segment by segment.
-use Rattle.std.proofs.Common.{◌≡◌, ℕ, ◌+◌, ◌<◌, ◌≤◌, Bool, true, false, ◌&&◌, nat_eq, List, [], ◌∷◌, length, get_or, drop, map, refl, sym, ap, ◌∙◌, arith}
-use Rattle.std.proofs.lemmas.List.{drop_more, drop_all}
+use Rattle.std.proofs.Common.{◌≡◌, ℕ, ◌+◌, ◌<◌, ◌≤◌, Bool, true, false, ◌&&◌, nat_eq, List, [], ◌∷◌, length, get_or, drop, map, map-id, take, ◌++◌, ◌-◌, refl, sym, ap, ◌∙◌, arith}
+use Rattle.std.proofs.lemmas.List.{drop_more, drop_all, take_rest, drop-map}
 use Rattle.std.specs.Cmp.Lexicographic.{pointwise}
 use Rattle.std.proofs.lemmas.Bool.{and_parts, true≢false}
 use Rattle.coap_target.specs.Routes.{begins}
@@ -44,3 +44,7 @@ length-begins (p ∷ prefix) [] holds = absurd (true≢false (sym holds))
 length-begins (p ∷ prefix) (s ∷ path) holds =
     let rest : length prefix ≤ length path = length-begins prefix path (and_parts (pointwise nat_eq p s) (begins prefix path) holds).1 in
     omega arith
+
+-- an origin's segments, and those of a path behind a prefix of so many
+pub joined : {A : Type 0} (f : A → List ℕ) (origin : List (List ℕ)) (path : List A) (n : ℕ) → map (λ s. s) origin ++ map f (take (length path - n) (drop n path)) ≡ origin ++ drop n (map f path)
+joined f origin path n = rw (map-id, take_rest, drop-map) refl

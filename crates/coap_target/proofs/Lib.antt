@@ -3,4 +3,6 @@ pub mod Beginnings
 pub mod Cutting
 pub mod MapSearch
 pub mod Numbered
+pub mod Screened
 pub mod Targets
+pub mod Texts

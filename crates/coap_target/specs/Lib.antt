@@ -6,3 +6,5 @@ pub mod Uri
 pub mod RouteLists
 pub mod RoutesView
 pub mod Routes
+pub mod Hosts
+pub mod Request

@@ -1,6 +1,7 @@
 //! What can be refused.
 ghost use Rattle.std.specs.Prelude.{◌≡◌};
 ghost use Rattle.coap_target.specs.declared.error.UriError.TheVariants as errors;
+ghost use Rattle.coap_target.specs.declared.error.TargetError.TheVariants as target_errors;
 
 use coap_message::OutOfMemory;
 use std::alloc::AllocError;
@@ -33,5 +34,30 @@ impl From<AllocError> for UriError {
 
     fn from(_refused: AllocError) -> UriError {
         UriError::OutOfMemory
+    }
+}
+
+/// Why a request has no target.
+#[derive(Clone, Copy, Debug, PartialEq, Eq, Error)]
+pub enum TargetError {
+    /// Its Proxy-Uri is no URI that can be carried, or its Uri-Port is 0 (4.00, RFC 7252, 5.9.2.1).
+    #[error("a bad URI")]
+    BadUri,
+    /// The proxy doesn't serve that host or scheme (5.05, RFC 7252, 5.10.2).
+    #[error("not proxied")]
+    NotProxied,
+    /// It is one to the proxy itself, and no map has its path (4.04).
+    #[error("not found")]
+    NotFound,
+    /// The allocator had no memory for the target.
+    #[error("out of memory")]
+    OutOfMemory,
+}
+
+impl From<OutOfMemory> for TargetError {
+    ghost from_gives = { λ _ e. e ≡ target_errors.OutOfMemory };
+
+    fn from(_refused: OutOfMemory) -> TargetError {
+        TargetError::OutOfMemory
     }
 }

@@ -18,9 +18,9 @@ use std::marker::Model;
 /// segments and parts of the query have at most 255 bytes each.
 #[derive(Debug, Drop)]
 pub struct Routes {
-    names: Seq<HostPart>,
-    hosts: Seq<KnownHost>,
-    maps: Seq<Map>,
+    pub(crate) names: Seq<HostPart>,
+    pub(crate) hosts: Seq<KnownHost>,
+    pub(crate) maps: Seq<Map>,
 }
 
 impl Model for Routes {
