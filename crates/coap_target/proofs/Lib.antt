@@ -1,8 +1,10 @@
 pub mod Addresses
 pub mod Beginnings
 pub mod Cutting
+pub mod Gathering
 pub mod MapSearch
 pub mod Numbered
+pub mod Origins
 pub mod Screened
 pub mod Targets
 pub mod Texts

@@ -8,3 +8,4 @@ pub mod RoutesView
 pub mod Routes
 pub mod Hosts
 pub mod Request
+pub mod RouteTexts

@@ -9,8 +9,10 @@ use Rattle.coap_target.specs.declared.error.UriError.{UriError}
 use Rattle.coap_target.specs.declared.error.UriError.TheVariants as uri_error
 use Rattle.coap_target.specs.declared.error.TargetError.{TargetError}
 use Rattle.coap_target.specs.declared.error.TargetError.TheVariants.{BadUri, NotProxied, NotFound, OutOfMemory}
+use Rattle.coap_target.specs.declared.map.KnownHost.{KnownHost}
 use Rattle.coap_target.specs.declared.routes.Routes.{Routes}
 use Rattle.coap_target.specs.declared.target.Target.{Target}
+use Rattle.coap_target.specs.declared.uri.HostPart.{HostPart}
 use Rattle.coap_target.specs.declared.uri.HostPart.TheVariants.{Name, Addr}
 use Rattle.coap_target.specs.declared.uri.UriParts.{UriParts}
 use Rattle.coap_target.specs.Hosts.{is_own, address_of}
@@ -42,17 +44,17 @@ abbrev pub named_target : Option Ip → List ℕ → UriParts → Result Target 
 named_target None name uri = Err NotProxied
 named_target (Some ip) name uri = Ok (record { host = Some name; at = record { ip = ip; port = uri.port }; path = uri.path; query = uri.query })
 
-abbrev pub remote : Routes → UriParts → Result Target TargetError
-remote routes uri =
-    elim uri.host as (λ h. Result Target TargetError) [
-      | Name name ↦ named_target (address_of routes.hosts name) name uri
-      | Addr ip ↦ Ok (record { host = None; at = record { ip = ip; port = uri.port }; path = uri.path; query = uri.query })
-    ]
+abbrev pub target_at_host : List KnownHost → HostPart → UriParts → Result Target TargetError
+target_at_host hosts (Name name) uri = named_target (address_of hosts name) name uri
+target_at_host hosts (Addr ip) uri = Ok (record { host = None; at = record { ip = ip; port = uri.port }; path = uri.path; query = uri.query })
+
+abbrev pub remote : List KnownHost → UriParts → Result Target TargetError
+remote hosts uri = target_at_host hosts uri.host uri
 
 -- a request for a URI: to the proxy itself where its host is an own name, whatever its port (RFC 7252,
 -- 5.7.2)
 abbrev pub resolved : Routes → UriParts → Result Target TargetError
-resolved routes uri = if is_own routes.names uri.host then local routes uri.path uri.query else remote routes uri
+resolved routes uri = if is_own routes.names uri.host then local routes uri.path uri.query else remote routes.hosts uri
 
 -- by Proxy-Uri: the URI says it all (RFC 7252, 5.10.2)
 abbrev pub of_uri : Routes → Result UriParts UriError → Result Target TargetError
@@ -79,15 +81,16 @@ by_scheme routes m scheme =
     if is_coap scheme then (if port_of m == 0 then Err BadUri else composed routes m (value_of 3 m)) else Err NotProxied
 
 -- a proxy without own names is none for others
-abbrev pub if_named : Routes → Result Target TargetError → Result Target TargetError
-if_named routes target = elim routes.names as (λ names. Result Target TargetError) [ [] ↦ Err NotProxied | name ∷ names ↦ target ]
+abbrev pub if_any : List HostPart → Result Target TargetError → Result Target TargetError
+if_any [] target = Err NotProxied
+if_any (name ∷ names) target = target
 
 -- By Proxy-Uri, if the request has one; else by Proxy-Scheme, if it has one (RFC 7252, 5.10.2). With
 -- neither it is one to the proxy itself, and its Uri-Host and Uri-Port play no part.
 abbrev pub by_options : Routes → Message → Option (List ℕ) → Option (List ℕ) → Result Target TargetError
 by_options routes m None None = local routes (path_of m) (query_of m)
-by_options routes m None (Some scheme) = if_named routes (by_scheme routes m scheme)
-by_options routes m (Some uri) scheme = if_named routes (by_uri routes uri)
+by_options routes m None (Some scheme) = if_any routes.names (by_scheme routes m scheme)
+by_options routes m (Some uri) scheme = if_any routes.names (by_uri routes uri)
 
 unfoldable pub request_target : Routes → Message → Result Target TargetError
 request_target routes m = by_options routes m (value_of 35 m) (value_of 39 m)

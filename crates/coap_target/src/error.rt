@@ -2,6 +2,7 @@
 ghost use Rattle.std.specs.Prelude.{◌≡◌};
 ghost use Rattle.coap_target.specs.declared.error.UriError.TheVariants as errors;
 ghost use Rattle.coap_target.specs.declared.error.TargetError.TheVariants as target_errors;
+ghost use Rattle.coap_target.specs.declared.error.RouteError.TheVariants as route_errors;
 
 use coap_message::OutOfMemory;
 use std::alloc::AllocError;
@@ -59,5 +60,27 @@ impl From<OutOfMemory> for TargetError {
 
     fn from(_refused: OutOfMemory) -> TargetError {
         TargetError::OutOfMemory
+    }
+}
+
+/// Why texts are no routes. The first that applies, in this order.
+#[derive(Clone, Copy, Debug, PartialEq, Eq, Error)]
+pub enum RouteError {
+    /// A name, host, address, prefix or origin can't be read, or a host stands twice.
+    #[error("an unreadable route")]
+    Unreadable,
+    /// More than 64 names, 256 hosts or 64 maps.
+    #[error("too many routes")]
+    TooMany,
+    /// The allocator had no memory for them.
+    #[error("out of memory")]
+    OutOfMemory,
+}
+
+impl From<OutOfMemory> for RouteError {
+    ghost from_gives = { λ _ e. e ≡ route_errors.OutOfMemory };
+
+    fn from(_refused: OutOfMemory) -> RouteError {
+        RouteError::OutOfMemory
     }
 }

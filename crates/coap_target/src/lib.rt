@@ -7,6 +7,7 @@ mod error;
 mod map;
 mod options;
 mod parts;
+mod reading;
 mod request;
 mod routes;
 mod segment;
@@ -15,7 +16,7 @@ mod uri;
 
 pub use address::read_ip;
 pub use endpoint::{Endpoint, Ip};
-pub use error::{TargetError, UriError};
+pub use error::{RouteError, TargetError, UriError};
 pub use map::{KnownHost, Map};
 pub use routes::Routes;
 pub use target::Target;

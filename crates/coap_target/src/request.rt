@@ -6,7 +6,7 @@ ghost use Rattle.coap_message.specs.Uint.{uint_of};
 ghost use Rattle.coap_option.specs.declared.side.Side.{Side};
 ghost use Rattle.coap_option.specs.Screening.{first_refused};
 ghost use Rattle.coap_target.specs.Answer.{Answers};
-ghost use Rattle.coap_target.specs.Hosts as hosts;
+ghost use Rattle.coap_target.specs.Hosts as names;
 ghost use Rattle.coap_target.specs.Request as spec;
 ghost use Rattle.coap_target.specs.Routes.{mapped, path_of, query_of};
 ghost use Rattle.coap_target.specs.declared.error.TargetError.TheVariants as errors;
@@ -14,7 +14,7 @@ ghost use Rattle.coap_target.specs.declared.error.TargetError.TheVariants as err
 use crate::address::read_host;
 use crate::endpoint::{Endpoint, Ip};
 use crate::error::{TargetError, UriError};
-use crate::map::Map;
+use crate::map::{KnownHost, Map};
 use crate::options::options_of;
 use crate::routes::{Routes, map_of};
 use crate::segment::{Segment, append};
@@ -27,7 +27,7 @@ use std::alloc::Global;
 impl HostPart {
     /// Whether both are one host.
     fn is(&self, other: &HostPart) -> bool
-        ensures { result ≡ hosts.same_host self.now other.now }
+        ensures { result ≡ names.same_host self.now other.now }
     {
         self == other
     }
@@ -87,6 +87,41 @@ fn port_of(request: &Message) -> u16
     }
 }
 
+/// The address of the first host of a name.
+fn address_of(hosts: &[KnownHost], name: &Seq<u8>) -> Option<Ip>
+    ensures { result ≡ names.address_of hosts.now name.now }
+{
+    let host = hosts
+        .iter()
+        .find(|host| host.name.as_slice() == name.as_slice())?;
+    Some(host.ip)
+}
+
+/// The target of a request for a URI whose host is no own name.
+pub(crate) fn remote(hosts: &[KnownHost], uri: UriParts) -> Result<Target, TargetError>
+    ensures { result ≡ spec.remote hosts.now uri }
+{
+    let UriParts {
+        host,
+        port,
+        path,
+        query,
+    } = uri;
+    let (host, ip) = match host {
+        HostPart::Addr(ip) => (None, ip),
+        HostPart::Name(name) => match address_of(hosts, &name) {
+            Some(ip) => (Some(name), ip),
+            None => return Err(TargetError::NotProxied),
+        },
+    };
+    Ok(Target {
+        host,
+        at: Endpoint { ip, port },
+        path,
+        query,
+    })
+}
+
 /// The Uri-Path options of a request (RFC 7252, 5.10.1).
 fn path_of(request: &Message) -> &[Opt]
     ensures { map_list (λ o. o.value) result.now ≡ path_of request.now }
@@ -136,46 +171,9 @@ impl Routes {
 
     /// Whether a host is one of the own names.
     fn is_own(&self, host: &HostPart) -> bool
-        ensures { result ≡ hosts.is_own self.now.names host.now }
+        ensures { result ≡ names.is_own self.now.names host.now }
     {
         self.names.as_slice().iter().any(|name| name.is(host))
-    }
-
-    /// The address of the first host of a name.
-    fn address_of(&self, name: &Seq<u8>) -> Option<Ip>
-        ensures { result ≡ hosts.address_of self.now.hosts name.now }
-    {
-        let host = self
-            .hosts
-            .as_slice()
-            .iter()
-            .find(|host| host.name.as_slice() == name.as_slice())?;
-        Some(host.ip)
-    }
-
-    /// The target of a request for a URI whose host is no own name.
-    fn remote(&self, uri: UriParts) -> Result<Target, TargetError>
-        ensures { result ≡ spec.remote self.now uri }
-    {
-        let UriParts {
-            host,
-            port,
-            path,
-            query,
-        } = uri;
-        let (host, ip) = match host {
-            HostPart::Addr(ip) => (None, ip),
-            HostPart::Name(name) => match self.address_of(&name) {
-                Some(ip) => (Some(name), ip),
-                None => return Err(TargetError::NotProxied),
-            },
-        };
-        Ok(Target {
-            host,
-            at: Endpoint { ip, port },
-            path,
-            query,
-        })
     }
 
     /// The target of a request for a URI.
@@ -185,7 +183,7 @@ impl Routes {
         if self.is_own(&uri.host) {
             self.local(alloc, uri.path.as_slice(), uri.query.as_slice())
         } else {
-            self.remote(uri)
+            remote(self.hosts.as_slice(), uri)
         }
     }
 

@@ -107,7 +107,7 @@ fn named(alloc: Global, text: &str) -> Result<HostPart, OutOfMemory>
 }
 
 /// The segments behind the first slash of a path; none where nothing stands there.
-fn path_parts(alloc: Global, path: &[u8]) -> Result<Seq<Seq<u8>>, OutOfMemory>
+pub(crate) fn path_parts(alloc: Global, path: &[u8]) -> Result<Seq<Seq<u8>>, OutOfMemory>
     ensures { IfOk result (λ segments. segments ≡ spec.path_parts path.now) }
 {
     match path {
