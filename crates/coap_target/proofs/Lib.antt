@@ -5,6 +5,8 @@ pub mod Gathering
 pub mod MapSearch
 pub mod Numbered
 pub mod Origins
+pub mod Same
 pub mod Screened
 pub mod Targets
 pub mod Texts
+pub mod Winners

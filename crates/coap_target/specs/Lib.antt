@@ -9,3 +9,5 @@ pub mod Routes
 pub mod Hosts
 pub mod Request
 pub mod RouteTexts
+pub mod Equality
+pub mod Winner

@@ -24,15 +24,6 @@ use coap_message::{Message, Opt, OutOfMemory, Seq, uint};
 use coap_option::numbers;
 use std::alloc::Global;
 
-impl HostPart {
-    /// Whether both are one host.
-    fn is(&self, other: &HostPart) -> bool
-        ensures { result ≡ names.same_host self.now other.now }
-    {
-        self == other
-    }
-}
-
 /// The value of the first option of a number.
 fn value_of(request: &Message, number: u16) -> Option<&[u8]>
     ensures { option_copied result ≡ spec.value_of number request.now }

@@ -4,6 +4,8 @@ ghost use Rattle.std.specs.Option.{option_copied};
 ghost use Rattle.url.specs.Host.{borrowed_host};
 ghost use Rattle.coap_target.specs.Address.{ipv4_of};
 ghost use Rattle.coap_target.specs.Answer.{Answers};
+ghost use Rattle.coap_target.specs.Equality.{same_uri};
+ghost use Rattle.coap_target.specs.Hosts.{same_host};
 ghost use Rattle.coap_target.specs.Uri as spec;
 ghost use Rattle.coap_target.specs.declared.error.UriError.TheVariants as errors;
 
@@ -25,6 +27,15 @@ pub enum HostPart {
     Addr(Ip),
 }
 
+impl HostPart {
+    /// Whether both are one host.
+    pub fn is(&self, other: &HostPart) -> bool
+        ensures { result ≡ same_host self.now other.now }
+    {
+        self == other
+    }
+}
+
 /// The parts of a `coap` URI, decoded. A name of a host is in ASCII lower case but for what its escapes
 /// stood for.
 #[derive(Clone, Debug, Drop, PartialEq, Eq, Hash)]
@@ -36,6 +47,13 @@ pub struct UriParts {
 }
 
 impl UriParts {
+    /// Whether both are one URI, part by part.
+    pub fn is(&self, other: &UriParts) -> bool
+        ensures { result ≡ same_uri self.now other.now }
+    {
+        self == other
+    }
+
     /// Whether host, segments and parts of the query have at most 255 bytes each.
     fn are_short(&self) -> bool
         ensures { result ≡ spec.are_short self.now }
