@@ -1,1 +1,12 @@
+pub mod Addresses
+pub mod Beginnings
+pub mod Cutting
+pub mod Gathering
+pub mod MapSearch
+pub mod Numbered
+pub mod Origins
+pub mod Same
+pub mod Screened
 pub mod Targets
+pub mod Texts
+pub mod Winners

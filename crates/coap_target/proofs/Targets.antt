@@ -1,36 +1,64 @@
 -- The target of a request is a target.
-use Rattle.std.proofs.Common.{◌≡◌, ℕ, Bool, true, false, cond, List, [], ◌∷◌, ◌++◌, Option, Some, None, refl, subst}
-use Rattle.std.specs.Prelude.{nat_eq}
+use Rattle.std.proofs.Common.{◌≡◌, ℕ, suc, zero, Bool, true, false, cond, List, [], ◌∷◌, ◌++◌, length, drop, filter, nat_lt, Option, Some, None, option_map, refl, subst}
 use Rattle.std.specs.List.{AllByRecursion}
-use Rattle.std.specs.Cmp.Lexicographic.{pointwise}
+use Rattle.std.proofs.lemmas.Bool.{leb-true}
 use Rattle.coap_message.specs.Message.{Message}
 use Rattle.coap_target.specs.declared.target.Target.{Target}
+use Rattle.coap_target.specs.declared.map.Map.{Map}
 use Rattle.coap_target.specs.declared.routes.Routes.{Routes}
 use Rattle.coap_target.specs.Target.{IsSegment, IsTarget}
-use Rattle.coap_target.specs.Routes.{path_of, behind_prefix, mapped, target_of, AreRoutes}
+use Rattle.coap_target.specs.Uri.{is_short}
+use Rattle.coap_target.specs.Routes.{begins, longer, map_of, mapped, values_of, path_of, query_of, target_of, AreRoutes}
 
--- what stands behind a prefix are segments of the path
-behind-All : (P : List ℕ → Type 0) (prefix path rest : List (List ℕ)) → AllByRecursion P path → behind_prefix prefix path ≡ Some rest → AllByRecursion P rest
-behind-All P [] path rest all e = let same : path ≡ rest = cc in subst (AllByRecursion P) same all
-behind-All P (p ∷ prefix) [] rest all e = absurd cc
-behind-All P (p ∷ prefix) (s ∷ path) rest all e = go (λ f. behind-All P prefix path rest all.1 f) (pointwise nat_eq p s) e
-  where
-    go : (behind_prefix prefix path ≡ Some rest → AllByRecursion P rest) → (b : Bool) → cond b (behind_prefix prefix path) None ≡ Some rest → AllByRecursion P rest
-    go again true f = again f
-    go again false f = absurd cc
+-- what holds of each holds of those behind some
+All-drop : (P : List ℕ → Type 0) (n : ℕ) (xs : List (List ℕ)) → AllByRecursion P xs → AllByRecursion P (drop n xs)
+All-drop P zero xs all = all
+All-drop P (suc n) [] all = tt
+All-drop P (suc n) (x ∷ xs) all = All-drop P n xs all.1
 
 All-append : (P : List ℕ → Type 0) (xs ys : List (List ℕ)) → AllByRecursion P xs → AllByRecursion P ys → AllByRecursion P (xs ++ ys)
 All-append P [] ys p q = q
 All-append P (x ∷ xs) ys p q = (p.0, All-append P xs ys p.1 q)
 
+-- what is short enough is a segment
+pub All-short : (xs : List (List ℕ)) → AllByRecursion IsSegment (filter is_short xs)
+All-short [] = tt
+All-short (x ∷ xs) = go (All-short xs) (is_short x) refl
+  where
+    go : AllByRecursion IsSegment (filter is_short xs) → (b : Bool) → is_short x ≡ b → AllByRecursion IsSegment (cond b (x ∷ filter is_short xs) (filter is_short xs))
+    go rest true is = (leb-true (length x) 255 is, rest)
+    go rest false is = rest
+
+-- the map of a path is one of the maps
+pub All-map_of : (P : Map → Type 0) (maps : List Map) (path : List (List ℕ)) (m : Map) → AllByRecursion P maps → map_of maps path ≡ Some m → P m
+All-map_of P [] path m all found = absurd cc
+All-map_of P (n ∷ maps) path m all found = go (λ later e. All-map_of P maps path later all.1 e) (begins n.prefix path) (map_of maps path) refl found
+  where
+    pick : (t : Bool) (later : Map) → P later → cond t (Some later) (Some n) ≡ Some m → P m
+    pick true later holds is = subst P (let same : later ≡ m = cc in same) holds
+    pick false later holds is = subst P (let same : n ≡ m = cc in same) all.0
+
+    go : ((later : Map) → map_of maps path ≡ Some later → P later) → (b : Bool) (rest : Option Map) → map_of maps path ≡ rest → cond b (longer n rest) rest ≡ Some m → P m
+    go holds true None e is = subst P (let same : n ≡ m = cc in same) all.0
+    go holds true (Some later) e is = pick (nat_lt (length n.prefix) (length later.prefix)) later (holds later e) is
+    go holds false None e is = absurd cc
+    go holds false (Some later) e is = subst P (let same : later ≡ m = cc in same) (holds later e)
+
+-- a mapped path and query make a target
+pub mapped-is : (path query : List (List ℕ)) (m : Map) → IsTarget m.origin → AllByRecursion IsSegment path → AllByRecursion IsSegment query → IsTarget (mapped path query m)
+mapped-is path query m is of_path of_query = record {
+  host = is.host;
+  path = All-append IsSegment m.origin.path (drop (length m.prefix) path) is.path (All-drop IsSegment (length m.prefix) path of_path);
+  query = of_query;
+}
+
 -- the target of a request whose segments are short enough
 pub target-is : (routes : Routes) (m : Message) (t : Target) → AreRoutes routes → AllByRecursion IsSegment (path_of m) → target_of routes m ≡ Some t → IsTarget t
 unfolding target_of
-target-is routes m t are short e = go (behind_prefix routes.prefix (path_of m)) refl e
+target-is routes m t are short e = go (map_of routes.maps (path_of m)) refl e
   where
-    go : (o : Option (List (List ℕ))) → behind_prefix routes.prefix (path_of m) ≡ o → mapped routes.origin o ≡ Some t → IsTarget t
+    go : (o : Option Map) → map_of routes.maps (path_of m) ≡ o → option_map (mapped (path_of m) (query_of m)) o ≡ Some t → IsTarget t
     go None found f = absurd cc
-    go (Some rest) found f =
-        let made : Target = record { host = routes.origin.host; at = routes.origin.at; path = routes.origin.path ++ rest; query = [] } in
-        let same : made ≡ t = cc in
-        subst IsTarget same (record { host = are.host; path = All-append IsSegment routes.origin.path rest are.path (behind-All IsSegment routes.prefix (path_of m) rest short found); query = tt })
+    go (Some n) found f =
+        let same : mapped (path_of m) (query_of m) n ≡ t = cc in
+        subst IsTarget same (mapped-is (path_of m) (query_of m) n (All-map_of (λ k. IsTarget k.origin) routes.maps (path_of m) n are found) short (All-short (values_of 15 m.options)))

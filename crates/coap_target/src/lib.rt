@@ -1,10 +1,24 @@
-//! Where requests go: endpoints, targets and routes (RFC 7252, 5.7).
+//! Where requests go: endpoints, URIs, targets and routes (RFC 7252, 5.7 and 6).
 #![tactic(auto)]
 
+mod address;
 mod endpoint;
+mod error;
+pub mod laws;
+mod map;
+mod options;
+mod parts;
+mod reading;
+mod request;
 mod routes;
+mod segment;
 mod target;
+mod uri;
 
+pub use address::read_ip;
 pub use endpoint::{Endpoint, Ip};
-pub use routes::{Map, Routes};
+pub use error::{RouteError, TargetError, UriError};
+pub use map::{KnownHost, Map};
+pub use routes::Routes;
 pub use target::Target;
+pub use uri::{HostPart, UriParts, split_uri};

@@ -1,48 +1,51 @@
-//! Routes: which origin a path of the proxy's own is mapped to (RFC 7252, 5.7.3).
-ghost use Rattle.std.specs.Prelude.{◌≡◌, IfOk};
+//! Routes: the own names of a proxy, the hosts that it knows, and the origins that its paths are mapped
+//! to (RFC 7252, 5.7.2 and 5.7.3).
+ghost use Rattle.std.specs.Prelude.{◌≡◌, IfOk, map};
+ghost use Rattle.std.specs.Option.{option_copied};
+ghost use Rattle.coap_target.specs.Routes as spec;
 
 use crate::endpoint::{Endpoint, Ip};
+use crate::map::{KnownHost, Map};
+use crate::segment::{Segment, begins};
 use crate::target::Target;
+use crate::uri::HostPart;
 use coap_message::{OutOfMemory, Seq};
 use std::alloc::Global;
 use std::marker::Model;
 
-/// Paths that begin with the prefix are those of the origin, followed by the rest of the path.
-#[derive(Clone, Debug, Drop)]
-pub struct Map {
-    pub prefix: Seq<Seq<u8>>,
-    pub origin: Target,
-}
-
-/// The maps of a proxy. There is one until routes are read from a configuration, and a contract sees it.
-/// Its origin's host, segments and parts of a query have at most 255 bytes each.
-#[derive(Clone, Debug, Drop)]
+/// The routes of a proxy: its own names, the addresses of hosts, and its maps, each in the order in
+/// which it was handed in. A contract sees the three lists. The origins of the maps are targets: host,
+/// segments and parts of the query have at most 255 bytes each.
+#[derive(Debug, Drop)]
 pub struct Routes {
-    map: Map,
+    pub(crate) names: Seq<HostPart>,
+    pub(crate) hosts: Seq<KnownHost>,
+    pub(crate) maps: Seq<Map>,
 }
 
 impl Model for Routes {
-    ghost use Rattle.coap_target.specs.declared.routes.Map.{Map};
-    ghost use Rattle.coap_target.specs.Target.{IsTarget};
+    ghost use Rattle.coap_target.specs.RouteLists.{RouteLists, HaveTargets};
 
-    ghost Value = { Map };
+    ghost Value = { RouteLists };
 
-    ghost view = { λ routes. routes.map };
+    ghost use Rattle.coap_target.specs.RoutesView.{seen, kept};
 
-    ghost invariant = { λ routes. IsTarget routes.map.origin };
+    ghost view = { seen };
 
-    ghost inverse = { λ map. record { map = map } };
+    ghost invariant = { λ routes. HaveTargets routes.maps };
+
+    ghost inverse = { kept };
 }
 
 impl Routes {
     ghost use Rattle.coap_target.specs.Routes.{fixed_routes, AreRoutes};
 
-    /// The map: for paths that begin with its prefix.
-    pub fn map(&self) -> &Map
-        ensures map { result.now ≡ self.now }
+    /// The maps, in order.
+    pub fn maps(&self) -> &[Map]
+        ensures maps { result.now ≡ self.now.maps }
         ensures sound { AreRoutes self.now }
     {
-        &self.map
+        self.maps.as_slice()
     }
 
     /// The path `t` is mapped to `coap://127.0.0.1:5690/temp`.
@@ -63,8 +66,35 @@ impl Routes {
             path,
             query: Seq::new(alloc),
         };
+        let mut maps = Seq::new(alloc);
+        maps.push(Map { prefix, origin })?;
         Ok(Routes {
-            map: Map { prefix, origin },
+            names: Seq::new(alloc),
+            hosts: Seq::new(alloc),
+            maps,
         })
+    }
+}
+
+/// The map of a path: among those whose prefix begins it the one with the longest, then the earliest.
+pub(crate) fn map_of<'a, S: Segment>(maps: &'a [Map], path: &[S]) -> Option<&'a Map>
+    ensures { option_copied result ≡ spec.map_of maps.entry.now (map S.bytes_of path.now) }
+{
+    let mut best: Option<&Map> = None;
+    for map in maps {
+        if is_longer(map, best) && begins(map.prefix.as_slice(), path) {
+            best = Some(map);
+        }
+    }
+    best
+}
+
+/// Whether a map's prefix is longer than that of the best so far.
+fn is_longer(map: &Map, best: Option<&Map>) -> bool
+    ensures { result ≡ spec.is_longer map.now (option_copied best.entry) }
+{
+    match best {
+        Some(best) => best.prefix.len() < map.prefix.len(),
+        None => true,
     }
 }

@@ -1,4 +1,7 @@
 //! Targets: the resource of an origin that a request is for (RFC 7252, 5.7.2).
+ghost use Rattle.std.specs.Prelude.{◌≡◌};
+ghost use Rattle.coap_target.specs.Equality.{same_target};
+
 use crate::endpoint::Endpoint;
 use coap_message::Seq;
 
@@ -10,4 +13,13 @@ pub struct Target {
     pub at: Endpoint,
     pub path: Seq<Seq<u8>>,
     pub query: Seq<Seq<u8>>,
+}
+
+impl Target {
+    /// Whether both are one target, part by part.
+    pub fn is(&self, other: &Target) -> bool
+        ensures { result ≡ same_target self.now other.now }
+    {
+        self == other
+    }
 }

@@ -5,3 +5,5 @@
 mod messages;
 #[cfg(test)]
 mod options;
+#[cfg(test)]
+mod targets;

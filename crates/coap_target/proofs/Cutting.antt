@@ -1,0 +1,45 @@
+-- A list that is cut where a test first holds.
+use Rattle.std.proofs.Common.{◌≡◌, ℕ, ◌+◌, ◌<◌, ◌≤◌, Bool, List, [], ◌∷◌, length, take, drop, Some, None, position, refl, sym, ap, ◌∙◌, arith, ⊎_elim, ltb}
+use Rattle.std.specs.List.{slice_split, onto_first, position_or_len}
+use Rattle.std.proofs.lemmas.Bool.{cases_Bool, ltb-true, ltb-false}
+use Rattle.std.proofs.lemmas.List.Splits.{slice_split_first, slice_split-cons_no}
+use Rattle.std.proofs.lemmas.Option.{none-some}
+
+-- a place is found where the test holds first
+position-is : {X : Type 0} (p : X → Bool) (xs : List X) (i : ℕ) → position p xs ≡ Some i → (position_or_len p xs ≡ i) × (position_or_len p xs < length xs)
+position-is p xs i found =
+    ⊎_elim
+    (λ yes. let is : Some (position_or_len p xs) ≡ Some i = rw yes at found in (cc, ltb-true (position_or_len p xs) (length xs) yes))
+    (λ no. absurd (none-some i (rw no at found)))
+    (cases_Bool (ltb (position_or_len p xs) (length xs)))
+
+-- no place is found only where the test holds nowhere
+position-none : {X : Type 0} (p : X → Bool) (xs : List X) → position p xs ≡ None → length xs ≤ position_or_len p xs
+position-none p xs none =
+    ⊎_elim
+    (λ yes. absurd (none-some (position_or_len p xs) (sym (rw yes at none))))
+    (λ no. ltb-false (position_or_len p xs) (length xs) no)
+    (cases_Bool (ltb (position_or_len p xs) (length xs)))
+
+-- where the test holds nowhere the list is one part
+split-whole : {X : Type 0} (p : X → Bool) (xs : List X) → length xs ≤ position_or_len p xs → slice_split p xs ≡ xs ∷ []
+split-whole p [] all = refl
+split-whole p (x ∷ xs) all =
+    ⊎_elim
+    (λ yes. let none : position_or_len p (x ∷ xs) ≡ 0 = rw yes refl in absurd (omega arith))
+    (λ no.
+    let more : position_or_len p (x ∷ xs) ≡ 1 + position_or_len p xs = rw no refl in
+    let rest : length xs ≤ position_or_len p xs = omega arith in
+    slice_split-cons_no p x xs no ∙ ap (onto_first x) (split-whole p xs rest))
+    (cases_Bool (p x))
+
+-- the parts of a text that is cut at its first separator
+pub slice_split-cut : {X : Type 0} (p : X → Bool) (xs : List X) (i : ℕ) → position p xs ≡ Some i → slice_split p xs ≡ take i xs ∷ slice_split p (drop (i + 1) xs)
+slice_split-cut p [] i found = absurd (none-some i found)
+slice_split-cut p (x ∷ xs) i found =
+    let is = position-is p (x ∷ xs) i found in
+    rw (is.0) at (slice_split_first p (x ∷ xs) x is.1)
+
+-- and of one without separator
+pub slice_split-whole : {X : Type 0} (p : X → Bool) (xs : List X) → position p xs ≡ None → slice_split p xs ≡ xs ∷ []
+slice_split-whole p xs none = split-whole p xs (position-none p xs none)

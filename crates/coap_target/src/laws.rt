@@ -1,0 +1,38 @@
+//! Laws of the definitions: public functions that do nothing, whose contracts are the laws.
+ghost use Rattle.std.specs.Prelude.{◌≡◌, ◌↔◌, ℕ, true, false, List, Option, Some, None};
+ghost use Rattle.std.specs.List.{AllByRecursion};
+ghost use Rattle.std.specs.Net.Grammar.{IsDotted};
+ghost use Rattle.coap_target.specs.declared.endpoint.Endpoint.{Endpoint};
+ghost use Rattle.coap_target.specs.declared.endpoint.Ip.{Ip};
+ghost use Rattle.coap_target.specs.declared.map.Map.{Map};
+ghost use Rattle.coap_target.specs.declared.target.Target.{Target};
+ghost use Rattle.coap_target.specs.declared.uri.HostPart.{HostPart};
+ghost use Rattle.coap_target.specs.declared.uri.UriParts.{UriParts};
+ghost use Rattle.coap_target.specs.Address.{ipv4_of};
+ghost use Rattle.coap_target.specs.Endpoint.{same_endpoint, same_ip};
+ghost use Rattle.coap_target.specs.Equality.{same_target, same_uri};
+ghost use Rattle.coap_target.specs.Hosts.{same_host};
+ghost use Rattle.coap_target.specs.Routes.{begins, map_of};
+ghost use Rattle.coap_target.specs.Winner.{Wins};
+
+/// An IPv4 address is read exactly where the grammar says four decimal numbers of 0 to 255, without
+/// leading zeros, joined by dots.
+pub fn four_numbers_are_read()
+    ensures read { (text octets : List ℕ) → IsDotted text octets → ipv4_of text ≡ Some octets }
+    ensures only { (text octets : List ℕ) → ipv4_of text ≡ Some octets → IsDotted text octets }
+{}
+
+/// The map of a path is the one that wins, and there is none where no prefix begins the path.
+pub fn the_longest_prefix_wins()
+    ensures wins { (maps : List Map) (path : List (List ℕ)) (m : Map) → map_of maps path ≡ Some m → Wins maps path m }
+    ensures none { (maps : List Map) (path : List (List ℕ)) → map_of maps path ≡ None → AllByRecursion (λ m. begins m.prefix path ≡ false) maps }
+{}
+
+/// What compares as equal is equal in all parts.
+pub fn equal_is_the_same()
+    ensures ips { (a b : Ip) → (same_ip a b ≡ true) ↔ (a ≡ b) }
+    ensures endpoints { (a b : Endpoint) → (same_endpoint a b ≡ true) ↔ (a ≡ b) }
+    ensures hosts { (a b : HostPart) → (same_host a b ≡ true) ↔ (a ≡ b) }
+    ensures targets { (a b : Target) → (same_target a b ≡ true) ↔ (a ≡ b) }
+    ensures uris { (a b : UriParts) → (same_uri a b ≡ true) ↔ (a ≡ b) }
+{}

@@ -1,0 +1,18 @@
+//! Entries of the routes: maps from paths to origins, and the addresses of hosts.
+use crate::endpoint::Ip;
+use crate::target::Target;
+use coap_message::Seq;
+
+/// Paths that begin with the prefix are those of the origin, followed by the rest of the path.
+#[derive(Clone, Debug, Drop, PartialEq, Eq, Hash)]
+pub struct Map {
+    pub prefix: Seq<Seq<u8>>,
+    pub origin: Target,
+}
+
+/// A host's name, in ASCII lower case, and its address.
+#[derive(Clone, Debug, Drop, PartialEq, Eq, Hash)]
+pub struct KnownHost {
+    pub name: Seq<u8>,
+    pub ip: Ip,
+}
