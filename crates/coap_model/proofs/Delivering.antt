@@ -6,7 +6,7 @@ use Rattle.std.proofs.lemmas.Bool.{eqb-true, eqb-false, eq-eqb, cases_lt}
 use Rattle.coap_message.specs.Spelling.{IsMessage, Spells, spelling}
 use Rattle.coap_message.proofs.Spellings.{spelled}
 use Rattle.coap_target.specs.declared.target.Target.{Target}
-use Rattle.coap_target.specs.Routes.{target_of}
+use Rattle.coap_target.specs.Routes.{mapped_target}
 use Rattle.coap_exchange.specs.declared.exchange.Answer.{Answer}
 use Rattle.coap_exchange.specs.declared.exchange.ExchangeState.{ExchangeState}
 use Rattle.coap_exchange.specs.declared.exchange.ExchangeState.TheVariants.{Done}
@@ -36,7 +36,7 @@ pub record IsServed (w : World) (history : List Entry) (acts : List Act) (v : Nu
   pub there : HasNumber v.0 w.exchanges
   pub counted : (t : ExchangeState → Bool) → count_of t (without v.0 w.exchanges) + one (t (Done a)) ≡ count_of t w.exchanges
   pub target : Target
-  pub target_is : target_of w.setting.routes waiter.request ≡ Some target
+  pub target_is : mapped_target w.setting.routes waiter.request ≡ Some target
   pub got : WasGot w.setting history v.0 target a
 
 pub served : (w : World) (history : List Entry) (c : Carries history w) (now : ℕ) (v : Numbered Waiter) (a : Answer) → if_due now (least (items_of w)) ≡ Some (serving v a) → IsServed w history c.acts v a
@@ -58,7 +58,7 @@ served w history c now v a due =
           subst (λ (s : ExchangeState). count_of t (without v.0 w.exchanges) + one (t s) ≡ count_of t w.exchanges) found.3
           (subst (λ (n : ℕ). count_of t (without n w.exchanges) + one (t x.1.state) ≡ count_of t w.exchanges) same (count-without t x 0 w.exchanges c.whole.rising found.1.1));
       target = x.1.target;
-      target_is = sym (ap (target_of w.setting.routes) request.1) ∙ f.target_is;
+      target_is = sym (ap (mapped_target w.setting.routes) request.1) ∙ f.target_is;
       got = subst (λ (n : ℕ). WasGot w.setting history n x.1.target a) same state;
     }
 

@@ -14,7 +14,7 @@ use Rattle.coap_model.specs.Events.{tick}
 use Rattle.coap_model.specs.Messages.{token_of, forwarded}
 use Rattle.coap_model.specs.World.{World, is_queued, is_done, next_id}
 use Rattle.coap_model.specs.Ticks.{sending, least, items_of, if_due, with_id, sends}
-use Rattle.coap_target.specs.Routes.{target_of}
+use Rattle.coap_target.specs.Routes.{mapped_target}
 use Rattle.coap_model.specs.History.{Entry, Place, Opens, Sends, Gets}
 use Rattle.coap_model.specs.Justified.{IsRequestOf, on_exchange, asked}
 use Rattle.coap_model.specs.Carries.{IsState, IsExchangeOf, IsWaiterOf, Carries, entry_of}
@@ -35,7 +35,7 @@ pub same_target : (w : World) (history : List Entry) (x y : Numbered Exchange) �
 same_target w history x y f g same =
     let place = Opens-unique history f.opening g.opening y.0 f.was_opened g.was_opened (subst (λ (n : ℕ). Opens n f.opening) same f.opens) g.opens in
     let request = request-unique w.setting g.opening.entry.event f.client g.client f.request g.request (subst (λ (p : Place). IsRequestOf w.setting f.client f.request p.entry.event) place f.asked) g.asked in
-    let targets : Some x.1.target ≡ Some y.1.target = sym f.target_is ∙ ap (target_of w.setting.routes) request.1 ∙ g.target_is in
+    let targets : Some x.1.target ≡ Some y.1.target = sym f.target_is ∙ ap (mapped_target w.setting.routes) request.1 ∙ g.target_is in
     some-same x.1.target y.1.target targets
   where
     some-same : (a b : Target) → Some a ≡ Some b → a ≡ b

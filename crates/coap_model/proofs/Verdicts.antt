@@ -10,13 +10,13 @@ use Rattle.coap_message.specs.Spelling.{spelling}
 use Rattle.coap_target.specs.declared.target.Target.{Target}
 use Rattle.coap_target.specs.declared.routes.Routes.{Routes}
 use Rattle.coap_target.specs.Target.{IsSegment, IsTarget}
-use Rattle.coap_target.specs.Routes.{values_of, path_of, target_of, AreRoutes}
+use Rattle.coap_target.specs.Routes.{values_of, path_of, mapped_target, AreRoutes}
 use Rattle.coap_target.proofs.Targets.{target-is}
 use Rattle.coap_model.specs.Messages.{is_code, is_path_option, forwarded, Verdict, refused_with, may_open, verdict_of_target, verdict_of}
 
 -- what may be opened: the target of the request, with a form that isn't too long
 pub record IsOpenable (routes : Routes) (most : ℕ) (token : List ℕ) (m : Message) (t : Target) : Type 0 where
-  pub target_is : target_of routes m ≡ Some t
+  pub target_is : mapped_target routes m ≡ Some t
   pub sound : IsTarget t
   pub short : length (spelling (forwarded token t 0)) ≤ most
 
@@ -31,7 +31,7 @@ abbrev Right : Routes → ℕ → List ℕ → Message → Verdict → Type 0
 Right routes most token m (refused_with code) = code.0 ≢ 0
 Right routes most token m (may_open t) = IsOpenable routes most token m t
 
-target-right : (routes : Routes) (most : ℕ) (token : List ℕ) (m : Message) → AreRoutes routes → AllByRecursion IsSegment (path_of m) → (o : Option Target) → target_of routes m ≡ o → Right routes most token m (verdict_of_target most token o)
+target-right : (routes : Routes) (most : ℕ) (token : List ℕ) (m : Message) → AreRoutes routes → AllByRecursion IsSegment (path_of m) → (o : Option Target) → mapped_target routes m ≡ o → Right routes most token m (verdict_of_target most token o)
 target-right routes most token m are short None e = λ z. absurd (omega arith)
 target-right routes most token m are short (Some t) e = go (leb (length (spelling (forwarded token t 0))) most) refl
   where
@@ -43,11 +43,11 @@ pub verdict-right : (routes : Routes) (most : ℕ) (token : List ℕ) (m : Messa
 unfolding verdict_of
 verdict-right routes most token m are = method (is_code m.code GET)
   where
-    options : (b : Bool) → list_all is_path_option m.options ≡ b → Right routes most token m (cond b (verdict_of_target most token (target_of routes m)) (refused_with BAD_OPTION))
-    options true all = target-right routes most token m are (path-short m.options all) (target_of routes m) refl
+    options : (b : Bool) → list_all is_path_option m.options ≡ b → Right routes most token m (cond b (verdict_of_target most token (mapped_target routes m)) (refused_with BAD_OPTION))
+    options true all = target-right routes most token m are (path-short m.options all) (mapped_target routes m) refl
     options false all = λ z. absurd (omega arith)
 
-    method : (b : Bool) → Right routes most token m (cond b (cond (list_all is_path_option m.options) (verdict_of_target most token (target_of routes m)) (refused_with BAD_OPTION)) (refused_with METHOD_NOT_ALLOWED))
+    method : (b : Bool) → Right routes most token m (cond b (cond (list_all is_path_option m.options) (verdict_of_target most token (mapped_target routes m)) (refused_with BAD_OPTION)) (refused_with METHOD_NOT_ALLOWED))
     method true = options (list_all is_path_option m.options) refl
     method false = λ z. absurd (omega arith)
 

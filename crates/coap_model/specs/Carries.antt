@@ -7,7 +7,7 @@ use Rattle.coap_message.specs.Uint.{IsBytes}
 use Rattle.coap_target.specs.declared.endpoint.Endpoint.{Endpoint}
 use Rattle.coap_target.specs.declared.target.Target.{Target}
 use Rattle.coap_target.specs.Target.{IsTarget}
-use Rattle.coap_target.specs.Routes.{target_of, AreRoutes}
+use Rattle.coap_target.specs.Routes.{mapped_target, AreRoutes}
 use Rattle.coap_exchange.specs.declared.exchange.Answer.{Answer}
 use Rattle.coap_exchange.specs.declared.exchange.ExchangeState.{ExchangeState}
 use Rattle.coap_exchange.specs.declared.exchange.ExchangeState.TheVariants.{Queued, Sent, Done}
@@ -89,7 +89,7 @@ pub record IsExchangeOf (setting : Setting) (history : List Entry) (x : Numbered
   pub opens : Opens x.0 opening
   pub admitted : x.1.admitted ≡ opening.entry.now
   pub asked : IsRequestOf setting client request opening.entry.event
-  pub target_is : target_of setting.routes request ≡ Some x.1.target
+  pub target_is : mapped_target setting.routes request ≡ Some x.1.target
   pub sound : IsTarget x.1.target
   pub form_is : x.1.form ≡ spelling (forwarded (token_of setting.salt x.0) x.1.target 0)
   pub form_short : length x.1.form ≤ setting.limits.datagram

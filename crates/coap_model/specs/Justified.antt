@@ -8,7 +8,7 @@ use Rattle.coap_message.specs.Reading.{head_at}
 use Rattle.coap_message.specs.Spelling.{Spells}
 use Rattle.coap_target.specs.declared.endpoint.Endpoint.{Endpoint}
 use Rattle.coap_target.specs.declared.target.Target.{Target}
-use Rattle.coap_target.specs.Routes.{target_of}
+use Rattle.coap_target.specs.Routes.{mapped_target}
 use Rattle.coap_model.specs.declared.report.Outcome.TheVariants.{Ignored, Rejected, Refused, Opened, Overloaded, NoId, Answered, SentRequest, Delivered, Idle}
 use Rattle.coap_model.specs.declared.report.Storing.TheVariants.{NotStored}
 use Rattle.coap_model.specs.Setting.{Setting}
@@ -95,7 +95,7 @@ pub record IsForwarding (setting : Setting) (past : List Entry) (e : Entry) (exc
   pub was_opened : IsPlaceOf past opening
   pub opens : Opens exchange opening
   pub asked : IsRequestOf setting client request opening.entry.event
-  pub target_is : target_of setting.routes request ≡ Some target
+  pub target_is : mapped_target setting.routes request ≡ Some target
   pub first : Never (Sends setting.salt exchange) past
   pub due : e.event ≡ tick
   pub tells : Tells target.at (forwarded (token_of setting.salt exchange) target id) e
@@ -120,7 +120,7 @@ pub record IsDelivery (setting : Setting) (past : List Entry) (e : Entry) (waite
   pub was_admitted : IsPlaceOf past admission
   pub opens : Opens waiter admission
   pub asked : IsRequestOf setting client request admission.entry.event
-  pub target_is : target_of setting.routes request ≡ Some target
+  pub target_is : mapped_target setting.routes request ≡ Some target
   pub was_got : IsPlaceOf past getting
   pub gets : Gets setting.salt waiter getting
   pub got_later : index admission < index getting

@@ -14,7 +14,7 @@ use Rattle.coap_message.specs.Uint.{uint_of, uint_spelling}
 use Rattle.coap_target.specs.declared.endpoint.Endpoint.{Endpoint}
 use Rattle.coap_target.specs.declared.target.Target.{Target}
 use Rattle.coap_target.specs.declared.routes.Routes.{Routes}
-use Rattle.coap_target.specs.Routes.{values_of, target_of}
+use Rattle.coap_target.specs.Routes.{values_of, mapped_target}
 use Rattle.coap_exchange.specs.declared.exchange.Answer.{Answer}
 
 -- ---- codes and types
@@ -114,7 +114,7 @@ verdict_of_target most token (Some t) = if nat_le (length (spelling (forwarded t
 -- the method, the options, the target, the length: the first that is at fault decides
 unfoldable pub verdict_of : Routes → ℕ → List ℕ → Message → Verdict
 verdict_of routes most token m =
-    if is_code m.code GET then (if list_all is_path_option m.options then verdict_of_target most token (target_of routes m) else refused_with BAD_OPTION) else refused_with METHOD_NOT_ALLOWED
+    if is_code m.code GET then (if list_all is_path_option m.options then verdict_of_target most token (mapped_target routes m) else refused_with BAD_OPTION) else refused_with METHOD_NOT_ALLOWED
 
 -- ---- answers
 

@@ -8,7 +8,7 @@ use Rattle.coap_target.specs.declared.map.Map.{Map}
 use Rattle.coap_target.specs.declared.routes.Routes.{Routes}
 use Rattle.coap_target.specs.Target.{IsSegment, IsTarget}
 use Rattle.coap_target.specs.Uri.{is_short}
-use Rattle.coap_target.specs.Routes.{begins, longer, map_of, mapped, values_of, path_of, query_of, target_of, AreRoutes}
+use Rattle.coap_target.specs.Routes.{begins, longer, map_of, mapped, values_of, path_of, query_of, mapped_target, AreRoutes}
 
 -- what holds of each holds of those behind some
 All-drop : (P : List ℕ → Type 0) (n : ℕ) (xs : List (List ℕ)) → AllByRecursion P xs → AllByRecursion P (drop n xs)
@@ -53,8 +53,8 @@ mapped-is path query m is of_path of_query = record {
 }
 
 -- the target of a request whose segments are short enough
-pub target-is : (routes : Routes) (m : Message) (t : Target) → AreRoutes routes → AllByRecursion IsSegment (path_of m) → target_of routes m ≡ Some t → IsTarget t
-unfolding target_of
+pub target-is : (routes : Routes) (m : Message) (t : Target) → AreRoutes routes → AllByRecursion IsSegment (path_of m) → mapped_target routes m ≡ Some t → IsTarget t
+unfolding mapped_target
 target-is routes m t are short e = go (map_of routes.maps (path_of m)) refl e
   where
     go : (o : Option Map) → map_of routes.maps (path_of m) ≡ o → option_map (mapped (path_of m) (query_of m)) o ≡ Some t → IsTarget t

@@ -51,8 +51,8 @@ target_at_host hosts (Addr ip) uri = Ok (record { host = None; at = record { ip 
 abbrev pub remote : List KnownHost → UriParts → Result Target TargetError
 remote hosts uri = target_at_host hosts uri.host uri
 
--- a request for a URI: to the proxy itself where its host is an own name, whatever its port (RFC 7252,
--- 5.7.2)
+-- A request for a URI. One whose host is an own name is to the proxy itself; the port isn't looked at (RFC
+-- 7252, 5.7.2).
 abbrev pub resolved : Routes → UriParts → Result Target TargetError
 resolved routes uri = if is_own routes.names uri.host then local routes uri.path uri.query else remote routes.hosts uri
 
@@ -86,7 +86,7 @@ if_any [] target = Err NotProxied
 if_any (name ∷ names) target = target
 
 -- By Proxy-Uri, if the request has one; else by Proxy-Scheme, if it has one (RFC 7252, 5.10.2). With
--- neither it is one to the proxy itself, and its Uri-Host and Uri-Port play no part.
+-- neither it is one to the proxy itself, of whatever Uri-Host and Uri-Port.
 abbrev pub by_options : Routes → Message → Option (List ℕ) → Option (List ℕ) → Result Target TargetError
 by_options routes m None None = local routes (path_of m) (query_of m)
 by_options routes m None (Some scheme) = if_any routes.names (by_scheme routes m scheme)

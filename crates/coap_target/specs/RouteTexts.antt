@@ -27,7 +27,7 @@ Pair = List ℕ × List ℕ
 abbrev pub pair_of : {A B : Type 0} → String A × String B → Pair
 pair_of pair = (string_bytes pair.0, string_bytes pair.1)
 
--- printable ASCII, without space and comma
+-- a visible ASCII character other than a comma
 abbrev pub is_name_byte : ℕ → Bool
 is_name_byte b = nat_lt 0x20 b && (nat_lt b 0x7F && not (b == 0x2C))
 
@@ -58,8 +58,8 @@ are_distinct (h ∷ hosts) = not (list_any (λ other. pointwise nat_eq other.nam
 abbrev pub is_unmarked : ℕ → Bool
 is_unmarked b = not (b == question_mark) && not (b == number_sign)
 
--- A prefix begins with a slash, and holds neither query nor fragment. `/` is the empty prefix; any other
--- has a segment for each part behind a slash.
+-- A prefix begins with a slash, and holds neither query nor fragment. Behind each slash stands a segment;
+-- the slash alone has none.
 abbrev pub is_prefix : List ℕ → Bool
 is_prefix text = (slice_index text 0 == slash) && list_all is_unmarked text
 

@@ -52,8 +52,8 @@ abbrev pub mapped_by : List Map → List (List ℕ) → List (List ℕ) → Opti
 mapped_by maps path query = option_map (mapped path query) (map_of maps path)
 
 -- the target of a request to the proxy itself, if one of the maps has its path
-unfoldable pub target_of : Routes → Message → Option Target
-target_of routes m = mapped_by routes.maps (path_of m) (query_of m)
+unfoldable pub mapped_target : Routes → Message → Option Target
+mapped_target routes m = mapped_by routes.maps (path_of m) (query_of m)
 
 abbrev pub AreRoutes : Routes → Type 0
 AreRoutes routes = HaveTargets routes.maps

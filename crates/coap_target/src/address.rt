@@ -29,7 +29,7 @@ pub(crate) fn read_url(alloc: Global, text: &str) -> Result<Url, UriError>
     }
 }
 
-/// The address that a text is: four decimal numbers of 0 to 255 without leading zeros, joined by dots.
+/// The address that a text is in dotted-decimal form, each number written in one way (RFC 3986, 3.2.2).
 pub(crate) fn read_ipv4(text: &[u8]) -> Option<Ip>
     ensures { result ≡ option_map V4 (ipv4_of text.now) }
 {
@@ -111,8 +111,8 @@ pub(crate) fn read_address(alloc: Global, text: &[u8]) -> Result<Option<Ip>, Out
     }
 }
 
-/// The address that a text is: IPv4 as four decimal numbers of 0 to 255 without leading zeros, joined
-/// by dots, or IPv6 in brackets (RFC 3986, 3.2.2). Any other text is `Bad`; `Scheme` never comes.
+/// The address that a text is: IPv4 in dotted-decimal form, each number written in one way, or IPv6 in
+/// brackets (RFC 3986, 3.2.2). Any other text is `Bad`; `Scheme` never comes.
 pub fn read_ip(alloc: Global, text: &str) -> Result<Ip, UriError>
     ensures { Answers errors.OutOfMemory result (ok_or (ip_of text.now) errors.Bad) }
 {

@@ -15,8 +15,7 @@ ghost use Rattle.coap_target.specs.Hosts.{same_host};
 ghost use Rattle.coap_target.specs.Routes.{begins, map_of};
 ghost use Rattle.coap_target.specs.Winner.{Wins};
 
-/// An IPv4 address is read exactly where the grammar says four decimal numbers of 0 to 255, without
-/// leading zeros, joined by dots.
+/// An IPv4 address is read exactly where the grammar of RFC 3986, 3.2.2, has one.
 pub fn four_numbers_are_read()
     ensures read { (text octets : List ℕ) → IsDotted text octets → ipv4_of text ≡ Some octets }
     ensures only { (text octets : List ℕ) → ipv4_of text ≡ Some octets → IsDotted text octets }

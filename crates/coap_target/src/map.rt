@@ -3,7 +3,8 @@ use crate::endpoint::Ip;
 use crate::target::Target;
 use coap_message::Seq;
 
-/// Paths that begin with the prefix are those of the origin, followed by the rest of the path.
+/// Where paths lead that begin with the prefix: to the origin, with what is left of the path behind the
+/// origin's own.
 #[derive(Clone, Debug, Drop, PartialEq, Eq, Hash)]
 pub struct Map {
     pub prefix: Seq<Seq<u8>>,

@@ -12,7 +12,7 @@ use std::alloc::Global;
 /// The longest host, segment of a path or part of a query, in bytes (RFC 7252, 5.10).
 pub(crate) const LONGEST: usize = 255;
 
-/// A text with its escapes decoded. A `%` without two hexadecimal digits stands for itself.
+/// A text with its escapes decoded. A `%` that begins no escape is an ordinary byte.
 pub(crate) fn decoded(alloc: Global, text: &[u8]) -> Result<Seq<u8>, OutOfMemory>
     ensures { IfOk result (λ bytes. bytes ≡ spec.percent_decode text.now) }
 {

@@ -65,7 +65,8 @@ fn are_name_bytes(bytes: &[u8]) -> bool
     bytes.iter().all(|byte| is_name_byte(*byte))
 }
 
-/// Whether a text is a name: 1 to 255 bytes of printable ASCII without space and comma.
+/// Whether a text may be a name: not empty, at most 255 bytes, each a visible ASCII character other than
+/// a comma.
 fn is_name(text: &[u8]) -> bool
     ensures { result ≡ spec.is_name text.now }
 {
@@ -243,13 +244,16 @@ fn are_few(names: &[String], hosts: &[(String, String)], maps: &[(String, String
 
 impl Routes {
     /// The routes that texts of a configuration say: own names; hosts, each a name and an address; maps,
-    /// each a prefix and an origin. Each list may be empty.
+    /// each a prefix and an origin.
     ///
-    /// A name or host has 1 to 255 bytes of printable ASCII without space and comma, and is put into
-    /// lower case. An own name that is an address stands for it; a host's name is none. A prefix begins
-    /// with a slash and has neither `?` nor `#`. An origin is a URI without a query, whose host is an
-    /// address or one of the hosts. `Unreadable` comes before `TooMany`: more than 64 names, 256 hosts
-    /// or 64 maps.
+    /// Names of either kind have at least one byte and at most 255, all of them visible ASCII characters
+    /// other than a comma, and are compared in lower case. A text that reads as an address is that
+    /// address among the own names, and no name for a host. A prefix begins with a slash and has neither
+    /// `?` nor `#`. An origin is a URI without a query, whose host is an address or one of the hosts.
+    ///
+    /// # Errors
+    /// `Unreadable` where a text is none of these, or a host stands twice; else `TooMany` for a list with
+    /// more names (64), hosts (256) or maps (64) than fit. Want of memory may come in place of either.
     #[tactic(auto, unfolding(crate::specs::RouteTexts::routes_of))]
     pub fn new(
         alloc: Global,
