@@ -127,7 +127,7 @@ fn target(alloc: Global, routes: &Routes, datagram: &str) -> Result<String, Fail
 
 /// Datagrams with requests at a proxy that is `proxy.test`, knows `sensor.test`, and maps `/t`; and
 /// their targets.
-const TARGETS: [(&str, &str); 28] = [
+const TARGETS: [(&str, &str); 31] = [
     // without proxy options: by the map, whatever Uri-Host and Uri-Port say
     ("50010007B174", "- 127.0.0.1:5690 [temp]"),
     (
@@ -150,6 +150,7 @@ const TARGETS: [(&str, &str); 28] = [
     // a Uri-Port of 0, also without bytes and without a host; but the scheme is read first
     ("50010007393132372E302E302E3140D413636F6170", "BadUri"),
     ("50010007704174D40F636F6170", "BadUri"),
+    ("5001000771004174D40F636F6170", "BadUri"),
     ("5001000771004174D40F68747470", "NotProxied"),
     // Uri-Host: a name in the hosts, an address in brackets, what is neither, and the own name
     (
@@ -197,6 +198,15 @@ const TARGETS: [(&str, &str); 28] = [
         "50010007316141004175DD0B03636F61703A2F2F312E322E332E342F74",
         "- 1.2.3.4:5683 [t]",
     ),
+    // one beside a Proxy-Scheme, and one to the proxy itself with a query
+    (
+        "50010007DD1603636F61703A2F2F312E322E332E342F744468747470",
+        "- 1.2.3.4:5683 [t]",
+    ),
+    (
+        "50010007DD1608636F61703A2F2F70726F78792E746573742F743F61",
+        "- 127.0.0.1:5690 [temp]{a}",
+    ),
     // refused ones
     ("50010007DA16636F6170733A2F2F612F", "NotProxied"),
     ("50010007DB16636F61703A2F2F612F2366", "BadUri"),
@@ -242,6 +252,25 @@ fn without_own_names_nothing_is_proxied(rt: HostRuntime) -> Result<(), Fail> {
     ] {
         let text = target(rt.alloc(), &routes, datagram)?;
         assert_eq!(rt; text.as_str(), expected, "{datagram}");
+    }
+    Ok(())
+}
+
+#[test]
+fn own_names_come_first(rt: HostRuntime) -> Result<(), Fail> {
+    let routes = routes(
+        rt.alloc(),
+        &["[::1]", "both.test"],
+        &[("both.test", "192.0.2.7")],
+        &[("/t", "coap://127.0.0.1:5690/temp")],
+    )?;
+    for datagram in [
+        "50010007DD1606636F61703A2F2F5B303A303A3A315D3A392F74",
+        "50010007365B303A3A315D8174D40F636F6170",
+        "50010007DD1605636F61703A2F2F626F74682E746573742F74",
+    ] {
+        let text = target(rt.alloc(), &routes, datagram)?;
+        assert_eq!(rt; text.as_str(), "- 127.0.0.1:5690 [temp]", "{datagram}");
     }
     Ok(())
 }
@@ -352,13 +381,25 @@ fn uris_have_their_parts(rt: HostRuntime) -> Result<(), Fail> {
 fn parts_of_255_bytes_are_carried(rt: HostRuntime) -> Result<(), Fail> {
     let long = String::from_utf8(vec![in rt.alloc(); b'a'; 255]?)?;
     let long = long.as_str();
-    for (text, fits) in [
-        (format!(in rt.alloc(); "coap://{long}/{long}?{long}")?, true),
-        (format!(in rt.alloc(); "coap://h/%61{long}")?, false),
-        (format!(in rt.alloc(); "coap://h/?a{long}")?, false),
-        (format!(in rt.alloc(); "coap://a{long}/")?, false),
+    let short = String::from_utf8(vec![in rt.alloc(); b'a'; 254]?)?;
+    let short = short.as_str();
+    for (text, refusal) in [
+        (format!(in rt.alloc(); "coap://{long}/{long}?{long}")?, None),
+        (format!(in rt.alloc(); "coap://h/%61{short}")?, None),
+        (
+            format!(in rt.alloc(); "coap://h/%61{long}")?,
+            Some(UriError::Bad),
+        ),
+        (
+            format!(in rt.alloc(); "coap://h/?a{long}")?,
+            Some(UriError::Bad),
+        ),
+        (
+            format!(in rt.alloc(); "coap://a{long}/")?,
+            Some(UriError::Bad),
+        ),
     ] {
-        assert_eq!(rt; split_uri(rt.alloc(), text.as_str()).is_ok(), fits);
+        assert_eq!(rt; split_uri(rt.alloc(), text.as_str()).err(), refusal);
     }
     Ok(())
 }
@@ -384,6 +425,7 @@ fn addresses_are_read(rt: HostRuntime) -> Result<(), Fail> {
         "[]",
         "[x]",
         "[::1%1]",
+        "[::1]/x]",
         "h",
     ] {
         assert!(rt; read_ip(rt.alloc(), text) == Err(UriError::Bad), "{text}");
@@ -392,21 +434,25 @@ fn addresses_are_read(rt: HostRuntime) -> Result<(), Fail> {
 }
 
 /// Names, hosts and maps of one entry each that can't be read.
-const UNREADABLE: [(&[&str], &[(&str, &str)], &[(&str, &str)]); 16] = [
+const UNREADABLE: [(&[&str], &[(&str, &str)], &[(&str, &str)]); 20] = [
     (&[""], &[], &[]),
     (&["a b"], &[], &[]),
     (&["a,b"], &[], &[]),
     (&["é"], &[], &[]),
+    (&["a\u{7F}"], &[], &[]),
     (&[], &[("", "1.2.3.4")], &[]),
     (&[], &[("1.2.3.4", "1.2.3.4")], &[]),
     (&[], &[("[::1]", "1.2.3.4")], &[]),
     (&[], &[("h", "h")], &[]),
     (&[], &[("h", "::1")], &[]),
+    (&[], &[("h", "01.2.3.4")], &[]),
     (&[], &[("h", "1.2.3.4"), ("H", "1.2.3.4")], &[]),
     (&[], &[], &[("t", "coap://1.2.3.4")]),
     (&[], &[], &[("/t?", "coap://1.2.3.4")]),
     (&[], &[], &[("/t#", "coap://1.2.3.4")]),
     (&[], &[], &[("/t", "coap://1.2.3.4/?")]),
+    (&[], &[], &[("/t", "coap://1.2.3.4/?b=c")]),
+    (&[], &[], &[("/t", "coap://1.2.3.4/#f")]),
     (&[], &[], &[("/t", "coap://h/")]),
     (&[], &[], &[("/t", "coaps://1.2.3.4/")]),
 ];
@@ -417,24 +463,33 @@ fn unreadable_routes_are_refused(rt: HostRuntime) -> Result<(), Fail> {
         let refusal = routes(rt.alloc(), names, hosts, maps).err();
         assert_eq!(rt; refusal, Some(RouteError::Unreadable));
     }
-    assert!(rt;
-        routes(
-            rt.alloc(),
-            &["[x]", "01.2.3.4", "[::1]"],
-            &[("[x]", "[::1]")],
-            &[("/", "coap://h.%74/")]
-        )
-        .is_err()
-    );
-    assert!(rt;
-        routes(
-            rt.alloc(),
-            &["[x]", "01.2.3.4", "[::1]"],
-            &[("[x]", "[::1]"), ("h.t", "1.2.3.4")],
-            &[("/", "coap://h.%74/")]
-        )
-        .is_ok()
-    );
+    Ok(())
+}
+
+#[test]
+fn names_have_at_most_255_bytes(rt: HostRuntime) -> Result<(), Fail> {
+    for (length, refusal) in [(255, None), (256, Some(RouteError::Unreadable))] {
+        let name = String::from_utf8(vec![in rt.alloc(); b'a'; length]?)?;
+        let name = name.as_str();
+        assert_eq!(rt; routes(rt.alloc(), &[name], &[], &[]).err(), refusal);
+        assert_eq!(rt;
+            routes(rt.alloc(), &[], &[(name, "1.2.3.4")], &[]).err(),
+            refusal
+        );
+    }
+    Ok(())
+}
+
+#[test]
+fn origins_have_known_hosts(rt: HostRuntime) -> Result<(), Fail> {
+    let names = ["[x]", "01.2.3.4", "[::1]"];
+    let maps = [("/", "coap://h.%74/")];
+    let unknown = routes(rt.alloc(), &names, &[("[x]", "[::1]")], &maps);
+    assert_eq!(rt; unknown.err(), Some(RouteError::Unreadable));
+    let hosts = [("[x]", "[::1]"), ("h.t", "1.2.3.4")];
+    let routes = routes(rt.alloc(), &names, &hosts, &maps)?;
+    let text = target(rt.alloc(), &routes, "50010007B174")?;
+    assert_eq!(rt; text.as_str(), "h.t 1.2.3.4:5683 [t]");
     Ok(())
 }
 
