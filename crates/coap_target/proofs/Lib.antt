@@ -5,6 +5,7 @@ pub mod Gathering
 pub mod MapSearch
 pub mod Numbered
 pub mod Origins
+pub mod Requests
 pub mod Same
 pub mod Screened
 pub mod Targets

@@ -66,7 +66,7 @@ module _ (hosts : List KnownHost) (uri : UriParts) (t : Target) (path : AllByRec
       let same : made ≡ t = cc in
       subst IsTarget same (record { host = short; path = path; query = query })
 
-  target_at_host-is : (host : HostPart) → is_short_host host ≡ true → target_at_host hosts host uri ≡ Ok t → IsTarget t
+  pub target_at_host-is : (host : HostPart) → is_short_host host ≡ true → target_at_host hosts host uri ≡ Ok t → IsTarget t
   target_at_host-is (Name name) short is = named-is (address_of hosts name) name (leb-true (length name) 255 short) is
   target_at_host-is (Addr ip) short is =
       let made : Target = record { host = None; at = record { ip = ip; port = uri.port }; path = uri.path; query = uri.query } in

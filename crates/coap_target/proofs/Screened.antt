@@ -77,3 +77,15 @@ pub query_of-all : (m : Message) → first_refused Request m.options ≡ None �
 query_of-all m screened =
     filter-short (values_of 15 m.options)
     (values-short 15 255 refl (λ length before fits. (and_parts (nat_le 0 length) (nat_le length 255) (and_parts (nat_le 0 length && nat_le length 255) true fits).0).1) m.options screened)
+
+-- Uri-Path
+pub path_of-short : (m : Message) → first_refused Request m.options ≡ None → AllByRecursion (λ v. length v ≤ 255) (values_of 11 m.options)
+path_of-short m screened =
+    values-short 11 255 refl (λ length before fits. (and_parts (nat_le 0 length) (nat_le length 255) (and_parts (nat_le 0 length && nat_le length 255) true fits).0).1) m.options screened
+
+-- Uri-Host
+pub uri_host-short : (m : Message) (value : List ℕ) → first_refused Request m.options ≡ None → Some value ≡ first_of (values_of 3 m.options) → length value ≤ 255
+uri_host-short m value screened is =
+    first-short 255 (values_of 3 m.options) value
+    (values-short 3 255 refl (λ length before fits. (and_parts (nat_le 1 length) (nat_le length 255) (and_parts (nat_le 1 length && nat_le length 255) (before == 0) fits).0).1) m.options screened)
+    is

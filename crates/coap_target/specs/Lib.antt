@@ -11,3 +11,4 @@ pub mod Request
 pub mod RouteTexts
 pub mod Equality
 pub mod Winner
+pub mod Examples

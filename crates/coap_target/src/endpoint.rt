@@ -14,7 +14,7 @@ impl Ip {
     pub fn is(&self, other: &Ip) -> bool
         ensures { result ≡ same_ip self.now other.now }
     {
-        self == other
+        *self == *other
     }
 }
 

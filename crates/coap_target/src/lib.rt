@@ -4,6 +4,7 @@
 mod address;
 mod endpoint;
 mod error;
+pub mod examples;
 pub mod laws;
 mod map;
 mod options;

@@ -32,7 +32,7 @@ impl HostPart {
     pub fn is(&self, other: &HostPart) -> bool
         ensures { result ≡ same_host self.now other.now }
     {
-        self == other
+        *self == *other
     }
 }
 
