@@ -2,6 +2,7 @@
 #![tactic(auto)]
 
 mod exchange;
+mod exchanges;
 mod table;
 mod waiter;
 

@@ -25,7 +25,7 @@ pub enum AdmitError {
 /// items is made at the start.
 #[derive(Drop)]
 pub struct Table<T> {
-    items: IndexMap<u64, T>,
+    pub(crate) items: IndexMap<u64, T>,
     limit: usize,
     admitted: u64,
 }

@@ -17,6 +17,7 @@ use Rattle.coap_exchange.specs.declared.exchange.Exchange.{Exchange}
 use Rattle.coap_exchange.specs.declared.exchange.Sending.{Sending}
 use Rattle.coap_exchange.specs.Exchanges.{moved}
 use Rattle.coap_exchange.specs.Table.{Numbered}
+use Rattle.coap_exchange.proofs.States.{moved-cases, length-with_state, IsRising-with_state}
 use Rattle.coap_model.specs.Events.{arrival}
 use Rattle.coap_model.specs.Messages.{is_ack, is_response, token_of, answer_of}
 use Rattle.coap_model.specs.World.{World, is_queued, is_done}
@@ -29,7 +30,7 @@ use Rattle.coap_model.proofs.Endpoints.{text_is, endpoint_is}
 use Rattle.coap_model.proofs.Lists.{find-holds, All-map, Has, All-there}
 use Rattle.coap_model.proofs.Places.{here, Opens-number, arrival-same}
 use Rattle.coap_model.proofs.Spelled.{token-same, message_in-is}
-use Rattle.coap_model.proofs.Tables.{moved-cases, length-with_state, IsRising-with_state, ArePaired-with_state, HasNumber-with_state, one, count-moved}
+use Rattle.coap_model.proofs.Tables.{ArePaired-with_state, HasNumber-with_state, one, count-moved}
 use Rattle.coap_model.proofs.Frames.{exchange_frame, waiters_frame, fresh_frame, sends-not, number-small}
 use Rattle.coap_model.proofs.Forwarding.{same_target}
 

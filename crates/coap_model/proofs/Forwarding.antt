@@ -10,6 +10,7 @@ use Rattle.coap_exchange.specs.declared.exchange.ExchangeState.TheVariants.{Queu
 use Rattle.coap_exchange.specs.declared.exchange.Exchange.{Exchange}
 use Rattle.coap_exchange.specs.Exchanges.{moved}
 use Rattle.coap_exchange.specs.Table.{Numbered}
+use Rattle.coap_exchange.proofs.States.{moved-cases, length-with_state, IsRising-with_state}
 use Rattle.coap_model.specs.Events.{tick}
 use Rattle.coap_model.specs.Messages.{token_of, forwarded}
 use Rattle.coap_model.specs.World.{World, is_queued, is_done, next_id}
@@ -21,7 +22,7 @@ use Rattle.coap_model.specs.Carries.{IsState, IsExchangeOf, IsWaiterOf, Carries,
 use Rattle.coap_model.proofs.Lists.{All-map, Has, All-there}
 use Rattle.coap_model.proofs.Places.{here, Opens-number, Opens-unique, request-unique}
 use Rattle.coap_model.proofs.Spelled.{forwarded-is, length-token_of, token-same, with_id-forwarded, target_sent-forwarded}
-use Rattle.coap_model.proofs.Tables.{due-sending, moved-cases, length-with_state, IsRising-with_state, ArePaired-with_state, HasNumber-with_state, one, count-moved}
+use Rattle.coap_model.proofs.Tables.{due-sending, ArePaired-with_state, HasNumber-with_state, one, count-moved}
 use Rattle.coap_model.proofs.Frames.{exchange_frame, waiters_frame, fresh_frame, gets-not, number-small}
 use Rattle.coap_model.proofs.Replying.{id-same}
 

@@ -9,8 +9,9 @@ use Rattle.coap_exchange.specs.declared.exchange.ExchangeState.TheVariants.{Queu
 use Rattle.coap_exchange.specs.declared.exchange.Exchange.{Exchange}
 use Rattle.coap_exchange.specs.declared.waiter.Waiter.{Waiter}
 use Rattle.coap_exchange.proofs.Tables.{none-below}
-use Rattle.coap_exchange.specs.Exchanges.{moved, with_state}
+use Rattle.coap_exchange.specs.Exchanges.{with_state}
 use Rattle.coap_exchange.specs.Table.{Numbered, without, IsRising}
+use Rattle.coap_exchange.proofs.States.{moved-number, with_state-below}
 use Rattle.coap_model.specs.World.{is_queued, count_of}
 use Rattle.coap_model.specs.Ticks.{Item, sending, serving, due_of, exchange_items, answer_at, answer_in, with_item, waiter_items, earlier, least, if_due, is_awaited}
 use Rattle.coap_model.proofs.Lists.{Has}
@@ -108,26 +109,6 @@ answer-number (x ∷ xs) n a e = go (eqb x.0 n) refl (λ f. answer-number xs n a
 
 -- ---- one exchange comes to another state
 
-pub moved-cases : (P : Numbered Exchange → Type 0) (n : ℕ) (s : ExchangeState) (y : Numbered Exchange) → (y.0 ≡ n → P (y.0, record { target = y.1.target; form = y.1.form; admitted = y.1.admitted; state = s })) → (y.0 ≢ n → P y) → P (moved n s y)
-moved-cases P n s y same other = go (eqb y.0 n) refl
-  where
-    go : (b : Bool) → eqb y.0 n ≡ b → P (cond b (y.0, record { target = y.1.target; form = y.1.form; admitted = y.1.admitted; state = s }) y)
-    go true e = same (eqb-true y.0 n e)
-    go false e = other (eqb-false y.0 n e)
-
-moved-number : (n : ℕ) (s : ExchangeState) (y : Numbered Exchange) → (moved n s y).0 ≡ y.0
-moved-number n s y = moved-cases (λ z. z.0 ≡ y.0) n s y (λ e. refl) (λ e. refl)
-
-pub length-with_state : (n : ℕ) (s : ExchangeState) (xs : List (Numbered Exchange)) → length (with_state n s xs) ≡ length xs
-length-with_state n s [] = refl
-length-with_state n s (x ∷ xs) = let i = length-with_state n s xs in omega arith
-
-pub IsRising-with_state : (n least : ℕ) (s : ExchangeState) (xs : List (Numbered Exchange)) → IsRising least xs → IsRising least (with_state n s xs)
-IsRising-with_state n least s [] r = tt
-IsRising-with_state n least s (x ∷ xs) r =
-    let e = moved-number n s x in
-    (rw e r.0, rw e (IsRising-with_state n x.0 s xs r.1))
-
 pub ArePaired-with_state : (n : ℕ) (s : ExchangeState) (xs : List (Numbered Exchange)) (vs : List (Numbered Waiter)) → ArePaired xs vs → ArePaired (with_state n s xs) vs
 ArePaired-with_state n s [] [] p = tt
 ArePaired-with_state n s [] (v ∷ vs) p = absurd p
@@ -204,13 +185,6 @@ one b = cond b 1 0
 pub count-push : (t : ExchangeState → Bool) (n : ℕ) (xs : List (Numbered Exchange)) (x : Exchange) → count_of t (xs ++ (n, x) ∷ []) ≡ count_of t xs + one (t x.state)
 count-push t n [] x = omega arith
 count-push t n (y ∷ ys) x = let i = count-push t n ys x in omega arith
-
--- numbers at or below the least are not moved
-with_state-below : (n least : ℕ) (s : ExchangeState) (xs : List (Numbered Exchange)) → n ≤ least → IsRising least xs → with_state n s xs ≡ xs
-with_state-below n least s [] le r = refl
-with_state-below n least s (x ∷ xs) le r =
-    let other : eqb x.0 n ≡ false = ne_eqb _ _ (λ e. let above = r.0 in omega arith) in
-    rw other (ap (λ (l : List (Numbered Exchange)). x ∷ l) (with_state-below n x.0 s xs (omega (arith, r.0)) r.1))
 
 -- what is there is above the least
 Has-above : (least : ℕ) (xs : List (Numbered Exchange)) (x : Numbered Exchange) → IsRising least xs → Has x xs → least < x.0
