@@ -6,4 +6,6 @@ mod messages;
 #[cfg(test)]
 mod options;
 #[cfg(test)]
+mod tables;
+#[cfg(test)]
 mod targets;

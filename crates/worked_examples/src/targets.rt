@@ -234,6 +234,16 @@ fn requests_have_their_targets(rt: HostRuntime) -> Result<(), Fail> {
 }
 
 #[test]
+fn the_fixed_route_is_mapped(rt: HostRuntime) -> Result<(), Fail> {
+    let routes = Routes::fixed(rt.alloc())?;
+    let mapped = target(rt.alloc(), &routes, "50010007B1740161")?;
+    assert_eq!(rt; mapped.as_str(), "- 127.0.0.1:5690 [temp][a]");
+    let other = target(rt.alloc(), &routes, "50010007B175")?;
+    assert_eq!(rt; other.as_str(), "NotFound");
+    Ok(())
+}
+
+#[test]
 fn without_own_names_nothing_is_proxied(rt: HostRuntime) -> Result<(), Fail> {
     let routes = routes(
         rt.alloc(),
