@@ -1,7 +1,7 @@
 -- An answer that is got keeps what is carried.
 use Rattle.std.proofs.Common.{◌≡◌, inl, inr, ⊎_elim, ℕ, ◌^◌, ◌<◌, ◌≤◌, true, List, ◌∷◌, Some, refl, sym, ap, ◌∙◌, subst, arith}
 use Rattle.std.specs.Prelude.{◌&&◌, nat_eq}
-use Rattle.std.specs.Cmp.Lexicographic.{pointwise}
+use Rattle.std.specs.Cmp.Lexicographic.{pointwise, same_text}
 use Rattle.std.proofs.lemmas.Bool.{eqb-true, and_parts}
 use Rattle.coap_message.specs.declared.kind.Kind.{Kind}
 use Rattle.coap_message.specs.declared.kind.Kind.TheVariants.{Con, Non, Ack, Rst}
@@ -11,6 +11,7 @@ use Rattle.coap_message.specs.Spelling.{Spells}
 use Rattle.coap_message.proofs.WholeMessages.{one_message}
 use Rattle.coap_target.specs.declared.endpoint.Endpoint.{Endpoint}
 use Rattle.coap_target.specs.Endpoint.{same_endpoint}
+use Rattle.coap_target.proofs.Same.{Tells-endpoint}
 use Rattle.coap_exchange.specs.declared.exchange.ExchangeState.{ExchangeState}
 use Rattle.coap_exchange.specs.declared.exchange.ExchangeState.TheVariants.{Queued, Sent, Done}
 use Rattle.coap_exchange.specs.declared.exchange.Exchange.{Exchange}
@@ -26,7 +27,6 @@ use Rattle.coap_model.specs.Responses.{has_id, awaits, awaiting, answers}
 use Rattle.coap_model.specs.History.{Entry, Never, Sends, Gets}
 use Rattle.coap_model.specs.Justified.{on_exchange, answered}
 use Rattle.coap_model.specs.Carries.{WasAsked, IsState, IsExchangeOf, Carries, entry_of}
-use Rattle.coap_model.proofs.Endpoints.{text_is, endpoint_is}
 use Rattle.coap_model.proofs.Lists.{find-holds, All-map, Has, All-there}
 use Rattle.coap_model.proofs.Places.{here, Opens-number, arrival-same}
 use Rattle.coap_model.proofs.Spelled.{token-same, message_in-is}
@@ -67,7 +67,7 @@ awaited w history c source m x found =
     let more = and_parts (same_endpoint x.1.target.at source) (pointwise nat_eq (token_of w.setting.salt x.0) m.token) parts.1 in
     let sent = sent_with m.id x.1.state parts.0 in
     let state : IsState w.setting history x.0 x.1.target (Sent sent.0) = subst (IsState w.setting history x.0 x.1.target) sent.1 f.0.0.state in
-    record { exchange = f.0.0; there = f.0.1; sending = sent.0; state_is = sent.1; was = state.0; ungot = state.1; source_is = endpoint_is x.1.target.at source more.0; id_is = sent.2; token_is = sym (text_is _ _ more.1) }
+    record { exchange = f.0.0; there = f.0.1; sending = sent.0; state_is = sent.1; was = state.0; ungot = state.1; source_is = Tells-endpoint.only x.1.target.at source more.0; id_is = sent.2; token_is = sym (same_text _ _ (sym more.1)) }
 
 -- ---- the rule
 

@@ -3,6 +3,7 @@ use Rattle.std.proofs.Common.{◌≡◌, inr, ⊎_elim, ℕ, ◌<◌, ◌≤◌,
 use Rattle.std.specs.Prelude.{◌&&◌, nat_eq}
 use Rattle.std.specs.List.{AllByRecursion}
 use Rattle.std.specs.Cmp.Lexicographic.{pointwise}
+use Rattle.std.proofs.lemmas.Cmp.{nat_list_eq_equiv}
 use Rattle.std.proofs.lemmas.Bool.{eq-eqb, and_from}
 use Rattle.coap_message.specs.Message.{Message}
 use Rattle.coap_message.specs.Spelling.{Spells}
@@ -11,6 +12,7 @@ use Rattle.coap_message.proofs.WholeMessages.{read_again, one_message}
 use Rattle.coap_target.specs.declared.endpoint.Endpoint.{Endpoint}
 use Rattle.coap_target.specs.declared.target.Target.{Target}
 use Rattle.coap_target.specs.Endpoint.{same_endpoint}
+use Rattle.coap_target.proofs.Same.{Tells-both, Tells-endpoint}
 use Rattle.coap_exchange.specs.declared.exchange.ExchangeState.{ExchangeState}
 use Rattle.coap_exchange.specs.declared.exchange.ExchangeState.TheVariants.{Queued, Sent, Done}
 use Rattle.coap_exchange.specs.declared.exchange.Exchange.{Exchange}
@@ -25,7 +27,6 @@ use Rattle.coap_model.specs.Justified.{IsAwaited, IsMember, Act, served_by, IsJu
 use Rattle.coap_model.specs.Carries.{IsState, IsExchangeOf, HasNumber, Carries}
 use Rattle.coap_model.proofs.Lists.{none-found}
 use Rattle.coap_model.proofs.Spelled.{message_in-again}
-use Rattle.coap_model.proofs.Endpoints.{text_same, endpoint_same}
 use Rattle.coap_model.proofs.Places.{Never-at, Opens-number, arrival-same}
 use Rattle.coap_model.proofs.Rules.{IsNothing}
 
@@ -126,7 +127,7 @@ not-ignored w history c x source bytes a none = ⊎_elim in_table was_served (c.
         let state = subst (λ (n : ℕ). IsState w.setting history n y.1.target y.1.state) (sym f.1) f.2.state in
         let test = passes w.setting history x source bytes a y.1.target y.1.state state (sym came.0) in
         let token : token_of salt y.0 ≡ a.response.token = ap (token_of salt) (sym f.1) ∙ sym a.token in
-        let right = and_from (same_endpoint y.1.target.at source) (pointwise nat_eq (token_of salt y.0) a.response.token) (endpoint_same y.1.target.at source test.1) (text_same _ _ token) in
+        let right = and_from (same_endpoint y.1.target.at source) (pointwise nat_eq (token_of salt y.0) a.response.token) ((Tells-both same_endpoint Tells-endpoint y.1.target.at source).1 test.1) (rw token (nat_list_eq_equiv.refl a.response.token)) in
         let found = and_from (has_id a.response.id y.1.state) (same_endpoint y.1.target.at source && pointwise nat_eq (token_of salt y.0) a.response.token) test.0 right in
         let both : true ≡ false = sym found ∙ f.3 in
         cc

@@ -17,7 +17,6 @@ pub mod Carrying
 pub mod Holding
 pub mod Promising
 pub mod Running
-pub mod Endpoints
 pub mod Awaiting
 pub mod Limiting
 pub mod Idling
