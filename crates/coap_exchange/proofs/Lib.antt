@@ -1,2 +1,4 @@
 pub mod Tables
 pub mod States
+pub mod Counts
+pub mod Dues

@@ -1,11 +1,12 @@
 -- Tables in order of number, as lists: what is taken in and what is taken out.
-use Rattle.std.proofs.Common.{◌≡◌, ℕ, ◌+◌, ◌<◌, ◌≤◌, List, [], ◌∷◌, ◌++◌, length, length-append, Bool, true, false, cond, eqb, refl, sym, ap, arith}
+use Rattle.std.proofs.Common.{◌≡◌, ℕ, ◌+◌, ◌<◌, ◌≤◌, List, [], ◌∷◌, ◌++◌, length, length-append, ◌-◌, Bool, true, false, cond, eqb, Option, Some, None, refl, sym, ap, ◌∙◌, arith}
 use Rattle.std.specs.Prelude.{not, nat_eq}
 use Rattle.std.specs.List.{AllByRecursion}
 use Rattle.std.specs.Map.{remove_entry}
+use Rattle.std.specs.Option.{is_some}
 use Rattle.std.proofs.lemmas.Bool.{eqb-true, eqb-false, eq-eqb, ne_eqb}
 use Rattle.indexmap.specs.IndexMap.{insert_entry}
-use Rattle.coap_exchange.specs.Table.{Numbered, Table, IsRising, IsTable, admitted_to, without}
+use Rattle.coap_exchange.specs.Table.{Numbered, Table, IsRising, IsTable, item_at, admitted_to, without, withdrawn_at, withdrawn}
 
 -- ---- one is taken in
 
@@ -97,3 +98,92 @@ closed-is n t is =
       rising = IsRising-without n 0 t.items is.rising;
       below = below-fewer n t.admitted t.items is.below;
     }
+
+-- ---- the last is taken out again
+
+-- what is at or below a number is below it without its item
+below-last : {A : Type 0} (n : ℕ) (xs : List (Numbered A)) → AllByRecursion (λ x. x.0 ≤ n) xs → AllByRecursion (λ x. x.0 ≤ n - 1) (without n xs)
+below-last n [] below = tt
+below-last n (x ∷ xs) below = go (eqb x.0 n) refl (below-last n xs below.1)
+  where
+    go : (b : Bool) → eqb x.0 n ≡ b → AllByRecursion (λ y. y.0 ≤ n - 1) (without n xs) → AllByRecursion (λ y. y.0 ≤ n - 1) (cond (not b) (x ∷ without n xs) (without n xs))
+    go true e i = i
+    go false e i = (omega (arith, below.0, eqb-false x.0 n e), i)
+
+-- a number that has an item is above the least
+pub above-least : {A : Type 0} (n least : ℕ) (xs : List (Numbered A)) (a : A) → IsRising least xs → item_at n xs ≡ Some a → least < n
+above-least n least [] a r e = absurd cc
+above-least {A} n least (x ∷ xs) a r e = go (eqb n x.0) refl (λ f. above-least n x.0 xs a r.1 f)
+  where
+    go : (b : Bool) → eqb n x.0 ≡ b → (item_at n xs ≡ Some a → x.0 < n) → least < n
+    go true t rest = omega (arith, r.0, eqb-true n x.0 t)
+    go false t rest =
+        let found : item_at n xs ≡ Some a = rw t at e in
+        omega (arith, r.0, rest found)
+
+withdrawn_at-is : {A : Type 0} (o : Option A) (t : Table A) → IsTable t → IsTable (withdrawn_at o t)
+withdrawn_at-is None t is = is
+withdrawn_at-is (Some a) t is =
+    record {
+      within = let le = length-fewer t.admitted t.items in let within = is.within in omega arith;
+      rising = IsRising-without t.admitted 0 t.items is.rising;
+      below = below-last t.admitted t.items is.below;
+    }
+
+pub withdrawn-is : {A : Type 0} (t : Table A) → IsTable t → IsTable (withdrawn t)
+withdrawn-is t is = withdrawn_at-is (item_at t.admitted t.items) t is
+
+-- a number that has no item
+pub without-none : {A : Type 0} (n : ℕ) (xs : List (Numbered A)) → item_at n xs ≡ None → without n xs ≡ xs
+without-none n [] e = refl
+without-none {A} n (x ∷ xs) e = go (eqb n x.0) refl (λ f. without-none n xs f)
+  where
+    go : (b : Bool) → eqb n x.0 ≡ b → (item_at n xs ≡ None → without n xs ≡ xs) → without n (x ∷ xs) ≡ x ∷ xs
+    go true t rest = absurd (let found : Some x.1 ≡ None = rw t at e in cc)
+    go false t rest =
+        let turned : eqb x.0 n ≡ false = ne_eqb x.0 n (λ f. eqb-false n x.0 t (sym f)) in
+        let found : item_at n xs ≡ None = rw t at e in
+        rw turned (ap (λ (l : List (Numbered A)). x ∷ l) (rest found))
+
+-- the last number has an item
+module _ {A : Type 0} (t : Table A) (o : Option A) (is : IsTable t) (at : o ≡ item_at t.admitted t.items) where
+  pub last-positive : is_some o ≡ true → 0 < t.admitted
+  last-positive there = go o refl there
+    where
+      go : (p : Option A) → o ≡ p → is_some p ≡ true → 0 < t.admitted
+      go None e there = absurd cc
+      go (Some a) e there = above-least t.admitted 0 t.items a is.rising (sym at ∙ e)
+
+  pub withdrawn-some : is_some o ≡ true → withdrawn t ≡ record { items = without t.admitted t.items; limit = t.limit; admitted = t.admitted - 1 }
+  withdrawn-some there = rw (sym at) (go o there)
+    where
+      go : (p : Option A) → is_some p ≡ true → withdrawn_at p t ≡ record { items = without t.admitted t.items; limit = t.limit; admitted = t.admitted - 1 }
+      go None there = absurd cc
+      go (Some a) there = refl
+
+  pub withdrawn-none : is_some o ≡ false → withdrawn t ≡ record { items = without t.admitted t.items; limit = t.limit; admitted = t.admitted }
+  withdrawn-none missing = go o refl missing
+    where
+      go : (p : Option A) → o ≡ p → is_some p ≡ false → withdrawn t ≡ record { items = without t.admitted t.items; limit = t.limit; admitted = t.admitted }
+      go None e missing =
+          let none_there : item_at t.admitted t.items ≡ None = sym at ∙ e in
+          rw (none_there, without-none t.admitted t.items none_there) refl
+      go (Some a) e missing = absurd cc
+
+-- above the last number there is no item until one is put there
+item_at-last : {A : Type 0} (most n : ℕ) (xs : List (Numbered A)) (a : A) → most < n → AllByRecursion (λ x. x.0 ≤ most) xs → item_at n (xs ++ (n, a) ∷ []) ≡ Some a
+item_at-last most n [] a lt below = rw (eq-eqb n n refl) refl
+item_at-last most n (x ∷ xs) a lt below = rw (ne_eqb n x.0 (λ e. let le = below.0 in omega arith)) (item_at-last most n xs a lt below.1)
+
+without-last : {A : Type 0} (most n : ℕ) (xs : List (Numbered A)) (a : A) → most < n → AllByRecursion (λ x. x.0 ≤ most) xs → without n (xs ++ (n, a) ∷ []) ≡ xs
+without-last most n [] a lt below = rw (eq-eqb n n refl) refl
+without-last {A} most n (x ∷ xs) a lt below =
+    rw (ne_eqb x.0 n (λ e. let le = below.0 in omega arith)) (ap (λ (l : List (Numbered A)). x ∷ l) (without-last most n xs a lt below.1))
+
+-- what was admitted last is withdrawn as if it had never been there
+pub withdrawn-admitted : {A : Type 0} (before : Table A) (a : A) → IsTable before → withdrawn (admitted_to a before) ≡ before
+withdrawn-admitted {A} before a is =
+    let there : item_at (before.admitted + 1) (before.items ++ (before.admitted + 1, a) ∷ []) ≡ Some a = item_at-last before.admitted (before.admitted + 1) before.items a (omega arith) is.below in
+    let items : without (before.admitted + 1) (before.items ++ (before.admitted + 1, a) ∷ []) ≡ before.items = without-last before.admitted (before.admitted + 1) before.items a (omega arith) is.below in
+    let number : before.admitted + 1 - 1 ≡ before.admitted = omega arith in
+    rw (there, items, number) refl

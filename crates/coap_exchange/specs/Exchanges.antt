@@ -1,6 +1,7 @@
 -- The states of the exchanges of a table.
-use Rattle.std.specs.Prelude.{ℕ, ◌==◌, if◌then◌else◌, List, map}
+use Rattle.std.specs.Prelude.{ℕ, ◌+◌, ◌==◌, Bool, true, false, if◌then◌else◌, List, [], ◌∷◌, map, Option, Some, None}
 use Rattle.coap_exchange.specs.declared.exchange.ExchangeState.{ExchangeState}
+use Rattle.coap_exchange.specs.declared.exchange.ExchangeState.TheVariants.{Queued, Sent, Done}
 use Rattle.coap_exchange.specs.declared.exchange.Exchange.{Exchange}
 use Rattle.coap_exchange.specs.Table.{Numbered}
 
@@ -10,3 +11,25 @@ moved number state x = if x.0 == number then (x.0, record { target = x.1.target;
 
 abbrev pub with_state : ℕ → ExchangeState → List (Numbered Exchange) → List (Numbered Exchange)
 with_state number state exchanges = map (moved number state) exchanges
+
+-- ---- counting
+
+abbrev pub is_queued : ExchangeState → Bool
+is_queued Queued = true
+is_queued (Sent s) = false
+is_queued (Done a) = false
+
+abbrev pub is_done : ExchangeState → Bool
+is_done Queued = false
+is_done (Sent s) = false
+is_done (Done a) = true
+
+-- how many exchanges are in a state that passes the test
+abbrev pub count_of : (ExchangeState → Bool) → List (Numbered Exchange) → ℕ
+count_of test [] = 0
+count_of test (x ∷ xs) = (if test x.1.state then 1 else 0) + count_of test xs
+
+-- whether there is an exchange, and its request waits for its turn
+abbrev pub queued_at : Option Exchange → Bool
+queued_at None = false
+queued_at (Some x) = is_queued x.state

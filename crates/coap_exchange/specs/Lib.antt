@@ -1,2 +1,5 @@
 pub mod Table
 pub mod Exchanges
+pub mod Due
+pub mod Ids
+pub mod Waiters

@@ -1,5 +1,5 @@
 -- Tables: items under numbers that count from 1 and are given once, in order of number.
-use Rattle.std.specs.Prelude.{ℕ, ◌+◌, ◌==◌, ◌<◌, ◌≤◌, not, List, [], ◌∷◌, ◌++◌, length, filter, Option}
+use Rattle.std.specs.Prelude.{ℕ, ◌+◌, ◌-◌, ◌==◌, ◌<◌, ◌≤◌, not, List, [], ◌∷◌, ◌++◌, length, filter, Option, Some, None}
 use Rattle.std.specs.List.{AllByRecursion}
 use Rattle.std.specs.Map.{lookup}
 
@@ -36,3 +36,11 @@ admitted_to item t = record { items = t.items ++ (t.admitted + 1, item) ∷ []; 
 -- all but the item of a number
 abbrev pub without : {A : Type 0} → ℕ → List (Numbered A) → List (Numbered A)
 without number items = filter (λ x. not (x.0 == number)) items
+
+-- the item of the last number that was given goes, if it is there, and its number is given back
+abbrev pub withdrawn_at : {A : Type 0} → Option A → Table A → Table A
+withdrawn_at None t = t
+withdrawn_at (Some item) t = record { items = without t.admitted t.items; limit = t.limit; admitted = t.admitted - 1 }
+
+abbrev pub withdrawn : {A : Type 0} → Table A → Table A
+withdrawn t = withdrawn_at (item_at t.admitted t.items) t

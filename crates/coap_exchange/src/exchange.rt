@@ -1,4 +1,9 @@
 //! Exchanges: requests on their way to an origin.
+ghost use Rattle.std.specs.Prelude.{◌≡◌};
+ghost use Rattle.std.specs.Option.{option_copied};
+ghost use Rattle.coap_exchange.specs.Due.{answer_at};
+ghost use Rattle.coap_exchange.specs.Exchanges.{is_queued};
+
 use coap_message::{Message, Seq};
 use coap_target::Target;
 
@@ -35,6 +40,28 @@ pub enum ExchangeState {
     Sent(Sending),
     /// The answer has come.
     Done(Answer),
+}
+
+impl ExchangeState {
+    /// Whether the request waits for its turn.
+    pub fn is_queued(&self) -> bool
+        ensures exact { result ≡ is_queued self.now }
+    {
+        match self {
+            ExchangeState::Queued => true,
+            ExchangeState::Sent(_) | ExchangeState::Done(_) => false,
+        }
+    }
+
+    /// The answer, if it has come.
+    pub fn answer(&self) -> Option<&Answer>
+        ensures exact { option_copied result ≡ answer_at self.now }
+    {
+        match self {
+            ExchangeState::Done(answer) => Some(answer),
+            ExchangeState::Queued | ExchangeState::Sent(_) => None,
+        }
+    }
 }
 
 /// A request on its way to an origin.

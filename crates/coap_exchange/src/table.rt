@@ -2,7 +2,7 @@
 ghost use Rattle.std.specs.Prelude.{◌≡◌, ◌↔◌, ◌+◌, ◌-◌, ◌<◌, ◌^◌, ◌==◌, length, OnOk, OnErr, IfOk, IfErr};
 ghost use Rattle.coap_exchange.specs.declared.table.AdmitError.TheVariants.{Full};
 ghost use Rattle.std.specs.Option.{option_copied};
-ghost use Rattle.coap_exchange.specs.Table.{empty_table, item_at, admitted_to, without};
+ghost use Rattle.coap_exchange.specs.Table.{Table, IsTable, empty_table, item_at, admitted_to, without, withdrawn};
 
 use coap_message::OutOfMemory;
 use indexmap::IndexMap;
@@ -76,6 +76,7 @@ impl<T: Drop> Table<T> {
     /// The item of this number.
     pub fn get(&self, number: u64) -> Option<&T>
         ensures exact { option_copied result ≡ item_at number self.now.items }
+        ensures sound { IsTable self.now }
     {
         self.items.get(&number)
     }
@@ -90,7 +91,9 @@ impl<T: Drop> Table<T> {
         ensures ok { OnOk result (self.new ≡ admitted_to item self.old) }
         ensures full { IfErr result (λ error. (error ≡ Full) ↔ (length self.old.items ≡ self.old.limit)) }
         ensures room { OnOk result (length self.old.items < self.old.limit) }
+        ensures fits { self.old.limit < 2 ^ 64 }
         ensures err { OnErr result (self.new ≡ self.old) }
+        ensures sound { IsTable self.old }
     {
         if self.is_full() {
             return Err(AdmitError::Full);
@@ -110,5 +113,16 @@ impl<T: Drop> Table<T> {
         ensures closed { self.new ≡ record self.old { items = without number self.old.items } }
     {
         self.items.shift_remove(&number);
+    }
+
+    /// Undoes an `admit` that was the last change: takes out the item of the last number that was given,
+    /// if it is there, and gives that number back.
+    pub fn withdraw(&mut self)
+        ensures exact { self.new ≡ withdrawn self.old }
+        ensures undone { (before : Table T) (item : T) → IsTable before → self.old ≡ admitted_to item before → self.new ≡ before }
+    {
+        if self.items.shift_remove(&self.admitted).is_some() {
+            self.admitted -= 1;
+        }
     }
 }

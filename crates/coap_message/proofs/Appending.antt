@@ -23,6 +23,11 @@ Appends-behind old mid new room xs ys u (Err e) a b =
 pub Appends-nothing : (old : Datagram) (room : ℕ) → length old.bytes ≤ room → Appends old old room [] (Ok tt)
 Appends-nothing old room le = (ap (holding old) (sym (append-nil old.bytes)), omega arith)
 
+-- what is written bit by bit fails as a whole where a part of it fails
+pub Appends-part : (old out new : Datagram) (room : ℕ) (part rest whole : List ℕ) (e f : Full) → out.room ≡ old.room → out.bytes ++ (part ++ rest) ≡ old.bytes ++ whole → Appends out new room part (Err e) → Appends old new room whole (Err f)
+Appends-part old out new room part rest whole e f same written a =
+    (a.0 ∙ same, omega (arith, a.1, ap length written, length-append out.bytes (part ++ rest), length-append part rest, length-append old.bytes whole))
+
 -- ---- an option, part by part
 
 pub option_written : (before : ℕ) (o : Opt) (delta len delta_bits length_bits : ℕ) → delta ≡ o.number - before → len ≡ length o.value → delta_bits ≡ bits_of delta → length_bits ≡ bits_of len
@@ -36,8 +41,7 @@ pub options_full : (old out new : Datagram) (room before index : ℕ) (o : Opt) 
     → index < length whole → o ≡ get_or whole index o → Appends out new room (option_spelling before o) (Err e) → Appends old new room (options_spelling 0 whole) (Err f)
 options_full old out new room before index o whole e f same written lt item a =
     let next : drop index whole ≡ o ∷ drop (index + 1) whole = drop_more whole index o lt ∙ ap (λ (x : Opt). x ∷ drop (index + 1) whole) (sym item) in
-    let lengths = ap length (sym (ap (λ (os : List Opt). out.bytes ++ options_spelling before os) next) ∙ written) in
-    (a.0 ∙ same, omega (arith, a.1, lengths, length-append out.bytes (option_spelling before o ++ options_spelling o.number (drop (index + 1) whole)), length-append (option_spelling before o) (options_spelling o.number (drop (index + 1) whole)), length-append old.bytes (options_spelling 0 whole)))
+    Appends-part old out new room (option_spelling before o) (options_spelling o.number (drop (index + 1) whole)) (options_spelling 0 whole) e f same (ap (λ (os : List Opt). out.bytes ++ options_spelling before os) (sym next) ∙ written) a
 
 pub options_done : (old out : Datagram) (room before index : ℕ) (whole : List Opt) → out.room ≡ old.room → out.bytes ++ options_spelling before (drop index whole) ≡ old.bytes ++ options_spelling 0 whole
     → length whole ≤ index → length out.bytes ≤ room → Appends old out room (options_spelling 0 whole) (Ok tt)

@@ -1,5 +1,6 @@
 pub mod Datagram
 pub mod Kind
+pub mod Codes
 pub mod Token
 pub mod TokenForm
 pub mod Options

@@ -1,6 +1,7 @@
 -- How a message is spelled as bytes (RFC 7252, 3 and 3.1): first as a relation, case by case, and then
 -- as the function that writes it.
 use Rattle.std.specs.Prelude.{◌≡◌, ℕ, ◌+◌, ◌-◌, ◌*◌, ◌/◌, ◌%◌, ◌<◌, ◌≤◌, nat_lt, if◌then◌else◌, List, [], ◌∷◌, ◌++◌, length, slice_index}
+use Rattle.coap_message.specs.declared.message.Head.{Head}
 use Rattle.coap_message.specs.declared.options.Opt.{Opt}
 use Rattle.coap_message.specs.Kind.{kind_number}
 use Rattle.coap_message.specs.Options.{AreOptions}
@@ -86,6 +87,10 @@ options_spelling before (o ∷ os) = option_spelling before o ++ options_spellin
 abbrev pub payload_spelling : List ℕ → List ℕ
 payload_spelling [] = []
 payload_spelling (p ∷ ps) = 255 ∷ p ∷ ps
+
+-- what a message begins with: the header and the token
+abbrev pub head_spelling : Head → List ℕ → List ℕ
+head_spelling head token = (64 + 16 * kind_number head.kind + length token) ∷ head.code.0 ∷ head.id / 256 ∷ head.id % 256 ∷ token
 
 -- the one spelling of a message
 unfoldable pub spelling : Message → List ℕ

@@ -1,5 +1,6 @@
 //! The code of a message: a method or a response code (RFC 7252, 3 and 12.1).
-ghost use Rattle.std.specs.Prelude.{◌≡◌, ◌/◌, ◌%◌, ◌<◌, ◌≤◌, ◌↔◌, IsTrue};
+ghost use Rattle.std.specs.Prelude.{◌≡◌, ◌/◌, ◌%◌, ◌↔◌, IsTrue};
+ghost use Rattle.coap_message.specs.Codes.{is_request, is_response};
 
 /// A code: three bits of class and five bits of detail, written `c.dd` (RFC 7252, 3).
 #[derive(Clone, Copy, Debug, PartialEq, Eq, PartialOrd, Ord, Hash)]
@@ -68,15 +69,15 @@ impl Code {
 
     /// Whether this is a method: class 0 with a detail above 0.
     pub fn is_request(self) -> bool
-        ensures { IsTrue result ↔ ((self.0 / 32 ≡ 0) × (0 < self.0 % 32)) }
+        ensures { result ≡ is_request self }
     {
-        self.class() == 0 && self.detail() > 0
+        self.class() == 0 && self.0 != 0
     }
 
     /// Whether this is a response code: class 2, 3, 4 or 5.
     pub fn is_response(self) -> bool
-        ensures { IsTrue result ↔ ((2 ≤ self.0 / 32) × (self.0 / 32 ≤ 5)) }
+        ensures { result ≡ is_response self }
     {
-        matches!(self.class(), 2..=5)
+        2 <= self.class() && self.class() <= 5
     }
 }

@@ -31,7 +31,8 @@ pub fn uint_bytes(alloc: Global, number: u64) -> Result<Seq<u8>, OutOfMemory>
     Seq::from_slice(alloc, without_zeros(&bytes))
 }
 
-fn without_zeros(bytes: &[u8]) -> &[u8]
+/// Bytes without the zeros at their head: of a number in network byte order its shortest form.
+pub fn without_zeros(bytes: &[u8]) -> &[u8]
     ensures { result.now ≡ without_zeros bytes.now }
 {
     let mut rest = bytes;

@@ -3,15 +3,16 @@ ghost use Rattle.std.specs.Prelude.{◌≡◌, ◌<◌, ◌≤◌, ◌↔◌, �
 ghost use Rattle.coap_message.specs.Datagram.{Appends, holding};
 ghost use Rattle.coap_message.specs.Kind.{kind_number};
 ghost use Rattle.coap_message.specs.Options.{AreOptions};
-ghost use Rattle.coap_message.specs.Spelling.{IsMessage, Spells, bits_of, more_of, option_spelling, options_spelling, payload_spelling, spelling};
+ghost use Rattle.coap_message.specs.Spelling.{IsMessage, Spells, bits_of, more_of, head_spelling, option_spelling, options_spelling, payload_spelling, spelling};
 
 use crate::code::Code;
 use crate::datagram::Datagram;
 use crate::error::Full;
 use crate::kind::Kind;
-use crate::message::Message;
+use crate::message::{Head, Message};
 use crate::options::Opt;
 use crate::reading::PAYLOAD_MARKER;
+use crate::token::Token;
 
 /// Adds bytes, if at most `room` bytes are held then.
 fn append(out: &mut Datagram, room: usize, bytes: &[u8]) -> Result<(), Full>
@@ -51,22 +52,31 @@ fn put_more(out: &mut Datagram, room: usize, n: usize) -> Result<(), Full>
     }
 }
 
-/// Adds an option behind one of the number `before` (RFC 7252, 3.1).
-fn put_option(out: &mut Datagram, room: usize, before: u16, option: &Opt) -> Result<(), Full>
+/// Adds an option behind one of the number `before` (RFC 7252, 3.1), 0 for the first, if at most `room`
+/// bytes are held then. It takes no memory. Where it is `Full`, a part of the option may have been added.
+pub fn put_option(
+    out: &mut Datagram,
+    room: usize,
+    before: u16,
+    number: u16,
+    value: &[u8],
+) -> Result<(), Full>
     requires room { room ≤ out.old.room }
-    requires above { before ≤ option.now.number }
-    requires within { length option.now.value ≤ 65804 }
-    ensures { Appends out.old out.new room (option_spelling before option.now) result }
+    requires above { before ≤ number }
+    requires within { length value.now ≤ 65804 }
+    ensures { Appends out.old out.new room (option_spelling before (record { number = number; value = value.now })) result }
 {
-    let delta = usize::from(option.number - before);
-    let length = option.value.len();
+    let delta = usize::from(number - before);
+    let length = value.len();
     append(out, room, &[16 * bits(delta) + bits(length)])?;
     put_more(out, room, delta)?;
     put_more(out, room, length)?;
-    append(out, room, option.value.as_slice())
+    append(out, room, value)
 }
 
-fn put_options(out: &mut Datagram, room: usize, options: &[Opt]) -> Result<(), Full>
+/// Adds options, the first of a message among them, if at most `room` bytes are held then. It takes no
+/// memory. Where it is `Full`, a part of them may have been added.
+pub fn put_options(out: &mut Datagram, room: usize, options: &[Opt]) -> Result<(), Full>
     requires room { room ≤ out.old.room }
     requires held { length out.old.bytes ≤ room }
     requires in_order { AreOptions 0 options.now }
@@ -74,13 +84,15 @@ fn put_options(out: &mut Datagram, room: usize, options: &[Opt]) -> Result<(), F
 {
     let mut before = 0;
     for option in options {
-        put_option(out, room, before, option)?;
+        put_option(out, room, before, option.number, option.value.as_slice())?;
         before = option.number;
     }
     Ok(())
 }
 
-fn put_payload(out: &mut Datagram, room: usize, payload: &[u8]) -> Result<(), Full>
+/// Adds a payload behind its marker, if there is a payload and at most `room` bytes are held then. It
+/// takes no memory. Where it is `Full`, the marker may have been added.
+pub fn put_payload(out: &mut Datagram, room: usize, payload: &[u8]) -> Result<(), Full>
     requires { room ≤ out.old.room }
     ensures { Appends out.old out.new room (payload_spelling payload.now) result }
 {
@@ -100,16 +112,32 @@ fn header_of(kind: Kind, token_length: usize, code: Code, id: u16) -> [u8; 4]
     [first, code.0, (id / 256) as u8, (id % 256) as u8]
 }
 
+/// Begins a message: clears the datagram, and writes the header and the token (RFC 7252, 3), if they are
+/// at most `room` bytes. Options and a payload are added behind them. It takes no memory.
+pub fn put_head(out: &mut Datagram, room: usize, head: Head, token: &Token) -> Result<(), Full>
+    requires { room ≤ out.old.room }
+    ensures written { Appends (holding out.old []) out.new room (head_spelling head token.now) result }
+    ensures within { length token.now ≤ 8 }
+{
+    out.clear();
+    let token = token.as_slice();
+    let header = header_of(head.kind, token.len(), head.code, head.id);
+    append(out, room, &header)?;
+    append(out, room, token)
+}
+
 #[tactic(auto, unfolding(crate::specs::Spelling::spelling))]
 fn put_message(out: &mut Datagram, room: usize, message: &Message) -> Result<(), Full>
     requires { room ≤ out.old.room }
-    ensures written { Appends out.old out.new room (spelling message.now) result }
+    ensures written { Appends (holding out.old []) out.new room (spelling message.now) result }
     ensures valid { OnOk result (IsMessage message.now) }
 {
-    let token = message.token.as_slice();
-    let header = header_of(message.kind, token.len(), message.code, message.id);
-    append(out, room, &header)?;
-    append(out, room, token)?;
+    let head = Head {
+        kind: message.kind,
+        code: message.code,
+        id: message.id,
+    };
+    put_head(out, room, head, &message.token)?;
     put_options(out, room, message.options.as_slice())?;
     put_payload(out, room, message.payload.as_slice())
 }
@@ -122,7 +150,6 @@ pub fn encode_into(message: &Message, out: &mut Datagram, room: usize) -> Result
     ensures full { IsErr result ↔ (room < length (spelling message.now)) }
     ensures err { OnErr result (out.new ≡ holding out.old []) }
 {
-    out.clear();
     if let Err(full) = put_message(out, room, message) {
         out.clear();
         return Err(full);

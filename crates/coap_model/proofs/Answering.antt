@@ -16,12 +16,13 @@ use Rattle.coap_exchange.specs.declared.exchange.ExchangeState.{ExchangeState}
 use Rattle.coap_exchange.specs.declared.exchange.ExchangeState.TheVariants.{Queued, Sent, Done}
 use Rattle.coap_exchange.specs.declared.exchange.Exchange.{Exchange}
 use Rattle.coap_exchange.specs.declared.exchange.Sending.{Sending}
-use Rattle.coap_exchange.specs.Exchanges.{moved}
+use Rattle.coap_exchange.specs.Exchanges.{moved, is_queued, is_done}
 use Rattle.coap_exchange.specs.Table.{Numbered}
 use Rattle.coap_exchange.proofs.States.{moved-cases, length-with_state, IsRising-with_state}
 use Rattle.coap_model.specs.Events.{arrival}
-use Rattle.coap_model.specs.Messages.{is_ack, is_response, token_of, answer_of}
-use Rattle.coap_model.specs.World.{World, is_queued, is_done}
+use Rattle.coap_message.specs.Codes.{is_response}
+use Rattle.coap_model.specs.Messages.{is_ack, token_of, answer_of}
+use Rattle.coap_model.specs.World.{World}
 use Rattle.coap_model.specs.Step.{message_in}
 use Rattle.coap_model.specs.Responses.{has_id, awaits, awaiting, answers}
 use Rattle.coap_model.specs.History.{Entry, Never, Sends, Gets}

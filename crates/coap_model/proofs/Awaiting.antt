@@ -19,7 +19,8 @@ use Rattle.coap_exchange.specs.declared.exchange.Exchange.{Exchange}
 use Rattle.coap_exchange.specs.Table.{Numbered}
 use Rattle.coap_model.specs.Setting.{Setting}
 use Rattle.coap_model.specs.Events.{arrival}
-use Rattle.coap_model.specs.Messages.{is_ack, is_response, token_of}
+use Rattle.coap_message.specs.Codes.{is_response}
+use Rattle.coap_model.specs.Messages.{is_ack, token_of}
 use Rattle.coap_model.specs.World.{World}
 use Rattle.coap_model.specs.Responses.{has_id, awaits, awaiting}
 use Rattle.coap_model.specs.History.{Entry, Place, IsPlaceOf, opened_in, Sends, Asks, Gets}

@@ -16,8 +16,10 @@ use Rattle.coap_exchange.proofs.Tables.{IsRising-without}
 use Rattle.coap_exchange.specs.Table.{Numbered, without}
 use Rattle.coap_model.specs.Events.{tick}
 use Rattle.coap_model.specs.Messages.{answer_of, shown}
-use Rattle.coap_model.specs.World.{World, is_queued, is_done, count_of, next_id, later}
-use Rattle.coap_model.specs.Ticks.{serving, least, items_of, if_due, answer_in, without_idle, delivers}
+use Rattle.coap_exchange.specs.Exchanges.{is_queued, is_done, count_of}
+use Rattle.coap_model.specs.World.{World, next_id, later}
+use Rattle.coap_exchange.specs.Due.{serving, least, answer_in}
+use Rattle.coap_model.specs.Ticks.{items_of, if_due, without_idle, delivers}
 use Rattle.coap_model.specs.History.{Entry, Place, index, Opens}
 use Rattle.coap_model.specs.Justified.{IsRequestOf, IsMember, Act, served_by, on_waiter, delivered, IsDelivery}
 use Rattle.coap_model.specs.Carries.{WasGot, IsState, IsExchangeOf, IsGotBy, IsWaiterOf, HasNumber, Carries, entry_of}

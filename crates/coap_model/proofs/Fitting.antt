@@ -15,7 +15,8 @@ use Rattle.coap_message.proofs.Uints.{uint_bound, uint_spelling-four}
 use Rattle.coap_exchange.specs.declared.exchange.Answer.{Answer}
 use Rattle.coap_model.specs.Limits.{AreLimits}
 use Rattle.coap_model.specs.Events.{Event}
-use Rattle.coap_model.specs.Messages.{is_code, reset, max_age_option, own_reply, busy_reply, are_understood, widest, fits, bad_gateway, is_passed_on, answer_of, max_age_of, left_of, carries_max_age, shown_options, shown}
+use Rattle.coap_message.specs.Codes.{is_code}
+use Rattle.coap_model.specs.Messages.{reset, max_age_option, own_reply, busy_reply, are_understood, widest, fits, bad_gateway, is_passed_on, answer_of, max_age_of, left_of, carries_max_age, shown_options, shown}
 use Rattle.coap_model.specs.World.{World, Step, next_id}
 use Rattle.coap_model.specs.Ticks.{with_id}
 use Rattle.coap_model.specs.Step.{step_of}
@@ -109,7 +110,7 @@ busy-short seconds id token short =
 reset-short : (id : ℕ) → length (spelling (reset id)) ≤ 128
 reset-short id = omega (arith, spelling-length (reset id))
 
-length-with_id : (id : ℕ) (form : List ℕ) → length (with_id id form) ≡ length form
+pub length-with_id : (id : ℕ) (form : List ℕ) → length (with_id id form) ≡ length form
 unfolding with_id
 length-with_id id [] = refl
 length-with_id id (a ∷ []) = refl

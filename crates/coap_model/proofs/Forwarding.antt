@@ -8,13 +8,14 @@ use Rattle.coap_target.specs.declared.target.Target.{Target}
 use Rattle.coap_exchange.specs.declared.exchange.ExchangeState.{ExchangeState}
 use Rattle.coap_exchange.specs.declared.exchange.ExchangeState.TheVariants.{Queued, Sent, Done}
 use Rattle.coap_exchange.specs.declared.exchange.Exchange.{Exchange}
-use Rattle.coap_exchange.specs.Exchanges.{moved}
+use Rattle.coap_exchange.specs.Exchanges.{moved, is_queued, is_done}
 use Rattle.coap_exchange.specs.Table.{Numbered}
 use Rattle.coap_exchange.proofs.States.{moved-cases, length-with_state, IsRising-with_state}
 use Rattle.coap_model.specs.Events.{tick}
 use Rattle.coap_model.specs.Messages.{token_of, forwarded}
-use Rattle.coap_model.specs.World.{World, is_queued, is_done, next_id}
-use Rattle.coap_model.specs.Ticks.{sending, least, items_of, if_due, with_id, sends}
+use Rattle.coap_model.specs.World.{World, next_id}
+use Rattle.coap_exchange.specs.Due.{sending, least}
+use Rattle.coap_model.specs.Ticks.{items_of, if_due, with_id, sends}
 use Rattle.coap_target.specs.Routes.{mapped_target}
 use Rattle.coap_model.specs.History.{Entry, Place, Opens, Sends, Gets}
 use Rattle.coap_model.specs.Justified.{IsRequestOf, on_exchange, asked}

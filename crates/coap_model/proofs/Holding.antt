@@ -20,7 +20,8 @@ use Rattle.coap_exchange.specs.declared.exchange.Exchange.{Exchange}
 use Rattle.coap_exchange.specs.declared.waiter.Waiter.{Waiter}
 use Rattle.coap_exchange.specs.Table.{Numbered}
 use Rattle.coap_model.specs.Setting.{Setting}
-use Rattle.coap_model.specs.Messages.{is_code, option_of, host_options, target_options, forwarded, are_understood, widest, fits, bad_gateway, is_passed_on, answer_of}
+use Rattle.coap_message.specs.Codes.{is_code}
+use Rattle.coap_model.specs.Messages.{option_of, host_options, target_options, forwarded, are_understood, widest, fits, bad_gateway, is_passed_on, answer_of}
 use Rattle.coap_model.specs.World.{World}
 use Rattle.coap_model.specs.History.{Entry}
 use Rattle.coap_model.specs.Justified.{Act}

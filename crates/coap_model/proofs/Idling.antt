@@ -11,8 +11,10 @@ use Rattle.coap_exchange.specs.declared.waiter.Waiter.{Waiter}
 use Rattle.coap_exchange.specs.Table.{Numbered, IsRising}
 use Rattle.coap_model.specs.Events.{tick}
 use Rattle.coap_model.specs.Messages.{is_passed_on, bad_gateway, answer_of}
-use Rattle.coap_model.specs.World.{World, is_queued, is_done, count_of}
-use Rattle.coap_model.specs.Ticks.{Item, sending, serving, due_of, exchange_items, answer_at, answer_in, with_item, waiter_items, items_of, earlier, least, if_due, on_item}
+use Rattle.coap_exchange.specs.Exchanges.{is_queued, is_done, count_of}
+use Rattle.coap_model.specs.World.{World}
+use Rattle.coap_exchange.specs.Due.{Item, sending, serving, due_of, exchange_items, answer_at, answer_in, with_item, waiter_items, earlier, least}
+use Rattle.coap_model.specs.Ticks.{items_of, if_due, on_item}
 use Rattle.coap_model.specs.History.{Entry, Place, IsPlaceOf}
 use Rattle.coap_model.specs.Justified.{idle}
 use Rattle.coap_model.specs.Carries.{last_of, IsInOrder, IsState, IsExchangeOf, IsWaiterOf, ArePaired, Carries, entry_of}

@@ -11,7 +11,8 @@ use Rattle.coap_exchange.proofs.Tables.{IsRising-push}
 use Rattle.coap_model.specs.Setting.{Setting}
 use Rattle.coap_model.specs.Events.{arrival}
 use Rattle.coap_model.specs.Messages.{may_open}
-use Rattle.coap_model.specs.World.{World, is_queued, is_done, count_of, has_ids, has_room}
+use Rattle.coap_exchange.specs.Exchanges.{is_queued, is_done, count_of}
+use Rattle.coap_model.specs.World.{World, has_ids, has_room}
 use Rattle.coap_model.specs.Requests.{opens, new_exchange, new_waiter, next_token}
 use Rattle.coap_model.specs.History.{Entry, Never, opened_in, Gets}
 use Rattle.coap_model.specs.Justified.{IsMember, Act, served_by, on_nothing, opened, IsJustified, delivered, refused, overloaded, lacking, asked, answered, rejected, ignored, idle, nothing_yet}

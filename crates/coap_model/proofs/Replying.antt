@@ -15,7 +15,8 @@ use Rattle.coap_message.proofs.WholeMessages.{read_again}
 use Rattle.coap_target.specs.declared.endpoint.Endpoint.{Endpoint}
 use Rattle.coap_target.specs.declared.target.Target.{Target}
 use Rattle.coap_model.specs.Events.{arrival}
-use Rattle.coap_model.specs.Messages.{is_con, is_non, is_request, reset, own_reply, busy_reply, token_of, refused_with, may_open, verdict_of}
+use Rattle.coap_message.specs.Codes.{is_request}
+use Rattle.coap_model.specs.Messages.{is_con, is_non, reset, own_reply, busy_reply, token_of, refused_with, may_open, verdict_of}
 use Rattle.coap_model.specs.World.{World, reserved, next_id, has_ids, has_room}
 use Rattle.coap_model.specs.Requests.{lacks_id, refuses, overloads, next_token}
 use Rattle.coap_model.specs.Step.{ignores, rejects, message_in}

@@ -2,7 +2,8 @@
 use Rattle.std.proofs.Common.{◌≡◌, ℕ, ◌+◌, ◌-◌, true, false, ltb, List, length, arith}
 use Rattle.std.specs.Prelude.{◌&&◌}
 use Rattle.std.proofs.lemmas.Bool.{leb-true, leb-false, ltb-true, ltb-false, and_parts}
-use Rattle.coap_model.specs.World.{World, is_queued, count_of, reserved, has_ids, has_room}
+use Rattle.coap_exchange.specs.Exchanges.{is_queued, count_of}
+use Rattle.coap_model.specs.World.{World, reserved, has_ids, has_room}
 use Rattle.coap_model.specs.History.{Entry, opened_in, sent_in, ids_in, under_way, HasIds, HasRoom}
 use Rattle.coap_model.specs.Carries.{Carries}
 use Rattle.coap_model.proofs.Tables.{length-paired}

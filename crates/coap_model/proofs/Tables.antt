@@ -9,11 +9,12 @@ use Rattle.coap_exchange.specs.declared.exchange.ExchangeState.TheVariants.{Queu
 use Rattle.coap_exchange.specs.declared.exchange.Exchange.{Exchange}
 use Rattle.coap_exchange.specs.declared.waiter.Waiter.{Waiter}
 use Rattle.coap_exchange.proofs.Tables.{none-below}
-use Rattle.coap_exchange.specs.Exchanges.{with_state}
+use Rattle.coap_exchange.specs.Exchanges.{with_state, is_queued, count_of}
 use Rattle.coap_exchange.specs.Table.{Numbered, without, IsRising}
 use Rattle.coap_exchange.proofs.States.{moved-number, with_state-below}
-use Rattle.coap_model.specs.World.{is_queued, count_of}
-use Rattle.coap_model.specs.Ticks.{Item, sending, serving, due_of, exchange_items, answer_at, answer_in, with_item, waiter_items, earlier, least, if_due, is_awaited}
+use Rattle.coap_exchange.specs.Due.{Item, sending, serving, due_of, exchange_items, answer_at, answer_in, with_item, waiter_items, earlier, least}
+use Rattle.coap_exchange.specs.Waiters.{is_awaited}
+use Rattle.coap_model.specs.Ticks.{if_due}
 use Rattle.coap_model.proofs.Lists.{Has}
 use Rattle.coap_model.specs.Carries.{ArePaired, HasNumber}
 

@@ -12,7 +12,8 @@ use Rattle.coap_target.specs.declared.routes.Routes.{Routes}
 use Rattle.coap_target.specs.Target.{IsSegment, IsTarget}
 use Rattle.coap_target.specs.Routes.{values_of, path_of, mapped_target, AreRoutes}
 use Rattle.coap_target.proofs.Targets.{target-is}
-use Rattle.coap_model.specs.Messages.{is_code, is_path_option, forwarded, Verdict, refused_with, may_open, verdict_of_target, verdict_of}
+use Rattle.coap_message.specs.Codes.{is_code}
+use Rattle.coap_model.specs.Messages.{is_path_option, forwarded, Verdict, refused_with, may_open, verdict_of_target, verdict_of}
 
 -- what may be opened: the target of the request, with a form that isn't too long
 pub record IsOpenable (routes : Routes) (most : ℕ) (token : List ℕ) (m : Message) (t : Target) : Type 0 where

@@ -17,7 +17,8 @@ use Rattle.coap_exchange.specs.Table.{Numbered, IsRising}
 use Rattle.coap_model.specs.Setting.{Setting}
 use Rattle.coap_model.specs.Events.{Event, arrival, tick}
 use Rattle.coap_model.specs.Messages.{token_of, forwarded, target_sent, answer_of}
-use Rattle.coap_model.specs.World.{World, Step, is_queued, is_done, count_of, reserved}
+use Rattle.coap_exchange.specs.Exchanges.{is_queued, is_done, count_of}
+use Rattle.coap_model.specs.World.{World, Step, reserved}
 use Rattle.coap_model.specs.History.{Entry, Place, index, IsPlaceOf, Never, opened_in, sent_in, answered_in, served_in, ids_in, gives_id, Opens, Sends, Asks, Gets}
 use Rattle.coap_model.specs.Justified.{IsRequestOf, IsMember, Act, served_by, IsJustified}
 

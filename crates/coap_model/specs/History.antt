@@ -12,7 +12,8 @@ use Rattle.coap_model.specs.declared.report.Storing.TheVariants.{NotStored}
 use Rattle.coap_model.specs.declared.report.Report.{Report}
 use Rattle.coap_model.specs.Limits.{Limits}
 use Rattle.coap_model.specs.Events.{Event, arrival}
-use Rattle.coap_model.specs.Messages.{is_response, token_of}
+use Rattle.coap_message.specs.Codes.{is_response}
+use Rattle.coap_model.specs.Messages.{token_of}
 
 -- one step as the outside saw it, with all that the step read
 pub record Entry : Type 0 where

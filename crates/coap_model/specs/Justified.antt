@@ -13,7 +13,8 @@ use Rattle.coap_model.specs.declared.report.Outcome.TheVariants.{Ignored, Reject
 use Rattle.coap_model.specs.declared.report.Storing.TheVariants.{NotStored}
 use Rattle.coap_model.specs.Setting.{Setting}
 use Rattle.coap_model.specs.Events.{Event, arrival, tick}
-use Rattle.coap_model.specs.Messages.{is_request, is_response, reset, own_reply, busy_reply, token_of, forwarded, target_sent, Verdict, refused_with, may_open, verdict_of, answer_of, shown}
+use Rattle.coap_message.specs.Codes.{is_request, is_response}
+use Rattle.coap_model.specs.Messages.{reset, own_reply, busy_reply, token_of, forwarded, target_sent, Verdict, refused_with, may_open, verdict_of, answer_of, shown}
 use Rattle.coap_model.specs.History.{Entry, Place, index, IsPlaceOf, Never, opened_in, sent_in, answered_in, served_in, HasIds, HasRoom, Opens, Sends, Asks, Gets}
 
 -- ---- requests

@@ -8,6 +8,7 @@ use Rattle.coap_message.specs.declared.kind.Kind.TheVariants.{Con, Non, Ack, Rst
 use Rattle.coap_message.specs.declared.code.Code.{Code}
 use Rattle.coap_message.specs.declared.code.TheConstants.Code.{EMPTY, GET, VALID, CONTENT, BAD_OPTION, NOT_FOUND, METHOD_NOT_ALLOWED, REQUEST_ENTITY_TOO_LARGE, BAD_GATEWAY, SERVICE_UNAVAILABLE}
 use Rattle.coap_message.specs.declared.options.Opt.{Opt}
+use Rattle.coap_message.specs.Codes.{is_code}
 use Rattle.coap_message.specs.Message.{Message}
 use Rattle.coap_message.specs.Spelling.{spelling}
 use Rattle.coap_message.specs.Uint.{uint_of, uint_spelling}
@@ -17,18 +18,7 @@ use Rattle.coap_target.specs.declared.routes.Routes.{Routes}
 use Rattle.coap_target.specs.Routes.{values_of, mapped_target}
 use Rattle.coap_exchange.specs.declared.exchange.Answer.{Answer}
 
--- ---- codes and types
-
-abbrev pub is_code : Code → Code → Bool
-is_code a b = a.0 == b.0
-
--- a method: class 0, but not 0.00 (RFC 7252, 5.2 and 12.1.1)
-abbrev pub is_request : Code → Bool
-is_request c = (c.0 / 32 == 0) && not (c.0 == 0)
-
--- a response code: class 2, 3, 4 or 5
-abbrev pub is_response : Code → Bool
-is_response c = nat_le 2 (c.0 / 32) && nat_le (c.0 / 32) 5
+-- ---- types
 
 abbrev pub is_con : Kind → Bool
 is_con Con = true

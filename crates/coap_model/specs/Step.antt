@@ -8,7 +8,8 @@ use Rattle.coap_message.specs.Reading.{read_message, head_at}
 use Rattle.coap_target.specs.declared.endpoint.Endpoint.{Endpoint}
 use Rattle.coap_model.specs.declared.report.Outcome.TheVariants.{Ignored, Rejected}
 use Rattle.coap_model.specs.Events.{Event, arrival, tick}
-use Rattle.coap_model.specs.Messages.{is_con, is_non, is_ack, is_request, is_response, reset}
+use Rattle.coap_message.specs.Codes.{is_request, is_response}
+use Rattle.coap_model.specs.Messages.{is_con, is_non, is_ack, reset}
 use Rattle.coap_model.specs.World.{World, Step, later, silent, says}
 use Rattle.coap_model.specs.Requests.{on_request}
 use Rattle.coap_model.specs.Responses.{awaiting, on_response}

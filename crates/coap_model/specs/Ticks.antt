@@ -1,63 +1,22 @@
 -- The step of a tick: what is due is done, one thing at a time.
-use Rattle.std.specs.Prelude.{ℕ, ◌+◌, ◌/◌, ◌%◌, ◌==◌, Bool, nat_le, if◌then◌else◌, List, [], ◌∷◌, ◌++◌, Option, Some, None, option_map}
-use Rattle.std.specs.List.{list_any}
+use Rattle.std.specs.Prelude.{ℕ, ◌+◌, ◌/◌, ◌%◌, nat_le, if◌then◌else◌, List, [], ◌∷◌, ◌++◌, Option, Some, None, option_map}
 use Rattle.coap_exchange.specs.declared.exchange.Answer.{Answer}
-use Rattle.coap_exchange.specs.declared.exchange.ExchangeState.{ExchangeState}
-use Rattle.coap_exchange.specs.declared.exchange.ExchangeState.TheVariants.{Queued, Sent, Done}
+use Rattle.coap_exchange.specs.declared.exchange.ExchangeState.TheVariants.{Sent}
 use Rattle.coap_exchange.specs.declared.exchange.Exchange.{Exchange}
 use Rattle.coap_exchange.specs.declared.waiter.Waiter.{Waiter}
 use Rattle.coap_exchange.specs.Exchanges.{with_state}
+use Rattle.coap_exchange.specs.Due.{Item, sending, serving, due_of, exchange_items, waiter_items, least}
 use Rattle.coap_exchange.specs.Table.{Numbered, without}
+use Rattle.coap_exchange.specs.Waiters.{is_awaited}
 use Rattle.coap_model.specs.declared.report.Outcome.TheVariants.{SentRequest, Delivered, Idle}
 use Rattle.coap_model.specs.Messages.{shown}
-use Rattle.coap_model.specs.World.{World, Step, later, silent, says, next_id, is_queued}
+use Rattle.coap_model.specs.World.{World, Step, later, silent, says, next_id}
 
 -- ---- what is due
-
--- an exchange that is to be sent, or a waiter whose exchange has its answer
-pub data Item : Type 0 where
-  sending : Numbered Exchange → Item
-  serving : Numbered Waiter → Answer → Item
-
--- an exchange is due from its opening on, a waiter from the answer on
-abbrev pub due_of : Item → ℕ
-due_of (sending x) = x.1.admitted
-due_of (serving v a) = a.got
-
-abbrev pub exchange_items : List (Numbered Exchange) → List Item
-exchange_items [] = []
-exchange_items (x ∷ xs) = if is_queued x.1.state then sending x ∷ exchange_items xs else exchange_items xs
-
-abbrev pub answer_at : ExchangeState → Option Answer
-answer_at Queued = None
-answer_at (Sent s) = None
-answer_at (Done a) = Some a
-
--- the answer of the exchange of this number
-abbrev pub answer_in : ℕ → List (Numbered Exchange) → Option Answer
-answer_in number [] = None
-answer_in number (x ∷ xs) = if x.0 == number then answer_at x.1.state else answer_in number xs
-
-abbrev pub with_item : Numbered Waiter → Option Answer → List Item → List Item
-with_item v None items = items
-with_item v (Some a) items = serving v a ∷ items
-
-abbrev pub waiter_items : List (Numbered Exchange) → List (Numbered Waiter) → List Item
-waiter_items exchanges [] = []
-waiter_items exchanges (v ∷ vs) = with_item v (answer_in v.1.exchange exchanges) (waiter_items exchanges vs)
 
 -- exchanges before waiters, each in order of number
 abbrev pub items_of : World → List Item
 items_of w = exchange_items w.exchanges ++ waiter_items w.exchanges w.waiters
-
-abbrev pub earlier : Item → Option Item → Option Item
-earlier i None = Some i
-earlier i (Some j) = if nat_le (due_of i) (due_of j) then Some i else Some j
-
--- the item that is due first; of those that are due at one moment the first in the list
-abbrev pub least : List Item → Option Item
-least [] = None
-least (i ∷ items) = earlier i (least items)
 
 abbrev pub next_due : World → Option ℕ
 next_due w = option_map due_of (least (items_of w))
@@ -87,9 +46,6 @@ sends w now x =
         given = w.given + 1;
       };
     }
-
-abbrev pub is_awaited : ℕ → List (Numbered Waiter) → Bool
-is_awaited number waiters = list_any (λ v. v.1.exchange == number) waiters
 
 -- when nobody waits for an exchange any more, it is closed
 abbrev pub without_idle : ℕ → List (Numbered Waiter) → List (Numbered Exchange) → List (Numbered Exchange)

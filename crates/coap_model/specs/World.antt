@@ -1,12 +1,12 @@
 -- The tables of a proxy as one value, and what a step makes of them.
-use Rattle.std.specs.Prelude.{ℕ, ◌+◌, ◌%◌, ◌&&◌, Bool, true, false, nat_le, nat_lt, if◌then◌else◌, List, [], ◌∷◌, length, Some, None}
+use Rattle.std.specs.Prelude.{ℕ, ◌+◌, ◌&&◌, Bool, nat_le, nat_lt, List, [], length, Some, None}
 use Rattle.coap_message.specs.Message.{Message}
 use Rattle.coap_message.specs.Spelling.{spelling}
 use Rattle.coap_target.specs.declared.endpoint.Endpoint.{Endpoint}
-use Rattle.coap_exchange.specs.declared.exchange.ExchangeState.{ExchangeState}
-use Rattle.coap_exchange.specs.declared.exchange.ExchangeState.TheVariants.{Queued, Sent, Done}
 use Rattle.coap_exchange.specs.declared.exchange.Exchange.{Exchange}
 use Rattle.coap_exchange.specs.declared.waiter.Waiter.{Waiter}
+use Rattle.coap_exchange.specs.Exchanges.{is_queued, count_of}
+use Rattle.coap_exchange.specs.Ids.{nth_id}
 use Rattle.coap_exchange.specs.Table.{Numbered}
 use Rattle.coap_model.specs.declared.report.Outcome.{Outcome}
 use Rattle.coap_model.specs.declared.report.Report.{Report}
@@ -49,24 +49,9 @@ says outcome to m w = record { report = record { send = Some to; outcome = outco
 
 -- ---- message ids
 
--- the id that is given next: this proxy counts them up, and begins anew at 0 behind 65,535 (RFC 7252, 4.4)
+-- the id that is given next (RFC 7252, 4.4)
 abbrev pub next_id : World → ℕ
-next_id w = (w.setting.first_id + w.given) % 65536
-
-abbrev pub is_queued : ExchangeState → Bool
-is_queued Queued = true
-is_queued (Sent s) = false
-is_queued (Done a) = false
-
-abbrev pub is_done : ExchangeState → Bool
-is_done Queued = false
-is_done (Sent s) = false
-is_done (Done a) = true
-
--- how many exchanges are in a state that passes the test
-abbrev pub count_of : (ExchangeState → Bool) → List (Numbered Exchange) → ℕ
-count_of test [] = 0
-count_of test (x ∷ xs) = (if test x.1.state then 1 else 0) + count_of test xs
+next_id w = nth_id w.setting.first_id w.given
 
 -- ids that are kept for exchanges which are still to be sent, and for clients which are still to be served
 abbrev pub reserved : World → ℕ

@@ -43,7 +43,7 @@ pointwise-itself same tells (x ∷ a) = and_from (same x x) (pointwise same a a)
 Tells-pointwise : {A : Type 0} (same : A → A → Bool) → Tells same → Tells (pointwise same)
 Tells-pointwise same tells = record { only = pointwise-only same tells; itself = pointwise-itself same tells }
 
-Tells-bytes : Tells same_bytes
+pub Tells-bytes : Tells same_bytes
 Tells-bytes = Tells-pointwise nat_eq Tells-nat
 
 Tells-parts : Tells same_parts

@@ -2,4 +2,4 @@ use Rattle.coap_message.proofs.Spellings.{spelled}
 use Rattle.coap_message.proofs.writing.encode_into.Goals as goal
 
 pub returns-clause-spelled : goal.returns-clause-spelled
-returns-clause-spelled c = rw (c.in_default.ensures.written.0, c.clear.ensures) (spelled c.args.message.now c.in_default.ensures.valid)
+returns-clause-spelled c = rw c.in_default.ensures.written.0 (spelled c.args.message.now c.in_default.ensures.valid)

@@ -1,0 +1,81 @@
+-- What a proxy that carries a history can do: it can go on.
+use Rattle.std.proofs.Common.{◌≡◌, ℕ, ◌<◌, ◌≤◌, ◌^◌, Bool, true, false, cond, List, [], ◌∷◌, Result, Ok, Err, refl, sym, subst, arith}
+use Rattle.std.specs.Prelude.{◌&&◌, not, IfOk, OnErr}
+use Rattle.std.proofs.lemmas.Bool.{and_parts}
+use Rattle.coap_message.specs.Message.{Message}
+use Rattle.coap_exchange.specs.declared.exchange.Answer.{Answer}
+use Rattle.coap_exchange.specs.declared.exchange.Exchange.{Exchange}
+use Rattle.coap_exchange.specs.declared.exchange.ExchangeState.{ExchangeState}
+use Rattle.coap_exchange.specs.declared.exchange.ExchangeState.TheVariants.{Queued, Sent, Done}
+use Rattle.coap_exchange.specs.declared.waiter.Waiter.{Waiter}
+use Rattle.coap_exchange.specs.Table.{Numbered, IsRising}
+use Rattle.coap_target.specs.declared.target.Target.{Target}
+use Rattle.coap_message.specs.declared.code.TheConstants.Code.{VALID}
+use Rattle.coap_message.specs.Codes.{is_code}
+use Rattle.coap_model.specs.Messages.{are_understood, is_passed_on, fits, bad_gateway, answer_of}
+use Rattle.coap_model.specs.Setting.{Setting}
+use Rattle.coap_message.specs.declared.error.OutOfMemory.{OutOfMemory}
+use Rattle.coap_message.specs.Datagram.{Datagram}
+use Rattle.coap_model.specs.declared.report.Report.{Report}
+use Rattle.coap_model.specs.World.{World}
+use Rattle.coap_model.specs.Events.{Event}
+use Rattle.coap_model.specs.Step.{step_of}
+use Rattle.coap_model.specs.History.{Entry}
+use Rattle.coap_model.specs.Carries.{IsState, IsExchangeOf, ArePaired, Carries, IsEvent, entry_of}
+use Rattle.coap_model.proofs.Carrying.{keeps_step}
+use Rattle.coap_model.proofs.Frames.{opened-few}
+use Rattle.coap_model.proofs.Lists.{All-weaken}
+use Rattle.coap_model.proofs.Running.{setting_stays}
+use Rattle.coap_core.specs.Steps.{Does, IsUnderstood, CanGoOn}
+
+rising-paired : (least : ℕ) (xs : List (Numbered Exchange)) (vs : List (Numbered Waiter)) → IsRising least xs → ArePaired xs vs → IsRising least vs
+rising-paired least [] [] r p = tt
+rising-paired least [] (v ∷ vs) r p = absurd p
+rising-paired least (x ∷ xs) [] r p = tt
+rising-paired least (x ∷ xs) (v ∷ vs) r p = (omega (arith, r.0, p.0), rising-paired v.0 xs vs (subst (λ (n : ℕ). IsRising n xs) p.0 r.1) p.1)
+
+-- what a response gives can be shown
+answer-shown : (most now : ℕ) (m : Message) → are_understood (answer_of most now m).message.options ≡ true
+unfolding answer_of
+answer-shown most now m = go (is_passed_on most m) refl
+  where
+    go : (b : Bool) → is_passed_on most m ≡ b → are_understood (cond {A = Answer} b (record { message = m; got = now; own = false }) (record { message = bad_gateway; got = now; own = true })).message.options ≡ true
+    go true e = (and_parts (are_understood m.options) (not (is_code m.code VALID) && fits most m) e).0
+    go false e = refl
+
+state-shown : (setting : Setting) (history : List Entry) (x : ℕ) (t : Target) (s : ExchangeState) → IsState setting history x t s → IsUnderstood s
+state-shown setting history x t Queued is = tt
+state-shown setting history x t (Sent s) is = tt
+state-shown setting history x t (Done a) is = subst (λ (b : Answer). are_understood b.message.options ≡ true) (sym is.answer_is) (answer-shown setting.limits.datagram is.getting.entry.now is.gets.response)
+
+pub can_go_on : (history : List Entry) (w : World) → Carries history w → w.events < 2 ^ 63 → CanGoOn w
+can_go_on history w c few =
+    let opened = opened-few history w c in
+    record {
+      exchanges = c.whole.rising;
+      waiters = rising-paired 0 w.exchanges w.waiters c.whole.rising c.whole.paired;
+      events = few;
+      opened = omega (arith, opened, c.numbers.opened);
+      admitted = omega (arith, opened, c.numbers.admitted);
+      ids = c.within.ids;
+      answers = All-weaken (IsExchangeOf w.setting history) (λ x. IsUnderstood x.1.state) w.exchanges (λ x f. state-shown w.setting history x.0 x.1.target x.1.state f.state) c.exchanges;
+    }
+
+-- ---- what the step in code leaves
+
+-- the setting is the same, and some history is carried
+pub record IsLeft (w v : World) : Type 0 where
+  pub setting : v.setting ≡ w.setting
+  pub history : List Entry
+  pub carries : Carries history v
+
+pub is-left : (w : World) (now : ℕ) (event : Event) (history : List Entry) → Carries history w → w.last ≤ now → IsEvent event → (r : Result Report OutOfMemory) (old new : Datagram) (v : World)
+    → IfOk r (λ report. Does (step_of w now 0 event) report old new v) → OnErr r (v ≡ w) → IsLeft w v
+is-left w now event history c onward fits (Ok report) old new v does same =
+    let stays = setting_stays w now 0 event fits in
+    record {
+      setting = rw does.2 stays;
+      history = entry_of now 0 event (step_of w now 0 event) ∷ history;
+      carries = rw does.2 (keeps_step w history now 0 event c onward fits);
+    }
+is-left w now event history c onward fits (Err e) old new v does same = record { setting = rw same refl; history = history; carries = rw same c }

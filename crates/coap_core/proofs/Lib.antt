@@ -1,0 +1,7 @@
+pub mod Carried
+pub mod DueFirst
+pub mod Forms
+pub mod Keeping
+pub mod Paths
+pub mod Tokens
+pub mod Widths

@@ -1,0 +1,132 @@
+-- Tokens of exchanges: the number that is read off one, and the exchange that awaits a response.
+use Rattle.std.proofs.Common.{◌≡◌, ◌≢◌, ℕ, ◌+◌, ◌-◌, ◌%◌, ◌^◌, ◌<◌, ◌≤◌, Bool, true, false, cond, eqb, List, [], ◌∷◌, length, Option, Some, None, refl, sym, ap, ◌∙◌, subst, arith}
+use Rattle.std.specs.Prelude.{◌&&◌, nat_eq, option_map, slice_index, if◌then◌else◌}
+use Rattle.std.specs.Int.{w64, from_be_bytes}
+use Rattle.std.proofs.lemmas.Nat.{be_bytes_8}
+use Rattle.std.specs.List.{AllByRecursion, find}
+use Rattle.std.specs.Cmp.Lexicographic.{pointwise}
+use Rattle.std.proofs.lemmas.Bool.{eqb-true, eqb-false}
+use Rattle.coap_message.specs.Message.{Message}
+use Rattle.coap_message.specs.Uint.{uint_of}
+use Rattle.coap_target.specs.declared.endpoint.Endpoint.{Endpoint}
+use Rattle.coap_target.specs.Endpoint.{same_endpoint}
+use Rattle.coap_target.proofs.Same.{Tells-bytes}
+use Rattle.coap_exchange.specs.declared.exchange.Exchange.{Exchange}
+use Rattle.coap_exchange.specs.Table.{Numbered, Table, IsRising, IsTable, item_at}
+use Rattle.coap_model.specs.Messages.{token_of}
+use Rattle.coap_model.specs.World.{World, Step}
+use Rattle.coap_model.specs.Responses.{has_id, awaits, answers, on_response}
+use Rattle.coap_model.proofs.Spelled.{length-token_of, token-same}
+
+eight : (a b c d e f g h : ℕ) → uint_of (a ∷ b ∷ c ∷ d ∷ e ∷ f ∷ g ∷ h ∷ []) ≡ from_be_bytes w64 (a ∷ b ∷ c ∷ d ∷ e ∷ f ∷ g ∷ h ∷ [])
+eight a b c d e f g h = omega arith
+
+uint_of-eight : (bs : List ℕ) → length bs ≡ 8 → uint_of bs ≡ from_be_bytes w64 bs
+uint_of-eight (a ∷ b ∷ c ∷ d ∷ e ∷ f ∷ g ∷ h ∷ []) l = eight a b c d e f g h
+uint_of-eight [] l = absurd cc
+uint_of-eight (a ∷ []) l = absurd cc
+uint_of-eight (a ∷ b ∷ []) l = absurd cc
+uint_of-eight (a ∷ b ∷ c ∷ []) l = absurd cc
+uint_of-eight (a ∷ b ∷ c ∷ d ∷ []) l = absurd cc
+uint_of-eight (a ∷ b ∷ c ∷ d ∷ e ∷ []) l = absurd cc
+uint_of-eight (a ∷ b ∷ c ∷ d ∷ e ∷ f ∷ []) l = absurd cc
+uint_of-eight (a ∷ b ∷ c ∷ d ∷ e ∷ f ∷ g ∷ []) l = absurd cc
+uint_of-eight (a ∷ b ∷ c ∷ d ∷ e ∷ f ∷ g ∷ h ∷ i ∷ more) l = absurd (omega (arith, l))
+
+sum-back : (salt sum : ℕ) → salt < 18446744073709551616 → sum < 18446744073709551616 → (salt + (sum + (18446744073709551616 - salt)) % 18446744073709551616) % 18446744073709551616 ≡ sum
+sum-back salt sum small less = omega arith
+
+-- the token of the number that is read off it
+pub token-back : (salt sum : ℕ) (bs : List ℕ) → salt < 18446744073709551616 → sum < 18446744073709551616 → length bs ≡ 8 → ((i : ℕ) → slice_index bs i < 256) → sum ≡ uint_of bs
+    → token_of salt ((sum + (18446744073709551616 - salt)) % 18446744073709551616) ≡ bs
+unfolding token_of
+token-back salt sum bs small less eight bytes is =
+    be_bytes_8 bs _ eight bytes (sum-back salt sum small less ∙ is ∙ uint_of-eight bs eight)
+
+-- ---- the exchange that awaits a response
+
+module _ (salt : ℕ) (source : Endpoint) (m : Message) where
+  abbrev is_right : Exchange → Bool
+  is_right x = has_id m.id x.state && same_endpoint x.target.at source
+
+  -- an exchange of another token doesn't
+  others-do-not : (x : Numbered Exchange) → token_of salt x.0 ≢ m.token → awaits salt source m x ≡ false
+  others-do-not x other =
+      go (has_id m.id x.1.state) (same_endpoint x.1.target.at source) (pointwise nat_eq (token_of salt x.0) m.token) refl
+    where
+      go : (a b t : Bool) → pointwise nat_eq (token_of salt x.0) m.token ≡ t → (a && (b && t)) ≡ false
+      go a b true e = absurd (other (Tells-bytes.only (token_of salt x.0) m.token e))
+      go false b false e = refl
+      go true false false e = refl
+      go true true false e = refl
+
+  -- one of this token does where id and endpoint are right
+  this-does : (x : Numbered Exchange) → token_of salt x.0 ≡ m.token → awaits salt source m x ≡ is_right x.1
+  this-does x same =
+      let t : pointwise nat_eq (token_of salt x.0) m.token ≡ true = rw same (Tells-bytes.itself m.token) in
+      rw t (go (has_id m.id x.1.state) (same_endpoint x.1.target.at source))
+    where
+      go : (a b : Bool) → (a && (b && true)) ≡ (a && b)
+      go true true = refl
+      go true false = refl
+      go false b = refl
+
+  -- a token of another length is that of no exchange
+  pub nobody-awaits : (xs : List (Numbered Exchange)) → length m.token ≢ 8 → find (awaits salt source m) xs ≡ None
+  nobody-awaits [] short = refl
+  nobody-awaits (x ∷ xs) short =
+      let other : token_of salt x.0 ≢ m.token = λ e. short (sym (ap length e) ∙ length-token_of salt x.0) in
+      rw (others-do-not x other) (nobody-awaits xs short)
+
+  module _ (number : ℕ) (small : number < 2 ^ 64) (token : token_of salt number ≡ m.token) where
+    abbrev right : Option Exchange → Option ℕ
+    right None = None
+    right (Some x) = if is_right x then Some number else None
+
+    another : (x : Numbered Exchange) → x.0 < 2 ^ 64 → x.0 ≢ number → awaits salt source m x ≡ false
+    another x low other = others-do-not x (λ e. other (token-same salt x.0 number low small (e ∙ sym token)))
+
+    no-more : (least : ℕ) (xs : List (Numbered Exchange)) → number ≤ least → IsRising least xs → AllByRecursion (λ x. x.0 < 2 ^ 64) xs → find (awaits salt source m) xs ≡ None
+    no-more least [] le rising low = refl
+    no-more least (x ∷ xs) le rising low =
+        rw (another x low.0 (λ e. let above = rising.0 in omega arith)) (no-more x.0 xs (omega (arith, rising.0)) rising.1 low.1)
+
+    pub found-by-number : (least : ℕ) (xs : List (Numbered Exchange)) → IsRising least xs → AllByRecursion (λ x. x.0 < 2 ^ 64) xs → option_map (λ x. x.0) (find (awaits salt source m) xs) ≡ right (item_at number xs)
+    found-by-number least [] rising low = refl
+    found-by-number least (x ∷ xs) rising low = go (eqb number x.0) refl (found-by-number x.0 xs rising.1 low.1)
+      where
+        here : (b : Bool) → number ≡ x.0 → awaits salt source m x ≡ b → is_right x.1 ≡ b → option_map {T = Numbered Exchange} (λ y. y.0) (cond b (Some x) (find (awaits salt source m) xs)) ≡ (if b then Some number else None)
+        here true e f g = ap (λ (n : ℕ). Some n) (sym e)
+        here false e f g = let none = no-more x.0 xs (omega arith) rising.1 low.1 in rw none refl
+
+        go : (b : Bool) → eqb number x.0 ≡ b → option_map {T = Numbered Exchange} (λ y. y.0) (find (awaits salt source m) xs) ≡ right (item_at number xs)
+            → option_map {T = Numbered Exchange} (λ y. y.0) (find (awaits salt source m) (x ∷ xs)) ≡ right (cond b (Some x.1) (item_at number xs))
+        go true e rest =
+            let same = eqb-true number x.0 e in
+            let does = this-does x (subst (λ (n : ℕ). token_of salt n ≡ m.token) same token) in
+            rw does (here (is_right x.1) same does refl)
+        go false e rest = rw (another x low.0 (λ f. eqb-false number x.0 e (sym f))) rest
+
+-- numbers of a table are below what there ever was
+all-small : {A : Type 0} (most : ℕ) (xs : List (Numbered A)) → most < 2 ^ 64 → AllByRecursion (λ x. x.0 ≤ most) xs → AllByRecursion (λ x. x.0 < 2 ^ 64) xs
+all-small most [] lt all = tt
+all-small most (x ∷ xs) lt all = (let le = all.0 in omega (arith, lt), all-small most xs lt all.1)
+
+abbrev awaiting_in : ℕ → Endpoint → Message → Table Exchange → Option ℕ
+awaiting_in salt source m t = option_map (λ x. x.0) (find (awaits salt source m) t.items)
+
+pub awaits-none : (salt : ℕ) (source : Endpoint) (m : Message) (number : ℕ) (t : Table Exchange) → number < 2 ^ 64 → token_of salt number ≡ m.token → IsTable t → t.admitted < 2 ^ 64 → item_at number t.items ≡ None → awaiting_in salt source m t ≡ None
+awaits-none salt source m number t small token is few e =
+    found-by-number salt source m number small token 0 t.items is.rising (all-small t.admitted t.items few is.below) ∙ rw e refl
+
+pub awaits-one : (salt : ℕ) (source : Endpoint) (m : Message) (number : ℕ) (t : Table Exchange) → number < 2 ^ 64 → token_of salt number ≡ m.token → IsTable t → t.admitted < 2 ^ 64 → (x : Exchange) → item_at number t.items ≡ Some x
+    → (b : Bool) → b ≡ (has_id m.id x.state && same_endpoint x.target.at source) → awaiting_in salt source m t ≡ (if b then Some number else None)
+awaits-one salt source m number t small token is few x e b f =
+    found-by-number salt source m number small token 0 t.items is.rising (all-small t.admitted t.items few is.below) ∙ rw (e, f) refl
+
+-- what is done for the exchange that awaits a response depends on its number alone
+pub answered : (w : World) (now : ℕ) (m : Message) (o : Option (Numbered Exchange)) (number : ℕ) (P : Step → Type 0) → Some number ≡ option_map (λ x. x.0) o → ((x : Exchange) → P (answers w now m (number, x))) → P (on_response w now m o)
+answered w now m None number P e each = absurd cc
+answered w now m (Some x) number P e each =
+    let same : number ≡ x.0 = cc in
+    subst (λ (n : ℕ). P (answers w now m (n, x.1))) same (each x.1)

@@ -1,0 +1,34 @@
+use Rattle.std.proofs.Common.{◌≡◌, ◌≢◌, ◌^◌, ◌<◌, ◌∙◌, true, false, length, sym, ap, arith}
+use Rattle.std.specs.Prelude.{option_map}
+use Rattle.coap_exchange.specs.declared.exchange.Exchange.{Exchange}
+use Rattle.coap_exchange.specs.Table.{Numbered}
+use Rattle.coap_model.specs.Messages.{token_of}
+use Rattle.coap_core.proofs.Tokens.{nobody-awaits, awaits-none, awaits-one}
+use Rattle.coap_core.proofs.tables.Tables.awaiting.Goals as goal
+
+pub returns-in_err-number : goal.returns-in_err-number
+returns-in_err-number c =
+    let m = c.args.response.now in
+    let short : length m.token ≢ 8 = rw (← c.response.view_is, ← c.as_slice.ensures.bytes) c.in_err-number.ensures.missing in
+    rw (← c.self.view_is) (c.from_residual.ensures ∙ ap (option_map {T = Numbered Exchange} (λ x. x.0)) (sym (nobody-awaits c.self.inside.salt c.args.source m c.self.inside.exchanges.items short)))
+
+pub returns-in_err-exchange : goal.returns-in_err-exchange
+returns-in_err-exchange c =
+    let m = c.args.response.now in
+    let token : token_of c.self.inside.salt c.in_ok-number.number ≡ m.token = rw (← c.response.view_is, ← c.as_slice.ensures.bytes) c.in_ok-number.ensures.found in
+    let few : c.self.inside.exchanges.admitted < 2 ^ 64 = let o = rw (← c.self.view_is) at c.requires.opened in omega (arith, o) in
+    rw (← c.self.view_is) (c.from_residual-in_err-exchange.ensures ∙ sym (awaits-none c.self.inside.salt c.args.source m c.in_ok-number.number c.self.inside.exchanges c.in_ok-number.ensures.small token c.get.ensures.sound few (sym c.in_err-exchange.ensures.exact)))
+
+pub returns-then-awaits : goal.returns-then-awaits
+returns-then-awaits c =
+    let m = c.args.response.now in
+    let token : token_of c.self.inside.salt c.in_ok-number.number ≡ m.token = rw (← c.response.view_is, ← c.as_slice.ensures.bytes) c.in_ok-number.ensures.found in
+    let few : c.self.inside.exchanges.admitted < 2 ^ 64 = let o = rw (← c.self.view_is) at c.requires.opened in omega (arith, o) in
+    rw (← c.self.view_is) (sym (awaits-one c.self.inside.salt c.args.source m c.in_ok-number.number c.self.inside.exchanges c.in_ok-number.ensures.small token c.get.ensures.sound few c.in_ok-exchange.exchange.now (sym c.in_ok-exchange.ensures.exact) true (rw (← c.response.view_is) c.if-awaits.ensures)))
+
+pub returns-else-awaits : goal.returns-else-awaits
+returns-else-awaits c =
+    let m = c.args.response.now in
+    let token : token_of c.self.inside.salt c.in_ok-number.number ≡ m.token = rw (← c.response.view_is, ← c.as_slice.ensures.bytes) c.in_ok-number.ensures.found in
+    let few : c.self.inside.exchanges.admitted < 2 ^ 64 = let o = rw (← c.self.view_is) at c.requires.opened in omega (arith, o) in
+    rw (← c.self.view_is) (sym (awaits-one c.self.inside.salt c.args.source m c.in_ok-number.number c.self.inside.exchanges c.in_ok-number.ensures.small token c.get.ensures.sound few c.in_ok-exchange.exchange.now (sym c.in_ok-exchange.ensures.exact) false (rw (← c.response.view_is) c.if-awaits.ensures)))

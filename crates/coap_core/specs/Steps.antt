@@ -1,0 +1,67 @@
+-- What the calls of a core answer and leave.
+use Rattle.std.specs.Prelude.{◌≡◌, ℕ, ◌+◌, ◌<◌, ◌≤◌, ◌^◌, true, List, Option, Some, None, option_map}
+use Rattle.std.specs.List.{AllByRecursion}
+use Rattle.coap_message.specs.Datagram.{Datagram, holding}
+use Rattle.coap_message.specs.Spelling.{spelling}
+use Rattle.coap_exchange.specs.declared.exchange.ExchangeState.{ExchangeState}
+use Rattle.coap_exchange.specs.declared.exchange.ExchangeState.TheVariants.{Queued, Sent, Done}
+use Rattle.coap_exchange.specs.Table.{IsRising, item_at}
+use Rattle.coap_exchange.specs.declared.waiter.Waiter.{Waiter}
+use Rattle.coap_exchange.specs.Due.{Item, sending, serving, due_as, answer_in}
+use Rattle.coap_model.specs.declared.report.Report.{Report}
+use Rattle.coap_model.specs.Messages as messages
+use Rattle.coap_model.specs.World.{World, Step, reserved}
+use Rattle.coap_core.specs.declared.requests.Verdict.{Verdict}
+use Rattle.coap_core.specs.declared.requests.Verdict.TheVariants.{RefusedWith, MayOpen}
+use Rattle.coap_model.specs.Ticks.{sends, delivers}
+use Rattle.coap_core.specs.declared.ticks.DueItem.{DueItem}
+use Rattle.coap_core.specs.declared.ticks.DueItem.TheVariants.{Sending, Serving}
+
+-- the report, the datagram and the tables after it are those of the step
+abbrev pub Does : Step → Report → Datagram → Datagram → World → Type 0
+Does s report old new world = (report ≡ s.report) × (new ≡ holding old s.bytes) × (world ≡ s.world)
+
+-- the options of an answer were understood
+abbrev pub IsUnderstood : ExchangeState → Type 0
+IsUnderstood Queued = Unit {0}
+IsUnderstood (Sent s) = Unit {0}
+IsUnderstood (Done a) = messages.are_understood a.message.options ≡ true
+
+-- What a step needs of the tables before it: they are in order of number, there are numbers left to count
+-- with, an id is left for whoever it is kept for, and answers can be shown.
+pub record CanGoOn (w : World) : Type 0 where
+  pub exchanges : IsRising 0 w.exchanges
+  pub waiters : IsRising 0 w.waiters
+  pub events : w.events < 2 ^ 63
+  pub opened : w.opened < 2 ^ 63
+  pub admitted : w.admitted < 2 ^ 63
+  pub ids : w.given + reserved w ≤ 32768
+  pub answers : AllByRecursion (λ x. IsUnderstood x.1.state) w.exchanges
+
+-- ---- values of the program as the model sees them
+
+abbrev pub verdict_seen : Verdict → messages.Verdict
+verdict_seen (RefusedWith code) = messages.refused_with code
+verdict_seen (MayOpen target) = messages.may_open target
+
+-- where an exchange may be opened, the bytes are those of the request that is sent on
+abbrev pub FormIs : List ℕ → Verdict → List ℕ → Type 0
+FormIs token (RefusedWith code) bytes = Unit {0}
+FormIs token (MayOpen target) bytes = bytes ≡ spelling (messages.forwarded token target 0)
+
+-- an item by its moment and its number
+abbrev pub item_as : Item → DueItem
+item_as (sending x) = Sending (due_as (sending x))
+item_as (serving v a) = Serving (due_as (serving v a))
+
+-- ---- steps by the number of what they are about
+
+abbrev pub sending_at : World → ℕ → ℕ → Option Step
+sending_at w now number = option_map (λ x. sends w now (number, x)) (item_at number w.exchanges)
+
+abbrev pub delivery_of : World → ℕ → ℕ → Option Waiter → Option Step
+delivery_of w now number None = None
+delivery_of w now number (Some v) = option_map (λ a. delivers w now (number, v) a) (answer_in v.exchange w.exchanges)
+
+abbrev pub delivery_at : World → ℕ → ℕ → Option Step
+delivery_at w now number = delivery_of w now number (item_at number w.waiters)

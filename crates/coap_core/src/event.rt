@@ -1,0 +1,30 @@
+//! What happens to a proxy.
+ghost use Rattle.coap_message.specs.Uint.{IsBytes};
+ghost use Rattle.coap_model.specs.Carries.{IsEvent};
+ghost use Rattle.coap_core.specs.Events.{seen};
+
+use coap_target::Endpoint;
+
+/// What happens to a proxy.
+#[derive(Clone, Copy, Debug, PartialEq, Eq)]
+pub enum Event<'a> {
+    /// A datagram came from an endpoint.
+    Datagram { from: Endpoint, bytes: &'a [u8] },
+    /// Time has passed.
+    Tick,
+}
+
+impl Event<'_> {
+    // Nothing is done: a proof learns here that the bytes of a datagram are below 256.
+    pub(crate) fn holds_bytes(&self)
+        ensures { IsEvent (seen self.now) }
+    {
+        if let Event::Datagram { bytes, .. } = self {
+            are_bytes(bytes);
+        }
+    }
+}
+
+fn are_bytes(bytes: &[u8])
+    ensures { IsBytes bytes.now }
+{}

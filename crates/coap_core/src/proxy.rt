@@ -1,0 +1,157 @@
+//! The core of a proxy: one step for one event.
+ghost use Rattle.std.specs.Prelude.{◌≡◌, ◌≤◌, ◌<◌, ◌*◌, ◌^◌, List, [], ◌∷◌, length, IfOk, IsOk, OnErr};
+ghost use Rattle.coap_message.specs.Datagram.{holding};
+ghost use Rattle.coap_model.specs.Events.{tick};
+ghost use Rattle.coap_model.specs.Held.{held, most_held};
+ghost use Rattle.coap_model.specs.World.{new_world, counts};
+ghost use Rattle.coap_model.specs.Ticks.{next_due};
+ghost use Rattle.coap_model.specs.Step.{step_of};
+ghost use Rattle.coap_model.specs.History.{Entry};
+ghost use Rattle.coap_model.specs.Carries.{Carries};
+ghost use Rattle.coap_model.specs.Promised.{Promised};
+ghost use Rattle.coap_core.specs.Events.{seen};
+ghost use Rattle.coap_core.specs.Steps.{Does};
+
+use crate::event::Event;
+use crate::tables::Tables;
+use coap_message::{Datagram, OutOfMemory};
+use coap_model::laws::{
+    datagrams_fit, new_proxies_carry_nothing, settings_stay, steps_are_carried,
+    what_is_carried_is_promised,
+};
+use coap_model::{Counts, Limits, Report};
+use coap_target::Routes;
+use std::alloc::Global;
+use std::marker::Model;
+
+/// The core of a proxy. A contract sees the world of the model: what the core was made with, and its
+/// tables.
+#[derive(Drop)]
+pub struct Core {
+    tables: Tables,
+}
+
+impl Model for Core {
+    ghost use Rattle.std.specs.Prelude.{List};
+    ghost use Rattle.coap_model.specs.World.{World};
+    ghost use Rattle.coap_model.specs.History.{Entry};
+    ghost use Rattle.coap_model.specs.Carries.{Carries};
+    ghost use Rattle.coap_model.specs.Limits.{AreLimits};
+
+    ghost Value = { World };
+
+    ghost view = { λ c. c.tables };
+
+    // It carries some history.
+    ghost invariant = { λ c. AreLimits c.tables.setting.limits × ((history : List Entry) × Carries history c.tables) };
+}
+
+impl Core {
+    /// A core that has done nothing. Room for exchanges and clients is made here.
+    ///
+    /// `first_id` is the first message id that it gives (RFC 7252, 4.4). `salt` makes its tokens differ from
+    /// those of its former lives (RFC 7252, 5.3.1).
+    ///
+    /// # Errors
+    /// Want of memory.
+    pub fn new(
+        alloc: Global,
+        limits: Limits,
+        routes: Routes,
+        first_id: u16,
+        salt: u64,
+    ) -> Result<Core, OutOfMemory>
+        // It is made of exactly what it was handed, and carries no history.
+        ensures exact { IfOk result (λ core. core ≡ new_world (record { limits = limits; routes = routes; first_id = first_id; salt = salt })) }
+        ensures carries { IfOk result (λ core. Carries [] core) }
+    {
+        new_proxies_carry_nothing();
+        routes.maps();
+        let tables = Tables::new(alloc, limits, routes, first_id, salt)?;
+        Ok(Core { tables })
+    }
+
+    /// One step: what is made of an event at a moment, with a random draw that is kept for later use. The
+    /// datagram that it sends, if it sends one, is in `out`, which is empty otherwise.
+    ///
+    /// `now` is in milliseconds, at most 2^62, and doesn't go back; `draw` is at most 1,000; `out` has room
+    /// for `datagram()` bytes.
+    ///
+    /// # Errors
+    /// Want of memory, which changes nothing. A tick takes no memory.
+    pub fn step(
+        &mut self,
+        now: u64,
+        draw: u16,
+        event: Event<'_>,
+        out: &mut Datagram,
+    ) -> Result<Report, OutOfMemory>
+        requires moment { now ≤ 2 ^ 62 }
+        requires onward { self.old.last ≤ now }
+        requires draw { draw ≤ 1000 }
+        requires room { self.old.setting.limits.datagram ≤ out.old.room }
+        requires events { self.old.events < 2 ^ 63 }
+
+        // The report, the datagram and the core after it are determined.
+        ensures exact { IfOk result (λ report. Does (step_of self.old now draw (seen event.entry)) report out.old out.new self.new) }
+
+        // A core that carries a history carries it with the entry of the step in front.
+        ensures carries { IfOk result (λ report. (history : List Entry) → Carries history self.old → Carries (record { now = now; draw = draw; event = seen event.entry; report = report; bytes = out.new.bytes } ∷ history) self.new) }
+
+        // So it promises of this step what it promised of those before.
+        ensures promised { IfOk result (λ report. (history : List Entry) → Carries history self.old → Promised (record { now = now; draw = draw; event = seen event.entry; report = report; bytes = out.new.bytes } ∷ history) self.new) }
+
+        // It is as it was made, within its limits, and within the bound on bytes.
+        ensures setting { self.new.setting ≡ self.old.setting }
+        ensures exchanges { length self.new.exchanges ≤ self.new.setting.limits.exchanges }
+        ensures waiters { length self.new.waiters ≤ self.new.setting.limits.waiters }
+        ensures held { held self.new ≤ most_held self.new.setting.limits }
+
+        // Where memory is missing, nothing happened. A tick needs none.
+        ensures err { OnErr result (self.new ≡ self.old) }
+        ensures none { OnErr result (out.new ≡ holding out.old []) }
+        ensures ticks { seen event.entry ≡ tick → IsOk result }
+    {
+        steps_are_carried();
+        what_is_carried_is_promised();
+        datagrams_fit();
+        settings_stay();
+        event.holds_bytes();
+        self.tables.step(now, event, out)
+    }
+
+    /// The moment at which the next thing is due, in milliseconds, if anything is.
+    pub fn next_due(&self) -> Option<u64>
+        ensures exact { result ≡ next_due self.now }
+    {
+        self.tables.next_due()
+    }
+
+    /// The moment of the last step, in milliseconds, 0 at first.
+    pub fn last(&self) -> u64
+        ensures exact { result ≡ self.now.last }
+    {
+        self.tables.last
+    }
+
+    /// How many steps were done.
+    pub fn events(&self) -> u64
+        ensures exact { result ≡ self.now.events }
+    {
+        self.tables.events
+    }
+
+    /// How much it holds.
+    pub fn counts(&self) -> Counts
+        ensures exact { result ≡ counts self.now }
+    {
+        self.tables.counts()
+    }
+
+    /// The greatest length of a datagram, in bytes.
+    pub fn datagram(&self) -> usize
+        ensures exact { result ≡ self.now.setting.limits.datagram }
+    {
+        self.tables.limits.datagram as usize
+    }
+}

@@ -1,0 +1,175 @@
+//! One step: a datagram or a tick at a moment.
+ghost use Rattle.std.specs.Prelude.{◌≡◌, ◌≤◌, ◌<◌, ◌^◌, [], length, IfOk, IsOk, OnErr};
+ghost use Rattle.coap_model.specs.Events.{tick};
+ghost use Rattle.coap_message.specs.declared.kind.Kind.{Kind};
+ghost use Rattle.coap_message.specs.Datagram.{holding};
+ghost use Rattle.coap_model.specs.Step.{ignores, rejects, unprocessed, message_in, on_message, on_datagram, step_of};
+ghost use Rattle.coap_core.specs.Events.{seen};
+ghost use Rattle.coap_core.specs.Steps.{Does, CanGoOn};
+
+use crate::event::Event;
+use crate::messages::put_message;
+use crate::tables::{Tables, silent};
+use coap_message::{
+    Code, Datagram, DecodeError, Head, Kind, Message, OutOfMemory, Token, decode, head_of,
+};
+use coap_model::{Outcome, Report};
+use coap_target::Endpoint;
+
+impl Tables {
+    /// One step. Where memory is missing, nothing happened, and `out` is empty.
+    pub(crate) fn step(
+        &mut self,
+        now: u64,
+        event: Event<'_>,
+        out: &mut Datagram,
+    ) -> Result<Report, OutOfMemory>
+        requires can { CanGoOn self.old }
+        requires moment { now < 2 ^ 63 }
+        requires room { self.old.setting.limits.datagram ≤ out.old.room }
+        requires fits { length (step_of self.old now 0 (seen event)).bytes ≤ out.old.room }
+        ensures exact { IfOk result (λ report. Does (step_of self.old now 0 (seen event.entry)) report out.old out.new self.new) }
+        ensures err { OnErr result (self.new ≡ self.old) }
+        ensures none { OnErr result (out.new ≡ holding out.old []) }
+        ensures ticks { seen event.entry ≡ tick → IsOk result }
+    {
+        match self.advance(now, event, out) {
+            Ok(report) => Ok(report),
+            Err(OutOfMemory) => {
+                out.clear();
+                Err(OutOfMemory)
+            }
+        }
+    }
+
+    fn advance(
+        &mut self,
+        now: u64,
+        event: Event<'_>,
+        out: &mut Datagram,
+    ) -> Result<Report, OutOfMemory>
+        requires can { CanGoOn self.old }
+        requires moment { now < 2 ^ 63 }
+        requires room { self.old.setting.limits.datagram ≤ out.old.room }
+        requires fits { length (step_of self.old now 0 (seen event)).bytes ≤ out.old.room }
+        ensures exact { IfOk result (λ report. Does (step_of self.old now 0 (seen event.entry)) report out.old out.new self.new) }
+        ensures err { OnErr result (self.new ≡ self.old) }
+        ensures kept { out.new.room ≡ out.old.room }
+        ensures ticks { seen event.entry ≡ tick → IsOk result }
+    {
+        match event {
+            Event::Datagram { from, bytes } => self.on_datagram(now, from, bytes, out),
+            Event::Tick => Ok(self.on_tick(now, out)),
+        }
+    }
+
+    fn on_datagram(
+        &mut self,
+        now: u64,
+        source: Endpoint,
+        bytes: &[u8],
+        out: &mut Datagram,
+    ) -> Result<Report, OutOfMemory>
+        requires can { CanGoOn self.old }
+        requires room { self.old.setting.limits.datagram ≤ out.old.room }
+        requires fits { length (on_datagram self.old now source bytes.now).bytes ≤ out.old.room }
+        ensures exact { IfOk result (λ report. Does (on_datagram self.old now source bytes.now) report out.old out.new self.new) }
+        ensures err { OnErr result (self.new ≡ self.old) }
+        ensures kept { out.new.room ≡ out.old.room }
+    {
+        let Some(head) = head_of(bytes) else {
+            return Ok(self.ignore(now, out));
+        };
+        match self.read(bytes)? {
+            Some(message) => self.on_message(now, source, message, out),
+            None => Ok(self.unprocessed(now, source, head.kind, head.id, out)),
+        }
+    }
+
+    /// The message that a datagram spells, if it isn't too long.
+    #[tactic(auto, unfolding(coap_model::specs::Step::message_in))]
+    fn read(&self, bytes: &[u8]) -> Result<Option<Message>, OutOfMemory>
+        ensures { IfOk result (λ message. message ≡ message_in self.now.setting.limits.datagram bytes.now) }
+    {
+        if bytes.len() > self.limits.datagram as usize {
+            return Ok(None);
+        }
+        match decode(self.alloc, bytes) {
+            Ok(message) => Ok(Some(message)),
+            Err(DecodeError::OutOfMemory) => Err(OutOfMemory),
+            Err(_) => Ok(None),
+        }
+    }
+
+    /// Non-confirmable requests, and responses in acknowledgements, are what is processed so far.
+    fn on_message(
+        &mut self,
+        now: u64,
+        source: Endpoint,
+        message: Message,
+        out: &mut Datagram,
+    ) -> Result<Report, OutOfMemory>
+        requires can { CanGoOn self.old }
+        requires room { self.old.setting.limits.datagram ≤ out.old.room }
+        requires fits { length (on_message self.old now source message).bytes ≤ out.old.room }
+        ensures exact { IfOk result (λ report. Does (on_message self.old now source message) report out.old out.new self.new) }
+        ensures err { OnErr result (self.new ≡ self.old) }
+        ensures kept { out.new.room ≡ out.old.room }
+    {
+        match message.kind {
+            Kind::Non if message.code.is_request() => self.on_request(now, source, &message, out),
+            Kind::Ack if message.code.is_response() => {
+                Ok(self.on_response(now, source, message, out))
+            }
+            kind => Ok(self.unprocessed(now, source, kind, message.id, out)),
+        }
+    }
+
+    /// What is confirmable and can't be processed is rejected, anything else is ignored.
+    fn unprocessed(
+        &mut self,
+        now: u64,
+        source: Endpoint,
+        kind: Kind,
+        id: u16,
+        out: &mut Datagram,
+    ) -> Report
+        requires can { CanGoOn self.old }
+        requires fits { length (unprocessed self.old now source kind id).bytes ≤ out.old.room }
+        ensures { Does (unprocessed self.old now source kind id) result out.old out.new self.new }
+    {
+        match kind {
+            Kind::Con => self.reject(now, source, id, out),
+            Kind::Non | Kind::Ack | Kind::Rst => self.ignore(now, out),
+        }
+    }
+
+    /// A Reset goes out with the id of what can't be processed (RFC 7252, 4.2).
+    fn reject(&mut self, now: u64, source: Endpoint, id: u16, out: &mut Datagram) -> Report
+        requires can { CanGoOn self.old }
+        requires fits { length (rejects self.old now source id).bytes ≤ out.old.room }
+        ensures { Does (rejects self.old now source id) result out.old out.new self.new }
+    {
+        let head = Head {
+            kind: Kind::Rst,
+            code: Code::EMPTY,
+            id,
+        };
+        put_message(out, head, &Token::empty(), &[], &[]);
+        self.pass(now);
+        Report {
+            send: Some(source),
+            outcome: Outcome::Rejected,
+        }
+    }
+
+    /// Nothing is done.
+    pub(crate) fn ignore(&mut self, now: u64, out: &mut Datagram) -> Report
+        requires { CanGoOn self.old }
+        ensures { Does (ignores self.old now) result out.old out.new self.new }
+    {
+        out.clear();
+        self.pass(now);
+        silent(Outcome::Ignored)
+    }
+}
