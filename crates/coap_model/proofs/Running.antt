@@ -1,5 +1,5 @@
 -- Runs of any length keep what is carried, and no step changes the setting.
-use Rattle.std.proofs.Common.{◌≡◌, ℕ, List, [], ◌∷◌, refl, sym, ◌∙◌, subst}
+use Rattle.std.proofs.Common.{◌≡◌, ℕ, ◌+◌, List, [], ◌∷◌, refl, sym, ◌∙◌, subst}
 use Rattle.coap_target.specs.Routes.{AreRoutes}
 use Rattle.coap_model.specs.Setting.{Setting}
 use Rattle.coap_model.specs.Events.{Event}
@@ -27,7 +27,26 @@ rule_setting (idling nothing) = refl
 pub setting_stays : (w : World) (now draw : ℕ) (event : Event) → IsEvent event → (step_of w now draw event).world.setting ≡ w.setting
 setting_stays w now draw event fits = rule_setting (rule_of w now draw event fits)
 
-runs_carry : (r : Run) (turns : List Turn) → Carries r.history r.world → AreTurns r.world.last turns → Carries (run_of r turns).history (run_of r turns).world
+-- the clock goes to the moment of the step, and one event on
+abbrev IsOneOn : World → ℕ → World → Type 0
+IsOneOn w now v = (v.last ≡ now) × (v.events ≡ w.events + 1)
+
+rule_clock : {w : World} {now draw : ℕ} {event : Event} {s : Step} → Rule w now draw event s → IsOneOn w now s.world
+rule_clock (refusing client bytes m code fits asked verdict free) = (refl, refl)
+rule_clock (lacking client bytes m fits asked full free) = (refl, refl)
+rule_clock (overloading client bytes m t fits asked verdict full free) = (refl, refl)
+rule_clock (opening client bytes m t fits asked verdict room) = (refl, refl)
+rule_clock (answering source bytes m x fits read response found) = (refl, refl)
+rule_clock (rejecting source bytes head is con) = (refl, refl)
+rule_clock (ignoring source bytes none) = (refl, refl)
+rule_clock (forwarding x due) = (refl, refl)
+rule_clock (delivering v a due) = (refl, refl)
+rule_clock (idling nothing) = (refl, refl)
+
+pub clock_after : (w : World) (now draw : ℕ) (event : Event) → IsEvent event → ((step_of w now draw event).world.last ≡ now) × ((step_of w now draw event).world.events ≡ w.events + 1)
+clock_after w now draw event fits = rule_clock (rule_of w now draw event fits)
+
+pub runs_carry : (r : Run) (turns : List Turn) → Carries r.history r.world → AreTurns r.world.last turns → Carries (run_of r turns).history (run_of r turns).world
 runs_carry r [] c are = c
 runs_carry r (t ∷ turns) c are =
     let next = keeps_step r.world r.history t.now t.draw t.event c are.0 are.1 in

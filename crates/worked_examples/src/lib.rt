@@ -6,6 +6,10 @@ mod messages;
 #[cfg(test)]
 mod options;
 #[cfg(test)]
+mod run;
+#[cfg(test)]
+mod steps;
+#[cfg(test)]
 mod tables;
 #[cfg(test)]
 mod targets;

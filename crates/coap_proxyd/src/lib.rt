@@ -1,0 +1,21 @@
+//! The replay of events: lines that say what happens, and lines that say what is sent.
+#![tactic(auto)]
+
+mod cutting;
+mod datagram;
+mod endpoint;
+mod error;
+pub mod examples;
+mod input;
+pub mod laws;
+mod line;
+mod number;
+mod output;
+mod replays;
+mod turn;
+
+pub use error::{LineError, ReplayError};
+pub use input::{Next, is_skipped, next_line};
+pub use line::put_line;
+pub use output::write_bytes;
+pub use turn::{Input, Turn, read_turn};

@@ -1,0 +1,115 @@
+//! Lines of a replay: what the next one asks for, and how it is done.
+ghost use Rattle.std.specs.Prelude.{◌≡◌, ◌≤◌, IfSome, OnOk};
+ghost use Rattle.coap_core.specs.Events.{seen};
+ghost use Rattle.coap_proxyd.specs.Replays.{AsksNext, DoesTurn, IfDo, MayBeDone, line_for};
+ghost use Rattle.coap_proxyd.specs.Turns.{turn_seen, event_seen};
+
+use crate::error::{LineError, ReplayError};
+use crate::input::{Next, is_skipped, next_line};
+use crate::line::put_line;
+use crate::output::write_bytes;
+use crate::turn::{Input, Turn, read_turn};
+use coap_core::{Core, Event, Report};
+use coap_message::{Datagram, OutOfMemory};
+use std::alloc::Global;
+use std::io::{BufRead, Write};
+
+/// The greatest number of a line: 2^62.
+const LAST_LINE: u64 = 1 << 62;
+
+/// One event more than a core may have done: 2^63.
+const MOST_EVENTS: u64 = 1 << 63;
+
+/// What comes next of an input.
+#[derive(Drop)]
+pub(crate) enum Asked {
+    /// No line is left.
+    End,
+    /// A line that is skipped.
+    Skip,
+    /// A line that says this turn.
+    Do(Turn),
+}
+
+/// Reads the line of this number, and the turn that it says behind the moment `last` and so many events.
+pub(crate) fn next_asked<R: BufRead>(
+    alloc: Global,
+    reader: &mut R,
+    line: &mut Vec<u8>,
+    number: u64,
+    last: u64,
+    events: u64,
+) -> Result<Asked, ReplayError>
+    ensures asked { IfSome (R.remaining reader.old) (λ input. AsksNext number last events input (R.remaining reader.new) result) }
+    ensures may { IfDo (MayBeDone last events) result }
+{
+    match next_line(reader, line) {
+        Ok(Next::End) => return Ok(Asked::End),
+        Ok(Next::TooLong) => return Err(ReplayError::BadEvent { line: number }),
+        Ok(Next::Line) => {}
+        Err(_) => return Err(ReplayError::Read),
+    }
+    if number > LAST_LINE {
+        return Err(ReplayError::BadEvent { line: number });
+    }
+    if is_skipped(line) {
+        return Ok(Asked::Skip);
+    }
+    match read_turn(alloc, line, last) {
+        Ok(turn) if events < MOST_EVENTS => Ok(Asked::Do(turn)),
+        Ok(_) => Err(ReplayError::BadEvent { line: number }),
+        Err(LineError::Bad) => Err(ReplayError::BadEvent { line: number }),
+        Err(LineError::OutOfMemory) => Err(ReplayError::OutOfMemory { line: number }),
+    }
+}
+
+/// The event of a turn.
+fn event_of(input: &Input) -> Event<'_>
+    ensures { seen result ≡ event_seen input.now }
+{
+    match input {
+        Input::Datagram { from, bytes } => Event::Datagram {
+            from: *from,
+            bytes: bytes.as_slice(),
+        },
+        Input::Tick => Event::Tick,
+    }
+}
+
+/// Puts the line of the datagram that was sent in place of what a buffer holds, if one was sent.
+fn line_for(text: &mut Vec<u8>, now: u64, report: Report, out: &Datagram) -> Result<(), OutOfMemory>
+    ensures { OnOk result (text.new.items ≡ line_for now report.send out.now.bytes) }
+{
+    text.clear();
+    match report.send {
+        Some(to) => put_line(text, now, to, out.bytes()),
+        None => Ok(()),
+    }
+}
+
+/// Does a turn, and writes the line of what it sends.
+pub(crate) fn do_turn<W: Write>(
+    writer: &mut W,
+    core: &mut Core,
+    turn: &Turn,
+    number: u64,
+    out: &mut Datagram,
+    text: &mut Vec<u8>,
+) -> Result<(), ReplayError>
+    requires may { MayBeDone core.old.last core.old.events (turn_seen turn.now) }
+    requires room { core.old.setting.limits.datagram ≤ out.old.room }
+    ensures does { DoesTurn core.old core.new (turn_seen turn.entry.now) (W.contents writer.old) (W.contents writer.new) number result }
+    ensures kept { out.new.room ≡ out.old.room }
+    ensures setting { core.new.setting ≡ core.old.setting }
+{
+    let Ok(report) = core.step(turn.now, turn.draw, event_of(&turn.input), out) else {
+        return Err(ReplayError::OutOfMemory { line: number });
+    };
+    if line_for(text, turn.now, report, out).is_err() {
+        return Err(ReplayError::OutOfMemory { line: number });
+    }
+    if write_bytes(writer, text).is_err() {
+        return Err(ReplayError::Write);
+    }
+    Ok(())
+}
