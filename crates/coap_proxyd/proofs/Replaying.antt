@@ -1,5 +1,5 @@
 -- A replay turn by turn: what was done and written so far, and what is still asked for.
-use Rattle.std.proofs.Common.{◌≡◌, ⊎_elim, ℕ, ◌+◌, ◌-◌, ◌≤◌, List, [], ◌∷◌, ◌++◌, length, drop, Option, Some, None, Ok, Err, refl, sym, ap, ◌∙◌, subst, append_assoc, arith}
+use Rattle.std.proofs.Common.{◌≡◌, ⊎_elim, ℕ, ◌+◌, ◌-◌, ◌≤◌, List, [], ◌∷◌, ◌++◌, length, drop, Option, Some, None, Result, Ok, Err, refl, sym, ap, ◌∙◌, subst, append_assoc, arith}
 use Rattle.std.specs.Prelude.{IfSome}
 use Rattle.std.specs.Io.KnownBytes.{Appends}
 use Rattle.std.proofs.KnownBytes.{Appends-trans}
@@ -15,6 +15,7 @@ use Rattle.coap_proxyd.specs.Lines.{lines_of}
 use Rattle.coap_proxyd.specs.Scripts.{script_from, with_turn}
 use Rattle.coap_proxyd.specs.declared.error.ReplayError.{ReplayError}
 use Rattle.coap_proxyd.specs.declared.error.ReplayError.TheVariants.{BadEvent, OutOfMemory, Read, Write}
+use Rattle.coap_proxyd.specs.declared.replays.Asked.{Asked}
 use Rattle.coap_proxyd.specs.declared.replays.Asked.TheVariants.{End, Skip, Do}
 use Rattle.coap_proxyd.specs.Replays.{AsksNext, DoesTurn, HasDone, IfDo, IsReplayed, IsUpTo, MayBeDone, behind, line_sent, output_of, run_at, script_for, step_at, world_after}
 
@@ -225,3 +226,21 @@ module _ (w v : World) (input left left' old new : Option (List ℕ)) (lines cou
           done = done;
           ends = (output_of w at.turns ++ front, back, output ∙ ap (λ (l : List ℕ). output_of w at.turns ++ l) split ∙ sym (append_assoc (output_of w at.turns) front back), Appends-trans old new new' (output_of w at.turns) front at.written wrote, some-line w (step_at v t).world input left' turns (lines + 1) done.world asked);
         })
+
+-- ---- what a line asks for, by the clock that was read
+
+pub by-clock : (number : ℕ) (v : World) (left left' : Option (List ℕ)) (r : Result Asked ReplayError) (last events : ℕ) → last ≡ v.last → events ≡ v.events → IfSome left (λ rest. AsksNext number last events rest left' r) → IfSome left (λ rest. AsksNext number v.last v.events rest left' r)
+by-clock number v left left' r last events p q asks =
+    subst (λ (e : ℕ). IfSome left (λ rest. AsksNext number v.last e rest left' r)) q
+    (subst (λ (l : ℕ). IfSome left (λ rest. AsksNext number l events rest left' r)) p asks)
+
+pub may-by-clock : (v : World) (r : Result Asked ReplayError) (last events : ℕ) → last ≡ v.last → events ≡ v.events → IfDo (MayBeDone last events) r → IfDo (MayBeDone v.last v.events) r
+may-by-clock v r last events p q may =
+    subst (λ (e : ℕ). IfDo (MayBeDone v.last e) r) q
+    (subst (λ (l : ℕ). IfDo (MayBeDone l events) r) p may)
+
+pub as-asked : (number last events : ℕ) (left left' : Option (List ℕ)) (a b : Asked) → a ≡ b → IfSome left (λ rest. AsksNext number last events rest left' (Ok a)) → IfSome left (λ rest. AsksNext number last events rest left' (Ok b))
+as-asked number last events left left' a b e asks = subst (λ (x : Asked). IfSome left (λ rest. AsksNext number last events rest left' (Ok x))) e asks
+
+pub as-may : (last events : ℕ) (a b : Asked) → a ≡ b → IfDo (MayBeDone last events) (Ok a) → IfDo (MayBeDone last events) (Ok b)
+as-may last events a b e may = subst (λ (x : Asked). IfDo (MayBeDone last events) (Ok x)) e may

@@ -8,3 +8,5 @@ pub mod Lines
 pub mod Scripts
 pub mod Examples
 pub mod Replays
+pub mod Faults
+pub mod Words

@@ -10,7 +10,7 @@ use std::io;
 use std::io::{BufRead, ErrorKind};
 
 /// The most bytes of a line, without its line feed.
-const LONGEST: usize = 16_384;
+pub(crate) const LONGEST: usize = 16_384;
 
 /// What comes next of an input.
 #[derive(Clone, Copy, Debug, PartialEq, Eq)]

@@ -1,11 +1,11 @@
-//! Lines of a replay: what the next one asks for, and how it is done.
+//! Replays: the events of an input are done one after the other, and what is sent is written.
 ghost use Rattle.std.specs.Prelude.{◌≡◌, ◌≤◌, IfSome, OnOk};
 ghost use Rattle.coap_core.specs.Events.{seen};
-ghost use Rattle.coap_proxyd.specs.Replays.{AsksNext, DoesTurn, IfDo, MayBeDone, line_for};
+ghost use Rattle.coap_proxyd.specs.Replays.{AsksNext, DoesTurn, IfDo, IsReplayed, MayBeDone, line_for};
 ghost use Rattle.coap_proxyd.specs.Turns.{turn_seen, event_seen};
 
 use crate::error::{LineError, ReplayError};
-use crate::input::{Next, is_skipped, next_line};
+use crate::input::{LONGEST, Next, is_skipped, next_line};
 use crate::line::put_line;
 use crate::output::write_bytes;
 use crate::turn::{Input, Turn, read_turn};
@@ -32,7 +32,7 @@ pub(crate) enum Asked {
 }
 
 /// Reads the line of this number, and the turn that it says behind the moment `last` and so many events.
-pub(crate) fn next_asked<R: BufRead>(
+fn next_asked<R: BufRead>(
     alloc: Global,
     reader: &mut R,
     line: &mut Vec<u8>,
@@ -88,7 +88,7 @@ fn line_for(text: &mut Vec<u8>, now: u64, report: Report, out: &Datagram) -> Res
 }
 
 /// Does a turn, and writes the line of what it sends.
-pub(crate) fn do_turn<W: Write>(
+fn do_turn<W: Write>(
     writer: &mut W,
     core: &mut Core,
     turn: &Turn,
@@ -112,4 +112,40 @@ pub(crate) fn do_turn<W: Write>(
         return Err(ReplayError::Write);
     }
     Ok(())
+}
+
+/// Does the events of an input, one after the other, and writes the lines of what is sent: those that the
+/// core sends at each event, and nothing else. Answers how many events were done.
+///
+/// # Errors
+/// The number of the first bad line; of the line at which memory ran out, 1 where it did before the first
+/// line; `Read` and `Write` where the reader or the writer failed. What was done before stays done.
+pub fn replay<R: BufRead, W: Write>(
+    alloc: Global,
+    reader: &mut R,
+    writer: &mut W,
+    core: &mut Core,
+) -> Result<u64, ReplayError>
+    ensures replayed { IsReplayed core.old core.new (R.remaining reader.old) (W.contents writer.old) (W.contents writer.new) result }
+{
+    let (Ok(mut line), Ok(mut text), Ok(mut out)) = (
+        Vec::with_capacity(alloc, LONGEST + 1),
+        Vec::with_capacity(alloc, 0),
+        Datagram::new(alloc, core.datagram()),
+    ) else {
+        return Err(ReplayError::OutOfMemory { line: 1 });
+    };
+    let mut count = 0;
+    for read in 0..u64::MAX {
+        let number = read + 1;
+        match next_asked(alloc, reader, &mut line, number, core.last(), core.events())? {
+            Asked::End => return Ok(count),
+            Asked::Skip => {}
+            Asked::Do(turn) => {
+                do_turn(writer, core, &turn, number, &mut out, &mut text)?;
+                count += 1;
+            }
+        }
+    }
+    Err(ReplayError::Read)
 }
