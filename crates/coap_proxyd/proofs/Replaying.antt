@@ -188,9 +188,12 @@ module _ (w v : World) (input left left' old new : Option (List ℕ)) (lines cou
         go None l s l' a = tt
         go (Some i) None s l' a = absurd s
         go (Some i) (Some rest) s None a = absurd a
-        go (Some i) (Some rest) (front, split, len, script) (Some more) (line, first, next) =
-            (front ++ line ∷ [], split ∙ ap (λ (l : List (List ℕ)). front ++ l) first ∙ sym (append_assoc front (line ∷ []) (lines_of more)), omega (arith, len, length-append front (line ∷ [])),
-            script ∙ ap (behind at.turns) next ∙ one-more (lines_of more) (step_at v t).world.last (step_at v t).world.events clock.0 clock.1)
+        go (Some i) (Some rest) (front, split, len, script) (Some more) (line, first, next) = (
+          front ++ line ∷ [],
+          split ∙ ap (λ (l : List (List ℕ)). front ++ l) first ∙ sym (append_assoc front (line ∷ []) (lines_of more)),
+          omega (arith, len, length-append front (line ∷ [])),
+          script ∙ ap (behind at.turns) next ∙ one-more (lines_of more) (step_at v t).world.last (step_at v t).world.events clock.0 clock.1,
+        )
 
     -- the event was done, and its line written
     pub goes-further : (v' : World) (new' : Option (List ℕ)) → v' ≡ (step_at v t).world → Appends new new' (line_sent v t) → IsAt w v' input left' old new' (lines + 1) (count + 1)

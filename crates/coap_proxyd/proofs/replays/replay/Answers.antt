@@ -32,19 +32,19 @@ loop-read-preserved g c =
     let v = c.loop-read.core in
     let a = c.in_ok-next_asked in
     elim c.match-branch-2.branch [
-      in-Skip w ↦
-        let asks = as-asked (c.loop-read.read + 1) v.last v.events _ _ a.field-0 Skip w.in-Skip.is (by-clock (c.loop-read.read + 1) v _ _ (Ok a.field-0) c.last.result c.events.result c.last.ensures.exact c.events.ensures.exact a.ensures.asked) in
-        rw (w.core-is, w.writer-is, w.count-is, w.out-is) (record { at = goes-on _ _ _ _ _ _ _ _ _ i.at asks; few = omega (arith, i.few); room = i.room })
-    | in-Do+in_ok-do_turn-in-Do+in-Datagram-1 w ↦
-        let asks = as-asked (c.loop-read.read + 1) v.last v.events _ _ a.field-0 (Do w.in-Do.turn) w.in-Do.is (by-clock (c.loop-read.read + 1) v _ _ (Ok a.field-0) c.last.result c.events.result c.last.ensures.exact c.events.ensures.exact a.ensures.asked) in
-        let may = as-may v.last v.events a.field-0 (Do w.in-Do.turn) w.in-Do.is (may-by-clock v (Ok a.field-0) c.last.result c.events.result c.last.ensures.exact c.events.ensures.exact a.ensures.may) in
-        let does = w.in_ok-do_turn-in-Do.ensures.does in
-        rw (w.core-is, w.writer-is, w.count-is, w.out-is) (record { at = goes-further _ _ _ _ _ _ _ _ _ i.at w.in-Do.turn asks may _ _ does.0 does.1; few = omega (arith, i.few); room = rw (w.do_turn.ensures.setting, w.do_turn.ensures.kept) i.room })
-    | in-Do+in_ok-do_turn-in-Do+in-Tick-1 w ↦
-        let asks = as-asked (c.loop-read.read + 1) v.last v.events _ _ a.field-0 (Do w.in-Do.turn) w.in-Do.is (by-clock (c.loop-read.read + 1) v _ _ (Ok a.field-0) c.last.result c.events.result c.last.ensures.exact c.events.ensures.exact a.ensures.asked) in
-        let may = as-may v.last v.events a.field-0 (Do w.in-Do.turn) w.in-Do.is (may-by-clock v (Ok a.field-0) c.last.result c.events.result c.last.ensures.exact c.events.ensures.exact a.ensures.may) in
-        let does = w.in_ok-do_turn-in-Do.ensures.does in
-        rw (w.core-is, w.writer-is, w.count-is, w.out-is) (record { at = goes-further _ _ _ _ _ _ _ _ _ i.at w.in-Do.turn asks may _ _ does.0 does.1; few = omega (arith, i.few); room = rw (w.do_turn.ensures.setting, w.do_turn.ensures.kept) i.room })
+      | in-Skip w ↦
+          let asks = as-asked (c.loop-read.read + 1) v.last v.events _ _ a.field-0 Skip w.in-Skip.is (by-clock (c.loop-read.read + 1) v _ _ (Ok a.field-0) c.last.result c.events.result c.last.ensures.exact c.events.ensures.exact a.ensures.asked) in
+          rw (w.core-is, w.writer-is, w.count-is, w.out-is) (record { at = goes-on _ _ _ _ _ _ _ _ _ i.at asks; few = omega (arith, i.few); room = i.room })
+      | in-Do+in_ok-do_turn-in-Do+in-Datagram-1 w ↦
+          let asks = as-asked (c.loop-read.read + 1) v.last v.events _ _ a.field-0 (Do w.in-Do.turn) w.in-Do.is (by-clock (c.loop-read.read + 1) v _ _ (Ok a.field-0) c.last.result c.events.result c.last.ensures.exact c.events.ensures.exact a.ensures.asked) in
+          let may = as-may v.last v.events a.field-0 (Do w.in-Do.turn) w.in-Do.is (may-by-clock v (Ok a.field-0) c.last.result c.events.result c.last.ensures.exact c.events.ensures.exact a.ensures.may) in
+          let does = w.in_ok-do_turn-in-Do.ensures.does in
+          rw (w.core-is, w.writer-is, w.count-is, w.out-is) (record { at = goes-further _ _ _ _ _ _ _ _ _ i.at w.in-Do.turn asks may _ _ does.0 does.1; few = omega (arith, i.few); room = rw (w.do_turn.ensures.setting, w.do_turn.ensures.kept) i.room })
+      | in-Do+in_ok-do_turn-in-Do+in-Tick-1 w ↦
+          let asks = as-asked (c.loop-read.read + 1) v.last v.events _ _ a.field-0 (Do w.in-Do.turn) w.in-Do.is (by-clock (c.loop-read.read + 1) v _ _ (Ok a.field-0) c.last.result c.events.result c.last.ensures.exact c.events.ensures.exact a.ensures.asked) in
+          let may = as-may v.last v.events a.field-0 (Do w.in-Do.turn) w.in-Do.is (may-by-clock v (Ok a.field-0) c.last.result c.events.result c.last.ensures.exact c.events.ensures.exact a.ensures.may) in
+          let does = w.in_ok-do_turn-in-Do.ensures.does in
+          rw (w.core-is, w.writer-is, w.count-is, w.out-is) (record { at = goes-further _ _ _ _ _ _ _ _ _ i.at w.in-Do.turn asks may _ _ does.0 does.1; few = omega (arith, i.few); room = rw (w.do_turn.ensures.setting, w.do_turn.ensures.kept) i.room })
     ]
 
 pub returns : goal.returns
