@@ -6,6 +6,8 @@ mod messages;
 #[cfg(test)]
 mod options;
 #[cfg(test)]
+mod replays;
+#[cfg(test)]
 mod run;
 #[cfg(test)]
 mod steps;

@@ -3,7 +3,7 @@ ghost use Rattle.std.specs.Prelude.{◌≤◌};
 
 use coap_message::{
     Code, Datagram, DecodeError, Kind, Message, Opt, OptionList, OutOfMemory, Seq, Token, decode,
-    encode_into,
+    encode_into, uint_bytes,
 };
 use std::alloc::Global;
 use std::test::*;
@@ -215,6 +215,24 @@ fn deltas_and_lengths_at_their_boundaries(rt: HostRuntime) -> Result<(), Fail> {
         );
         assert!(rt; decode(rt.alloc(), out.bytes())? == message);
         assert!(rt; encode_into(&message, &mut out, expected - 1).is_err());
+    }
+    Ok(())
+}
+
+/// Numbers, and the bytes that stand for them (RFC 7252, 3.2).
+const NUMBERS: [(u64, &[u8]); 6] = [
+    (0, &[]),
+    (1, &[1]),
+    (255, &[255]),
+    (256, &[1, 0]),
+    (65_536, &[1, 0, 0]),
+    (u64::MAX, &[255, 255, 255, 255, 255, 255, 255, 255]),
+];
+
+#[test]
+fn numbers_have_their_shortest_bytes(rt: HostRuntime) -> Result<(), Fail> {
+    for (number, bytes) in NUMBERS {
+        assert_eq!(rt; uint_bytes(rt.alloc(), number)?.as_slice(), bytes);
     }
     Ok(())
 }
