@@ -1,5 +1,5 @@
 -- What becomes of a request: the codes of refusals, and what may be opened.
-use Rattle.std.proofs.Common.{◌≡◌, ◌≢◌, ℕ, ◌≤◌, Bool, true, false, cond, List, [], ◌∷◌, length, Option, Some, None, refl, subst, leb, eqb, arith}
+use Rattle.std.proofs.Common.{◌≡◌, ◌≢◌, ℕ, ◌≤◌, Bool, true, false, cond, List, [], ◌∷◌, length, map, filter, Option, Some, None, refl, subst, leb, eqb, arith}
 use Rattle.std.specs.List.{AllByRecursion, list_all}
 use Rattle.std.proofs.lemmas.Bool.{leb-true, and_parts}
 use Rattle.coap_message.specs.declared.code.Code.{Code}
@@ -10,7 +10,7 @@ use Rattle.coap_message.specs.Spelling.{spelling}
 use Rattle.coap_target.specs.declared.target.Target.{Target}
 use Rattle.coap_target.specs.declared.routes.Routes.{Routes}
 use Rattle.coap_target.specs.Target.{IsSegment, IsTarget}
-use Rattle.coap_target.specs.Routes.{values_of, path_of, mapped_target, AreRoutes}
+use Rattle.coap_target.specs.Routes.{values_of, path_of, query_of, mapped_target, AreRoutes}
 use Rattle.coap_target.proofs.Targets.{target-is}
 use Rattle.coap_message.specs.Codes.{is_code}
 use Rattle.coap_model.specs.Messages.{is_path_option, forwarded, Verdict, refused_with, may_open, verdict_of_target, verdict_of}
@@ -21,23 +21,29 @@ pub record IsOpenable (routes : Routes) (most : ℕ) (token : List ℕ) (m : Mes
   pub sound : IsTarget t
   pub short : length (spelling (forwarded token t 0)) ≤ most
 
-path-short : (os : List Opt) → list_all is_path_option os ≡ true → AllByRecursion IsSegment (values_of 11 os)
-path-short [] e = tt
-path-short (o ∷ os) e =
-    let both = and_parts (is_path_option o) (list_all is_path_option os) e in
-    let parts = and_parts (eqb o.number 11) (leb (length o.value) 255) both.0 in
-    rw parts.0 (leb-true _ _ parts.1, path-short os both.1)
+values-short : (n : ℕ) (os : List Opt) → list_all is_path_option os ≡ true → AllByRecursion IsSegment (values_of n os)
+values-short n [] e = tt
+values-short n (o ∷ os) e = let both = and_parts (is_path_option o) (list_all is_path_option os) e in go (eqb o.number n) (values-short n os both.1)
+  where
+    short : length o.value ≤ 255
+    short =
+        let both = and_parts (is_path_option o) (list_all is_path_option os) e in
+        leb-true _ _ (and_parts (eqb o.number 11) (leb (length o.value) 255) both.0).1
+
+    go : (b : Bool) → AllByRecursion IsSegment (values_of n os) → AllByRecursion IsSegment (map (λ p. p.value) (cond b (o ∷ filter (λ p. eqb p.number n) os) (filter (λ p. eqb p.number n) os)))
+    go true rest = (short, rest)
+    go false rest = rest
 
 abbrev Right : Routes → ℕ → List ℕ → Message → Verdict → Type 0
 Right routes most token m (refused_with code) = code.0 ≢ 0
 Right routes most token m (may_open t) = IsOpenable routes most token m t
 
-target-right : (routes : Routes) (most : ℕ) (token : List ℕ) (m : Message) → AreRoutes routes → AllByRecursion IsSegment (path_of m) → (o : Option Target) → mapped_target routes m ≡ o → Right routes most token m (verdict_of_target most token o)
-target-right routes most token m are short None e = λ z. absurd (omega arith)
-target-right routes most token m are short (Some t) e = go (leb (length (spelling (forwarded token t 0))) most) refl
+target-right : (routes : Routes) (most : ℕ) (token : List ℕ) (m : Message) → AreRoutes routes → AllByRecursion IsSegment (path_of m) → AllByRecursion IsSegment (query_of m) → (o : Option Target) → mapped_target routes m ≡ o → Right routes most token m (verdict_of_target most token o)
+target-right routes most token m are path query None e = λ z. absurd (omega arith)
+target-right routes most token m are path query (Some t) e = go (leb (length (spelling (forwarded token t 0))) most) refl
   where
     go : (b : Bool) → leb (length (spelling (forwarded token t 0))) most ≡ b → Right routes most token m (cond b (may_open t) (refused_with REQUEST_ENTITY_TOO_LARGE))
-    go true fits = record { target_is = e; sound = target-is routes m t are short e; short = leb-true _ _ fits }
+    go true fits = record { target_is = e; sound = target-is routes m t are path query e; short = leb-true _ _ fits }
     go false fits = λ z. absurd (omega arith)
 
 pub verdict-right : (routes : Routes) (most : ℕ) (token : List ℕ) (m : Message) → AreRoutes routes → Right routes most token m (verdict_of routes most token m)
@@ -45,7 +51,7 @@ unfolding verdict_of
 verdict-right routes most token m are = method (is_code m.code GET)
   where
     options : (b : Bool) → list_all is_path_option m.options ≡ b → Right routes most token m (cond b (verdict_of_target most token (mapped_target routes m)) (refused_with BAD_OPTION))
-    options true all = target-right routes most token m are (path-short m.options all) (mapped_target routes m) refl
+    options true all = target-right routes most token m are (values-short 11 m.options all) (values-short 15 m.options all) (mapped_target routes m) refl
     options false all = λ z. absurd (omega arith)
 
     method : (b : Bool) → Right routes most token m (cond b (cond (list_all is_path_option m.options) (verdict_of_target most token (mapped_target routes m)) (refused_with BAD_OPTION)) (refused_with METHOD_NOT_ALLOWED))

@@ -1,6 +1,6 @@
 -- Whether a path begins with a prefix, segment by segment.
 use Rattle.std.proofs.Common.{◌≡◌, ℕ, ◌+◌, ◌<◌, ◌≤◌, Bool, true, false, ◌&&◌, nat_eq, List, [], ◌∷◌, length, get_or, drop, map, map-id, take, ◌++◌, ◌-◌, refl, sym, ap, ◌∙◌, arith}
-use Rattle.std.proofs.lemmas.List.{drop_more, drop_all, take_rest, drop-map}
+use Rattle.std.proofs.lemmas.List.{drop_more, take_rest, drop-map}
 use Rattle.std.specs.Cmp.Lexicographic.{pointwise}
 use Rattle.std.proofs.lemmas.Bool.{and_parts, true≢false}
 use Rattle.coap_target.specs.Routes.{begins}
@@ -32,10 +32,6 @@ module _ {A : Type 0} (f : A → List ℕ) (prefix : List (List ℕ)) (path : Li
   -- they differ
   pub begins-differ : pointwise nat_eq p (f x) ≡ false → begins (drop i prefix) (map f (drop i path)) ≡ false
   begins-differ differ = next ∙ rw differ refl
-
--- nothing of the prefix is left
-pub begins-all : (prefix path : List (List ℕ)) (i : ℕ) → length prefix ≤ i → begins (drop i prefix) path ≡ true
-begins-all prefix path i all = rw (drop_all i prefix all) refl
 
 -- what begins a path is no longer
 pub length-begins : (prefix path : List (List ℕ)) → begins prefix path ≡ true → length prefix ≤ length path

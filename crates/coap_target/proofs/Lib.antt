@@ -2,6 +2,7 @@ pub mod Addresses
 pub mod Beginnings
 pub mod Cutting
 pub mod Gathering
+pub mod Lists
 pub mod MapSearch
 pub mod Numbered
 pub mod Origins

@@ -1,7 +1,7 @@
 -- A loop over maps that keeps the best so far.
 use Rattle.std.proofs.Common.{◌≡◌, ℕ, ◌+◌, ◌<◌, ◌≤◌, Bool, true, false, cond, nat_lt, List, [], ◌∷◌, length, map, ◌≤◌, drop, get_or, Option, Some, None, subst, refl, sym, ap, ◌∙◌, arith}
 use Rattle.std.proofs.lemmas.Bool.{ltb-true, ltb-false, lt-ltb, le-ltb}
-use Rattle.std.proofs.lemmas.List.{length-map, drop_more, drop_all}
+use Rattle.std.proofs.lemmas.List.{length-map, drop_more}
 use Rattle.coap_target.specs.declared.map.Map.{Map}
 use Rattle.coap_target.proofs.Beginnings.{length-begins}
 use Rattle.coap_target.specs.Routes.{begins, is_longer, longer, map_of}
@@ -55,11 +55,6 @@ module _ (maps : List Map) (path : List (List ℕ)) (i : ℕ) (m : Map) (within 
   -- it doesn't begin the path
   pub best_of-other : (best : Option Map) → begins m.prefix path ≡ false → best_of best (map_of (drop i maps) path) ≡ best_of best (map_of (drop (i + 1) maps) path)
   best_of-other best fails = rw (more, fails) refl
-
--- all are passed
-pub best_of-all : (maps : List Map) (path : List (List ℕ)) (i : ℕ) (best : Option Map) → length maps ≤ i → best_of best (map_of (drop i maps) path) ≡ best
-best_of-all maps path i None all = rw (drop_all i maps all) refl
-best_of-all maps path i (Some b) all = rw (drop_all i maps all) refl
 
 -- a map's prefix begins the path
 abbrev BeginsIt : List (List ℕ) → Map → Type 0

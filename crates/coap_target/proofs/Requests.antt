@@ -26,8 +26,8 @@ use Rattle.coap_target.specs.Target.{IsSegment, IsTarget}
 use Rattle.coap_target.specs.Uri.{is_short, is_short_host, are_short, host_or, host_of, uri_of}
 use Rattle.std.specs.List.{list_all}
 use Rattle.coap_target.proofs.Origins.{All-list_all, uri_of-short, target_at_host-is}
-use Rattle.coap_target.proofs.Screened.{path_of-short, uri_host-short}
-use Rattle.coap_target.proofs.Targets.{All-short, All-map_of, mapped-is}
+use Rattle.coap_target.proofs.Screened.{path_of-short, uri_host-short, query_of-short}
+use Rattle.coap_target.proofs.Targets.{All-map_of, mapped-is}
 
 module _ (routes : Routes) (are : AreRoutes routes) (t : Target) where
   local-is : (path query : List (List ℕ)) → AllByRecursion IsSegment path → AllByRecursion IsSegment query → local routes path query ≡ Ok t → IsTarget t
@@ -70,11 +70,11 @@ module _ (routes : Routes) (are : AreRoutes routes) (t : Target) where
 
   module _ (m : Message) (screened : first_refused Request m.options ≡ None) where
     composed-is : (host : Option (List ℕ)) → value_of 3 m ≡ host → composed routes m host ≡ Ok t → IsTarget t
-    composed-is None at e = local-is (path_of m) (query_of m) (path_of-short m screened) (All-short (values_of 15 m.options)) e
+    composed-is None at e = local-is (path_of m) (query_of m) (path_of-short m screened) (query_of-short m screened) e
     composed-is (Some host) at e =
         let lower : List ℕ = map to_ascii_lowercase host in
         let short : length lower ≤ 255 = rw length-map (uri_host-short m host screened (sym at)) in
-        resolved-is (record { host = host_of host; port = port_of m; path = path_of m; query = query_of m }) (host_or-short (ip_of lower) lower short) (path_of-short m screened) (All-short (values_of 15 m.options)) e
+        resolved-is (record { host = host_of host; port = port_of m; path = path_of m; query = query_of m }) (host_or-short (ip_of lower) lower short) (path_of-short m screened) (query_of-short m screened) e
 
     by_scheme-is : (scheme : List ℕ) → by_scheme routes m scheme ≡ Ok t → IsTarget t
     unfolding by_scheme
@@ -90,7 +90,7 @@ module _ (routes : Routes) (are : AreRoutes routes) (t : Target) where
     if_any-ok (name ∷ names) r f = f
 
     by_options-is : (uri scheme : Option (List ℕ)) → by_options routes m uri scheme ≡ Ok t → IsTarget t
-    by_options-is None None e = local-is (path_of m) (query_of m) (path_of-short m screened) (All-short (values_of 15 m.options)) e
+    by_options-is None None e = local-is (path_of m) (query_of m) (path_of-short m screened) (query_of-short m screened) e
     by_options-is None (Some scheme) e = by_scheme-is scheme (if_any-ok routes.names (by_scheme routes m scheme) e)
     by_options-is (Some uri) scheme e = by_uri-is uri (if_any-ok routes.names (by_uri routes uri) e)
 

@@ -9,7 +9,7 @@ use Rattle.coap_option.specs.Classes.{is_unsafe}
 use Rattle.coap_option.specs.Places.{Place, places, places_behind, count_of}
 use Rattle.coap_option.specs.Recognition.{is_recognised}
 use Rattle.coap_option.specs.Screening.{is_refused, first_refused}
-use Rattle.coap_target.specs.Routes.{values_of, query_of}
+use Rattle.coap_target.specs.Routes.{values_of, path_of, query_of}
 use Rattle.coap_target.specs.Request.{first_of}
 use Rattle.coap_target.specs.Uri.{is_short}
 
@@ -67,21 +67,15 @@ uri_port-short options value screened is =
     (values-short 7 2 refl (λ length before fits. (and_parts (nat_le 0 length) (nat_le length 2) (and_parts (nat_le 0 length && nat_le length 2) (before == 0) fits).0).1) options screened)
     is
 
--- of a list whose items all pass nothing is left out
-filter-short : (values : List (List ℕ)) → AllByRecursion (λ v. length v ≤ 255) values → filter is_short values ≡ values
-filter-short [] all = refl
-filter-short (v ∷ values) all = rw (le-leb (length v) 255 all.0, filter-short values all.1) refl
-
--- Uri-Query
-pub query_of-all : (m : Message) → first_refused Request m.options ≡ None → query_of m ≡ values_of 15 m.options
-query_of-all m screened =
-    filter-short (values_of 15 m.options)
-    (values-short 15 255 refl (λ length before fits. (and_parts (nat_le 0 length) (nat_le length 255) (and_parts (nat_le 0 length && nat_le length 255) true fits).0).1) m.options screened)
-
 -- Uri-Path
-pub path_of-short : (m : Message) → first_refused Request m.options ≡ None → AllByRecursion (λ v. length v ≤ 255) (values_of 11 m.options)
+pub path_of-short : (m : Message) → first_refused Request m.options ≡ None → AllByRecursion (λ v. length v ≤ 255) (path_of m)
 path_of-short m screened =
     values-short 11 255 refl (λ length before fits. (and_parts (nat_le 0 length) (nat_le length 255) (and_parts (nat_le 0 length && nat_le length 255) true fits).0).1) m.options screened
+
+-- Uri-Query
+pub query_of-short : (m : Message) → first_refused Request m.options ≡ None → AllByRecursion (λ v. length v ≤ 255) (query_of m)
+query_of-short m screened =
+    values-short 15 255 refl (λ length before fits. (and_parts (nat_le 0 length) (nat_le length 255) (and_parts (nat_le 0 length && nat_le length 255) true fits).0).1) m.options screened
 
 -- Uri-Host
 pub uri_host-short : (m : Message) (value : List ℕ) → first_refused Request m.options ≡ None → Some value ≡ first_of (values_of 3 m.options) → length value ≤ 255

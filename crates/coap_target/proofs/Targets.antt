@@ -1,5 +1,5 @@
 -- The target of a request is a target.
-use Rattle.std.proofs.Common.{◌≡◌, ℕ, suc, zero, Bool, true, false, cond, List, [], ◌∷◌, ◌++◌, length, drop, filter, nat_lt, Option, Some, None, option_map, refl, subst}
+use Rattle.std.proofs.Common.{◌≡◌, ℕ, suc, zero, Bool, true, false, cond, List, [], ◌∷◌, length, drop, filter, nat_lt, Option, Some, None, option_map, refl, subst}
 use Rattle.std.specs.List.{AllByRecursion}
 use Rattle.std.proofs.lemmas.Bool.{leb-true}
 use Rattle.coap_message.specs.Message.{Message}
@@ -9,25 +9,13 @@ use Rattle.coap_target.specs.declared.routes.Routes.{Routes}
 use Rattle.coap_target.specs.Target.{IsSegment, IsTarget}
 use Rattle.coap_target.specs.Uri.{is_short}
 use Rattle.coap_target.specs.Routes.{begins, longer, map_of, mapped, values_of, path_of, query_of, mapped_target, AreRoutes}
+use Rattle.coap_target.proofs.Lists.{All-append}
 
 -- what holds of each holds of those behind some
 All-drop : (P : List ℕ → Type 0) (n : ℕ) (xs : List (List ℕ)) → AllByRecursion P xs → AllByRecursion P (drop n xs)
 All-drop P zero xs all = all
 All-drop P (suc n) [] all = tt
 All-drop P (suc n) (x ∷ xs) all = All-drop P n xs all.1
-
-All-append : (P : List ℕ → Type 0) (xs ys : List (List ℕ)) → AllByRecursion P xs → AllByRecursion P ys → AllByRecursion P (xs ++ ys)
-All-append P [] ys p q = q
-All-append P (x ∷ xs) ys p q = (p.0, All-append P xs ys p.1 q)
-
--- what is short enough is a segment
-pub All-short : (xs : List (List ℕ)) → AllByRecursion IsSegment (filter is_short xs)
-All-short [] = tt
-All-short (x ∷ xs) = go (All-short xs) (is_short x) refl
-  where
-    go : AllByRecursion IsSegment (filter is_short xs) → (b : Bool) → is_short x ≡ b → AllByRecursion IsSegment (cond b (x ∷ filter is_short xs) (filter is_short xs))
-    go rest true is = (leb-true (length x) 255 is, rest)
-    go rest false is = rest
 
 -- the map of a path is one of the maps
 pub All-map_of : (P : Map → Type 0) (maps : List Map) (path : List (List ℕ)) (m : Map) → AllByRecursion P maps → map_of maps path ≡ Some m → P m
@@ -52,13 +40,13 @@ mapped-is path query m is of_path of_query = record {
   query = of_query;
 }
 
--- the target of a request whose segments are short enough
-pub target-is : (routes : Routes) (m : Message) (t : Target) → AreRoutes routes → AllByRecursion IsSegment (path_of m) → mapped_target routes m ≡ Some t → IsTarget t
+-- the target of a request whose segments and parts are short enough
+pub target-is : (routes : Routes) (m : Message) (t : Target) → AreRoutes routes → AllByRecursion IsSegment (path_of m) → AllByRecursion IsSegment (query_of m) → mapped_target routes m ≡ Some t → IsTarget t
 unfolding mapped_target
-target-is routes m t are short e = go (map_of routes.maps (path_of m)) refl e
+target-is routes m t are path query e = go (map_of routes.maps (path_of m)) refl e
   where
     go : (o : Option Map) → map_of routes.maps (path_of m) ≡ o → option_map (mapped (path_of m) (query_of m)) o ≡ Some t → IsTarget t
     go None found f = absurd cc
     go (Some n) found f =
         let same : mapped (path_of m) (query_of m) n ≡ t = cc in
-        subst IsTarget same (mapped-is (path_of m) (query_of m) n (All-map_of (λ k. IsTarget k.origin) routes.maps (path_of m) n are found) short (All-short (values_of 15 m.options)))
+        subst IsTarget same (mapped-is (path_of m) (query_of m) n (All-map_of (λ k. IsTarget k.origin) routes.maps (path_of m) n are found) path query)

@@ -1,20 +1,11 @@
 -- The map that is found for a path wins.
-use Rattle.std.proofs.Common.{◌≡◌, ℕ, ◌<◌, ◌≤◌, Bool, true, false, cond, nat_lt, List, [], ◌∷◌, ◌++◌, length, Option, Some, None, refl, sym, ap, subst, arith}
+use Rattle.std.proofs.Common.{◌≡◌, ℕ, ◌<◌, ◌≤◌, Bool, true, false, cond, nat_lt, List, [], ◌∷◌, length, Option, Some, None, refl, sym, ap, subst, arith}
 use Rattle.std.specs.List.{AllByRecursion}
 use Rattle.std.proofs.lemmas.Bool.{ltb-true, ltb-false}
 use Rattle.coap_target.specs.declared.map.Map.{Map}
 use Rattle.coap_target.specs.Routes.{begins, longer, map_of}
 use Rattle.coap_target.specs.Winner.{Wins}
-
--- what holds of each of two lists, and of an item between them, holds of all
-All-around : {A : Type 0} (P : A → Type 0) (xs : List A) (y : A) (ys : List A) → AllByRecursion P xs → P y → AllByRecursion P ys → AllByRecursion P (xs ++ y ∷ ys)
-All-around P [] y ys p q r = (q, r)
-All-around P (x ∷ xs) y ys p q r = (p.0, All-around P xs y ys p.1 q r)
-
--- what holds of each by one fact holds by a weaker one
-All-weaker : {A : Type 0} (P Q : A → Type 0) → ((x : A) → P x → Q x) → (xs : List A) → AllByRecursion P xs → AllByRecursion Q xs
-All-weaker P Q weaker [] all = tt
-All-weaker P Q weaker (x ∷ xs) all = (weaker x all.0, All-weaker P Q weaker xs all.1)
+use Rattle.coap_target.proofs.Lists.{All-append, All-weaken}
 
 pub map_of-none : (maps : List Map) (path : List (List ℕ)) → map_of maps path ≡ None → AllByRecursion (λ m. begins m.prefix path ≡ false) maps
 map_of-none [] path e = tt
@@ -40,7 +31,7 @@ module _ (m : Map) (maps : List Map) (path : List (List ℕ)) where
     among = refl;
     begins_path = is;
     longer_than_earlier = tt;
-    as_long_as_later = All-weaker (λ k. begins k.prefix path ≡ false) (λ k. begins k.prefix path ≡ true → length k.prefix ≤ length m.prefix) (λ k no' yes'. absurd cc) maps none;
+    as_long_as_later = All-weaken (λ k. begins k.prefix path ≡ false) (λ k. begins k.prefix path ≡ true → length k.prefix ≤ length m.prefix) maps (λ k no' yes'. absurd cc) none;
   }
 
   -- it is passed over for a later one
@@ -63,10 +54,9 @@ module _ (m : Map) (maps : List Map) (path : List (List ℕ)) where
     begins_path = is;
     longer_than_earlier = tt;
     as_long_as_later = subst (AllByRecursion (λ k. begins k.prefix path ≡ true → length k.prefix ≤ length m.prefix)) (sym wins.among)
-        (All-around (λ k. begins k.prefix path ≡ true → length k.prefix ≤ length m.prefix) wins.earlier n wins.later
-        (All-weaker (λ k. begins k.prefix path ≡ true → length k.prefix < length n.prefix) (λ k. begins k.prefix path ≡ true → length k.prefix ≤ length m.prefix) (λ k holds yes'. omega (arith, holds yes', most)) wins.earlier wins.longer_than_earlier)
-        (λ yes'. most)
-        (All-weaker (λ k. begins k.prefix path ≡ true → length k.prefix ≤ length n.prefix) (λ k. begins k.prefix path ≡ true → length k.prefix ≤ length m.prefix) (λ k holds yes'. omega (arith, holds yes', most)) wins.later wins.as_long_as_later));
+        (All-append (λ k. begins k.prefix path ≡ true → length k.prefix ≤ length m.prefix) wins.earlier (n ∷ wins.later)
+        (All-weaken (λ k. begins k.prefix path ≡ true → length k.prefix < length n.prefix) (λ k. begins k.prefix path ≡ true → length k.prefix ≤ length m.prefix) wins.earlier (λ k holds yes'. omega (arith, holds yes', most)) wins.longer_than_earlier)
+        (λ yes'. most, All-weaken (λ k. begins k.prefix path ≡ true → length k.prefix ≤ length n.prefix) (λ k. begins k.prefix path ≡ true → length k.prefix ≤ length m.prefix) wins.later (λ k holds yes'. omega (arith, holds yes', most)) wins.as_long_as_later));
   }
 
 pub map_of-wins : (maps : List Map) (path : List (List ℕ)) (m : Map) → map_of maps path ≡ Some m → Wins maps path m

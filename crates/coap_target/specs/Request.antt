@@ -27,7 +27,8 @@ first_of (value ∷ values) = Some value
 abbrev pub value_of : ℕ → Message → Option (List ℕ)
 value_of number m = first_of (values_of number m.options)
 
--- the port that Uri-Port says, 5683 without one (RFC 7252, 6.1)
+-- The port that Uri-Port says. Without one it is that of the scheme (RFC 7252, 6.1), not the one that the request
+-- came to (5.10.1).
 abbrev pub uri_port : Option (List ℕ) → ℕ
 uri_port None = 5683
 uri_port (Some value) = uint_of value
@@ -51,12 +52,12 @@ target_at_host hosts (Addr ip) uri = Ok (record { host = None; at = record { ip 
 abbrev pub remote : List KnownHost → UriParts → Result Target TargetError
 remote hosts uri = target_at_host hosts uri.host uri
 
--- A request for a URI. One whose host is an own name is to the proxy itself; the port isn't looked at (RFC
--- 7252, 5.7.2).
+-- A request for a URI. One whose host is an own name is to the proxy itself (RFC 7252, 5.7.2), whatever its port.
 abbrev pub resolved : Routes → UriParts → Result Target TargetError
 resolved routes uri = if is_own routes.names uri.host then local routes uri.path uri.query else remote routes.hosts uri
 
--- by Proxy-Uri: the URI says it all (RFC 7252, 5.10.2)
+-- by Proxy-Uri: the URI says it all (RFC 7252, 5.10.2); what a text says takes no memory, so that the last case
+-- never comes
 abbrev pub of_uri : Routes → Result UriParts UriError → Result Target TargetError
 of_uri routes (Ok uri) = resolved routes uri
 of_uri routes (Err uri_error.Bad) = Err BadUri

@@ -8,7 +8,6 @@ use Rattle.coap_target.specs.declared.target.Target.{Target}
 use Rattle.coap_target.specs.declared.map.Map.{Map}
 use Rattle.coap_target.specs.declared.routes.Routes.{Routes}
 use Rattle.coap_target.specs.RouteLists.{HaveTargets}
-use Rattle.coap_target.specs.Uri.{is_short}
 
 -- the values of the options of a number, in order
 abbrev pub values_of : ℕ → List Opt → List (List ℕ)
@@ -18,10 +17,9 @@ values_of number options = map (λ o. o.value) (filter (λ o. o.number == number
 abbrev pub path_of : Message → List (List ℕ)
 path_of m = values_of 11 m.options
 
--- the parts of a request's query: its recognised Uri-Query options, which have at most 255 bytes (RFC
--- 7252, 5.4.3 and 5.10.1)
+-- the parts of a request's query: its Uri-Query options (RFC 7252, 5.10.1)
 abbrev pub query_of : Message → List (List ℕ)
-query_of m = filter is_short (values_of 15 m.options)
+query_of m = values_of 15 m.options
 
 -- the path begins with the segments of the prefix
 abbrev pub begins : List (List ℕ) → List (List ℕ) → Bool

@@ -1,4 +1,4 @@
--- What a target is.
+-- Targets whose parts fit the options that say them.
 use Rattle.std.specs.Prelude.{ℕ, ◌≤◌, List, length, IfSome}
 use Rattle.std.specs.List.{AllByRecursion}
 use Rattle.coap_target.specs.declared.target.Target.{Target}

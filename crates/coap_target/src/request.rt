@@ -122,7 +122,6 @@ fn path_of(request: &Message) -> &[Opt]
 
 /// The Uri-Query options of a request (RFC 7252, 5.10.1).
 fn query_of(request: &Message) -> &[Opt]
-    requires { first_refused Side.Request request.now.options ≡ None }
     ensures { map_list (λ o. o.value) result.now ≡ query_of request.now }
 {
     options_of(&request.options, numbers::URI_QUERY)
@@ -230,8 +229,7 @@ impl Routes {
     ///
     /// `BadUri` where the Proxy-Uri is no URI that can be carried, or the Uri-Port is 0; `NotProxied`
     /// where there are no own names, or the scheme or the host is not served; `NotFound` where no map
-    /// has the path of a request to the proxy itself. A request without proxy options takes memory for
-    /// its target alone.
+    /// has the path of a request to the proxy itself.
     #[tactic(auto, unfolding(crate::specs::Request::request_target))]
     pub fn target_of(&self, alloc: Global, request: &Message) -> Result<Target, TargetError>
         requires { first_refused Side.Request request.now.options ≡ None }

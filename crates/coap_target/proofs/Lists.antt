@@ -1,0 +1,13 @@
+-- Lists of which each item has a property.
+use Rattle.std.proofs.Common.{List, [], ◌∷◌, ◌++◌}
+use Rattle.std.specs.List.{AllByRecursion}
+
+-- what holds of each item of two lists holds of each of both
+pub All-append : {X : Type 0} (P : X → Type 0) (xs ys : List X) → AllByRecursion P xs → AllByRecursion P ys → AllByRecursion P (xs ++ ys)
+All-append P [] ys p q = q
+All-append P (x ∷ xs) ys p q = (p.0, All-append P xs ys p.1 q)
+
+-- what holds of each item by one fact holds by a weaker one
+pub All-weaken : {X : Type 0} (P Q : X → Type 0) (xs : List X) → ((x : X) → P x → Q x) → AllByRecursion P xs → AllByRecursion Q xs
+All-weaken P Q [] less all = tt
+All-weaken P Q (x ∷ xs) less all = (less x all.0, All-weaken P Q xs less all.1)
