@@ -1,10 +1,9 @@
 //! Examples, computed on the definitions.
-ghost use Rattle.std.specs.Prelude.{◌≡◌, ◌&&◌, ◌∷◌, [], true};
-ghost use Rattle.std.specs.List.{list_all};
-ghost use Rattle.coap_option.specs.Table.{option_table};
+ghost use Rattle.std.specs.Prelude.{◌≡◌, ◌∷◌, [], true, map, filter};
+ghost use Rattle.std.specs.List.{list_all, range_with_len};
 ghost use Rattle.coap_option.specs.Screening.{first_refused};
 ghost use Rattle.coap_option.specs.Selection.{forwarded, key_of, max_age_of, tags_of};
-ghost use Rattle.coap_option.specs.Examples.{content, get, has_its_range, put, with_value, zeros};
+ghost use Rattle.coap_option.specs.Examples.{content, get, has_range, is_known, of_requests, of_responses, put, with_value, zeros};
 
 use crate::numbers::{BLOCK1, BLOCK2};
 use crate::side::Side;
@@ -20,7 +19,10 @@ pub fn screened()
     ensures host_in_response { first_refused Side.Response (zeros 3 4 ∷ []) ≡ Some 3 }
     ensures critical_safe { first_refused Side.Request (zeros 2049 1 ∷ []) ≡ None }
     ensures elective_unsafe { first_refused Side.Request (zeros 2050 1 ∷ []) ≡ Some 2050 }
-    ensures ranges { list_all (λ row. has_its_range Side.Request row && has_its_range Side.Response row) option_table ≡ true }
+    ensures requests { list_all (has_range Side.Request) of_requests ≡ true }
+    ensures responses { list_all (has_range Side.Response) of_responses ≡ true }
+    ensures no_others_in_requests { filter (is_known Side.Request) (range_with_len 0 300) ≡ map (λ entry. entry.0) of_requests }
+    ensures no_others_in_responses { filter (is_known Side.Response) (range_with_len 0 300) ≡ map (λ entry. entry.0) of_responses }
 {}
 
 /// Which options of some messages are sent on, are part of the key, or say how the message is cached.
