@@ -1,5 +1,5 @@
 -- One write behind another.
-use Rattle.std.proofs.Common.{◌≡◌, ℕ, ◌+◌, ◌-◌, ◌*◌, ◌<◌, ◌≤◌, List, [], ◌∷◌, ◌++◌, length, drop, get_or, Result, Ok, Err, refl, sym, ap, ◌∙◌, append_assoc, arith}
+use Rattle.std.proofs.Common.{◌≡◌, ℕ, ◌+◌, ◌-◌, ◌*◌, ◌<◌, ◌≤◌, List, ◌∷◌, ◌++◌, length, drop, get_or, Result, Ok, Err, refl, sym, ap, ◌∙◌, append_assoc, arith}
 use Rattle.std.proofs.lemmas.List.{length-append, append-nil, drop_more, drop_all}
 use Rattle.coap_message.specs.declared.error.Full.{Full}
 use Rattle.coap_message.specs.declared.options.Opt.{Opt}
@@ -18,10 +18,6 @@ Appends-behind old mid new room xs ys u (Ok v) a b =
 Appends-behind old mid new room xs ys u (Err e) a b =
     let held : length mid.bytes ≡ length old.bytes + length xs = rw a.0 (length-append old.bytes xs) in
     (b.0 ∙ rw a.0 refl, omega (arith, held, b.1, length-append xs ys))
-
--- nothing is written with success where what is held is within the room
-pub Appends-nothing : (old : Datagram) (room : ℕ) → length old.bytes ≤ room → Appends old old room [] (Ok tt)
-Appends-nothing old room le = (ap (holding old) (sym (append-nil old.bytes)), omega arith)
 
 -- what is written bit by bit fails as a whole where a part of it fails
 pub Appends-part : (old out new : Datagram) (room : ℕ) (part rest whole : List ℕ) (e f : Full) → out.room ≡ old.room → out.bytes ++ (part ++ rest) ≡ old.bytes ++ whole → Appends out new room part (Err e) → Appends old new room whole (Err f)

@@ -2,6 +2,7 @@
 use Rattle.std.proofs.Common.{◌≡◌, ℕ, ◌+◌, ◌*◌, ◌<◌, ◌≤◌, Bool, true, false, cond, eqb, ltb, List, [], ◌∷◌, ◌++◌, length, Option, Some, None, refl, subst, ◌⊎◌, inl, inr, arith}
 use Rattle.std.proofs.lemmas.Bool.{cases_lt, ltb-true, eqb-true, lt-ltb}
 use Rattle.std.proofs.lemmas.List.{get_or_append_left, get_or-append-add, get_or_past}
+use Rattle.std.proofs.lemmas.Option.{same_Some}
 use Rattle.coap_message.specs.Uint.{IsBytes}
 use Rattle.coap_message.specs.Spelling.{Extends}
 use Rattle.coap_message.specs.Reading.{one_more, two_more, extended}
@@ -21,10 +22,6 @@ pub some_side : {A : Type 0} (b : Bool) (p q : Option A) (y : A) → cond b p q 
 some_side true p q y e = inl (refl, e)
 some_side false p q y e = inr (refl, e)
 
--- a value that is given is that value
-pub some_is : {A : Type 0} (x y : A) → ◌≡◌ {A = Option A} (Some x) (Some y) → x ≡ y
-some_is x y e = cc
-
 -- what a delta or a length takes from the front
 pub record Extended (bits : ℕ) (bytes : List ℕ) (n : ℕ) (rest : List ℕ) : Type 0 where
   pub more : List ℕ
@@ -34,20 +31,20 @@ pub record Extended (bits : ℕ) (bytes : List ℕ) (n : ℕ) (rest : List ℕ) 
 one_more_is : (bits : ℕ) (bytes : List ℕ) (x : ℕ × List ℕ) → bits ≡ 13 → one_more bytes ≡ Some x → Extended bits bytes x.0 x.1
 one_more_is bits [] x is e = absurd cc
 one_more_is bits (a ∷ rest) x is e =
-    subst (λ (y : ℕ × List ℕ). Extended bits (a ∷ rest) y.0 y.1) (some_is (a + 13, rest) x e) (record { more = a ∷ []; parts = refl; extends = λ f. (is, f 0, refl) })
+    subst (λ (y : ℕ × List ℕ). Extended bits (a ∷ rest) y.0 y.1) (same_Some (a + 13, rest) x e) (record { more = a ∷ []; parts = refl; extends = λ f. (is, f 0, refl) })
 
 two_more_is : (bits : ℕ) (bytes : List ℕ) (x : ℕ × List ℕ) → bits ≡ 14 → two_more bytes ≡ Some x → Extended bits bytes x.0 x.1
 two_more_is bits [] x is e = absurd cc
 two_more_is bits (a ∷ []) x is e = absurd cc
 two_more_is bits (a ∷ b ∷ rest) x is e =
-    subst (λ (y : ℕ × List ℕ). Extended bits (a ∷ b ∷ rest) y.0 y.1) (some_is (256 * a + b + 269, rest) x e) (record { more = a ∷ b ∷ []; parts = refl; extends = λ f. (is, f 0, f 1, refl) })
+    subst (λ (y : ℕ × List ℕ). Extended bits (a ∷ b ∷ rest) y.0 y.1) (same_Some (256 * a + b + 269, rest) x e) (record { more = a ∷ b ∷ []; parts = refl; extends = λ f. (is, f 0, f 1, refl) })
 
 pub extended_is : (bits : ℕ) (bytes : List ℕ) (x : ℕ × List ℕ) → extended bits bytes ≡ Some x → Extended bits bytes x.0 x.1
 unfolding extended
 extended_is bits bytes x e =
     elim (some_side (ltb bits 13) (Some (bits, bytes)) (cond (eqb bits 13) (one_more bytes) (cond (eqb bits 14) (two_more bytes) None)) x e) [
       | inl t ↦
-          subst (λ (y : ℕ × List ℕ). Extended bits bytes y.0 y.1) (some_is (bits, bytes) x t.1) (record { more = []; parts = refl; extends = λ f. (refl, ltb-true _ _ t.0) })
+          subst (λ (y : ℕ × List ℕ). Extended bits bytes y.0 y.1) (same_Some (bits, bytes) x t.1) (record { more = []; parts = refl; extends = λ f. (refl, ltb-true _ _ t.0) })
       | inr f ↦
           elim (some_side (eqb bits 13) (one_more bytes) (cond (eqb bits 14) (two_more bytes) None) x f.1) [
             | inl t ↦ one_more_is bits bytes x (eqb-true _ _ t.0) t.1

@@ -3,12 +3,13 @@ use Rattle.std.proofs.Common.{◌≡◌, ℕ, zero, suc, ◌+◌, ◌*◌, ◌<�
 use Rattle.std.specs.Prelude.{option_map, not}
 use Rattle.std.proofs.lemmas.Bool.{ne_eqb, eqb-true, not-false}
 use Rattle.std.proofs.lemmas.List.{length-append}
+use Rattle.std.proofs.lemmas.Option.{same_Some}
 use Rattle.coap_message.specs.declared.options.Opt.{Opt}
 use Rattle.coap_message.specs.Options.{AreOptions}
 use Rattle.coap_message.specs.Uint.{IsBytes}
 use Rattle.coap_message.specs.Spelling.{SpellsOption, SpellsOptions, SpellsPayload}
 use Rattle.coap_message.specs.Reading.{◌>>=◌, option_at, begins_option, payload_at, no_options, one_option_more, options_within, options_at}
-use Rattle.coap_message.proofs.Extensions.{IsBytes-left, IsBytes-right, some_is, Extends-bits}
+use Rattle.coap_message.proofs.Extensions.{IsBytes-left, IsBytes-right, Extends-bits}
 use Rattle.coap_message.proofs.OneOption.{bind_some, option_is, option_again}
 
 -- an option leaves less than there was
@@ -67,15 +68,15 @@ options_end before (b ∷ bytes) ends = rw ends refl
 -- a choice that gave a value
 pub mapped_is : {A B : Type 0} (f : A → B) (o : Option A) (y : B) → option_map f o ≡ Some y → (x : A) × (o ≡ Some x) × (f x ≡ y)
 mapped_is f None y e = absurd cc
-mapped_is f (Some x) y e = (x, refl, some_is (f x) y e)
+mapped_is f (Some x) y e = (x, refl, same_Some (f x) y e)
 
 not_begins : (b : ℕ) → not (eqb b 255) ≡ false → b ≡ 255
 not_begins b e = eqb-true b 255 (not-false (eqb b 255) e)
 
 payload_is : (bytes payload : List ℕ) → begins_option bytes ≡ false → payload_at bytes ≡ Some payload → SpellsPayload bytes payload
-payload_is [] payload ends e = subst (SpellsPayload []) (some_is [] payload e) refl
+payload_is [] payload ends e = subst (SpellsPayload []) (same_Some [] payload e) refl
 payload_is (b ∷ []) payload ends e = absurd cc
-payload_is (b ∷ p ∷ ps) payload ends e = subst (SpellsPayload (b ∷ p ∷ ps)) (some_is (p ∷ ps) payload e) (ap (λ (n : ℕ). n ∷ p ∷ ps) (not_begins b ends))
+payload_is (b ∷ p ∷ ps) payload ends e = subst (SpellsPayload (b ∷ p ∷ ps)) (same_Some (p ∷ ps) payload e) (ap (λ (n : ℕ). n ∷ p ∷ ps) (not_begins b ends))
 
 -- what the options and the payload take: all the bytes
 pub record TakesOptions (before : ℕ) (bytes : List ℕ) (os : List Opt) (payload : List ℕ) : Type 0 where

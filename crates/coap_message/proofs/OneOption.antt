@@ -3,11 +3,12 @@ use Rattle.std.proofs.Common.{◌≡◌, ℕ, ◌+◌, ◌*◌, ◌/◌, ◌%◌
 use Rattle.std.specs.Prelude.{◌||◌}
 use Rattle.std.proofs.lemmas.Bool.{ltb-false, le-ltb}
 use Rattle.std.proofs.lemmas.List.{take-append-drop, length-append, length-take, take_at, drop_at}
+use Rattle.std.proofs.lemmas.Option.{same_Some}
 use Rattle.coap_message.specs.declared.options.Opt.{Opt}
 use Rattle.coap_message.specs.Uint.{IsBytes}
 use Rattle.coap_message.specs.Spelling.{Extends, SpellsOption}
 use Rattle.coap_message.specs.Reading.{◌>>=◌, extended, option_at}
-use Rattle.coap_message.proofs.Extensions.{IsBytes-left, IsBytes-right, some_is, extended_is, extended_again, Extends-bits, Extends-within}
+use Rattle.coap_message.proofs.Extensions.{IsBytes-left, IsBytes-right, extended_is, extended_again, Extends-bits, Extends-within}
 
 -- the value of a step that gave one
 pub bind_some : {A B : Type 0} (o : Option A) (f : A → Option B) (y : B) → (o >>= f) ≡ Some y → (x : A) × (o ≡ Some x) × (f x ≡ Some y)
@@ -18,7 +19,7 @@ bind_some (Some x) f y e = (x, refl, e)
 passed : {A : Type 0} (a b : Bool) (x y : A) → cond (a || b) None (Some x) ≡ Some y → (a ≡ false) × (b ≡ false) × (x ≡ y)
 passed true b x y e = absurd cc
 passed false true x y e = absurd cc
-passed false false x y e = (refl, refl, some_is x y e)
+passed false false x y e = (refl, refl, same_Some x y e)
 
 -- what an option takes from the front
 pub record TakesOption (before : ℕ) (bytes : List ℕ) (option : Opt) (rest : List ℕ) : Type 0 where

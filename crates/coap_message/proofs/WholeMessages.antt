@@ -4,6 +4,7 @@ use Rattle.std.proofs.Common.{◌≡◌, ℕ, zero, suc, ◌+◌, ◌*◌, ◌/�
 use Rattle.std.specs.Prelude.{option_map, ◌||◌}
 use Rattle.std.proofs.lemmas.Bool.{eqb-true, eq-eqb, ltb-false, le-ltb, or_parts}
 use Rattle.std.proofs.lemmas.List.{take-append-drop, length-append, length-take, take_at, drop_at}
+use Rattle.std.proofs.lemmas.Option.{same_Some}
 use Rattle.coap_message.specs.declared.kind.Kind.{Kind}
 use Rattle.coap_message.specs.declared.kind.Kind.TheVariants.{Con, Non, Ack, Rst}
 use Rattle.coap_message.specs.declared.error.DecodeError.{DecodeError}
@@ -15,7 +16,7 @@ use Rattle.coap_message.specs.Message.{Message}
 use Rattle.coap_message.specs.Uint.{IsBytes}
 use Rattle.coap_message.specs.Spelling.{SpellsOptions, SpellsPayload, header, Spells}
 use Rattle.coap_message.specs.Reading.{Body, options_at, body_at, body_behind, with_header, read_message, head_at}
-use Rattle.coap_message.proofs.Extensions.{IsBytes-right, some_is}
+use Rattle.coap_message.proofs.Extensions.{IsBytes-right}
 use Rattle.coap_message.proofs.ManyOptions.{mapped_is, options_is, options_again}
 
 -- ---- what stands behind the header
@@ -78,7 +79,7 @@ pub record Behind (code : ℕ) (bytes : List ℕ) (body : Body) : Type 0 where
 
 behind_is : (code n : ℕ) (bytes : List ℕ) (body : Body) → IsBytes bytes → body_behind code n bytes ≡ Some body → Behind code bytes body × (length body.token ≡ n)
 behind_is zero zero [] body fits e =
-    subst (λ (b : Body). Behind 0 [] b × (length b.token ≡ 0)) (some_is _ body e) (
+    subst (λ (b : Body). Behind 0 [] b × (length b.token ≡ 0)) (same_Some _ body e) (
       record {
         takes = record { options = []; payload = []; parts = refl; token = omega arith; options_are = refl; payload_is = refl; are = tt };
         token = λ _. refl;

@@ -5,10 +5,10 @@ use Rattle.coap_message.specs.declared.code.Code.{Code}
 abbrev pub is_code : Code → Code → Bool
 is_code a b = a.0 == b.0
 
--- a method: class 0, but not 0.00 (RFC 7252, 5.2 and 12.1.1)
+-- a method: class 0, but not 0.00 (RFC 7252, 3 and 12.1.1)
 abbrev pub is_request : Code → Bool
 is_request c = (c.0 / 32 == 0) && not (c.0 == 0)
 
--- a response code: class 2, 3, 4 or 5
+-- a response code: class 2, 3, 4 or 5 (RFC 7252, 12.1)
 abbrev pub is_response : Code → Bool
 is_response c = nat_le 2 (c.0 / 32) && nat_le (c.0 / 32) 5

@@ -38,7 +38,7 @@ abbrev pub begins_option : List ℕ → Bool
 begins_option [] = false
 begins_option (first ∷ rest) = not (first == 255)
 
--- no payload, or one of at least one byte behind the marker
+-- what stands where no option begins: nothing, or the marker and a payload of at least one byte
 abbrev pub payload_at : List ℕ → Option (List ℕ)
 payload_at [] = Some []
 payload_at (marker ∷ []) = None
@@ -85,7 +85,7 @@ unfoldable pub read_message : List ℕ → Result Message DecodeError
 read_message (first ∷ code ∷ high ∷ low ∷ rest) = if first / 64 == 1 then with_header first code (256 * high + low) (body_behind code (first % 16) rest) else Err errors.Version
 read_message _ = Err errors.Short
 
--- the head of a datagram: of four bytes and version 1
+-- the head of a datagram of at least four bytes and version 1
 abbrev pub head_at : List ℕ → Option Head
 head_at (first ∷ code ∷ high ∷ low ∷ rest) = if first / 64 == 1 then Some (record { kind = kind_of (first / 16 % 4); code = record { 0 = code }; id = 256 * high + low }) else None
 head_at _ = None

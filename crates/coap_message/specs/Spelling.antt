@@ -39,7 +39,8 @@ abbrev pub SpellsPayload : List ℕ → List ℕ → Type 0
 SpellsPayload bytes [] = bytes ≡ []
 SpellsPayload bytes (p ∷ ps) = bytes ≡ 255 ∷ p ∷ ps
 
--- what a message is
+-- what a message is, beside the ranges that the types of its fields bring along: a code below 256, an id below
+-- 65,536, values of bytes
 pub record IsMessage (m : Message) : Type 0 where
   pub token : length m.token ≤ 8
   pub options : AreOptions 0 m.options

@@ -7,7 +7,7 @@ use crate::seq::Seq;
 use std::alloc::Global;
 
 /// The number that at most eight bytes stand for, in network byte order. Zeros at the head are
-/// allowed, and no byte is 0.
+/// allowed, and no bytes at all stand for 0.
 pub fn uint(value: &[u8]) -> u64
     requires { length value.now ≤ 8 }
     ensures value { result ≡ uint_of value.now }

@@ -33,7 +33,7 @@ impl Model for Message {
     ghost inverse = { kept };
 }
 
-/// The beginning of a message that any datagram of four bytes and version 1 has.
+/// The beginning of a message that any datagram of at least four bytes and version 1 has.
 #[derive(Clone, Copy, Debug, PartialEq, Eq, Hash)]
 pub struct Head {
     pub kind: Kind,

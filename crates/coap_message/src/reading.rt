@@ -199,8 +199,8 @@ pub fn decode(alloc: Global, bytes: &[u8]) -> Result<Message, DecodeError>
     ensures spelled { IfOk result (λ m. Spells bytes.now m) }
     ensures read { (m : Message) → Spells bytes.now m → MatchResult result (λ found. found ≡ m) (λ e. e ≡ DecodeError.OutOfMemory) }
 
-    // Which refusal it is. A format error comes only where no message spells the bytes, and memory is
-    // asked for only where one does.
+    // Which refusal it is. A format error comes only where no message spells the bytes, and want of
+    // memory is answered only where one does.
     ensures short { (result ≡ Err DecodeError.Short) ↔ (length bytes.now < 4) }
     ensures version { (result ≡ Err DecodeError.Version) ↔ ((4 ≤ length bytes.now) × (IsVersionOne bytes.now → ⊥)) }
     ensures format { (result ≡ Err DecodeError.Format) ↔ ((4 ≤ length bytes.now) × IsVersionOne bytes.now × SpellsNone bytes.now) }

@@ -39,7 +39,7 @@ fn bits(n: usize) -> u8
     }
 }
 
-/// Adds the bytes that extend them.
+/// Adds the bytes that extend a delta or a length.
 fn put_more(out: &mut Datagram, room: usize, n: usize) -> Result<(), Full>
     requires room { room ≤ out.old.room }
     requires within { n ≤ 65804 }
@@ -74,8 +74,8 @@ pub fn put_option(
     append(out, room, value)
 }
 
-/// Adds options, the first of a message among them, if at most `room` bytes are held then. It takes no
-/// memory. Where it is `Full`, a part of them may have been added.
+/// Adds the options of a message, all of them, if at most `room` bytes are held then. It takes no memory.
+/// Where it is `Full`, a part of them may have been added.
 pub fn put_options(out: &mut Datagram, room: usize, options: &[Opt]) -> Result<(), Full>
     requires room { room ≤ out.old.room }
     requires held { length out.old.bytes ≤ room }
