@@ -7,6 +7,7 @@ use Rattle.coap_message.specs.Spelling.{IsMessage, Spells, spelling}
 use Rattle.coap_message.proofs.Spellings.{spelled}
 use Rattle.coap_target.specs.declared.target.Target.{Target}
 use Rattle.coap_target.specs.Routes.{mapped_target}
+use Rattle.coap_target.proofs.Lists.{All-weaken}
 use Rattle.coap_exchange.specs.declared.exchange.Answer.{Answer}
 use Rattle.coap_exchange.specs.declared.exchange.ExchangeState.{ExchangeState}
 use Rattle.coap_exchange.specs.declared.exchange.ExchangeState.TheVariants.{Done}
@@ -23,7 +24,7 @@ use Rattle.coap_model.specs.Ticks.{items_of, if_due, without_idle, delivers}
 use Rattle.coap_model.specs.History.{Entry, Place, index, Opens}
 use Rattle.coap_model.specs.Justified.{IsRequestOf, IsMember, Act, served_by, on_waiter, delivered, IsDelivery}
 use Rattle.coap_model.specs.Carries.{WasGot, IsState, IsExchangeOf, IsGotBy, IsWaiterOf, HasNumber, Carries, entry_of}
-use Rattle.coap_model.proofs.Lists.{All-weaken, All-filter, Has, All-there}
+use Rattle.coap_model.proofs.Lists.{All-filter, Has, All-there}
 use Rattle.coap_model.proofs.Places.{Never-at, Opens-unique, request-unique}
 use Rattle.coap_model.proofs.Spelled.{shown-is}
 use Rattle.coap_model.proofs.Tables.{due-serving, answer-holds, answer-number, ArePaired-without, length-paired, length-without, HasNumber-without, HasNumber-paired, one, count-without, not_awaited}

@@ -1,5 +1,6 @@
 -- Sending a request on keeps what is carried.
 use Rattle.std.proofs.Common.{◌≡◌, inl, inr, ⊎_elim, ℕ, ◌^◌, ◌<◌, ◌≤◌, true, List, ◌∷◌, Some, refl, sym, ap, ◌∙◌, subst, arith}
+use Rattle.std.proofs.lemmas.Option.{same_Some}
 use Rattle.coap_message.specs.Message.{Message}
 use Rattle.coap_message.specs.Spelling.{Spells, spelling}
 use Rattle.coap_message.proofs.Spellings.{spelled}
@@ -38,10 +39,7 @@ same_target w history x y f g same =
     let place = Opens-unique history f.opening g.opening y.0 f.was_opened g.was_opened (subst (λ (n : ℕ). Opens n f.opening) same f.opens) g.opens in
     let request = request-unique w.setting g.opening.entry.event f.client g.client f.request g.request (subst (λ (p : Place). IsRequestOf w.setting f.client f.request p.entry.event) place f.asked) g.asked in
     let targets : Some x.1.target ≡ Some y.1.target = sym f.target_is ∙ ap (mapped_target w.setting.routes) request.1 ∙ g.target_is in
-    some-same x.1.target y.1.target targets
-  where
-    some-same : (a b : Target) → Some a ≡ Some b → a ≡ b
-    some-same a b e = cc
+    same_Some x.1.target y.1.target targets
 
 pub keeps_forwarding : (w : World) (history : List Entry) (c : Carries history w) → (now draw : ℕ) (x : Numbered Exchange) → w.last ≤ now → if_due now (least (items_of w)) ≡ Some (sending x)
     → Carries (entry_of now draw tick (sends w now x) ∷ history) (sends w now x).world

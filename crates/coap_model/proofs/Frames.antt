@@ -2,6 +2,7 @@
 use Rattle.std.proofs.Common.{◌≡◌, ◌≢◌, inr, ℕ, ◌^◌, ◌<◌, ◌≤◌, List, [], ◌∷◌, length, subst, arith}
 use Rattle.std.specs.List.{AllByRecursion}
 use Rattle.coap_target.specs.declared.target.Target.{Target}
+use Rattle.coap_target.proofs.Lists.{All-weaken}
 use Rattle.coap_exchange.specs.declared.exchange.ExchangeState.{ExchangeState}
 use Rattle.coap_exchange.specs.declared.exchange.ExchangeState.TheVariants.{Queued, Sent, Done}
 use Rattle.coap_exchange.specs.declared.exchange.Exchange.{Exchange}
@@ -15,7 +16,6 @@ use Rattle.coap_model.specs.World.{World}
 use Rattle.coap_model.specs.History.{Entry, index, serves_one, gives_id, opened_in, served_in, ids_in, Sends, Gets}
 use Rattle.coap_model.specs.Justified.{IsMember, Act, served_by}
 use Rattle.coap_model.specs.Carries.{IsState, IsExchangeOf, IsWaiterOf, IsFresh, Carries}
-use Rattle.coap_model.proofs.Lists.{All-weaken}
 use Rattle.coap_model.proofs.Places.{here, index_below, Opens-number}
 use Rattle.coap_model.proofs.Tables.{length-paired}
 

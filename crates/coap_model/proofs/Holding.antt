@@ -13,6 +13,7 @@ use Rattle.coap_message.specs.Message.{Message}
 use Rattle.coap_message.specs.Spelling.{spelling, options_length, payload_length}
 use Rattle.coap_message.proofs.Spellings.{spelling-length}
 use Rattle.coap_target.specs.declared.target.Target.{Target}
+use Rattle.coap_target.proofs.Lists.{All-weaken}
 use Rattle.coap_exchange.specs.declared.exchange.Answer.{Answer}
 use Rattle.coap_exchange.specs.declared.exchange.ExchangeState.{ExchangeState}
 use Rattle.coap_exchange.specs.declared.exchange.ExchangeState.TheVariants.{Queued, Sent, Done}
@@ -27,7 +28,6 @@ use Rattle.coap_model.specs.History.{Entry}
 use Rattle.coap_model.specs.Justified.{Act}
 use Rattle.coap_model.specs.Carries.{IsState, IsExchangeOf, IsWaiterOf, Carries}
 use Rattle.coap_model.specs.Held.{value_bytes, host_bytes, target_bytes, response_bytes, state_bytes, exchange_bytes, waiter_bytes, held, most_held}
-use Rattle.coap_model.proofs.Lists.{All-weaken}
 
 -- ---- a target is held in no more than its form
 

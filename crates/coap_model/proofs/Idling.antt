@@ -3,6 +3,7 @@ use Rattle.std.proofs.Common.{◌≡◌, ⊎_elim, ℕ, ◌+◌, ◌<◌, ◌≤
 use Rattle.std.specs.List.{AllByRecursion}
 use Rattle.std.proofs.lemmas.Bool.{eq-eqb, ne_eqb, le-leb}
 use Rattle.coap_message.specs.Message.{Message}
+use Rattle.coap_target.proofs.Lists.{All-weaken}
 use Rattle.coap_exchange.specs.declared.exchange.Answer.{Answer}
 use Rattle.coap_exchange.specs.declared.exchange.ExchangeState.{ExchangeState}
 use Rattle.coap_exchange.specs.declared.exchange.ExchangeState.TheVariants.{Queued, Sent, Done}
@@ -18,7 +19,6 @@ use Rattle.coap_model.specs.Ticks.{items_of, if_due, on_item}
 use Rattle.coap_model.specs.History.{Entry, Place, IsPlaceOf}
 use Rattle.coap_model.specs.Justified.{idle}
 use Rattle.coap_model.specs.Carries.{last_of, IsInOrder, IsState, IsExchangeOf, IsWaiterOf, ArePaired, Carries, entry_of}
-use Rattle.coap_model.proofs.Lists.{All-weaken}
 use Rattle.coap_model.proofs.Tables.{AllItems, IsDueOf, items-are, least-holds, answer-holds}
 use Rattle.coap_model.proofs.Quiet.{keeps_quiet}
 

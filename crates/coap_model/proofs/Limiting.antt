@@ -4,15 +4,15 @@ use Rattle.std.specs.Prelude.{not}
 use Rattle.std.proofs.lemmas.Bool.{leb-true, and_parts}
 use Rattle.coap_model.specs.declared.limits.Limit.{Limit}
 use Rattle.coap_model.specs.declared.limits.Limit.TheVariants.{CacheBytes, CacheEntries, ConRecords, NonRecords, Exchanges, Waiters, Nstart, Datagram, ExchangeMs, RetryS}
-use Rattle.coap_model.specs.Limits.{Limits, Within, AreLimits}
-use Rattle.coap_model.specs.Ranges.{range_of, value_of, is_out, all_limits, first_fault}
+use Rattle.coap_model.specs.Limits.{Limits, range_of, MayBe, AreLimits}
+use Rattle.coap_model.specs.Ranges.{value_of, is_out, all_limits, first_fault}
 use Rattle.coap_model.proofs.Lists.{none-found}
 
 not_out : (b : Bool) → not b ≡ false → b ≡ true
 not_out true e = refl
 not_out false e = absurd cc
 
-allowed : (l : Limits) (limit : Limit) → is_out l limit ≡ false → Within (range_of limit).0 (range_of limit).1 (value_of l limit)
+allowed : (l : Limits) (limit : Limit) → is_out l limit ≡ false → MayBe limit (value_of l limit)
 allowed l limit e =
     let parts = and_parts (leb (range_of limit).0 (value_of l limit)) (leb (value_of l limit) (range_of limit).1) (not_out _ e) in
     (leb-true _ _ parts.0, leb-true _ _ parts.1)

@@ -1,7 +1,8 @@
 -- Lists of which each element has a property.
-use Rattle.std.proofs.Common.{◌≡◌, ◌⊎◌, inl, inr, List, [], ◌∷◌, ◌++◌, map, Bool, true, false, Some, None, refl, subst, cond}
+use Rattle.std.proofs.Common.{◌≡◌, ◌⊎◌, inl, inr, List, [], ◌∷◌, map, Bool, true, false, Some, None, refl, subst, cond}
 use Rattle.std.specs.Prelude.{filter}
 use Rattle.std.specs.List.{AllByRecursion, find}
+use Rattle.coap_target.proofs.Lists.{All-weaken}
 
 -- what holds of each element holds of the one that is found, which passes the test
 pub find-holds : {X : Type 0} (P : X → Type 0) (test : X → Bool) (xs : List X) (x : X) → AllByRecursion P xs → find test xs ≡ Some x → P x × (test x ≡ true)
@@ -11,14 +12,6 @@ find-holds P test (y ∷ ys) x all e = go (test y) refl (λ f. find-holds P test
     go : (b : Bool) → test y ≡ b → (find test ys ≡ Some x → P x × (test x ≡ true)) → P x × (test x ≡ true)
     go true t rest = let f : Some y ≡ Some x = rw t at e in let same : y ≡ x = cc in (subst P same all.0, rw (← same) t)
     go false t rest = let f : find test ys ≡ Some x = rw t at e in rest f
-
-pub All-push : {X : Type 0} (P : X → Type 0) (xs : List X) (x : X) → AllByRecursion P xs → P x → AllByRecursion P (xs ++ x ∷ [])
-All-push P [] x all p = (p, tt)
-All-push P (y ∷ ys) x all p = (all.0, All-push P ys x all.1 p)
-
-pub All-weaken : {X : Type 0} (P Q : X → Type 0) (xs : List X) → ((x : X) → P x → Q x) → AllByRecursion P xs → AllByRecursion Q xs
-All-weaken P Q [] less all = tt
-All-weaken P Q (x ∷ xs) less all = (less x all.0, All-weaken P Q xs less all.1)
 
 pub All-map : {X : Type 0} (P Q : X → Type 0) (f : X → X) (xs : List X) → ((x : X) → P x → Q (f x)) → AllByRecursion P xs → AllByRecursion Q (map f xs)
 All-map P Q f [] step all = tt

@@ -7,6 +7,7 @@ use Rattle.coap_message.specs.Uint.{IsBytes}
 use Rattle.coap_message.specs.Message.{Message}
 use Rattle.coap_target.specs.declared.endpoint.Endpoint.{Endpoint}
 use Rattle.coap_target.specs.declared.target.Target.{Target}
+use Rattle.coap_target.proofs.Lists.{All-append, All-weaken}
 use Rattle.coap_exchange.proofs.Tables.{IsRising-push}
 use Rattle.coap_model.specs.Setting.{Setting}
 use Rattle.coap_model.specs.Events.{arrival}
@@ -17,7 +18,6 @@ use Rattle.coap_model.specs.Requests.{opens, new_exchange, new_waiter, next_toke
 use Rattle.coap_model.specs.History.{Entry, Never, opened_in, Gets}
 use Rattle.coap_model.specs.Justified.{IsMember, Act, served_by, on_nothing, opened, IsJustified, delivered, refused, overloaded, lacking, asked, answered, rejected, ignored, idle, nothing_yet}
 use Rattle.coap_model.specs.Carries.{IsExchangeOf, IsGotBy, IsWaiterOf, ArePaired, HasNumber, Carries, entry_of}
-use Rattle.coap_model.proofs.Lists.{All-push, All-weaken}
 use Rattle.coap_model.proofs.Places.{here, Never-weaken, Opens-number}
 use Rattle.coap_model.proofs.Verdicts.{openable}
 use Rattle.coap_model.proofs.Rules.{Asked, verdict_in}
@@ -79,36 +79,40 @@ keeps_opening w history c now draw client bytes m t onward fits asks verdict roo
       ids = ((λ g. absurd (omega arith)), c.ids);
       fresh = fresh_frame w.setting history e (λ x above s. unsent x) (λ x above s. ungot x) c.fresh;
       exchanges =
-          All-push (IsExchangeOf w.setting (e ∷ history)) w.exchanges (new_exchange w now t) (exchanges_frame w.setting history e w.exchanges unsent ungot c.exchanges)
-          (record {
-            opening = here history e;
-            client = client;
-            request = m;
-            was_opened = inl refl;
-            opens = (refl, number);
-            admitted = refl;
-            asked = came;
-            target_is = may.target_is;
-            sound = may.sound;
-            form_is = refl;
-            form_short = may.short;
-            state = ((unsent (w.opened + 1), new.0), (ungot (w.opened + 1), new.1));
-          });
+          All-append (IsExchangeOf w.setting (e ∷ history)) w.exchanges (new_exchange w now t ∷ []) (exchanges_frame w.setting history e w.exchanges unsent ungot c.exchanges) (
+            record {
+              opening = here history e;
+              client = client;
+              request = m;
+              was_opened = inl refl;
+              opens = (refl, number);
+              admitted = refl;
+              asked = came;
+              target_is = may.target_is;
+              sound = may.sound;
+              form_is = refl;
+              form_short = may.short;
+              state = ((unsent (w.opened + 1), new.0), (ungot (w.opened + 1), new.1));
+            },
+            tt,
+          );
       waiters =
-          All-push (IsWaiterOf w.setting (e ∷ history) (on_nothing ∷ c.acts)) w.waiters (new_waiter w client m) (waiters_frame w.setting history c.acts (on_nothing ∷ c.acts) e w.waiters refl c.waiters)
-          (record {
-            admission = here history e;
-            client = client;
-            request = m;
-            was_admitted = inl refl;
-            opens = (refl, same ∙ number);
-            asked = came;
-            exchange = sym same;
-            client_is = refl;
-            token_is = refl;
-            not_got_by = subst (λ (n : ℕ). Never (IsGotBy w.setting.salt n (here history e)) (e ∷ history)) (sym same) (Never-weaken (Gets w.setting.salt (w.opened + 1)) (IsGotBy w.setting.salt (w.opened + 1) (here history e)) (e ∷ history) (λ p g. g.0) (ungot (w.opened + 1), new.1));
-            unserved = λ member. let i = served-number c.past (w.admitted + 1) member in omega arith;
-          });
+          All-append (IsWaiterOf w.setting (e ∷ history) (on_nothing ∷ c.acts)) w.waiters (new_waiter w client m ∷ []) (waiters_frame w.setting history c.acts (on_nothing ∷ c.acts) e w.waiters refl c.waiters) (
+            record {
+              admission = here history e;
+              client = client;
+              request = m;
+              was_admitted = inl refl;
+              opens = (refl, same ∙ number);
+              asked = came;
+              exchange = sym same;
+              client_is = refl;
+              token_is = refl;
+              not_got_by = subst (λ (n : ℕ). Never (IsGotBy w.setting.salt n (here history e)) (e ∷ history)) (sym same) (Never-weaken (Gets w.setting.salt (w.opened + 1)) (IsGotBy w.setting.salt (w.opened + 1) (here history e)) (e ∷ history) (λ p g. g.0) (ungot (w.opened + 1), new.1));
+              unserved = λ member. let i = served-number c.past (w.admitted + 1) member in omega arith;
+            },
+            tt,
+          );
       whole = record {
         rising = IsRising-push 0 (w.opened + 1) w.exchanges (new_exchange w now t).1 (omega arith) below c.whole.rising;
         paired = subst (λ (n : ℕ). ArePaired (w.exchanges ++ new_exchange w now t ∷ []) (w.waiters ++ (n, (new_waiter w client m).1) ∷ [])) (sym same) (ArePaired-push (w.opened + 1) w.exchanges w.waiters (new_exchange w now t).1 (new_waiter w client m).1 c.whole.paired);

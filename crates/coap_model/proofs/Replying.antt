@@ -92,7 +92,7 @@ pub keeps_lacking : (w : World) (history : List Entry) (c : Carries history w) (
 keeps_lacking w history c now draw client bytes m onward fits asked full free =
     let e = entry_of now draw (arrival client bytes) (lacks_id w now) in
     keeps_quiet w history c e w.given (record { opens = refl; sends = refl; answers = refl; serves = refl; unsent = λ o. cc; ungot = λ o. cc }) onward (omega arith) (λ g. absurd (omega arith)) c.within.ids
-    (lacking e c.past refl (record { client = client; request = m; asked = request-came w client bytes m fits asked; no_room = λ t v. room-none history w c (full t (sym (verdict-same w history c m) ∙ v)); no_ids = ids-none 1 history w c free; silent = record { sent = refl; bytes = refl } }))
+    (lacking e c.past refl (record { client = client; request = m; asked = request-came w client bytes m fits asked; no_ids = ids-none 1 history w c free; silent = record { sent = refl; bytes = refl } }))
 
 -- ---- what isn't processed
 

@@ -1,6 +1,7 @@
 -- The cases of a step, each with what is known there.
 use Rattle.std.proofs.Common.{◌≡◌, ℕ, Bool, true, false, cond, List, Option, Some, None, refl, sym, ◌∙◌, subst}
 use Rattle.std.specs.Prelude.{◌&&◌}
+use Rattle.std.proofs.lemmas.Option.{same_Some}
 use Rattle.coap_message.specs.declared.kind.Kind.{Kind}
 use Rattle.coap_message.specs.declared.kind.Kind.TheVariants.{Con, Non, Ack, Rst}
 use Rattle.coap_message.specs.declared.code.Code.{Code}
@@ -84,10 +85,7 @@ rule_verdict w now draw client bytes m fits asked (may_open t) e = go (has_room 
 -- ---- what came
 
 one_head : (bytes : List ℕ) (head : Head) → head_at bytes ≡ Some head → is_con head.kind ≡ false → IsNotCon bytes
-one_head bytes head is other again also = let same : head ≡ again = some-same head again (sym is ∙ also) in subst (λ (h : Head). is_con h.kind ≡ false) same other
-  where
-    some-same : (a b : Head) → Some a ≡ Some b → a ≡ b
-    some-same a b g = cc
+one_head bytes head is other again also = let same : head ≡ again = same_Some head again (sym is ∙ also) in subst (λ (h : Head). is_con h.kind ≡ false) same other
 
 -- what isn't processed is rejected where it is confirmable
 rule_unprocessed : (w : World) (now draw : ℕ) (source : Endpoint) (bytes : List ℕ) (head : Head) → head_at bytes ≡ Some head → (IsNotCon bytes → IsNothing w source bytes) → Rule w now draw (arrival source bytes) (unprocessed w now source head.kind head.id)
@@ -102,12 +100,9 @@ nothing_else : (w : World) (source : Endpoint) (bytes : List ℕ) (m : Message) 
 nothing_else w source bytes m read request response quiet =
     record {
       quiet = quiet;
-      request = λ n again. subst (λ (k : Message). (is_non k.kind && is_request k.code) ≡ false) (some-same m n (sym read ∙ again)) request;
-      response = λ n again. subst (λ (k : Message). (is_ack k.kind && is_response k.code) ≡ true → awaiting w source k ≡ None) (some-same m n (sym read ∙ again)) response;
+      request = λ n again. subst (λ (k : Message). (is_non k.kind && is_request k.code) ≡ false) (same_Some m n (sym read ∙ again)) request;
+      response = λ n again. subst (λ (k : Message). (is_ack k.kind && is_response k.code) ≡ true → awaiting w source k ≡ None) (same_Some m n (sym read ∙ again)) response;
     }
-  where
-    some-same : (a b : Message) → Some a ≡ Some b → a ≡ b
-    some-same a b g = cc
 
 nothing_read : (w : World) (source : Endpoint) (bytes : List ℕ) → message_in w.setting.limits.datagram bytes ≡ None → IsNotCon bytes → IsNothing w source bytes
 nothing_read w source bytes unread quiet = record { quiet = quiet; request = λ n again. absurd (let g = sym unread ∙ again in cc); response = λ n again. absurd (let g = sym unread ∙ again in cc) }

@@ -3,6 +3,7 @@ use Rattle.std.proofs.Common.{◌≡◌, ◌≢◌, ◌⊎◌, inl, inr, ⊎_eli
 use Rattle.std.specs.Prelude.{not}
 use Rattle.std.specs.List.{AllByRecursion}
 use Rattle.std.proofs.lemmas.Bool.{eqb-true, eqb-false, eq-eqb, ne_eqb, leb-true}
+use Rattle.std.proofs.lemmas.Option.{same_Some}
 use Rattle.coap_exchange.specs.declared.exchange.Answer.{Answer}
 use Rattle.coap_exchange.specs.declared.exchange.ExchangeState.{ExchangeState}
 use Rattle.coap_exchange.specs.declared.exchange.ExchangeState.TheVariants.{Queued, Sent, Done}
@@ -33,16 +34,13 @@ pub least-holds : (P : Item → Type 0) (items : List Item) (i : Item) → AllIt
 least-holds P [] i all e = absurd cc
 least-holds P (j ∷ items) i all e = go (least items) (λ k f. least-holds P items k all.1 f) refl e
   where
-    some-same : (a b : Item) → Some a ≡ Some b → a ≡ b
-    some-same a b g = cc
-
     go : (o : Option Item) → ((k : Item) → least items ≡ Some k → P k) → least items ≡ o → earlier j o ≡ Some i → P i
-    go None rest is f = subst P (some-same j i f) all.0
+    go None rest is f = subst P (same_Some j i f) all.0
     go (Some k) rest is f = test (leb (due_of j) (due_of k)) f
       where
         test : (b : Bool) → cond b (Some j) (Some k) ≡ Some i → P i
-        test true g = subst P (some-same j i g) all.0
-        test false g = subst P (some-same k i g) (rest k is)
+        test true g = subst P (same_Some j i g) all.0
+        test false g = subst P (same_Some k i g) (rest k is)
 
 if_due-is : (now : ℕ) (o : Option Item) (i : Item) → if_due now o ≡ Some i → (o ≡ Some i) × (due_of i ≤ now)
 if_due-is now None i e = absurd cc

@@ -1,4 +1,4 @@
--- What happens to a proxy, and what a step answers.
+-- What happens to a proxy.
 use Rattle.std.specs.Prelude.{ℕ, List}
 use Rattle.coap_target.specs.declared.endpoint.Endpoint.{Endpoint}
 

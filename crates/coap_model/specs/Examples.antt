@@ -5,7 +5,7 @@ use Rattle.coap_target.specs.declared.endpoint.Ip.TheVariants.{V4}
 use Rattle.coap_target.specs.declared.endpoint.Endpoint.{Endpoint}
 use Rattle.coap_target.specs.Routes.{fixed_routes}
 use Rattle.coap_model.specs.declared.report.Outcome.{Outcome}
-use Rattle.coap_model.specs.declared.report.Outcome.TheVariants.{Ignored, Rejected, Refused, Opened, Overloaded, Answered, SentRequest, Delivered, Idle}
+use Rattle.coap_model.specs.declared.report.Outcome.TheVariants.{Ignored, Rejected, Refused, Opened, Overloaded, NoId, Answered, SentRequest, Delivered, Idle}
 use Rattle.coap_model.specs.declared.report.Storing.TheVariants.{NotStored}
 use Rattle.coap_model.specs.declared.report.Report.{Report}
 use Rattle.coap_model.specs.Limits.{default_limits}
@@ -33,7 +33,7 @@ play w (m ∷ moments) = sent_by (step_of w m.now 0 m.event) ∷ play (step_of w
 abbrev pub local : ℕ → Endpoint
 local port = record { ip = V4 (127 ∷ 0 ∷ 0 ∷ 1 ∷ []); port = port }
 
--- the origin of the fixed route, and three clients
+-- the origin of the fixed route, and clients by number
 abbrev pub origin : Endpoint
 origin = local 5690
 
@@ -193,3 +193,34 @@ too_long = from 0 (client 1) (0x40 ∷ 1 ∷ 0 ∷ 7 ∷ 0xFF ∷ replicate 124 
 
 abbrev pub too_long_sent : List Sent
 too_long_sent = to Rejected (client 1) (0x70 ∷ 0 ∷ 0 ∷ 7 ∷ []) ∷ []
+
+-- the longest payload that still fits datagrams of 128 bytes, with a token of eight bytes and a Max-Age of four; one
+-- byte more is replaced by 5.02
+abbrev pub payload_of : ℕ → List Moment
+payload_of n = answered_by 0 (answer 0x68 0x45 1 1 (0xFF ∷ replicate n 0x39))
+
+abbrev pub payload_of_109_sent : List Sent
+payload_of_109_sent = delivered_as (0x50 ∷ 0x45 ∷ 0 ∷ 2 ∷ 0xD1 ∷ 1 ∷ 60 ∷ 0xFF ∷ replicate 109 0x39)
+
+-- a proxy that has given all ids but one: with it a client is told to try again, since an exchange needs two; then
+-- there is no reply
+abbrev pub spent_proxy : World
+spent_proxy = record proxy { given = 32767 }
+
+abbrev pub last_id : List Moment
+last_id = from 0 (client 1) (get_t []) ∷ from 0 (client 2) (get_t []) ∷ from 0 (client 3) (0x50 ∷ 1 ∷ 0 ∷ 9 ∷ 0xB1 ∷ 0x75 ∷ []) ∷ []
+
+abbrev pub last_id_sent : List Sent
+last_id_sent = to Overloaded (client 1) (0x50 ∷ 0xA3 ∷ 0x80 ∷ 0 ∷ 0xD1 ∷ 1 ∷ 5 ∷ []) ∷ nothing NoId ∷ nothing NoId ∷ []
+
+-- ids and tokens go on from 0 behind the greatest
+abbrev pub wrapping_proxy : World
+wrapping_proxy = new_world (record { limits = default_limits; routes = fixed_routes; first_id = 65535; salt = 18446744073709551615 })
+
+abbrev pub wrapping : List Moment
+wrapping = from 0 (client 1) (get_t []) ∷ tick_at 0 ∷ from 0 origin (0x68 ∷ 0x44 ∷ 0xFF ∷ 0xFF ∷ replicate 8 0) ∷ tick_at 0 ∷ []
+
+abbrev pub wrapping_sent : List Sent
+wrapping_sent =
+    nothing Opened ∷ to SentRequest origin (0x48 ∷ 1 ∷ 0xFF ∷ 0xFF ∷ 0 ∷ 0 ∷ 0 ∷ 0 ∷ 0 ∷ 0 ∷ 0 ∷ 0 ∷ 0xB4 ∷ 0x74 ∷ 0x65 ∷ 0x6D ∷ 0x70 ∷ [])
+    ∷ nothing (Answered NotStored) ∷ to Delivered (client 1) (0x50 ∷ 0x44 ∷ 0 ∷ 0 ∷ []) ∷ []

@@ -41,6 +41,7 @@ waiter_bytes v = length v.1.token
 abbrev pub held : World → ℕ
 held w = sum_by exchange_bytes w.exchanges + sum_by waiter_bytes w.waiters
 
--- the most that the store, the records, the waiters and the exchanges hold
+-- a bound on what the store, the records, the waiters and the exchanges hold together; there is no store and
+-- there are no records yet
 abbrev pub most_held : Limits → ℕ
 most_held l = l.cache_bytes + (l.con_records + l.non_records) * (l.datagram + 128) + l.waiters * (l.datagram + 256) + l.exchanges * (4 * l.datagram + 256)

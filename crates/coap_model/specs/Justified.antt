@@ -69,7 +69,6 @@ pub record IsLack (setting : Setting) (past : List Entry) (e : Entry) : Type 0 w
   pub client : Endpoint
   pub request : Message
   pub asked : IsRequestOf setting client request e.event
-  pub no_room : (target : Target) → verdict_on setting past request ≡ may_open target → ¬ HasRoom setting.limits past
   pub no_ids : ¬ HasIds 1 past
   pub silent : IsSilent e
 

@@ -133,7 +133,7 @@ unfoldable pub answer_of : ℕ → ℕ → Message → Answer
 answer_of most now m =
     if is_passed_on most m then record { message = m; got = now; own = false } else record { message = bad_gateway; got = now; own = true }
 
--- the Max-Age of a response, in seconds: 60 where there is none (RFC 7252, 5.10.5)
+-- the Max-Age of a response that is passed on, in seconds: its one option, 60 where it has none (RFC 7252, 5.10.5)
 abbrev pub max_age_of : List Opt → ℕ
 max_age_of [] = 60
 max_age_of (o ∷ more) = uint_of o.value

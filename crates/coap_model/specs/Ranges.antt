@@ -1,22 +1,9 @@
--- The limits by name: the range of each, and which is at fault.
+-- The limits by name, and which is at fault.
 use Rattle.std.specs.Prelude.{ℕ, ◌&&◌, Bool, not, nat_le, List, [], ◌∷◌, Option}
 use Rattle.std.specs.List.{find}
 use Rattle.coap_model.specs.declared.limits.Limit.{Limit}
 use Rattle.coap_model.specs.declared.limits.Limit.TheVariants.{CacheBytes, CacheEntries, ConRecords, NonRecords, Exchanges, Waiters, Nstart, Datagram, ExchangeMs, RetryS}
-use Rattle.coap_model.specs.Limits.{Limits}
-
--- the least and the greatest value
-abbrev pub range_of : Limit → ℕ × ℕ
-range_of CacheBytes = (0, 268435456)
-range_of CacheEntries = (1, 65536)
-range_of ConRecords = (1, 65536)
-range_of NonRecords = (1, 65536)
-range_of Exchanges = (1, 4096)
-range_of Waiters = (1, 16384)
-range_of Nstart = (1, 16)
-range_of Datagram = (128, 4096)
-range_of ExchangeMs = (1000, 600000)
-range_of RetryS = (0, 3600)
+use Rattle.coap_model.specs.Limits.{Limits, range_of}
 
 abbrev pub value_of : Limits → Limit → ℕ
 value_of l CacheBytes = l.cache_bytes

@@ -1,9 +1,8 @@
--- What a proxy is made with.
+-- What a proxy is made with, which no step changes (`laws::settings_stay`).
 use Rattle.std.specs.Prelude.{ℕ}
 use Rattle.coap_target.specs.declared.routes.Routes.{Routes}
 use Rattle.coap_model.specs.Limits.{Limits}
 
--- no step changes it
 pub record Setting : Type 0 where
   pub limits : Limits
   pub routes : Routes

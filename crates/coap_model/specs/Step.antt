@@ -44,7 +44,7 @@ on_read w now source (Some head) (Some m) = on_message w now source m
 abbrev pub on_datagram : World → ℕ → Endpoint → List ℕ → Step
 on_datagram w now source bytes = on_read w now source (head_at bytes) (message_in w.setting.limits.datagram bytes)
 
--- one step, at a moment, with a draw that is kept for later use
+-- one step, at a moment, with a draw, which no step reads yet
 abbrev pub step_of : World → ℕ → ℕ → Event → Step
 step_of w now draw (arrival source bytes) = on_datagram w now source bytes
 step_of w now draw tick = on_tick w now

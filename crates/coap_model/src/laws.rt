@@ -10,7 +10,7 @@ ghost use Rattle.coap_model.specs.History.{Entry};
 ghost use Rattle.coap_model.specs.Carries.{Carries, entry_of, IsEvent};
 ghost use Rattle.coap_model.specs.Promised.{Promised};
 ghost use Rattle.coap_model.specs.Runs.{Turn, AreTurns, new_run, run_of};
-ghost use Rattle.coap_model.specs.Examples.{play, proxy, small_proxy, narrow_proxy, first_answer, first_answer_sent, late_answer, late_answer_sent, error, error_sent, changed, changed_sent, valid, replaced_sent, block_in_response, impostor, impostor_sent, refusals, refusals_sent, long_paths, long_paths_sent, payload_in_get, payload_in_get_sent, full, full_sent, unprocessed_messages, unprocessed_messages_sent, too_long, too_long_sent};
+ghost use Rattle.coap_model.specs.Examples.{play, proxy, small_proxy, narrow_proxy, first_answer, first_answer_sent, late_answer, late_answer_sent, error, error_sent, changed, changed_sent, valid, replaced_sent, block_in_response, impostor, impostor_sent, refusals, refusals_sent, long_paths, long_paths_sent, payload_in_get, payload_in_get_sent, full, full_sent, unprocessed_messages, unprocessed_messages_sent, too_long, too_long_sent, payload_of, payload_of_109_sent, spent_proxy, last_id, last_id_sent, wrapping_proxy, wrapping, wrapping_sent};
 
 /// Runs of the step, computed on the definitions.
 pub fn examples()
@@ -27,6 +27,10 @@ pub fn examples()
     ensures full { play small_proxy full ≡ full_sent }
     ensures unprocessed { play proxy unprocessed_messages ≡ unprocessed_messages_sent }
     ensures too_long { play narrow_proxy too_long ≡ too_long_sent }
+    ensures payload_that_fits { play narrow_proxy (payload_of 109) ≡ payload_of_109_sent }
+    ensures payload_that_does_not { play narrow_proxy (payload_of 110) ≡ replaced_sent }
+    ensures last_id { play spent_proxy last_id ≡ last_id_sent }
+    ensures wrapping { play wrapping_proxy wrapping ≡ wrapping_sent }
 {}
 
 /// Each step of a proxy that carries a history leaves a proxy that carries the history with the step's
@@ -46,8 +50,8 @@ pub fn settings_stay()
 {}
 
 /// What a proxy carries it promises: each entry is justified by the entries before it, each waiter
-/// is served at most once, message ids count up and none comes back, and the limits hold, that of the
-/// bytes held too.
+/// is served at most once, message ids count up and none comes back, and exchanges, waiters and the bytes
+/// held are within their limits.
 pub fn what_is_carried_is_promised()
     ensures promised { (history : List Entry) (w : World) → Carries history w → Promised history w }
 {}
@@ -58,7 +62,8 @@ pub fn datagrams_fit()
     ensures fits { (w : World) (history : List Entry) (now draw : ℕ) (event : Event) → Carries history w → AreLimits w.setting.limits → IsEvent event → length (step_of w now draw event).bytes ≤ w.setting.limits.datagram }
 {}
 
-/// Whatever happens to a new proxy, it promises the same of all that happened.
+/// Whatever happens to a new proxy at moments that don't go back, where datagrams are bytes and origins are
+/// targets, it promises the same of all that happened.
 pub fn runs_are_promised()
     ensures kept { (setting : Setting) (turns : List Turn) → AreRoutes setting.routes → AreTurns 0 turns → (run_of (new_run setting) turns).world.setting ≡ setting }
     ensures promised { (setting : Setting) (turns : List Turn) → AreRoutes setting.routes → AreTurns 0 turns → Promised (run_of (new_run setting) turns).history (run_of (new_run setting) turns).world }

@@ -1,8 +1,8 @@
 //! The limits of a proxy.
 ghost use Rattle.std.specs.Prelude.{◌≡◌, None, Some, not, IfOk, IfErr};
-ghost use Rattle.coap_model.specs.Limits.{default_limits};
+ghost use Rattle.coap_model.specs.Limits.{default_limits, range_of};
 ghost use Rattle.coap_model.specs.LimitsView.{of_values};
-ghost use Rattle.coap_model.specs.Ranges.{range_of, value_of, is_out, first_fault};
+ghost use Rattle.coap_model.specs.Ranges.{value_of, is_out, first_fault};
 
 use std::marker::Model;
 use thiserror::Error;
@@ -135,7 +135,8 @@ impl Default for LimitValues {
     }
 }
 
-/// The limits that a proxy keeps, each within its range.
+/// The limits of a proxy, each within its range. Those of the cache and of the records, `nstart` and
+/// `exchange_ms` limit nothing yet.
 #[derive(Clone, Copy, Debug, PartialEq, Eq)]
 pub struct Limits {
     /// The greatest size of the cache, in bytes.

@@ -15,7 +15,8 @@ pub enum Storing {
     NotStored,
 }
 
-/// What a step did.
+/// What a step did. Of the first path are `Ignored`, `Rejected`, `Refused`, `Opened`, `Overloaded`, `NoId`,
+/// `Answered` with `NotStored`, `SentRequest`, `Delivered` and `Idle`; the others don't come yet.
 #[derive(Clone, Copy, Debug, PartialEq, Eq)]
 pub enum Outcome {
     /// Nothing: the datagram is no one's business.
@@ -61,7 +62,8 @@ pub struct Report {
     pub outcome: Outcome,
 }
 
-/// How much a proxy holds.
+/// How much a proxy holds: bytes and entries of its cache, duplicate records, exchanges, clients that wait. The
+/// first four are 0 so far.
 #[derive(Clone, Copy, Debug, PartialEq, Eq)]
 pub struct Counts {
     pub cached_bytes: u64,
