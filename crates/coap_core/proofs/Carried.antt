@@ -10,6 +10,7 @@ use Rattle.coap_exchange.specs.declared.exchange.ExchangeState.TheVariants.{Queu
 use Rattle.coap_exchange.specs.declared.waiter.Waiter.{Waiter}
 use Rattle.coap_exchange.specs.Table.{Numbered, IsRising}
 use Rattle.coap_target.specs.declared.target.Target.{Target}
+use Rattle.coap_target.proofs.Lists.{All-weaken}
 use Rattle.coap_message.specs.declared.code.TheConstants.Code.{VALID}
 use Rattle.coap_message.specs.Codes.{is_code}
 use Rattle.coap_model.specs.Messages.{are_understood, is_passed_on, fits, bad_gateway, answer_of}
@@ -24,7 +25,6 @@ use Rattle.coap_model.specs.History.{Entry}
 use Rattle.coap_model.specs.Carries.{IsState, IsExchangeOf, ArePaired, Carries, IsEvent, entry_of}
 use Rattle.coap_model.proofs.Carrying.{keeps_step}
 use Rattle.coap_model.proofs.Frames.{opened-few}
-use Rattle.coap_model.proofs.Lists.{All-weaken}
 use Rattle.coap_model.proofs.Running.{setting_stays}
 use Rattle.coap_core.specs.Steps.{Does, IsUnderstood, CanGoOn}
 

@@ -1,5 +1,5 @@
 -- What the tables keep for later: ids for what is still to be sent and served, and answers that can be shown.
-use Rattle.std.proofs.Common.{◌≡◌, ℕ, ◌+◌, ◌<◌, Bool, true, false, cond, eqb, List, [], ◌∷◌, length, Some, sym, subst, arith}
+use Rattle.std.proofs.Common.{◌≡◌, ℕ, ◌+◌, ◌<◌, Bool, true, false, cond, eqb, List, [], ◌∷◌, Some, sym, subst, arith}
 use Rattle.std.specs.List.{AllByRecursion}
 use Rattle.coap_exchange.specs.declared.exchange.Answer.{Answer}
 use Rattle.coap_exchange.specs.declared.exchange.Exchange.{Exchange}
@@ -27,15 +27,6 @@ queued-counts n (y ∷ ys) x e queued = go (eqb n y.0) e (λ f. queued-counts n 
 -- an id is left for it
 pub id-for-queued : (w : World) (n : ℕ) (x : Exchange) → CanGoOn w → item_at n w.exchanges ≡ Some x → is_queued x.state ≡ true → w.given < 32768
 id-for-queued w n x can e queued = let some = queued-counts n w.exchanges x e queued in omega (arith, can.ids)
-
--- the table isn't empty where an item is found
-some-item : {A : Type 0} (n : ℕ) (xs : List (Numbered A)) (a : A) → item_at n xs ≡ Some a → 0 < length xs
-some-item n [] a e = absurd cc
-some-item n (x ∷ xs) a e = omega arith
-
--- an id is left for a client that waits
-pub id-for-waiter : {A : Type 0} (w : World) (n : ℕ) (vs : List (Numbered A)) (a : A) → CanGoOn w → length vs ≡ length w.waiters → item_at n vs ≡ Some a → w.given < 32768
-id-for-waiter w n vs a can same e = let some = some-item n vs a e in omega (arith, can.ids)
 
 -- the options of an answer are understood
 pub answer-understood : (xs : List (Numbered Exchange)) (n : ℕ) (a : Answer) → AllByRecursion (λ x. IsUnderstood x.1.state) xs → answer_in n xs ≡ Some a → are_understood a.message.options ≡ true

@@ -1,4 +1,4 @@
-//! What happens to a proxy.
+//! Events, which lend their bytes.
 ghost use Rattle.coap_message.specs.Uint.{IsBytes};
 ghost use Rattle.coap_model.specs.Carries.{IsEvent};
 ghost use Rattle.coap_core.specs.Events.{seen};

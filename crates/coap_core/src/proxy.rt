@@ -71,14 +71,14 @@ impl Core {
         Ok(Core { tables })
     }
 
-    /// One step: what is made of an event at a moment, with a random draw that is kept for later use. The
+    /// One step: what is made of an event at a moment, with a random draw, which no step reads yet. The
     /// datagram that it sends, if it sends one, is in `out`, which is empty otherwise.
     ///
     /// `now` is in milliseconds, at most 2^62, and doesn't go back; `draw` is at most 1,000; `out` has room
-    /// for `datagram()` bytes.
+    /// for `datagram()` bytes; fewer than 2^63 steps were done.
     ///
     /// # Errors
-    /// Want of memory, which changes nothing. A tick takes no memory.
+    /// Want of memory, which changes nothing. A tick never answers it.
     pub fn step(
         &mut self,
         now: u64,

@@ -37,7 +37,7 @@ impl Model for Tables {
 }
 
 impl Tables {
-    /// The tables of a proxy that has done nothing. All room is made here.
+    /// The tables of a proxy that has done nothing. Room for the items of both is made here.
     pub(crate) fn new(
         alloc: Global,
         limits: Limits,

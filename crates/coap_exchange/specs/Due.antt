@@ -58,7 +58,7 @@ number_of (serving v a) = v.0
 abbrev pub due_as : Item → Due
 due_as i = record { at = due_of i; number = number_of i }
 
--- of what is due first among some and what is due first among others behind them, the first
+-- the earlier of two, and at one moment the former
 abbrev pub first_of : Option Due → Option Due → Option Due
 first_of None later = later
 first_of (Some a) None = Some a

@@ -1,4 +1,4 @@
--- Tables: items under numbers that count from 1 and are given once, in order of number.
+-- Tables: items in order of their numbers, which count from 1. A number is given again only where it was given back.
 use Rattle.std.specs.Prelude.{ℕ, ◌+◌, ◌-◌, ◌==◌, ◌<◌, ◌≤◌, not, List, [], ◌∷◌, ◌++◌, length, filter, Option, Some, None}
 use Rattle.std.specs.List.{AllByRecursion}
 use Rattle.std.specs.Map.{lookup}
@@ -9,7 +9,7 @@ Numbered A = ℕ × A
 
 pub record Table (A : Type 0) : Type 0 where
   pub items : List (Numbered A)
-  -- the most items that it holds, and how many there ever were
+  -- the most items that it holds, and the last number that was given
   pub limit : ℕ
   pub admitted : ℕ
 

@@ -3,7 +3,7 @@ ghost use Rattle.std.specs.Prelude.{◌≡◌, ◌+◌, ◌-◌, ◌<◌};
 ghost use Rattle.coap_exchange.specs.Ids.{nth_id};
 
 /// The message ids that a proxy gives: counted up from the first, and begun anew at 0 behind 65,535.
-/// At most 32,768 are given, so that none comes back.
+/// `next` asks that fewer than 32,768 were given, so that none comes back.
 #[derive(Clone, Copy, Debug, PartialEq, Eq)]
 pub struct Ids {
     /// The first.
@@ -16,7 +16,7 @@ impl Ids {
     /// How many ids are given at most.
     pub const MOST: u64 = 32_768;
 
-    /// None was given.
+    /// Ids of which none was given yet.
     pub fn new(first: u16) -> Ids
         ensures exact { result ≡ record { first = first; given = 0 } }
     {
@@ -30,7 +30,7 @@ impl Ids {
         Ids::MOST.saturating_sub(self.given)
     }
 
-    /// The next.
+    /// Gives the next id.
     pub fn next(&mut self) -> u16
         requires { self.old.given < 32768 }
         ensures id { result ≡ nth_id self.old.first self.old.given }

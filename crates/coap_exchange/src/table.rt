@@ -21,8 +21,8 @@ pub enum AdmitError {
     OutOfMemory,
 }
 
-/// Items under numbers, in order of number. Numbers count from 1, and none is given twice. Room for all
-/// items is made at the start.
+/// Items under numbers, in order of number. Numbers count from 1, and one is given again only where it was
+/// given back. Room for all items is made at the start.
 #[derive(Drop)]
 pub struct Table<T> {
     pub(crate) items: IndexMap<u64, T>,

@@ -82,15 +82,6 @@ at-first w (Some i) = ([], refl, refl, refl)
 pub at-start : (w : World) (input old : Option (List ℕ)) → IsAt w w input input old old 0 0
 at-start w input old = record { turns = []; done = done-nothing w; written = nothing-written old; counted = refl; asked = at-first w input }
 
-up-to-first : (w : World) (input : Option (List ℕ)) → IfSome input (λ i. IsUpTo w i [] 1)
-up-to-first w None = tt
-up-to-first w (Some i) = refl
-
--- memory ran out before the first line
-pub ends-at-once : (w : World) (input old : Option (List ℕ)) → IsReplayed w w input old old (Err (OutOfMemory 1))
-ends-at-once w input old =
-    record { turns = []; done = done-nothing w; ends = ([], [], refl, omega arith, nothing-written old, up-to-first w input) }
-
 up-to-line : (w v : World) (i rest : List ℕ) (turns : List Turn) (lines : ℕ) → v ≡ world_after w turns → StillAsks w i (Some rest) turns lines v → (line : ℕ) → line ≡ lines + 1 → IsUpTo w i turns line
 up-to-line w v i rest turns lines world (front, split, len, script) line is =
     let simpler : line - 1 ≡ length front = omega (arith, is, len) in

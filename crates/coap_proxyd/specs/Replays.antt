@@ -68,8 +68,8 @@ IsUpTo w input turns line = script_for w input ≡ behind turns (script_from lin
 --   A bad line: the lines before it were done, and their lines written.
 --   Want of memory at a line: those before it were done, and their lines written. The event of the line may
 --   have been done too; of its line nothing was written.
---   A reader that fails: what was read before was done, and its lines written.
---   A writer that fails: what was read was done, and a front of its lines written.
+--   `Read`: some lines were done, perhaps none, and their lines written. That the reader failed isn't said.
+--   `Write`: some lines were done, and a front of their lines written. That the writer failed isn't said.
 abbrev pub Ends : World → Option (List ℕ) → Option (List ℕ) → Option (List ℕ) → List Turn → Result ℕ ReplayError → Type 0
 Ends w input old new turns (Ok n) = (n ≡ length turns) × Appends old new (output_of w turns) × IfSome input (λ i. script_for w i ≡ record { turns = turns; bad = None })
 Ends w input old new turns (Err (BadEvent line)) = Appends old new (output_of w turns) × IfSome input (λ i. script_for w i ≡ record { turns = turns; bad = Some line })

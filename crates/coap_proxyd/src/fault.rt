@@ -15,7 +15,7 @@ pub enum Fault {
     OutOfMemory,
     /// The input could not be read, or the output could not be written.
     File,
-    /// A line of a replay says no event that may follow.
+    /// A line of a replay says no event that may follow, or is too long.
     BadEvent { line: u64 },
     /// The allocator had no memory for what a line of a replay asks for.
     OutOfMemoryAt { line: u64 },

@@ -79,12 +79,12 @@ fn read_piece<R: BufRead>(reader: &mut R, line: &mut Vec<u8>) -> io::Result<Piec
         }
         reader.consume(used);
     }
+    // Not reached: each turn takes a byte, and 16,385 end it.
     Err(io::Error::from(ErrorKind::Other))
 }
 
-/// Reads the next line of an input, without its line feed, which the last line may lack. Of a line that is
-/// too long the rest isn't read. The buffer never holds more than 16,385 bytes, and its room never shrinks:
-/// one with room for them isn't grown.
+/// Reads the next line of an input, without its line feed, which the last line may lack. The buffer
+/// never holds more than 16,385 bytes, and its room never shrinks.
 ///
 /// # Errors
 /// What the reader answers, or want of memory where the buffer has too little room; what was read of the line

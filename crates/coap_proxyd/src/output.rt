@@ -30,5 +30,6 @@ pub fn write_bytes<W: Write>(writer: &mut W, bytes: &[u8]) -> io::Result<()>
             }
         }
     }
+    // 2^64 - 1 turns, most of them interrupted.
     Err(io::Error::from(ErrorKind::Other))
 }

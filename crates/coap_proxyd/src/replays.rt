@@ -91,14 +91,14 @@ fn line_for(text: &mut Vec<u8>, now: u64, report: Report, out: &Datagram) -> Res
 fn do_turn<W: Write>(
     writer: &mut W,
     core: &mut Core,
-    turn: &Turn,
+    turn: Turn,
     number: u64,
     out: &mut Datagram,
     text: &mut Vec<u8>,
 ) -> Result<(), ReplayError>
-    requires may { MayBeDone core.old.last core.old.events (turn_seen turn.now) }
+    requires may { MayBeDone core.old.last core.old.events (turn_seen turn) }
     requires room { core.old.setting.limits.datagram ≤ out.old.room }
-    ensures does { DoesTurn core.old core.new (turn_seen turn.entry.now) (W.contents writer.old) (W.contents writer.new) number result }
+    ensures does { DoesTurn core.old core.new (turn_seen turn) (W.contents writer.old) (W.contents writer.new) number result }
     ensures kept { out.new.room ≡ out.old.room }
     ensures setting { core.new.setting ≡ core.old.setting }
 {
@@ -142,10 +142,11 @@ pub fn replay<R: BufRead, W: Write>(
             Asked::End => return Ok(count),
             Asked::Skip => {}
             Asked::Do(turn) => {
-                do_turn(writer, core, &turn, number, &mut out, &mut text)?;
+                do_turn(writer, core, turn, number, &mut out, &mut text)?;
                 count += 1;
             }
         }
     }
+    // Not reached: the line behind 2^62 is a bad event.
     Err(ReplayError::Read)
 }

@@ -1,4 +1,4 @@
-//! A caching proxy for CoAP over UDP: what the program does, from its words to its exit status.
+//! The program: a replay of recorded events, from its words to its exit status.
 #![tactic(auto)]
 
 ghost use Rattle.std.specs.Prelude.{◌≡◌, IfOk};

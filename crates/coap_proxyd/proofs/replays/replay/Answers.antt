@@ -2,7 +2,7 @@ use Rattle.std.proofs.Common.{◌+◌, Ok, Err, arith}
 use Rattle.std.proofs.lemmas.Result.{err_from_is_err_and}
 use Rattle.coap_proxyd.specs.declared.replays.Asked.TheVariants.{Skip, Do}
 use Rattle.coap_proxyd.proofs.Replaying.{at-start, by-clock, may-by-clock, as-asked, as-may, ends-refused, ends-unread, ends-turn, goes-on, goes-further}
-use Rattle.coap_proxyd.proofs.replays.replay.Goals.{in-Skip, in-Do+in_ok-do_turn-in-Do+in-Datagram-1, in-Do+in_ok-do_turn-in-Do+in-Tick-1}
+use Rattle.coap_proxyd.proofs.replays.replay.Goals.{in-Skip, in-Do+in_ok-do_turn-in-Do}
 use Rattle.coap_proxyd.proofs.replays.replay.Goals as goal
 
 pub loop-read-init : goal.loop-read-init
@@ -35,12 +35,7 @@ loop-read-preserved g c =
       | in-Skip w ↦
           let asks = as-asked (c.loop-read.read + 1) v.last v.events _ _ a.field-0 Skip w.in-Skip.is (by-clock (c.loop-read.read + 1) v _ _ (Ok a.field-0) c.last.result c.events.result c.last.ensures.exact c.events.ensures.exact a.ensures.asked) in
           rw (w.core-is, w.writer-is, w.count-is, w.out-is) (record { at = goes-on _ _ _ _ _ _ _ _ _ i.at asks; few = omega (arith, i.few); room = i.room })
-      | in-Do+in_ok-do_turn-in-Do+in-Datagram-1 w ↦
-          let asks = as-asked (c.loop-read.read + 1) v.last v.events _ _ a.field-0 (Do w.in-Do.turn) w.in-Do.is (by-clock (c.loop-read.read + 1) v _ _ (Ok a.field-0) c.last.result c.events.result c.last.ensures.exact c.events.ensures.exact a.ensures.asked) in
-          let may = as-may v.last v.events a.field-0 (Do w.in-Do.turn) w.in-Do.is (may-by-clock v (Ok a.field-0) c.last.result c.events.result c.last.ensures.exact c.events.ensures.exact a.ensures.may) in
-          let does = w.in_ok-do_turn-in-Do.ensures.does in
-          rw (w.core-is, w.writer-is, w.count-is, w.out-is) (record { at = goes-further _ _ _ _ _ _ _ _ _ i.at w.in-Do.turn asks may _ _ does.0 does.1; few = omega (arith, i.few); room = rw (w.do_turn.ensures.setting, w.do_turn.ensures.kept) i.room })
-      | in-Do+in_ok-do_turn-in-Do+in-Tick-1 w ↦
+      | in-Do+in_ok-do_turn-in-Do w ↦
           let asks = as-asked (c.loop-read.read + 1) v.last v.events _ _ a.field-0 (Do w.in-Do.turn) w.in-Do.is (by-clock (c.loop-read.read + 1) v _ _ (Ok a.field-0) c.last.result c.events.result c.last.ensures.exact c.events.ensures.exact a.ensures.asked) in
           let may = as-may v.last v.events a.field-0 (Do w.in-Do.turn) w.in-Do.is (may-by-clock v (Ok a.field-0) c.last.result c.events.result c.last.ensures.exact c.events.ensures.exact a.ensures.may) in
           let does = w.in_ok-do_turn-in-Do.ensures.does in

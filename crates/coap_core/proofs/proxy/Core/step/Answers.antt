@@ -3,6 +3,7 @@ use Rattle.coap_model.specs.Setting.{Setting}
 use Rattle.coap_model.specs.Limits.{AreLimits}
 use Rattle.coap_core.specs.Events.{seen}
 use Rattle.coap_core.proofs.Carried.{IsLeft, can_go_on, is-left}
+use Rattle.coap_core.proofs.proxy.Core.step.Goals.{After-step}
 use Rattle.coap_core.proofs.proxy.Core.step.Goals as goal
 
 pub step-requires-clause-can : goal.step-requires-clause-can
@@ -15,32 +16,34 @@ step-requires-clause-fits c =
     let fits = c.datagrams_fit.ensures.fits c.self.inside.tables i.1.0 c.args.now 0 (seen c.args.event) i.1.1 i.0 c.holds_bytes.ensures in
     omega (arith, room, fits)
 
+-- what the step leaves
+leaves : (c : After-step) → IsLeft c.self.inside.tables c.step.new.self
+leaves c =
+    let i = c.self.invariant in
+    is-left c.self.inside.tables c.args.now (seen c.args.event) i.1.0 i.1.1 (rw (← c.self.view_is) at c.requires.onward) c.holds_bytes.ensures c.step.result c.args.out.now c.step.new.out c.step.new.self c.step.ensures.exact c.step.ensures.err
+
 pub invariant_of-self : goal.invariant_of-self
 invariant_of-self c =
     let i = c.self.invariant in
-    let left : IsLeft c.self.inside.tables c.step.new.self = is-left c.self.inside.tables c.args.now (seen c.args.event) i.1.0 i.1.1 (rw (← c.self.view_is) at c.requires.onward) c.holds_bytes.ensures c.step.result c.args.out.now c.step.new.out c.step.new.self c.step.ensures.exact c.step.ensures.err in
+    let left = leaves (goal.at.invariant_of-self c).After-step in
     (subst (λ (s : Setting). AreLimits s.limits) (sym left.setting) i.0, (left.history, left.carries))
 
 pub returns-clause-setting : goal.returns-clause-setting
 returns-clause-setting c =
-    let i = c.self.invariant in
-    let left : IsLeft c.self.inside.tables c.step.new.self = is-left c.self.inside.tables c.args.now (seen c.args.event) i.1.0 i.1.1 (rw (← c.self.view_is) at c.requires.onward) c.holds_bytes.ensures c.step.result c.args.out.now c.step.new.out c.step.new.self c.step.ensures.exact c.step.ensures.err in
+    let left = leaves (goal.at.returns-clause-setting c).After-step in
     rw (← c.self.view_is) left.setting
 
 pub returns-clause-exchanges : goal.returns-clause-exchanges
 returns-clause-exchanges c =
-    let i = c.self.invariant in
-    let left : IsLeft c.self.inside.tables c.step.new.self = is-left c.self.inside.tables c.args.now (seen c.args.event) i.1.0 i.1.1 (rw (← c.self.view_is) at c.requires.onward) c.holds_bytes.ensures c.step.result c.args.out.now c.step.new.out c.step.new.self c.step.ensures.exact c.step.ensures.err in
+    let left = leaves (goal.at.returns-clause-exchanges c).After-step in
     (c.what_is_carried_is_promised.ensures.promised left.history c.step.new.self left.carries).exchanges
 
 pub returns-clause-waiters : goal.returns-clause-waiters
 returns-clause-waiters c =
-    let i = c.self.invariant in
-    let left : IsLeft c.self.inside.tables c.step.new.self = is-left c.self.inside.tables c.args.now (seen c.args.event) i.1.0 i.1.1 (rw (← c.self.view_is) at c.requires.onward) c.holds_bytes.ensures c.step.result c.args.out.now c.step.new.out c.step.new.self c.step.ensures.exact c.step.ensures.err in
+    let left = leaves (goal.at.returns-clause-waiters c).After-step in
     (c.what_is_carried_is_promised.ensures.promised left.history c.step.new.self left.carries).waiters
 
 pub returns-clause-held : goal.returns-clause-held
 returns-clause-held c =
-    let i = c.self.invariant in
-    let left : IsLeft c.self.inside.tables c.step.new.self = is-left c.self.inside.tables c.args.now (seen c.args.event) i.1.0 i.1.1 (rw (← c.self.view_is) at c.requires.onward) c.holds_bytes.ensures c.step.result c.args.out.now c.step.new.out c.step.new.self c.step.ensures.exact c.step.ensures.err in
+    let left = leaves (goal.at.returns-clause-held c).After-step in
     (c.what_is_carried_is_promised.ensures.promised left.history c.step.new.self left.carries).bytes
