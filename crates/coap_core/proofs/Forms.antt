@@ -62,6 +62,12 @@ module _ (token : List ℕ) (t : Target) where
         (Appends-behind begun hosted new room hosts (paths ++ queries) tt r a
         (Appends-behind hosted pathed new room paths queries tt r b c)))
 
+    pub full-at-host : (e f : Full) → Appends begun new room hosts (Err e) → Appends old new room (spelling (forwarded token t 0)) (Err f)
+    full-at-host e f a =
+        subst (λ (l : List ℕ). Appends old new room l (Err f)) parts
+        (Appends-behind old begun new room (head_spelling head token) (hosts ++ (paths ++ queries)) tt (Err f) first
+        (Appends-full begun new room hosts (paths ++ queries) e f a))
+
     pub full-at-path : (e f : Full) → Appends begun hosted room hosts (Ok tt) → Appends hosted new room paths (Err e) → Appends old new room (spelling (forwarded token t 0)) (Err f)
     full-at-path e f a b =
         subst (λ (l : List ℕ). Appends old new room l (Err f)) parts

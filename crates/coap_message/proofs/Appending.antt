@@ -1,14 +1,20 @@
 -- One write behind another.
-use Rattle.std.proofs.Common.{◌≡◌, ℕ, ◌+◌, ◌-◌, ◌*◌, ◌<◌, ◌≤◌, List, ◌∷◌, ◌++◌, length, drop, get_or, Result, Ok, Err, refl, sym, ap, ◌∙◌, append_assoc, arith}
-use Rattle.std.proofs.lemmas.List.{length-append, append-nil, drop_more, drop_all}
+use Rattle.std.proofs.Common.{◌≡◌, ℕ, ◌+◌, ◌-◌, ◌*◌, ◌<◌, ◌≤◌, List, [], ◌∷◌, ◌++◌, length, take, drop, get_or, Result, Ok, Err, refl, sym, ap, ◌∙◌, append_assoc, arith}
+use Rattle.std.proofs.lemmas.List.{length-append, length-take, append-nil, drop_more, drop_all, take-append-le}
 use Rattle.coap_message.specs.declared.error.Full.{Full}
 use Rattle.coap_message.specs.declared.options.Opt.{Opt}
 use Rattle.coap_message.specs.Spelling.{bits_of, more_of, option_spelling, options_spelling}
 use Rattle.coap_message.specs.Datagram.{Datagram, holding, Appends}
 
+-- a beginning is one with more behind it
+front_of_more : (old new xs ys : List ℕ) → new ≡ take (length new) (old ++ xs) → new ≡ take (length new) (old ++ (xs ++ ys))
+front_of_more old new xs ys is =
+    let within : length new ≤ length (old ++ xs) = omega (arith, ap length is, length-take (length new) (old ++ xs)) in
+    is ∙ sym (take-append-le (length new) (old ++ xs) ys within) ∙ ap (λ (l : List ℕ). take (length new) l) (append_assoc old xs ys)
+
 -- a write that fails fails with more behind it
 pub Appends-full : (old new : Datagram) (room : ℕ) (xs ys : List ℕ) (e f : Full) → Appends old new room xs (Err e) → Appends old new room (xs ++ ys) (Err f)
-Appends-full old new room xs ys e f a = (a.0, omega (arith, a.1, length-append xs ys))
+Appends-full old new room xs ys e f a = (a.0, omega (arith, a.1, length-append xs ys), (a.2.0, front_of_more old.bytes new.bytes xs ys a.2.1))
 
 -- and after one that didn't fail
 pub Appends-behind : (old mid new : Datagram) (room : ℕ) (xs ys : List ℕ) (u : Unit {0}) (r : Result (Unit {0}) Full) → Appends old mid room xs (Ok u) → Appends mid new room ys r → Appends old new room (xs ++ ys) r
@@ -17,12 +23,14 @@ Appends-behind old mid new room xs ys u (Ok v) a b =
     (b.0 ∙ rw a.0 (ap (holding old) (append_assoc old.bytes xs ys)), omega (arith, held, b.1, length-append xs ys))
 Appends-behind old mid new room xs ys u (Err e) a b =
     let held : length mid.bytes ≡ length old.bytes + length xs = rw a.0 (length-append old.bytes xs) in
-    (b.0 ∙ rw a.0 refl, omega (arith, held, b.1, length-append xs ys))
+    let together : mid.bytes ++ ys ≡ old.bytes ++ (xs ++ ys) = rw a.0 (append_assoc old.bytes xs ys) in
+    (b.0 ∙ rw a.0 refl, omega (arith, held, b.1, length-append xs ys), (omega (arith, held, b.2.0), b.2.1 ∙ ap (λ (l : List ℕ). take (length new.bytes) l) together))
 
 -- what is written bit by bit fails as a whole where a part of it fails
-pub Appends-part : (old out new : Datagram) (room : ℕ) (part rest whole : List ℕ) (e f : Full) → out.room ≡ old.room → out.bytes ++ (part ++ rest) ≡ old.bytes ++ whole → Appends out new room part (Err e) → Appends old new room whole (Err f)
-Appends-part old out new room part rest whole e f same written a =
-    (a.0 ∙ same, omega (arith, a.1, ap length written, length-append out.bytes (part ++ rest), length-append part rest, length-append old.bytes whole))
+pub Appends-part : (old out new : Datagram) (room : ℕ) (part rest whole : List ℕ) (e f : Full) → out.room ≡ old.room → length old.bytes ≤ length out.bytes → out.bytes ++ (part ++ rest) ≡ old.bytes ++ whole → Appends out new room part (Err e) → Appends old new room whole (Err f)
+Appends-part old out new room part rest whole e f same longer written a =
+    let front : new.bytes ≡ take (length new.bytes) (out.bytes ++ (part ++ rest)) = front_of_more out.bytes new.bytes part rest a.2.1 in
+    (a.0 ∙ same, omega (arith, a.1, ap length written, length-append out.bytes (part ++ rest), length-append part rest, length-append old.bytes whole), (omega (arith, longer, a.2.0), front ∙ ap (λ (l : List ℕ). take (length new.bytes) l) written))
 
 -- ---- an option, part by part
 
@@ -33,11 +41,11 @@ option_written before o delta len delta_bits length_bits d l db lb = rw (db, lb,
 
 -- ---- options one behind the other: those that are written, and those still to come
 
-pub options_full : (old out new : Datagram) (room before index : ℕ) (o : Opt) (whole : List Opt) (e f : Full) → out.room ≡ old.room → out.bytes ++ options_spelling before (drop index whole) ≡ old.bytes ++ options_spelling 0 whole
+pub options_full : (old out new : Datagram) (room before index : ℕ) (o : Opt) (whole : List Opt) (e f : Full) → out.room ≡ old.room → length old.bytes ≤ length out.bytes → out.bytes ++ options_spelling before (drop index whole) ≡ old.bytes ++ options_spelling 0 whole
     → index < length whole → o ≡ get_or whole index o → Appends out new room (option_spelling before o) (Err e) → Appends old new room (options_spelling 0 whole) (Err f)
-options_full old out new room before index o whole e f same written lt item a =
+options_full old out new room before index o whole e f same longer written lt item a =
     let next : drop index whole ≡ o ∷ drop (index + 1) whole = drop_more whole index o lt ∙ ap (λ (x : Opt). x ∷ drop (index + 1) whole) (sym item) in
-    Appends-part old out new room (option_spelling before o) (options_spelling o.number (drop (index + 1) whole)) (options_spelling 0 whole) e f same (ap (λ (os : List Opt). out.bytes ++ options_spelling before os) (sym next) ∙ written) a
+    Appends-part old out new room (option_spelling before o) (options_spelling o.number (drop (index + 1) whole)) (options_spelling 0 whole) e f same longer (ap (λ (os : List Opt). out.bytes ++ options_spelling before os) (sym next) ∙ written) a
 
 pub options_done : (old out : Datagram) (room before index : ℕ) (whole : List Opt) → out.room ≡ old.room → out.bytes ++ options_spelling before (drop index whole) ≡ old.bytes ++ options_spelling 0 whole
     → length whole ≤ index → length out.bytes ≤ room → Appends old out room (options_spelling 0 whole) (Ok tt)

@@ -1,5 +1,5 @@
 -- A datagram: the bytes that it holds, and how many it has room for.
-use Rattle.std.specs.Prelude.{◌≡◌, ℕ, ◌+◌, ◌<◌, ◌≤◌, List, ◌++◌, length, Result, Ok, Err}
+use Rattle.std.specs.Prelude.{◌≡◌, ℕ, ◌+◌, ◌<◌, ◌≤◌, List, ◌++◌, length, take, Result, Ok, Err}
 use Rattle.coap_message.specs.declared.error.Full.{Full}
 
 pub record Datagram : Type 0 where
@@ -9,7 +9,12 @@ pub record Datagram : Type 0 where
 abbrev pub holding : Datagram → List ℕ → Datagram
 holding d bytes = record { room = d.room; bytes = bytes }
 
--- Bytes are written behind what is held, or else more than `room` bytes would be held.
+-- behind what was held stands a beginning of the bytes, or nothing
+abbrev pub AddsFront : List ℕ → List ℕ → List ℕ → Type 0
+AddsFront old new bytes = (length old ≤ length new) × (new ≡ take (length new) (old ++ bytes))
+
+-- Bytes are written behind what is held. Or else more than `room` bytes would be held, and a beginning of
+-- the bytes may have been written.
 abbrev pub Appends : Datagram → Datagram → ℕ → List ℕ → Result (Unit {0}) Full → Type 0
 Appends old new room bytes (Ok u) = (new ≡ holding old (old.bytes ++ bytes)) × (length old.bytes + length bytes ≤ room)
-Appends old new room bytes (Err e) = (new.room ≡ old.room) × (room < length old.bytes + length bytes)
+Appends old new room bytes (Err e) = (new.room ≡ old.room) × (room < length old.bytes + length bytes) × AddsFront old.bytes new.bytes bytes

@@ -1,7 +1,7 @@
 use Rattle.std.proofs.Common.{◌≡◌, Ok, Err, [], arith}
 use Rattle.std.proofs.lemmas.Result.{err_from_is_err_and}
 use Rattle.coap_message.specs.Datagram.{Appends, holding}
-use Rattle.coap_core.proofs.Forms.{last-values, last-host, after_host, after_path, paths, queries, written-to-query, full-at-path}
+use Rattle.coap_core.proofs.Forms.{last-values, last-host, after_host, after_path, paths, queries, written-to-query, full-at-host, full-at-path}
 use Rattle.coap_core.proofs.messages.put_forwarded.Goals as goal
 
 pub put_values-requires-2-clause-above : goal.put_values-requires-2-clause-above
@@ -9,6 +9,12 @@ put_values-requires-2-clause-above c =
     let t = c.args.target.now in
     let after : c.in_ok-before-2.before ≡ after_path c.args.token.now t = rw (c.as_slice.ensures, c.in_ok-before.ensures.last) at c.in_ok-before-2.ensures.last in
     rw after (omega (arith, last-values (after_host c.args.token.now t) 11 t.path (last-host t.host)))
+
+pub returns-in_err-before : goal.returns-in_err-before
+returns-in_err-before c =
+    let p = err_from_is_err_and c.from_residual-in_err-before.result c.from_residual-in_err-before.ensures.1 in
+    let new = c.put_host.new.out in
+    rw p.1 (full-at-host c.args.token.now c.args.target.now (holding c.args.out.now []) c.put_head.new.out new new new c.args.room c.in_ok-put_head.ensures.written c.in_err-before.field-0.0 p.0 c.in_err-before.ensures.written)
 
 pub returns-in_err-before-2 : goal.returns-in_err-before-2
 returns-in_err-before-2 c =

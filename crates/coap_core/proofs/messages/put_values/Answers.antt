@@ -15,4 +15,4 @@ returns-in_err-put_option-clause-written c =
     let behind = drop (l.value-index + 1) c.args.values.now in
     let next : drop l.value-index c.args.values.now ≡ v ∷ behind = drop_more c.args.values.now l.value-index v c.loop-value-test.true ∙ ap (λ (x : List ℕ). x ∷ behind) (sym c.value-item.is) in
     rw p.1 (Appends-part c.args.out.now l.out c.put_option.new.out c.args.room (option_spelling l.last (option_of c.args.number v)) (options_spelling c.args.number (map (option_of c.args.number) behind))
-    (options_spelling c.args.before (map (option_of c.args.number) c.args.values.now)) c.in_err-put_option.field-0.0 p.0 i.room (rw next at i.written) (rw c.as_slice.ensures at c.in_err-put_option.ensures))
+    (options_spelling c.args.before (map (option_of c.args.number) c.args.values.now)) c.in_err-put_option.field-0.0 p.0 i.room i.longer (rw next at i.written) (rw c.as_slice.ensures at c.in_err-put_option.ensures))

@@ -9,6 +9,7 @@ use Rattle.coap_core.proofs.messages.put_values.Given as goal
 abbrev pub invariant-loop-value : goal.invariant-loop-value
 invariant-loop-value l = record {
   room : l.out.room ≡ l.fn.out.room;
+  longer : length l.fn.out.bytes ≤ length l.out.bytes;
   written : l.out.bytes ++ options_spelling l.last (map (option_of l.number) (drop l.value-index l.values)) ≡ l.fn.out.bytes ++ options_spelling l.before (map (option_of l.number) l.values);
   within : length l.out.bytes ≤ l.room;
   above : l.last ≤ l.number;
