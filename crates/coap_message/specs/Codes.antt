@@ -1,6 +1,10 @@
 -- Codes: methods and response codes (RFC 7252, 3 and 12.1).
-use Rattle.std.specs.Prelude.{◌/◌, ◌==◌, ◌&&◌, Bool, not, nat_le}
+use Rattle.std.specs.Prelude.{ℕ, ◌+◌, ◌*◌, ◌/◌, ◌==◌, ◌&&◌, Bool, not, nat_le}
 use Rattle.coap_message.specs.declared.code.Code.{Code}
+
+-- the code of a class and a detail, written `c.dd` (RFC 7252, 3)
+abbrev pub code_of : ℕ → ℕ → Code
+code_of class detail = record { 0 = 32 * class + detail }
 
 abbrev pub is_code : Code → Code → Bool
 is_code a b = a.0 == b.0

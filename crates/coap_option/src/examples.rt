@@ -5,8 +5,30 @@ ghost use Rattle.coap_option.specs.Screening.{first_refused};
 ghost use Rattle.coap_option.specs.Selection.{forwarded, key_of, max_age_of, tags_of};
 ghost use Rattle.coap_option.specs.Examples.{content, get, has_range, is_known, of_requests, of_responses, put, with_value, zeros};
 
-use crate::numbers::{BLOCK1, BLOCK2};
+use crate::numbers::*;
 use crate::side::Side;
+
+/// The numbers of the named options (RFC 7252, 5.10; RFC 7641, 2; RFC 7959, 2.1).
+pub fn numbered()
+    ensures if_match { IF_MATCH ≡ 1 }
+    ensures uri_host { URI_HOST ≡ 3 }
+    ensures etag { ETAG ≡ 4 }
+    ensures if_none_match { IF_NONE_MATCH ≡ 5 }
+    ensures observe { OBSERVE ≡ 6 }
+    ensures uri_port { URI_PORT ≡ 7 }
+    ensures location_path { LOCATION_PATH ≡ 8 }
+    ensures uri_path { URI_PATH ≡ 11 }
+    ensures content_format { CONTENT_FORMAT ≡ 12 }
+    ensures max_age { MAX_AGE ≡ 14 }
+    ensures uri_query { URI_QUERY ≡ 15 }
+    ensures accept { ACCEPT ≡ 17 }
+    ensures location_query { LOCATION_QUERY ≡ 20 }
+    ensures block2 { BLOCK2 ≡ 23 }
+    ensures block1 { BLOCK1 ≡ 27 }
+    ensures proxy_uri { PROXY_URI ≡ 35 }
+    ensures proxy_scheme { PROXY_SCHEME ≡ 39 }
+    ensures size1 { SIZE1 ≡ 60 }
+{}
 
 /// What screening says of some messages: Block1 and Block2 refuse a message, and so does a second
 /// Uri-Host, while a second Accept passes. What isn't known at all goes by its number.
