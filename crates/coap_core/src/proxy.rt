@@ -9,7 +9,7 @@ ghost use Rattle.coap_model.specs.Step.{step_of};
 ghost use Rattle.coap_model.specs.History.{Entry};
 ghost use Rattle.coap_model.specs.Carries.{Carries};
 ghost use Rattle.coap_model.specs.Promised.{Promised};
-ghost use Rattle.coap_core.specs.Events.{seen};
+ghost use Rattle.coap_core.specs.Events.{IsUnread, seen};
 ghost use Rattle.coap_core.specs.Steps.{Does};
 
 use crate::event::Event;
@@ -78,7 +78,8 @@ impl Core {
     /// for `datagram()` bytes; fewer than 2^63 steps were done.
     ///
     /// # Errors
-    /// Want of memory, which changes nothing. A tick never answers it.
+    /// Want of memory, which changes nothing. It is never answered to a tick, nor to a datagram that is too long
+    /// or spells no message.
     pub fn step(
         &mut self,
         now: u64,
@@ -107,10 +108,11 @@ impl Core {
         ensures waiters { length self.new.waiters ≤ self.new.setting.limits.waiters }
         ensures held { held self.new ≤ most_held self.new.setting.limits }
 
-        // Where memory is missing, nothing happened. A tick needs none.
+        // Where memory is missing, nothing happened. A tick needs none, nor does a datagram without a message.
         ensures err { OnErr result (self.new ≡ self.old) }
         ensures none { OnErr result (out.new ≡ holding out.old []) }
         ensures ticks { seen event.entry ≡ tick → IsOk result }
+        ensures unread { IsUnread self.old.setting.limits.datagram (seen event.entry) → IsOk result }
     {
         steps_are_carried();
         what_is_carried_is_promised();

@@ -1,10 +1,10 @@
 //! One step: a datagram or a tick at a moment.
-ghost use Rattle.std.specs.Prelude.{◌≡◌, ◌≤◌, ◌<◌, ◌^◌, [], length, IfOk, IsOk, OnErr};
+ghost use Rattle.std.specs.Prelude.{◌≡◌, ◌≤◌, ◌<◌, ◌^◌, [], length, None, IfOk, IsOk, OnErr};
 ghost use Rattle.coap_model.specs.Events.{tick};
 ghost use Rattle.coap_message.specs.declared.kind.Kind.{Kind};
 ghost use Rattle.coap_message.specs.Datagram.{holding};
 ghost use Rattle.coap_model.specs.Step.{ignores, rejects, unprocessed, message_in, on_message, on_datagram, step_of};
-ghost use Rattle.coap_core.specs.Events.{seen};
+ghost use Rattle.coap_core.specs.Events.{IsUnread, seen};
 ghost use Rattle.coap_core.specs.Steps.{Does, CanGoOn};
 
 use crate::event::Event;
@@ -32,6 +32,7 @@ impl Tables {
         ensures err { OnErr result (self.new ≡ self.old) }
         ensures none { OnErr result (out.new ≡ holding out.old []) }
         ensures ticks { seen event.entry ≡ tick → IsOk result }
+        ensures unread { IsUnread self.old.setting.limits.datagram (seen event.entry) → IsOk result }
     {
         match self.advance(now, event, out) {
             Ok(report) => Ok(report),
@@ -56,6 +57,7 @@ impl Tables {
         ensures err { OnErr result (self.new ≡ self.old) }
         ensures kept { out.new.room ≡ out.old.room }
         ensures ticks { seen event.entry ≡ tick → IsOk result }
+        ensures unread { IsUnread self.old.setting.limits.datagram (seen event.entry) → IsOk result }
     {
         match event {
             Event::Datagram { from, bytes } => self.on_datagram(now, from, bytes, out),
@@ -76,6 +78,7 @@ impl Tables {
         ensures exact { IfOk result (λ report. Does (on_datagram self.old now source bytes.now) report out.old out.new self.new) }
         ensures err { OnErr result (self.new ≡ self.old) }
         ensures kept { out.new.room ≡ out.old.room }
+        ensures unread { message_in self.old.setting.limits.datagram bytes.now ≡ None → IsOk result }
     {
         let Some(head) = head_of(bytes) else {
             return Ok(self.ignore(now, out));
@@ -89,7 +92,8 @@ impl Tables {
     /// The message that a datagram spells, if it isn't too long.
     #[tactic(auto, unfolding(coap_model::specs::Step::message_in))]
     fn read(&self, bytes: &[u8]) -> Result<Option<Message>, OutOfMemory>
-        ensures { IfOk result (λ message. message ≡ message_in self.now.setting.limits.datagram bytes.now) }
+        ensures exact { IfOk result (λ message. message ≡ message_in self.now.setting.limits.datagram bytes.now) }
+        ensures unread { message_in self.now.setting.limits.datagram bytes.now ≡ None → IsOk result }
     {
         if bytes.len() > self.limits.datagram as usize {
             return Ok(None);
