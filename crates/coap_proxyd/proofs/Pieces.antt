@@ -104,14 +104,14 @@ next-full None new line taken none long = tt
 next-full (Some xs) None line taken none long = absurd taken
 next-full (Some xs) (Some rest) line taken none long = rw taken (go (cut 10 rest) refl)
   where
-    go : (parts : Option (List ℕ × List ℕ)) → cut 10 rest ≡ parts → (l : List ℕ) × (more : List (List ℕ)) × (lines_of (line ++ rest) ≡ l ∷ more) × (is_too_long l ≡ true)
+    go : (parts : Option (List ℕ × List ℕ)) → cut 10 rest ≡ parts → (l : List ℕ) × (more : List (List ℕ)) × (lines_of (line ++ rest) ≡ l ∷ more) × (is_too_long l ≡ true) × (line ++ rest ≡ line ++ rest)
     go None is =
         let without : has 10 (line ++ rest) ≡ false = rw (list_any-append, none, none-has 10 rest is) refl in
         let count = length-append line rest in
-        (line ++ rest, [], lines_of-last (line ++ rest) without (omega arith), lt-ltb 16384 (length (line ++ rest)) (omega arith))
+        (line ++ rest, [], lines_of-last (line ++ rest) without (omega arith), lt-ltb 16384 (length (line ++ rest)) (omega arith), refl)
     go (Some (front, behind)) is =
         let parts = cut-is 10 rest front behind is in
         let without : has 10 (line ++ front) ≡ false = rw (list_any-append, none, parts.1) refl in
         let count = length-append line front in
         let split : line ++ rest ≡ (line ++ front) ++ 10 ∷ behind = ap (λ r. line ++ r) parts.0 ∙ sym (append_assoc line front (10 ∷ behind)) in
-        (line ++ front, lines_of behind, rw split (lines_of-feed (line ++ front) behind without), lt-ltb 16384 (length (line ++ front)) (omega arith))
+        (line ++ front, lines_of behind, rw split (lines_of-feed (line ++ front) behind without), lt-ltb 16384 (length (line ++ front)) (omega arith), refl)

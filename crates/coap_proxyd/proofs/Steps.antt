@@ -15,7 +15,7 @@ module _ (number last events : ℕ) (input left line : List ℕ) where
   -- a line that is too long
   pub step-long : IsNext input (Some left) line TooLong → script_from number last events (lines_of input) ≡ bad_at number
   unfolding script_from
-  step-long (long, more, lines, is) = rw (lines, is) refl
+  step-long (long, more, lines, is, taken) = rw (lines, is) refl
 
   -- a line whose number is too great
   pub step-many : IsNext input (Some left) line Line → greatest < number → script_from number last events (lines_of input) ≡ bad_at number

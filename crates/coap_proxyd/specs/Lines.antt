@@ -40,12 +40,12 @@ abbrev pub is_skipped : List ℕ → Bool
 is_skipped [] = true
 is_skipped (b ∷ line) = b == number_sign
 
--- What comes next of an input, and what is left of it: its first line, which isn't too long; or a line that is;
--- or nothing.
+-- What comes next of an input, and what is left of it: its first line, which isn't too long; or a line that is,
+-- of which no more was taken than is held; or nothing.
 abbrev pub IsNext : List ℕ → Option (List ℕ) → List ℕ → Next → Type 0
 IsNext input None line next = ⊥
 IsNext input (Some rest) line Line = (lines_of input ≡ line ∷ lines_of rest) × (is_too_long line ≡ false)
-IsNext input (Some rest) line TooLong = (long : List ℕ) × (more : List (List ℕ)) × (lines_of input ≡ long ∷ more) × (is_too_long long ≡ true)
+IsNext input (Some rest) line TooLong = (long : List ℕ) × (more : List (List ℕ)) × (lines_of input ≡ long ∷ more) × (is_too_long long ≡ true) × (input ≡ line ++ rest)
 IsNext input (Some rest) line End = lines_of input ≡ []
 
 -- the bytes of a line that were taken: its line feed isn't kept
