@@ -1,23 +1,24 @@
 //! The program: a replay of recorded events, from its words to its exit status.
 #![tactic(auto)]
 
-ghost use Rattle.std.specs.Prelude.{◌≡◌, IfOk};
-ghost use Rattle.coap_model.specs.Limits.{default_limits};
-ghost use Rattle.coap_model.specs.World.{new_world};
-ghost use Rattle.coap_target.specs.Routes.{fixed_routes};
+ghost use Rattle.std.specs.Prelude.{◌≡◌, ◌≢◌, [], Err, IfOk, map, string_bytes};
+ghost use Rattle.std.specs.Io.KnownBytes.{Appends};
+ghost use Rattle.coap_proxyd.specs.declared.fault.Fault.{Fault};
+ghost use Rattle.coap_proxyd.specs.Words.{known_words};
+ghost use Rattle.proxyd.specs.Serving.{IsServed, first_proxy};
 
 use coap_core::{Core, LimitValues, Limits};
 use coap_message::OutOfMemory;
 use coap_proxyd::{Fault, are_known, replay};
 use coap_target::Routes;
 use std::alloc::Global;
-use std::io::ErrorKind;
+use std::io::{BufRead, ErrorKind, Write};
 use std::process::ExitCode;
 use std::{env, io};
 
 /// A core with the default limits that maps the path `t` to `coap://127.0.0.1:5690/temp`.
 fn default_core(alloc: Global) -> Result<Core, OutOfMemory>
-    ensures { IfOk result (λ core. core ≡ new_world (record { limits = default_limits; routes = fixed_routes; first_id = 1; salt = 0 })) }
+    ensures { IfOk result (λ core. core ≡ first_proxy) }
 {
     let limits = Limits::new(LimitValues::default()).unwrap();
     let routes = Routes::fixed(alloc)?;
@@ -36,20 +37,35 @@ fn words(rt: &HostRuntime) -> Result<Vec<String>, Fault> {
         .map_err(|_| Fault::OutOfMemory)
 }
 
-/// Does the events of standard input, and writes the datagrams that are sent to standard output.
-fn run(rt: &HostRuntime) -> Result<(), Fault> {
-    if !are_known(&words(rt)?) {
+/// What the program makes of its words and an input: the known words do the events of the input by a new core,
+/// and write the datagrams that are sent. Any others do nothing.
+fn serve<R: BufRead, W: Write>(
+    alloc: Global,
+    words: &[String],
+    reader: &mut R,
+    writer: &mut W,
+) -> Result<(), Fault>
+    ensures known { map string_bytes words.now ≡ known_words → IsServed (R.remaining reader.old) (W.contents writer.old) (W.contents writer.new) result }
+    ensures other { map string_bytes words.now ≢ known_words → (result ≡ Err Fault.Arguments) × Appends (W.contents writer.old) (W.contents writer.new) [] }
+{
+    if !are_known(words) {
         return Err(Fault::Arguments);
     }
-    let alloc = rt.alloc();
     let Ok(mut core) = default_core(alloc) else {
         return Err(Fault::OutOfMemory);
     };
+    replay(alloc, reader, writer, &mut core)?;
+    Ok(())
+}
+
+/// Serves standard input, and writes to standard output.
+fn run(rt: &HostRuntime) -> Result<(), Fault> {
+    let words = words(rt)?;
+    let alloc = rt.alloc();
     let Ok(mut reader) = io::BufReader::new(alloc, rt.reader()) else {
         return Err(Fault::OutOfMemory);
     };
-    replay(alloc, &mut reader, &mut io::writer(rt), &mut core)?;
-    Ok(())
+    serve(alloc, &words, &mut reader, &mut io::writer(rt))
 }
 
 fn main(rt: HostRuntime) -> ExitCode {
