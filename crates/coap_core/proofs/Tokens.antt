@@ -91,7 +91,7 @@ module _ (salt : ℕ) (source : Endpoint) (m : Message) where
     no-more least (x ∷ xs) le rising low =
         rw (another x low.0 (λ e. let above = rising.0 in omega arith)) (no-more x.0 xs (omega (arith, rising.0)) rising.1 low.1)
 
-    pub found-by-number : (least : ℕ) (xs : List (Numbered Exchange)) → IsRising least xs → AllByRecursion (λ x. x.0 < 2 ^ 64) xs → option_map (λ x. x.0) (find (awaits salt source m) xs) ≡ right (item_at number xs)
+    found-by-number : (least : ℕ) (xs : List (Numbered Exchange)) → IsRising least xs → AllByRecursion (λ x. x.0 < 2 ^ 64) xs → option_map (λ x. x.0) (find (awaits salt source m) xs) ≡ right (item_at number xs)
     found-by-number least [] rising low = refl
     found-by-number least (x ∷ xs) rising low = go (eqb number x.0) refl (found-by-number x.0 xs rising.1 low.1)
       where

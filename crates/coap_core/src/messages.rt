@@ -1,10 +1,10 @@
 //! The messages that a proxy sends, written without memory, and what it makes of a response.
-ghost use Rattle.std.specs.Prelude.{◌≡◌, ◌≢◌, ◌≤◌, ◌<◌, ◌+◌, ◌++◌, ◌∷◌, ◌^◌, [], true, length, map, OnOk, IfOk, IfSome, IfNone};
+ghost use Rattle.std.specs.Prelude.{◌≡◌, ◌≢◌, ◌≤◌, ◌<◌, ◌+◌, ◌∷◌, ◌^◌, [], true, length, map, IfOk, IfSome, IfNone};
 ghost use Rattle.std.specs.List.{AllByRecursion};
 ghost use Rattle.coap_message.specs.Datagram.{Datagram, Appends, holding};
 ghost use Rattle.coap_message.specs.Message.{Message};
 ghost use Rattle.coap_message.specs.Options.{AreOptions, last_number};
-ghost use Rattle.coap_message.specs.Spelling.{spelling, option_spelling, options_spelling};
+ghost use Rattle.coap_message.specs.Spelling.{spelling, options_spelling};
 ghost use Rattle.coap_target.specs.Target.{IsTarget, IsSegment};
 ghost use Rattle.coap_model.specs.Messages.{token_of, max_age_option, option_of, host_options, target_options, forwarded, are_understood, fits, is_passed_on, answer_of, max_age_of, left_of, carries_max_age, shown, bad_gateway};
 ghost use Rattle.coap_model.specs.Ticks.{with_id};

@@ -1,7 +1,6 @@
 //! The step of a request (RFC 7252, 5.7.3).
 ghost use Rattle.std.specs.Prelude.{◌≡◌, ◌+◌, ◌≤◌, true, length, Some, IfOk, IfSome, OnErr};
 ghost use Rattle.std.specs.List.{list_all};
-ghost use Rattle.coap_message.specs.Datagram.{holding};
 ghost use Rattle.coap_message.specs.Spelling.{spelling};
 ghost use Rattle.coap_message.specs.declared.kind.Kind.{Kind};
 ghost use Rattle.coap_target.specs.Routes.{mapped_target};

@@ -47,7 +47,7 @@ room-there t is e = let le = is.within in omega (arith, eqb-false _ _ e)
 
 -- ---- one is taken out
 
-pub IsRising-lower : {A : Type 0} (low high : ℕ) (xs : List (Numbered A)) → low ≤ high → IsRising high xs → IsRising low xs
+IsRising-lower : {A : Type 0} (low high : ℕ) (xs : List (Numbered A)) → low ≤ high → IsRising high xs → IsRising low xs
 IsRising-lower low high [] le r = tt
 IsRising-lower low high (x ∷ xs) le r = (omega (arith, r.0), r.1)
 
@@ -111,7 +111,7 @@ below-last n (x ∷ xs) below = go (eqb x.0 n) refl (below-last n xs below.1)
     go false e i = (omega (arith, below.0, eqb-false x.0 n e), i)
 
 -- a number that has an item is above the least
-pub above-least : {A : Type 0} (n least : ℕ) (xs : List (Numbered A)) (a : A) → IsRising least xs → item_at n xs ≡ Some a → least < n
+above-least : {A : Type 0} (n least : ℕ) (xs : List (Numbered A)) (a : A) → IsRising least xs → item_at n xs ≡ Some a → least < n
 above-least n least [] a r e = absurd cc
 above-least {A} n least (x ∷ xs) a r e = go (eqb n x.0) refl (λ f. above-least n x.0 xs a r.1 f)
   where
@@ -134,7 +134,7 @@ pub withdrawn-is : {A : Type 0} (t : Table A) → IsTable t → IsTable (withdra
 withdrawn-is t is = withdrawn_at-is (item_at t.admitted t.items) t is
 
 -- a number that has no item
-pub without-none : {A : Type 0} (n : ℕ) (xs : List (Numbered A)) → item_at n xs ≡ None → without n xs ≡ xs
+without-none : {A : Type 0} (n : ℕ) (xs : List (Numbered A)) → item_at n xs ≡ None → without n xs ≡ xs
 without-none n [] e = refl
 without-none {A} n (x ∷ xs) e = go (eqb n x.0) refl (λ f. without-none n xs f)
   where

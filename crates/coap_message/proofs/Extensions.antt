@@ -18,7 +18,7 @@ pub IsBytes-right : (a b : List ℕ) → IsBytes (a ++ b) → IsBytes b
 IsBytes-right a b h i = subst (λ (n : ℕ). n < 256) (get_or-append-add a b i 0) (h (length a + i))
 
 -- which side of a test gave a value
-pub some_side : {A : Type 0} (b : Bool) (p q : Option A) (y : A) → cond b p q ≡ Some y → ((b ≡ true) × (p ≡ Some y)) ⊎ ((b ≡ false) × (q ≡ Some y))
+some_side : {A : Type 0} (b : Bool) (p q : Option A) (y : A) → cond b p q ≡ Some y → ((b ≡ true) × (p ≡ Some y)) ⊎ ((b ≡ false) × (q ≡ Some y))
 some_side true p q y e = inl (refl, e)
 some_side false p q y e = inr (refl, e)
 

@@ -24,7 +24,7 @@ not_version : (first code id : ℕ) (found : Option Body) → with_header first 
 not_version first code id None e = cc
 not_version first code id (Some body) e = cc
 
-pub short_is : (bytes : List ℕ) → read_message bytes ≡ Err errors.Short → length bytes < 4
+short_is : (bytes : List ℕ) → read_message bytes ≡ Err errors.Short → length bytes < 4
 unfolding read_message
 short_is [] e = omega arith
 short_is (a ∷ []) e = omega arith
@@ -52,7 +52,7 @@ version_is (a ∷ b ∷ c ∷ d ∷ rest) e = (omega arith, λ one. at_test (eqb
     at_test true is h = not_version a b (256 * c + d) (body_behind b (a % 16) rest) h
     at_test false is h = cc
 
-pub is_version : (bytes : List ℕ) → 4 ≤ length bytes → (IsVersionOne bytes → ⊥) → read_message bytes ≡ Err errors.Version
+is_version : (bytes : List ℕ) → 4 ≤ length bytes → (IsVersionOne bytes → ⊥) → read_message bytes ≡ Err errors.Version
 unfolding read_message
 is_version [] le other = absurd (omega arith)
 is_version (a ∷ []) le other = absurd (omega arith)

@@ -1,5 +1,4 @@
 //! Messages (RFC 7252, 3).
-ghost use Rattle.std.specs.Prelude.{◌≡◌};
 
 use crate::code::Code;
 use crate::kind::Kind;

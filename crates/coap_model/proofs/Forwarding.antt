@@ -28,7 +28,7 @@ use Rattle.coap_model.proofs.Tables.{due-sending, ArePaired-with_state, HasNumbe
 use Rattle.coap_model.proofs.Frames.{exchange_frame, waiters_frame, fresh_frame, gets-not, number-small}
 use Rattle.coap_model.proofs.Replying.{id-same}
 
-pub queued_state : (s : ExchangeState) → is_queued s ≡ true → s ≡ Queued
+queued_state : (s : ExchangeState) → is_queued s ≡ true → s ≡ Queued
 queued_state Queued e = refl
 queued_state (Sent s) e = absurd cc
 queued_state (Done a) e = absurd cc

@@ -20,7 +20,7 @@ use Rattle.coap_model.proofs.Places.{here, index_below, Opens-number}
 use Rattle.coap_model.proofs.Tables.{length-paired}
 
 -- a state stays where nothing is sent or got for the exchange
-pub state_frame : (setting : Setting) (history : List Entry) (e : Entry) (x : ℕ) (target : Target) (s : ExchangeState) → ¬ Sends setting.salt x (here history e) → ¬ Gets setting.salt x (here history e) → IsState setting history x target s → IsState setting (e ∷ history) x target s
+state_frame : (setting : Setting) (history : List Entry) (e : Entry) (x : ℕ) (target : Target) (s : ExchangeState) → ¬ Sends setting.salt x (here history e) → ¬ Gets setting.salt x (here history e) → IsState setting history x target s → IsState setting (e ∷ history) x target s
 state_frame setting history e x target Queued unsent ungot s = ((unsent, s.0), (ungot, s.1))
 state_frame setting history e x target (Sent sending) unsent ungot s =
     let a = s.0 in

@@ -27,7 +27,7 @@ use Rattle.coap_model.proofs.Frames.{exchanges_frame, waiters_frame, fresh_frame
 use Rattle.coap_model.proofs.Replying.{request-came, verdict-same}
 
 -- a waiter that was served has a number that was opened
-pub served-number : {setting : Setting} {history : List Entry} {acts : List Act} → IsJustified setting history acts → (n : ℕ) → IsMember n (served_by acts) → n ≤ opened_in history
+served-number : {setting : Setting} {history : List Entry} {acts : List Act} → IsJustified setting history acts → (n : ℕ) → IsMember n (served_by acts) → n ≤ opened_in history
 served-number nothing_yet n m = absurd m
 served-number (refused e code j o r) n m = let i = served-number j n m in omega arith
 served-number (overloaded e j o r) n m = let i = served-number j n m in omega arith
@@ -45,7 +45,7 @@ served-number (ignored e j o r) n m = let i = served-number j n m in omega arith
 served-number (idle e j o r) n m = let i = served-number j n m in omega arith
 
 -- the numbers of exchanges that were opened are at most as many
-pub exchanges-below : (w : World) (history : List Entry) → Carries history w → AllByRecursion (λ x. x.0 < opened_in history + 1) w.exchanges
+exchanges-below : (w : World) (history : List Entry) → Carries history w → AllByRecursion (λ x. x.0 < opened_in history + 1) w.exchanges
 exchanges-below w history c =
     All-weaken (IsExchangeOf w.setting history) (λ x. x.0 < opened_in history + 1) w.exchanges (λ x f. let i = Opens-number history f.opening x.0 f.was_opened f.opens in omega (arith, i.1)) c.exchanges
 

@@ -33,7 +33,7 @@ use Rattle.coap_model.proofs.Quiet.{keeps_quiet}
 
 -- ---- what came
 
-pub non_is : (k : Kind) → is_non k ≡ true → k ≡ Non
+non_is : (k : Kind) → is_non k ≡ true → k ≡ Non
 non_is Con e = absurd cc
 non_is Non e = refl
 non_is Ack e = absurd cc
@@ -59,7 +59,7 @@ verdict-same w history c m = ap (λ (n : ℕ). verdict_of w.setting.routes w.set
 pub id-same : (w : World) (history : List Entry) (c : Carries history w) → next_id w ≡ (w.setting.first_id + ids_in history) % 65536
 id-same w history c = ap (λ (n : ℕ). (w.setting.first_id + n) % 65536) c.numbers.given
 
-pub free-one : (w : World) → has_ids 1 w ≡ true → w.given + 1 + reserved w ≤ 32768
+free-one : (w : World) → has_ids 1 w ≡ true → w.given + 1 + reserved w ≤ 32768
 free-one w e = let le = leb-true (w.given + reserved w + 1) 32768 e in omega arith
 
 -- ---- refusals

@@ -9,13 +9,13 @@ use Rattle.coap_model.specs.Carries.{Carries}
 use Rattle.coap_model.proofs.Tables.{length-paired}
 use Rattle.coap_model.proofs.Splitting.{one_false}
 
-pub waiters-length : (history : List Entry) (w : World) → Carries history w → length w.waiters ≡ under_way history
+waiters-length : (history : List Entry) (w : World) → Carries history w → length w.waiters ≡ under_way history
 waiters-length history w c = let p = length-paired w.exchanges w.waiters c.whole.paired in let u = c.whole.under_way in omega arith
 
-pub exchanges-length : (history : List Entry) (w : World) → Carries history w → length w.exchanges ≡ under_way history
+exchanges-length : (history : List Entry) (w : World) → Carries history w → length w.exchanges ≡ under_way history
 exchanges-length history w c = let u = c.whole.under_way in omega arith
 
-pub queued-unsent : (history : List Entry) (w : World) → Carries history w → count_of is_queued w.exchanges ≡ opened_in history - sent_in history
+queued-unsent : (history : List Entry) (w : World) → Carries history w → count_of is_queued w.exchanges ≡ opened_in history - sent_in history
 queued-unsent history w c = let u = c.whole.unsent in omega arith
 
 ids-sum : (k : ℕ) (history : List Entry) (w : World) → Carries history w → w.given + reserved w + k ≡ ids_in history + under_way history + (opened_in history - sent_in history) + k

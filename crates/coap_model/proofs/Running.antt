@@ -52,7 +52,7 @@ runs_carry r (t ∷ turns) c are =
     let next = keeps_step r.world r.history t.now t.draw t.event c are.0 are.1 in
     runs_carry (one_turn r t) turns next (subst (λ (last : ℕ). AreTurns last turns) (sym next.clock.last) are.2)
 
-pub setting_after : (r : Run) (turns : List Turn) → AreTurns r.world.last turns → Carries r.history r.world → (run_of r turns).world.setting ≡ r.world.setting
+setting_after : (r : Run) (turns : List Turn) → AreTurns r.world.last turns → Carries r.history r.world → (run_of r turns).world.setting ≡ r.world.setting
 setting_after r [] are c = refl
 setting_after r (t ∷ turns) are c =
     let next = keeps_step r.world r.history t.now t.draw t.event c are.0 are.1 in

@@ -28,7 +28,7 @@ use Rattle.coap_model.specs.Step.{message_in}
 -- ---- options
 
 -- options may stand behind a lower number
-pub AreOptions-lower : (low high : ℕ) (os : List Opt) → low ≤ high → AreOptions high os → AreOptions low os
+AreOptions-lower : (low high : ℕ) (os : List Opt) → low ≤ high → AreOptions high os → AreOptions low os
 AreOptions-lower low high [] le are = tt
 AreOptions-lower low high (o ∷ os) le are = (omega (arith, are.0), are.1, are.2, are.3)
 

@@ -46,7 +46,7 @@ target-right routes most token m are path query (Some t) e = go (leb (length (sp
     go true fits = record { target_is = e; sound = target-is routes m t are path query e; short = leb-true _ _ fits }
     go false fits = λ z. absurd (omega arith)
 
-pub verdict-right : (routes : Routes) (most : ℕ) (token : List ℕ) (m : Message) → AreRoutes routes → Right routes most token m (verdict_of routes most token m)
+verdict-right : (routes : Routes) (most : ℕ) (token : List ℕ) (m : Message) → AreRoutes routes → Right routes most token m (verdict_of routes most token m)
 unfolding verdict_of
 verdict-right routes most token m are = method (is_code m.code GET)
   where

@@ -110,6 +110,13 @@ error = answered_by 0 (answer 0x68 0x84 1 1 [])
 abbrev pub error_sent : List Sent
 error_sent = delivered_as (0x50 ∷ 0x84 ∷ 0 ∷ 2 ∷ 0xD1 ∷ 1 ∷ 60 ∷ [])
 
+-- so is an error of the origin's own, of class 5
+abbrev pub fault : List Moment
+fault = answered_by 0 (answer 0x68 0xA0 1 1 [])
+
+abbrev pub fault_sent : List Sent
+fault_sent = delivered_as (0x50 ∷ 0xA0 ∷ 0 ∷ 2 ∷ 0xD1 ∷ 1 ∷ 60 ∷ [])
+
 -- a 2.04 goes on as it came
 abbrev pub changed : List Moment
 changed = answered_by 0 (answer 0x68 0x44 1 1 [])
@@ -123,6 +130,10 @@ valid = answered_by 0 (answer 0x68 0x43 1 1 [])
 
 abbrev pub block_in_response : List Moment
 block_in_response = answered_by 0 (answer 0x68 0x45 1 1 (0xD1 ∷ 10 ∷ 6 ∷ 0xFF ∷ 0x32 ∷ 0x31 ∷ []))
+
+-- a Max-Age has at most four bytes
+abbrev pub long_max_age : List Moment
+long_max_age = answered_by 0 (answer 0x68 0x45 1 1 (0xD5 ∷ 1 ∷ 0 ∷ 0 ∷ 0 ∷ 0 ∷ 10 ∷ []))
 
 abbrev pub replaced_sent : List Sent
 replaced_sent = delivered_as (0x50 ∷ 0xA2 ∷ 0 ∷ 2 ∷ [])
@@ -160,6 +171,13 @@ long_paths = from 0 (client 1) (get_t (segment 110)) ∷ from 0 (client 1) (get_
 
 abbrev pub long_paths_sent : List Sent
 long_paths_sent = to (Refused REQUEST_ENTITY_TOO_LARGE) (client 1) (0x50 ∷ 0x8D ∷ 0 ∷ 1 ∷ []) ∷ nothing Opened ∷ to SentRequest origin (0x48 ∷ 1 ∷ 0 ∷ 2 ∷ 0 ∷ 0 ∷ 0 ∷ 0 ∷ 0 ∷ 0 ∷ 0 ∷ 1 ∷ 0xB4 ∷ 0x74 ∷ 0x65 ∷ 0x6D ∷ 0x70 ∷ segment 109) ∷ []
+
+-- a segment has at most 255 bytes
+abbrev pub long_segments : List Moment
+long_segments = from 0 (client 1) (get_t (segment 256)) ∷ from 0 (client 1) (get_t (segment 255)) ∷ []
+
+abbrev pub long_segments_sent : List Sent
+long_segments_sent = to (Refused BAD_OPTION) (client 1) (0x50 ∷ 0x82 ∷ 0 ∷ 1 ∷ []) ∷ nothing Opened ∷ []
 
 -- the payload of a GET is ignored
 abbrev pub payload_in_get : List Moment

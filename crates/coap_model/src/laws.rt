@@ -10,19 +10,22 @@ ghost use Rattle.coap_model.specs.History.{Entry};
 ghost use Rattle.coap_model.specs.Carries.{Carries, entry_of, IsEvent};
 ghost use Rattle.coap_model.specs.Promised.{Promised};
 ghost use Rattle.coap_model.specs.Runs.{Turn, AreTurns, new_run, run_of};
-ghost use Rattle.coap_model.specs.Examples.{play, proxy, small_proxy, narrow_proxy, first_answer, first_answer_sent, late_answer, late_answer_sent, error, error_sent, changed, changed_sent, valid, replaced_sent, block_in_response, impostor, impostor_sent, refusals, refusals_sent, long_paths, long_paths_sent, payload_in_get, payload_in_get_sent, full, full_sent, unprocessed_messages, unprocessed_messages_sent, too_long, too_long_sent, payload_of, payload_of_109_sent, spent_proxy, last_id, last_id_sent, wrapping_proxy, wrapping, wrapping_sent};
+ghost use Rattle.coap_model.specs.Examples.{play, proxy, small_proxy, narrow_proxy, first_answer, first_answer_sent, late_answer, late_answer_sent, error, error_sent, fault, fault_sent, changed, changed_sent, valid, replaced_sent, block_in_response, long_max_age, impostor, impostor_sent, refusals, refusals_sent, long_paths, long_paths_sent, long_segments, long_segments_sent, payload_in_get, payload_in_get_sent, full, full_sent, unprocessed_messages, unprocessed_messages_sent, too_long, too_long_sent, payload_of, payload_of_109_sent, spent_proxy, last_id, last_id_sent, wrapping_proxy, wrapping, wrapping_sent};
 
 /// Runs of the step, computed on the definitions.
 pub fn examples()
     ensures first_answer { play proxy first_answer ≡ first_answer_sent }
     ensures late_answer { play proxy late_answer ≡ late_answer_sent }
     ensures error { play proxy error ≡ error_sent }
+    ensures fault { play proxy fault ≡ fault_sent }
     ensures changed { play proxy changed ≡ changed_sent }
     ensures valid { play proxy valid ≡ replaced_sent }
     ensures block_in_response { play proxy block_in_response ≡ replaced_sent }
+    ensures long_max_age { play proxy long_max_age ≡ replaced_sent }
     ensures impostor { play proxy impostor ≡ impostor_sent }
     ensures refusals { play proxy refusals ≡ refusals_sent }
     ensures long_paths { play narrow_proxy long_paths ≡ long_paths_sent }
+    ensures long_segments { play proxy long_segments ≡ long_segments_sent }
     ensures payload_in_get { play proxy payload_in_get ≡ payload_in_get_sent }
     ensures full { play small_proxy full ≡ full_sent }
     ensures unprocessed { play proxy unprocessed_messages ≡ unprocessed_messages_sent }
@@ -44,7 +47,7 @@ pub fn new_proxies_carry_nothing()
     ensures carried { (setting : Setting) → AreRoutes setting.routes → Carries [] (new_world setting) }
 {}
 
-/// No step changes the limits, the routes, the first message id and the salt.
+/// No step changes the limits, the routes, the first message id and the salt, where datagrams are bytes.
 pub fn settings_stay()
     ensures stays { (w : World) (now draw : ℕ) (event : Event) → IsEvent event → (step_of w now draw event).world.setting ≡ w.setting }
 {}

@@ -63,7 +63,7 @@ impl Limit {
         }
     }
 
-    // Whether its value is within its range.
+    /// Whether its value is within its range.
     fn allows(self, values: &LimitValues) -> bool
         ensures { result ≡ not (is_out (of_values values.now) self) }
     {
@@ -107,7 +107,7 @@ impl LimitValues {
         }
     }
 
-    // The first limit that is out of its range.
+    /// The first limit that is out of its range.
     fn first_fault(&self) -> Option<Limit>
         ensures { result ≡ first_fault (of_values self.now) }
     {

@@ -9,11 +9,11 @@ use Rattle.std.proofs.lemmas.Option.{none-some}
 use Rattle.coap_proxyd.specs.Texts.{cut, has, with_front}
 
 -- a text that begins with the byte
-pub cut-here : (byte b : ℕ) (text : List ℕ) → (b == byte) ≡ true → cut byte (b ∷ text) ≡ Some ([], text)
+cut-here : (byte b : ℕ) (text : List ℕ) → (b == byte) ≡ true → cut byte (b ∷ text) ≡ Some ([], text)
 cut-here byte b text hit = ap (λ t. cond t (Some ([], text)) (option_map (with_front b) (cut byte text))) hit
 
 -- and one that begins with another
-pub cut-later : (byte b : ℕ) (text : List ℕ) → (b == byte) ≡ false → cut byte (b ∷ text) ≡ option_map (with_front b) (cut byte text)
+cut-later : (byte b : ℕ) (text : List ℕ) → (b == byte) ≡ false → cut byte (b ∷ text) ≡ option_map (with_front b) (cut byte text)
 cut-later byte b text miss = ap (λ t. cond t (Some ([], text)) (option_map (with_front b) (cut byte text))) miss
 
 -- what stands before the place and behind it
@@ -64,7 +64,7 @@ cut-nowhere byte text none =
     (cases_Bool (ltb (position_or_len (λ b. b == byte) text) (length text)))
 
 -- a text without the byte isn't cut
-pub cut-without : (byte : ℕ) (text : List ℕ) → has byte text ≡ false → cut byte text ≡ None
+cut-without : (byte : ℕ) (text : List ℕ) → has byte text ≡ false → cut byte text ≡ None
 cut-without byte [] none = refl
 cut-without byte (b ∷ text) none =
     let parts = or_parts (b == byte) (has byte text) none in

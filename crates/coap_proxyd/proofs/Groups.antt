@@ -40,7 +40,7 @@ All-ascii (b ∷ text) all =
     All-cons (λ (x : ℕ). x < 128) b text (digit-ascii b parts.0) (All-ascii text parts.1)
 
 -- the test in the words of the standard library
-pub AllDigits-test : (text : List ℕ) → list_all (λ b. is_digit b 16) text ≡ true → AllDigits 16 text
+AllDigits-test : (text : List ℕ) → list_all (λ b. is_digit b 16) text ≡ true → AllDigits 16 text
 AllDigits-test [] all = tt
 AllDigits-test (b ∷ text) all =
     let parts = and_parts (is_digit b 16) (list_all (λ b. is_digit b 16) text) all in
@@ -138,7 +138,7 @@ more-none text rest front read eight = go (all_of (map group_of (slice_split (λ
         other-none text (front ++ more) (rw is at read) (λ all. omega arith)
 
 -- what was read as a group is one
-pub group_of-is : (text : List ℕ) (n : ℕ) → group_of text ≡ Some n → IsGroup text n
+group_of-is : (text : List ℕ) (n : ℕ) → group_of text ≡ Some n → IsGroup text n
 unfolding group_of
 group_of-is text n found = go (ltb 0 (length text) && are_few text) refl found
   where
@@ -156,7 +156,7 @@ test-AllDigits [] all = refl
 test-AllDigits (b ∷ text) all = rw (lt-ltb (digit_value b) 16 all.0, test-AllDigits text all.1) refl
 
 -- what is a group is read
-pub group_of-written : (text : List ℕ) (n : ℕ) → IsGroup text n → group_of text ≡ Some n
+group_of-written : (text : List ℕ) (n : ℕ) → IsGroup text n → group_of text ≡ Some n
 unfolding group_of
 group_of-written text n group =
     let some = lt-ltb 0 (length text) group.0.0.0 in
@@ -165,14 +165,14 @@ group_of-written text n group =
     rw (some, few, digits, group.0.1) refl
 
 -- a byte that is no digit stands in no group
-pub has-group : (byte : ℕ) → 16 ≤ digit_value byte → (text : List ℕ) → AllDigits 16 text → has byte text ≡ false
+has-group : (byte : ℕ) → 16 ≤ digit_value byte → (text : List ℕ) → AllDigits 16 text → has byte text ≡ false
 has-group byte other [] all = refl
 has-group byte other (b ∷ text) all =
     let differs : b ≢ byte = λ same. let small : digit_value byte < 16 = rw same at all.0 in omega arith in
     rw (ne_eqb b byte differs, has-group byte other text all.1) refl
 
 -- groups that are read, one by one
-pub groups-are : (groups : List (List ℕ)) (segments : List ℕ) → all_of (map group_of groups) ≡ Some segments → AllZip IsGroup groups segments
+groups-are : (groups : List (List ℕ)) (segments : List ℕ) → all_of (map group_of groups) ≡ Some segments → AllZip IsGroup groups segments
 groups-are [] segments found = let none : [] ≡ segments = cc in rw (← none) tt
 groups-are (group ∷ groups) segments found = go (group_of group) refl (all_of (map group_of groups)) refl found (λ more is. groups-are groups more is)
   where
@@ -185,7 +185,7 @@ groups-are (group ∷ groups) segments found = go (group_of group) refl (all_of 
         rw (← same) (group_of-is group n is, further more left)
 
 -- and groups that are written
-pub groups-written : (groups : List (List ℕ)) (segments : List ℕ) → AllZip IsGroup groups segments → all_of (map group_of groups) ≡ Some segments
+groups-written : (groups : List (List ℕ)) (segments : List ℕ) → AllZip IsGroup groups segments → all_of (map group_of groups) ≡ Some segments
 groups-written [] [] all = refl
 groups-written [] (s ∷ segments) all = absurd all
 groups-written (group ∷ groups) [] all = absurd all
@@ -202,7 +202,7 @@ has-groups byte other apart (group ∷ next ∷ groups) (s ∷ segments) all =
     rw (list_any-append, first, apart, rest) refl
 
 -- groups joined by colons are split there again
-pub split-groups : (group : List ℕ) (groups : List (List ℕ)) (segments : List ℕ) → AllZip IsGroup (group ∷ groups) segments → slice_split (λ b. b == 58) (join_with_byte 58 (group ∷ groups)) ≡ group ∷ groups
+split-groups : (group : List ℕ) (groups : List (List ℕ)) (segments : List ℕ) → AllZip IsGroup (group ∷ groups) segments → slice_split (λ b. b == 58) (join_with_byte 58 (group ∷ groups)) ≡ group ∷ groups
 split-groups group groups [] all = absurd all
 split-groups group [] (s ∷ segments) all = slice_split_none (λ b. b == 58) group (All-others 58 group (has-group 58 (lit≤ tt) group all.0.0.0.1))
 split-groups group (next ∷ groups) (s ∷ segments) all =

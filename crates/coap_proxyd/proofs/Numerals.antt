@@ -18,7 +18,7 @@ own : IsNumeralModel (AllDigits 10) (digits_value 10)
 own = numerals_by_value (AllDigits 10) tells_digits
 
 -- a number that a text writes
-pub number_of-some : (most n : ℕ) (text : List ℕ) → digits_value 10 text ≡ n → text ≡ decimal n → n ≤ most → number_of most text ≡ Some n
+number_of-some : (most n : ℕ) (text : List ℕ) → digits_value 10 text ≡ n → text ≡ decimal n → n ≤ most → number_of most text ≡ Some n
 unfolding number_of
 number_of-some most n text value spelled within =
     let same : bytes_eq text (decimal n) ≡ true = (bytes_eq-Decides text (decimal n)).1 spelled in
@@ -41,7 +41,7 @@ number_of-is most n text found = go (bytes_eq text (decimal (digits_value 10 tex
         rw same at both
 
 -- a text that writes none
-pub number_of-none : (most : ℕ) (text : List ℕ) → ((n : ℕ) → text ≡ decimal n → n ≤ most → ⊥) → number_of most text ≡ None
+number_of-none : (most : ℕ) (text : List ℕ) → ((n : ℕ) → text ≡ decimal n → n ≤ most → ⊥) → number_of most text ≡ None
 number_of-none most text never = go (number_of most text) refl
   where
     go : (found : Option ℕ) → number_of most text ≡ found → number_of most text ≡ None
@@ -49,8 +49,8 @@ number_of-none most text never = go (number_of most text) refl
     go (Some n) is = let written = number_of-is most n text is in absurd (never n written.0 written.1)
 
 -- a text begins with a plus, or with a zero before another byte
-abbrev pub is_odd : List ℕ → Bool
-is_odd text = (get_or text 0 0 == 43) || ((get_or text 0 0 == 48) && ltb 1 (length text))
+abbrev pub has_needless_start : List ℕ → Bool
+has_needless_start text = (get_or text 0 0 == 43) || ((get_or text 0 0 == 48) && ltb 1 (length text))
 
 -- a number whose text begins with a zero is zero
 zero_first : (n : ℕ) → n < 2 ^ 64 → get_or (decimal n) 0 0 ≡ 48 → 1 < length (decimal n) → ⊥
@@ -59,7 +59,7 @@ zero_first zero bound nought long = omega arith
 zero_first (suc m) bound nought long = let above = first_decimal (suc m) (omega arith) bound in omega arith
 
 -- such a text writes no number
-starts_odd : (n : ℕ) (text : List ℕ) → n < 2 ^ 64 → text ≡ decimal n → is_odd text ≡ true → ⊥
+starts_odd : (n : ℕ) (text : List ℕ) → n < 2 ^ 64 → text ≡ decimal n → has_needless_start text ≡ true → ⊥
 starts_odd n text bound spelled odd =
     let numeral = (decimal_is_IsNumeral n bound).0 in
     let first = digit_at (decimal n) 0 numeral.1 numeral.0 in
@@ -73,7 +73,7 @@ starts_odd n text bound spelled odd =
     zero_first n bound nought long)
     (cases_Bool (get_or text 0 0 == 43))
 
-pub odd-none : (most : ℕ) (text : List ℕ) → most < 2 ^ 64 → is_odd text ≡ true → number_of most text ≡ None
+pub odd-none : (most : ℕ) (text : List ℕ) → most < 2 ^ 64 → has_needless_start text ≡ true → number_of most text ≡ None
 odd-none most text bound odd = number_of-none most text (λ n spelled within. starts_odd n text (omega arith) spelled odd)
 
 -- nor does a text that isn't one of Unicode
@@ -81,13 +81,13 @@ pub unreadable-none : (most : ℕ) (text : List ℕ) → most < 2 ^ 64 → ¬ (I
 unreadable-none most text bound bad = number_of-none most text (λ n spelled within. bad (rw spelled (IsUtf8-from_ascii (decimal n) (IsAscii-decimal n (omega arith)))))
 
 -- where no text begins so, it has neither
-plain_start : (text : List ℕ) → is_odd text ≡ false → (get_or text 0 0 ≢ 43) × (get_or text 0 0 ≡ 48 → length text ≤ 1)
+plain_start : (text : List ℕ) → has_needless_start text ≡ false → (get_or text 0 0 ≢ 43) × (get_or text 0 0 ≡ 48 → length text ≤ 1)
 plain_start text plain =
     let parts = or_parts (get_or text 0 0 == 43) ((get_or text 0 0 == 48) && ltb 1 (length text)) plain in
     (eqb-false (get_or text 0 0) 43 parts.0, λ nought. ltb-false 1 (length text) (rw (eq-eqb (get_or text 0 0) 48 nought) at parts.1))
 
 -- what the standard library parsed as a number, without a plus and leading zeros, is the number's text
-parsed : (n : ℕ) (text : List ℕ) → is_odd text ≡ false → ParsesUnsigned {E = ℕ} 64 10 text (Ok n) → (text ≡ decimal n) × (digits_value 10 text ≡ n)
+parsed : (n : ℕ) (text : List ℕ) → has_needless_start text ≡ false → ParsesUnsigned {E = ℕ} 64 10 text (Ok n) → (text ≡ decimal n) × (digits_value 10 text ≡ n)
 parsed n text plain reads =
     let start = plain_start text plain in
     let answer : Result ℕ ℕ = Ok n in
@@ -96,13 +96,13 @@ parsed n text plain reads =
     let spelled = decimal-digits_value own text read.0.0 some (λ nought. let short = start.1 nought in omega arith) read.0.2 in
     (rw (read.1) (sym spelled), sym read.1)
 
-pub parsed-some : (most n : ℕ) (text : List ℕ) → is_odd text ≡ false → ParsesUnsigned {E = ℕ} 64 10 text (Ok n) → n ≤ most → number_of most text ≡ Some n
+pub parsed-some : (most n : ℕ) (text : List ℕ) → has_needless_start text ≡ false → ParsesUnsigned {E = ℕ} 64 10 text (Ok n) → n ≤ most → number_of most text ≡ Some n
 parsed-some most n text plain reads within =
     let is = parsed n text plain reads in
     number_of-some most n text is.1 is.0 within
 
 -- a number that is too great
-pub parsed-more : (most n : ℕ) (text : List ℕ) → most < 2 ^ 64 → is_odd text ≡ false → ParsesUnsigned {E = ℕ} 64 10 text (Ok n) → (n ≤ most → ⊥) → number_of most text ≡ None
+pub parsed-more : (most n : ℕ) (text : List ℕ) → most < 2 ^ 64 → has_needless_start text ≡ false → ParsesUnsigned {E = ℕ} 64 10 text (Ok n) → (n ≤ most → ⊥) → number_of most text ≡ None
 parsed-more most n text bound plain reads above = number_of-none most text (λ m spelled within.
     let is = parsed n text plain reads in
     let small : m < 2 ^ 64 = omega arith in
@@ -111,7 +111,7 @@ parsed-more most n text bound plain reads above = number_of-none most text (λ m
     above (omega arith))
 
 -- what it could not parse
-pub parsed-none : (most : ℕ) (text : List ℕ) → most < 2 ^ 64 → is_odd text ≡ false → ParsesUnsigned {E = ℕ} 64 10 text (Err 0) → number_of most text ≡ None
+pub parsed-none : (most : ℕ) (text : List ℕ) → most < 2 ^ 64 → has_needless_start text ≡ false → ParsesUnsigned {E = ℕ} 64 10 text (Err 0) → number_of most text ≡ None
 parsed-none most text bound plain reads = number_of-none most text (λ m spelled within.
     let small : m < 2 ^ 64 = omega arith in
     let numeral = decimal_is_IsNumeral m small in

@@ -42,10 +42,10 @@ are-more r (u ∷ ts) t are onward event =
     let rest = are-more (one_turn r u) ts t (subst (λ (n : ℕ). AreTurns n ts) (sym last) are.2) onward event in
     (are.0, are.1, subst (λ (n : ℕ). AreTurns n (ts ++ t ∷ [])) last rest)
 
-pub done-nothing : (w : World) → HasDone w [] w
+done-nothing : (w : World) → HasDone w [] w
 done-nothing w = record { are = tt; world = refl; carries = λ history c. c }
 
-pub done-more : (w v : World) (ts : List Turn) (t : Turn) → HasDone w ts v → MayBeDone v.last v.events t → HasDone w (ts ++ t ∷ []) (step_at v t).world
+done-more : (w v : World) (ts : List Turn) (t : Turn) → HasDone w ts v → MayBeDone v.last v.events t → HasDone w (ts ++ t ∷ []) (step_at v t).world
 done-more w v ts t d may =
     let onward : (world_after w ts).last ≤ t.now = subst (λ (u : World). u.last ≤ t.now) d.world may.onward in
     let are = are-more (run_at w []) ts t d.are onward may.event in
@@ -117,7 +117,7 @@ module _ (w v : World) (input left left' old new : Option (List ℕ)) (lines cou
   ends-unread = record { turns = at.turns; done = at.done; ends = (at.written, read-up-to) }
 
   -- no line is left
-  pub ends-done : IfSome left (λ rest. AsksNext (lines + 1) v.last v.events rest left' (Ok End)) → IsReplayed w v input old new (Ok count)
+  ends-done : IfSome left (λ rest. AsksNext (lines + 1) v.last v.events rest left' (Ok End)) → IsReplayed w v input old new (Ok count)
   ends-done asks =
       record {
         turns = at.turns;

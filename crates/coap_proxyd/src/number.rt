@@ -1,11 +1,11 @@
 //! Numbers as texts.
-ghost use Rattle.std.specs.Prelude.{◌≡◌, ◌==◌, ◌&&◌, ◌||◌, ◌≤◌, ◌^◌, ◌<◌, length, nat_lt, nat_le, slice_index, IfSome};
+ghost use Rattle.std.specs.Prelude.{◌≡◌, ◌==◌, ◌&&◌, ◌||◌, ◌≤◌, ◌<◌, length, nat_lt, nat_le, slice_index, IfSome};
 ghost use Rattle.std.specs.Char.{is_digit};
 ghost use Rattle.std.specs.List.{list_all};
 ghost use Rattle.coap_proxyd.specs.Numbers.{group_of, number_of};
 
 /// Whether a text begins with a plus, or with a zero before another byte.
-fn is_odd(text: &[u8]) -> bool
+fn has_needless_start(text: &[u8]) -> bool
     ensures { result ≡ ((slice_index text.now 0 == 43) || ((slice_index text.now 0 == 48) && nat_lt 1 (length text.now))) }
 {
     match text {
@@ -19,7 +19,7 @@ pub(crate) fn read_number(text: &[u8], most: u64) -> Option<u64>
     ensures read { result ≡ number_of most text.now }
     ensures within { IfSome result (λ number. number ≤ most) }
 {
-    if is_odd(text) {
+    if has_needless_start(text) {
         return None;
     }
     let Ok(digits) = str::from_utf8(text) else {

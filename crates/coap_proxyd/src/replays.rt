@@ -17,7 +17,7 @@ use std::io::{BufRead, Write};
 /// The greatest number of a line: 2^62.
 const LAST_LINE: u64 = 1 << 62;
 
-/// One event more than a core may have done: 2^63.
+/// The most events that a core does: 2^63.
 const MOST_EVENTS: u64 = 1 << 63;
 
 /// What comes next of an input.

@@ -76,7 +76,7 @@ unfolding ipv6_between
 ipv6_between-other bytes other = rw other refl
 
 -- it is of no matter why `url` refuses
-pub ipv6_read-url_or_bad : (r : Result Parts ParseError) → ipv6_read (url_or_bad r) ≡ ipv6_read r
+ipv6_read-url_or_bad : (r : Result Parts ParseError) → ipv6_read (url_or_bad r) ≡ ipv6_read r
 ipv6_read-url_or_bad (Ok url) = refl
 ipv6_read-url_or_bad (Err e) = refl
 

@@ -41,11 +41,11 @@ module _ (maps : List Map) (path : List (List ℕ)) (i : ℕ) (m : Map) (within 
   more = drop_more maps i m within ∙ ap (λ (x : Map). x ∷ drop (i + 1) maps) (sym item)
 
   -- it is longer than the best, and begins the path
-  pub best_of-takes : (best : Option Map) → is_longer m best ≡ true → begins m.prefix path ≡ true → best_of best (map_of (drop i maps) path) ≡ best_of (Some m) (map_of (drop (i + 1) maps) path)
+  best_of-takes : (best : Option Map) → is_longer m best ≡ true → begins m.prefix path ≡ true → best_of best (map_of (drop i maps) path) ≡ best_of (Some m) (map_of (drop (i + 1) maps) path)
   best_of-takes best is holds = rw (more, holds) (replaces best m (map_of (drop (i + 1) maps) path) is)
 
   -- it isn't longer
-  pub best_of-shorter : (best : Option Map) → is_longer m best ≡ false → best_of best (map_of (drop i maps) path) ≡ best_of best (map_of (drop (i + 1) maps) path)
+  best_of-shorter : (best : Option Map) → is_longer m best ≡ false → best_of best (map_of (drop i maps) path) ≡ best_of best (map_of (drop (i + 1) maps) path)
   best_of-shorter best is = rw more (go (begins m.prefix path))
     where
       go : (t : Bool) → best_of best (cond t (longer m (map_of (drop (i + 1) maps) path)) (map_of (drop (i + 1) maps) path)) ≡ best_of best (map_of (drop (i + 1) maps) path)
@@ -53,7 +53,7 @@ module _ (maps : List Map) (path : List (List ℕ)) (i : ℕ) (m : Map) (within 
       go false = refl
 
   -- it doesn't begin the path
-  pub best_of-other : (best : Option Map) → begins m.prefix path ≡ false → best_of best (map_of (drop i maps) path) ≡ best_of best (map_of (drop (i + 1) maps) path)
+  best_of-other : (best : Option Map) → begins m.prefix path ≡ false → best_of best (map_of (drop i maps) path) ≡ best_of best (map_of (drop (i + 1) maps) path)
   best_of-other best fails = rw (more, fails) refl
 
 -- a map's prefix begins the path

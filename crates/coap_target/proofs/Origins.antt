@@ -73,7 +73,7 @@ module _ (hosts : List KnownHost) (uri : UriParts) (t : Target) (path : AllByRec
       let same : made ≡ t = cc in
       subst IsTarget same (record { host = tt; path = path; query = query })
 
-pub remote-is : (hosts : List KnownHost) (uri : UriParts) (t : Target) → are_short uri ≡ true → remote hosts uri ≡ Ok t → IsTarget t
+remote-is : (hosts : List KnownHost) (uri : UriParts) (t : Target) → are_short uri ≡ true → remote hosts uri ≡ Ok t → IsTarget t
 remote-is hosts uri t short is =
     let host = and_parts (is_short_host uri.host) (list_all is_short uri.path && list_all is_short uri.query) short in
     let rest = and_parts (list_all is_short uri.path) (list_all is_short uri.query) host.1 in

@@ -21,7 +21,7 @@ use Rattle.coap_target.specs.declared.uri.UriParts.{UriParts}
 use Rattle.coap_target.specs.Address.{ip_of}
 use Rattle.coap_target.specs.Hosts.{is_own}
 use Rattle.coap_target.specs.Request.{value_of, port_of, local, remote, resolved, of_uri, by_uri, composed, is_coap, by_scheme, if_any, by_options, request_target}
-use Rattle.coap_target.specs.Routes.{path_of, query_of, values_of, map_of, mapped, mapped_target, AreRoutes}
+use Rattle.coap_target.specs.Routes.{path_of, query_of, map_of, mapped, mapped_target, AreRoutes}
 use Rattle.coap_target.specs.Target.{IsSegment, IsTarget}
 use Rattle.coap_target.specs.Uri.{is_short, is_short_host, are_short, host_or, host_of, uri_of}
 use Rattle.std.specs.List.{list_all}

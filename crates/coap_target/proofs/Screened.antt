@@ -1,7 +1,7 @@
 -- The values of options of a request that was screened are as long as their definitions allow.
 use Rattle.std.proofs.Common.{◌≡◌, ◌==◌, ℕ, ◌≤◌, Bool, true, false, cond, ◌&&◌, not, nat_le, List, [], ◌∷◌, ◌++◌, length, filter, map, find, Option, Some, None, option_map, refl}
 use Rattle.std.specs.List.{AllByRecursion}
-use Rattle.std.proofs.lemmas.Bool.{and_parts, eqb-true, leb-true, le-leb}
+use Rattle.std.proofs.lemmas.Bool.{and_parts, eqb-true, leb-true}
 use Rattle.coap_message.specs.Message.{Message}
 use Rattle.coap_message.specs.declared.options.Opt.{Opt}
 use Rattle.coap_option.specs.declared.side.Side.TheVariants.{Request}
@@ -11,7 +11,6 @@ use Rattle.coap_option.specs.Recognition.{is_recognised}
 use Rattle.coap_option.specs.Screening.{is_refused, first_refused}
 use Rattle.coap_target.specs.Routes.{values_of, path_of, query_of}
 use Rattle.coap_target.specs.Request.{first_of}
-use Rattle.coap_target.specs.Uri.{is_short}
 
 -- nothing was refused
 not-refused : (ps : List Place) → option_map (λ p. p.option.number) (find (is_refused Request) ps) ≡ None → find (is_refused Request) ps ≡ None
@@ -56,7 +55,7 @@ module _ (n most : ℕ) (unsafe : is_unsafe n ≡ true) (range : (length before 
   values-short options none = values-behind [] options (not-refused (places options) none)
 
 -- the first of them
-pub first-short : (most : ℕ) (values : List (List ℕ)) (value : List ℕ) → AllByRecursion (λ v. length v ≤ most) values → Some value ≡ first_of values → length value ≤ most
+first-short : (most : ℕ) (values : List (List ℕ)) (value : List ℕ) → AllByRecursion (λ v. length v ≤ most) values → Some value ≡ first_of values → length value ≤ most
 first-short most [] value all is = absurd cc
 first-short most (v ∷ values) value all is = let same : v ≡ value = cc in rw (← same) all.0
 

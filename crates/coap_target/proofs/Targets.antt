@@ -1,14 +1,12 @@
 -- The target of a request is a target.
-use Rattle.std.proofs.Common.{◌≡◌, ℕ, suc, zero, Bool, true, false, cond, List, [], ◌∷◌, length, drop, filter, nat_lt, Option, Some, None, option_map, refl, subst}
+use Rattle.std.proofs.Common.{◌≡◌, ℕ, suc, zero, Bool, true, false, cond, List, [], ◌∷◌, length, drop, nat_lt, Option, Some, None, option_map, refl, subst}
 use Rattle.std.specs.List.{AllByRecursion}
-use Rattle.std.proofs.lemmas.Bool.{leb-true}
 use Rattle.coap_message.specs.Message.{Message}
 use Rattle.coap_target.specs.declared.target.Target.{Target}
 use Rattle.coap_target.specs.declared.map.Map.{Map}
 use Rattle.coap_target.specs.declared.routes.Routes.{Routes}
 use Rattle.coap_target.specs.Target.{IsSegment, IsTarget}
-use Rattle.coap_target.specs.Uri.{is_short}
-use Rattle.coap_target.specs.Routes.{begins, longer, map_of, mapped, values_of, path_of, query_of, mapped_target, AreRoutes}
+use Rattle.coap_target.specs.Routes.{begins, longer, map_of, mapped, path_of, query_of, mapped_target, AreRoutes}
 use Rattle.coap_target.proofs.Lists.{All-append}
 
 -- what holds of each holds of those behind some

@@ -1,5 +1,5 @@
 //! The options of one number.
-ghost use Rattle.std.specs.Prelude.{◌≡◌, ◌==◌, filter, length, take_while, nat_lt, nat_le};
+ghost use Rattle.std.specs.Prelude.{◌≡◌, ◌==◌, filter, length, take_while, nat_lt};
 
 use coap_message::{Opt, OptionList};
 

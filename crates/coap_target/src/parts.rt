@@ -1,5 +1,5 @@
 //! Parts of a URI's text between separators, percent-decoded (RFC 3986, 2.1; RFC 7252, 6.4).
-ghost use Rattle.std.specs.Prelude.{◌≡◌, ◌==◌, ◌<◌, ◌∷◌, IfOk, IfSome, length, nat_eq, position};
+ghost use Rattle.std.specs.Prelude.{◌≡◌, ◌==◌, ◌<◌, ◌∷◌, IfOk, IfSome, length, position};
 ghost use Rattle.std.specs.List.{list_all, slice_split};
 ghost use Rattle.std.specs.Option.{option_copied};
 ghost use Rattle.percent_encoding.specs.Percent as spec;

@@ -18,11 +18,13 @@ use crate::uri::{HostPart, path_parts, split_uri};
 use coap_message::Seq;
 use std::alloc::Global;
 
-/// The most own names, hosts and maps.
+/// The most own names.
 const MOST_NAMES: usize = 64;
 
+/// The most hosts.
 const MOST_HOSTS: usize = 256;
 
+/// The most maps.
 const MOST_MAPS: usize = 64;
 
 /// Reads an entry of a list of a configuration.

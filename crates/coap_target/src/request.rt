@@ -2,7 +2,6 @@
 ghost use Rattle.std.specs.Prelude.{◌≡◌, ◌≤◌, None, IfOk, length};
 ghost use Rattle.std.specs.Prelude.{map as map_list};
 ghost use Rattle.std.specs.Option.{option_copied};
-ghost use Rattle.coap_message.specs.Uint.{uint_of};
 ghost use Rattle.coap_option.specs.declared.side.Side.{Side};
 ghost use Rattle.coap_option.specs.Screening.{first_refused};
 ghost use Rattle.coap_target.specs.Answer.{Answers};
@@ -34,7 +33,7 @@ fn value_of(request: &Message, number: u16) -> Option<&[u8]>
     }
 }
 
-/// The host of a mapped target.
+/// A copy of a host, if there is one.
 fn copy_of(alloc: Global, host: &Option<Seq<u8>>) -> Result<Option<Seq<u8>>, OutOfMemory>
     ensures { IfOk result (λ copy. copy ≡ host.now) }
 {

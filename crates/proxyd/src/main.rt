@@ -12,7 +12,7 @@ use coap_message::OutOfMemory;
 use coap_proxyd::{Fault, are_known, replay};
 use coap_target::Routes;
 use std::alloc::Global;
-use std::io::{BufRead, ErrorKind, Write};
+use std::io::{BufReader, ErrorKind, Read, Write};
 use std::process::ExitCode;
 use std::{env, io};
 
@@ -39,33 +39,28 @@ fn words(rt: &HostRuntime) -> Result<Vec<String>, Fault> {
 
 /// What the program makes of its words and an input: the known words do the events of the input by a new core,
 /// and write the datagrams that are sent. Any others do nothing.
-fn serve<R: BufRead, W: Write>(
+fn serve<R: Read + Drop, W: Write>(
     alloc: Global,
     words: &[String],
-    reader: &mut R,
-    writer: &mut W,
+    input: R,
+    output: &mut W,
 ) -> Result<(), Fault>
-    ensures known { map string_bytes words.now ≡ known_words → IsServed (R.remaining reader.old) (W.contents writer.old) (W.contents writer.new) result }
-    ensures other { map string_bytes words.now ≢ known_words → (result ≡ Err Fault.Arguments) × Appends (W.contents writer.old) (W.contents writer.new) [] }
+    ensures known { map string_bytes words.now ≡ known_words → IsServed (R.remaining input) (W.contents output.old) (W.contents output.new) result }
+    ensures other { map string_bytes words.now ≢ known_words → (result ≡ Err Fault.Arguments) × Appends (W.contents output.old) (W.contents output.new) [] }
 {
     if !are_known(words) {
         return Err(Fault::Arguments);
     }
-    let Ok(mut core) = default_core(alloc) else {
+    let (Ok(mut core), Ok(mut reader)) = (default_core(alloc), BufReader::new(alloc, input)) else {
         return Err(Fault::OutOfMemory);
     };
-    replay(alloc, reader, writer, &mut core)?;
+    replay(alloc, &mut reader, output, &mut core)?;
     Ok(())
 }
 
 /// Serves standard input, and writes to standard output.
 fn run(rt: &HostRuntime) -> Result<(), Fault> {
-    let words = words(rt)?;
-    let alloc = rt.alloc();
-    let Ok(mut reader) = io::BufReader::new(alloc, rt.reader()) else {
-        return Err(Fault::OutOfMemory);
-    };
-    serve(alloc, &words, &mut reader, &mut io::writer(rt))
+    serve(rt.alloc(), &words(rt)?, rt.reader(), &mut io::writer(rt))
 }
 
 fn main(rt: HostRuntime) -> ExitCode {

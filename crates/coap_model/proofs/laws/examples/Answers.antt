@@ -10,4 +10,4 @@ use Rattle.coap_model.proofs.laws.examples.Goals as goal
 
 pub returns : goal.returns
 unfolding read_message body_at options_within option_at extended spelling option_spelling uint_spelling mapped_target token_of target_options verdict_of answer_of with_id message_in
-returns c = record { first_answer = refl; late_answer = refl; error = refl; changed = refl; valid = refl; block_in_response = refl; impostor = refl; refusals = refl; long_paths = refl; payload_in_get = refl; full = refl; unprocessed = refl; too_long = refl; payload_that_fits = refl; payload_that_does_not = refl; last_id = refl; wrapping = refl }
+returns c = record { first_answer = refl; late_answer = refl; error = refl; fault = refl; changed = refl; valid = refl; block_in_response = refl; long_max_age = refl; impostor = refl; refusals = refl; long_paths = refl; long_segments = refl; payload_in_get = refl; full = refl; unprocessed = refl; too_long = refl; payload_that_fits = refl; payload_that_does_not = refl; last_id = refl; wrapping = refl }
