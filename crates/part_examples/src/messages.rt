@@ -185,20 +185,25 @@ const BOUNDARIES: [(u16, usize, usize); 10] = [
     (0, 65804, 65811),
 ];
 
-fn with_option(alloc: Global, number: u16, length: usize) -> Result<Message, OutOfMemory>
-    requires { length ≤ 65804 }
-{
-    let value = Seq::from_vec(vec![in alloc; 0x61; length]?);
-    let mut options = OptionList::new(alloc);
-    options.push(Opt { number, value })?;
-    Ok(Message {
+/// A message of these options.
+fn get(alloc: Global, options: OptionList) -> Message {
+    Message {
         kind: Kind::Non,
         code: Code::GET,
         id: 7,
         token: Token::empty(),
         options,
         payload: Seq::new(alloc),
-    })
+    }
+}
+
+fn one_option(alloc: Global, number: u16, length: usize) -> Result<OptionList, OutOfMemory>
+    requires { length ≤ 65804 }
+{
+    let value = Seq::from_vec(vec![in alloc; 0x61; length]?);
+    let mut options = OptionList::new(alloc);
+    options.push(Opt { number, value })?;
+    Ok(options)
 }
 
 #[test]
@@ -206,7 +211,7 @@ fn deltas_and_lengths_at_their_boundaries(rt: HostRuntime) -> Result<(), Fail> {
     let mut out = Datagram::new(rt.alloc(), 70000)?;
     for (number, length, expected) in BOUNDARIES {
         assert!(rt; length <= 65804 && out.room() >= 70000);
-        let message = with_option(rt.alloc(), number, length)?;
+        let message = get(rt.alloc(), one_option(rt.alloc(), number, length)?);
         encode_into(&message, &mut out, 70000)?;
         assert_eq!(rt;
             out.bytes().len(),

@@ -46,21 +46,15 @@ fn routes(
 }
 
 /// Adds bytes as text.
-fn show_bytes(alloc: Global, out: &mut String, bytes: &[u8]) -> Result<(), AllocError> {
-    let text = String::from_utf8_lossy(alloc, bytes)?;
-    out.push_str(text.as_str())
+fn show_bytes(out: &mut String, bytes: &[u8]) -> Result<(), AllocError> {
+    out.push_str(str::from_utf8(bytes).unwrap_or("no text"))
 }
 
 /// Adds each of the parts between two marks.
-fn show_parts(
-    alloc: Global,
-    out: &mut String,
-    parts: &[Seq<u8>],
-    marks: (&str, &str),
-) -> Result<(), AllocError> {
+fn show_parts(out: &mut String, parts: &[Seq<u8>], marks: (&str, &str)) -> Result<(), AllocError> {
     for part in parts {
         out.push_str(marks.0)?;
-        show_bytes(alloc, out, part.as_slice())?;
+        show_bytes(out, part.as_slice())?;
         out.push_str(marks.1)?;
     }
     Ok(())
@@ -81,15 +75,15 @@ fn show_ip(alloc: Global, out: &mut String, ip: &Ip) -> Result<(), AllocError> {
 fn show_target(alloc: Global, target: &Target) -> Result<String, AllocError> {
     let mut out = String::new(alloc);
     match &target.host {
-        Some(name) => show_bytes(alloc, &mut out, name.as_slice())?,
+        Some(name) => show_bytes(&mut out, name.as_slice())?,
         None => out.push_str("-")?,
     }
     out.push_str(" ")?;
     show_ip(alloc, &mut out, &target.at.ip)?;
     let port = target.at.port;
     write!(out, ":{port} ")?;
-    show_parts(alloc, &mut out, target.path.as_slice(), ("[", "]"))?;
-    show_parts(alloc, &mut out, target.query.as_slice(), ("{", "}"))?;
+    show_parts(&mut out, target.path.as_slice(), ("[", "]"))?;
+    show_parts(&mut out, target.query.as_slice(), ("{", "}"))?;
     Ok(out)
 }
 
@@ -97,7 +91,7 @@ fn show_target(alloc: Global, target: &Target) -> Result<String, AllocError> {
 fn show_uri(alloc: Global, uri: &UriParts) -> Result<String, AllocError> {
     let mut out = String::new(alloc);
     match &uri.host {
-        HostPart::Name(name) => show_bytes(alloc, &mut out, name.as_slice())?,
+        HostPart::Name(name) => show_bytes(&mut out, name.as_slice())?,
         HostPart::Addr(ip) => {
             out.push_str("@")?;
             show_ip(alloc, &mut out, ip)?;
@@ -105,8 +99,8 @@ fn show_uri(alloc: Global, uri: &UriParts) -> Result<String, AllocError> {
     }
     let port = uri.port;
     write!(out, ":{port} ")?;
-    show_parts(alloc, &mut out, uri.path.as_slice(), ("[", "]"))?;
-    show_parts(alloc, &mut out, uri.query.as_slice(), ("{", "}"))?;
+    show_parts(&mut out, uri.path.as_slice(), ("[", "]"))?;
+    show_parts(&mut out, uri.query.as_slice(), ("{", "}"))?;
     Ok(out)
 }
 

@@ -1,0 +1,11 @@
+//! Tests of the parts, each by itself: datagrams, options, targets and tables, as they were worked out by hand.
+#![tactic(auto)]
+
+#[cfg(test)]
+mod messages;
+#[cfg(test)]
+mod options;
+#[cfg(test)]
+mod tables;
+#[cfg(test)]
+mod targets;
