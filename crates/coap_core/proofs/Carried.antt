@@ -19,10 +19,11 @@ use Rattle.coap_message.specs.declared.error.OutOfMemory.{OutOfMemory}
 use Rattle.coap_message.specs.Datagram.{Datagram}
 use Rattle.coap_model.specs.declared.report.Report.{Report}
 use Rattle.coap_model.specs.World.{World}
-use Rattle.coap_model.specs.Events.{Event}
+use Rattle.coap_model.specs.Events.{Event, IsEvent}
 use Rattle.coap_model.specs.Step.{step_of}
 use Rattle.coap_model.specs.History.{Entry}
-use Rattle.coap_model.specs.Carries.{IsState, IsExchangeOf, ArePaired, Carries, IsEvent, entry_of}
+use Rattle.coap_model.specs.Runs.{entry_of}
+use Rattle.coap_model.specs.Carries.{IsState, IsExchangeOf, ArePaired, Carries}
 use Rattle.coap_model.proofs.Carrying.{keeps_step}
 use Rattle.coap_model.proofs.Frames.{opened-few}
 use Rattle.coap_model.proofs.Running.{setting_stays}

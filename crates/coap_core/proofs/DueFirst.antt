@@ -12,7 +12,7 @@ use Rattle.coap_exchange.specs.Exchanges.{is_queued}
 use Rattle.coap_exchange.specs.Table.{Numbered, IsRising, item_at}
 use Rattle.coap_model.specs.World.{World, later}
 use Rattle.coap_model.specs.Ticks.{items_of, if_due, sends, delivers, on_item, on_tick}
-use Rattle.coap_model.proofs.Tables.{AllItems, IsDueOf, least-holds, items-are}
+use Rattle.coap_model.proofs.Tables.{IsDueOf, least-holds, items-are}
 use Rattle.coap_core.specs.declared.ticks.DueItem.{DueItem}
 use Rattle.coap_core.specs.declared.ticks.DueItem.TheVariants.{Sending, Serving}
 use Rattle.coap_core.specs.Steps.{item_as}
@@ -58,19 +58,19 @@ IsSending i = item_as i ≡ Sending (due_as i)
 abbrev IsServing : Item → Type 0
 IsServing i = item_as i ≡ Serving (due_as i)
 
-all-sending : (xs : List (Numbered Exchange)) → AllItems IsSending (exchange_items xs)
+all-sending : (xs : List (Numbered Exchange)) → AllByRecursion IsSending (exchange_items xs)
 all-sending [] = tt
 all-sending (x ∷ xs) = go (is_queued x.1.state) (all-sending xs)
   where
-    go : (b : Bool) → AllItems IsSending (exchange_items xs) → AllItems IsSending (cond b (sending x ∷ exchange_items xs) (exchange_items xs))
+    go : (b : Bool) → AllByRecursion IsSending (exchange_items xs) → AllByRecursion IsSending (cond b (sending x ∷ exchange_items xs) (exchange_items xs))
     go true rest = (refl, rest)
     go false rest = rest
 
-all-serving : (xs : List (Numbered Exchange)) (vs : List (Numbered Waiter)) → AllItems IsServing (waiter_items xs vs)
+all-serving : (xs : List (Numbered Exchange)) (vs : List (Numbered Waiter)) → AllByRecursion IsServing (waiter_items xs vs)
 all-serving xs [] = tt
 all-serving xs (v ∷ vs) = go (answer_in v.1.exchange xs) (all-serving xs vs)
   where
-    go : (o : Option Answer) → AllItems IsServing (waiter_items xs vs) → AllItems IsServing (with_item v o (waiter_items xs vs))
+    go : (o : Option Answer) → AllByRecursion IsServing (waiter_items xs vs) → AllByRecursion IsServing (with_item v o (waiter_items xs vs))
     go None rest = rest
     go (Some a) rest = (refl, rest)
 

@@ -1,6 +1,6 @@
 //! Events, which lend their bytes.
 ghost use Rattle.coap_message.specs.Uint.{IsBytes};
-ghost use Rattle.coap_model.specs.Carries.{IsEvent};
+ghost use Rattle.coap_model.specs.Events.{IsEvent};
 ghost use Rattle.coap_core.specs.Events.{seen};
 
 use coap_target::Endpoint;

@@ -27,7 +27,8 @@ use Rattle.coap_model.specs.Step.{message_in}
 use Rattle.coap_model.specs.Responses.{has_id, awaits, awaiting, answers}
 use Rattle.coap_model.specs.History.{Entry, Never, Sends, Gets}
 use Rattle.coap_model.specs.Justified.{on_exchange, answered}
-use Rattle.coap_model.specs.Carries.{WasAsked, IsState, IsExchangeOf, Carries, entry_of}
+use Rattle.coap_model.specs.Runs.{entry_of}
+use Rattle.coap_model.specs.Carries.{WasAsked, IsState, IsExchangeOf, Carries}
 use Rattle.coap_model.proofs.Lists.{find-holds, All-map, Has, All-there}
 use Rattle.coap_model.proofs.Places.{here, Opens-number, arrival-same}
 use Rattle.coap_model.proofs.Spelled.{token-same, message_in-is}

@@ -2,12 +2,13 @@
 use Rattle.std.proofs.Common.{ℕ, ◌≤◌, List, [], ◌∷◌, refl, arith}
 use Rattle.coap_target.specs.Routes.{AreRoutes}
 use Rattle.coap_model.specs.Setting.{Setting}
-use Rattle.coap_model.specs.Events.{Event}
+use Rattle.coap_model.specs.Events.{Event, IsEvent}
 use Rattle.coap_model.specs.World.{World, Step, new_world}
 use Rattle.coap_model.specs.Step.{step_of}
 use Rattle.coap_model.specs.History.{Entry}
 use Rattle.coap_model.specs.Justified.{nothing_yet}
-use Rattle.coap_model.specs.Carries.{Carries, IsEvent, entry_of}
+use Rattle.coap_model.specs.Runs.{entry_of}
+use Rattle.coap_model.specs.Carries.{Carries}
 use Rattle.coap_model.proofs.Rules.{Rule, refusing, lacking, overloading, opening, answering, rejecting, ignoring, forwarding, delivering, idling, rule_of}
 use Rattle.coap_model.proofs.Replying.{keeps_refusing, keeps_overloading, keeps_lacking, keeps_rejecting, keeps_ignoring}
 use Rattle.coap_model.proofs.Idling.{keeps_idling}

@@ -23,7 +23,8 @@ use Rattle.coap_exchange.specs.Due.{serving, least, answer_in}
 use Rattle.coap_model.specs.Ticks.{items_of, if_due, without_idle, delivers}
 use Rattle.coap_model.specs.History.{Entry, Place, index, Opens}
 use Rattle.coap_model.specs.Justified.{IsRequestOf, IsMember, Act, served_by, on_waiter, delivered, IsDelivery}
-use Rattle.coap_model.specs.Carries.{WasGot, IsState, IsExchangeOf, IsGotBy, IsWaiterOf, HasNumber, Carries, entry_of}
+use Rattle.coap_model.specs.Runs.{entry_of}
+use Rattle.coap_model.specs.Carries.{WasGot, IsState, IsExchangeOf, IsGotBy, IsWaiterOf, HasNumber, Carries}
 use Rattle.coap_model.proofs.Lists.{All-filter, Has, All-there}
 use Rattle.coap_model.proofs.Places.{Never-at, Opens-unique, request-unique}
 use Rattle.coap_model.proofs.Spelled.{shown-is}

@@ -14,14 +14,14 @@ use Rattle.coap_message.proofs.Spellings.{spelling-length}
 use Rattle.coap_message.proofs.Uints.{uint_bound, uint_spelling-four}
 use Rattle.coap_exchange.specs.declared.exchange.Answer.{Answer}
 use Rattle.coap_model.specs.Limits.{AreLimits}
-use Rattle.coap_model.specs.Events.{Event}
+use Rattle.coap_model.specs.Events.{Event, IsEvent}
 use Rattle.coap_message.specs.Codes.{is_code}
 use Rattle.coap_model.specs.Messages.{reset, max_age_option, own_reply, busy_reply, are_understood, widest, fits, bad_gateway, is_passed_on, answer_of, max_age_of, left_of, carries_max_age, shown_options, shown}
 use Rattle.coap_model.specs.World.{World, Step, next_id}
 use Rattle.coap_model.specs.Ticks.{with_id}
 use Rattle.coap_model.specs.Step.{step_of}
 use Rattle.coap_model.specs.History.{Entry}
-use Rattle.coap_model.specs.Carries.{IsExchangeOf, IsWaiterOf, Carries, IsEvent}
+use Rattle.coap_model.specs.Carries.{IsExchangeOf, IsWaiterOf, Carries}
 use Rattle.coap_model.proofs.Spelled.{length-uint_spelling}
 use Rattle.coap_model.proofs.Rules.{Rule, refusing, lacking, overloading, opening, answering, rejecting, ignoring, forwarding, delivering, idling, rule_of}
 use Rattle.coap_model.proofs.Tables.{due-sending}

@@ -20,7 +20,8 @@ use Rattle.coap_model.specs.Ticks.{items_of, if_due, with_id, sends}
 use Rattle.coap_target.specs.Routes.{mapped_target}
 use Rattle.coap_model.specs.History.{Entry, Place, Opens, Sends, Gets}
 use Rattle.coap_model.specs.Justified.{IsRequestOf, on_exchange, asked}
-use Rattle.coap_model.specs.Carries.{IsState, IsExchangeOf, IsWaiterOf, Carries, entry_of}
+use Rattle.coap_model.specs.Runs.{entry_of}
+use Rattle.coap_model.specs.Carries.{IsState, IsExchangeOf, IsWaiterOf, Carries}
 use Rattle.coap_model.proofs.Lists.{All-map, Has, All-there}
 use Rattle.coap_model.proofs.Places.{here, Opens-number, Opens-unique, request-unique}
 use Rattle.coap_model.proofs.Spelled.{forwarded-is, length-token_of, token-same, with_id-forwarded, target_sent-forwarded}

@@ -16,10 +16,11 @@ use Rattle.coap_exchange.specs.Exchanges.{is_queued, is_done, count_of}
 use Rattle.coap_model.specs.World.{World}
 use Rattle.coap_exchange.specs.Due.{Item, sending, serving, due_of, exchange_items, answer_at, answer_in, with_item, waiter_items, earlier, least}
 use Rattle.coap_model.specs.Ticks.{items_of, if_due, on_item}
-use Rattle.coap_model.specs.History.{Entry, Place, IsPlaceOf}
+use Rattle.coap_model.specs.History.{Entry, Place, IsPlaceOf, last_of, IsInOrder}
 use Rattle.coap_model.specs.Justified.{idle}
-use Rattle.coap_model.specs.Carries.{last_of, IsInOrder, IsState, IsExchangeOf, IsWaiterOf, ArePaired, Carries, entry_of}
-use Rattle.coap_model.proofs.Tables.{AllItems, IsDueOf, items-are, least-holds, answer-holds}
+use Rattle.coap_model.specs.Runs.{entry_of}
+use Rattle.coap_model.specs.Carries.{IsState, IsExchangeOf, IsWaiterOf, ArePaired, Carries}
+use Rattle.coap_model.proofs.Tables.{IsDueOf, items-are, least-holds, answer-holds}
 use Rattle.coap_model.proofs.Quiet.{keeps_quiet}
 
 -- ---- what is in the tables is due
@@ -71,7 +72,7 @@ least-some j items e = go (least items) e
         test true g = absurd cc
         test false g = absurd cc
 
-none-due : (now : ℕ) (items : List Item) → AllItems (λ i. due_of i ≤ now) items → if_due now (least items) ≡ None → items ≡ []
+none-due : (now : ℕ) (items : List Item) → AllByRecursion (λ i. due_of i ≤ now) items → if_due now (least items) ≡ None → items ≡ []
 none-due now [] all e = refl
 none-due now (j ∷ items) all e = go (least (j ∷ items)) refl e
   where
@@ -80,10 +81,6 @@ none-due now (j ∷ items) all e = go (least (j ∷ items)) refl e
     go (Some i) is f =
         let due = le-leb (due_of i) now (least-holds (λ k. due_of k ≤ now) (j ∷ items) i all is) in
         let same : if_due now (Some i) ≡ Some i = rw due refl in absurd (let g = sym same ∙ f in cc)
-
-AllItems-weaken : (P Q : Item → Type 0) (items : List Item) → ((i : Item) → P i → Q i) → AllItems P items → AllItems Q items
-AllItems-weaken P Q [] less all = tt
-AllItems-weaken P Q (i ∷ items) less all = (less i all.0, AllItems-weaken P Q items less all.1)
 
 both-empty : (xs ys : List Item) → xs ++ ys ≡ [] → (xs ≡ []) × (ys ≡ [])
 both-empty [] ys e = (refl, e)
@@ -131,7 +128,7 @@ keeps_idling w history c now draw onward nothing =
     let e = entry_of now draw tick (on_item w now None) in
     let P = IsExchangeOf w.setting history in
     let Q = IsWaiterOf w.setting history c.acts in
-    let due = AllItems-weaken (IsDueOf P Q w.exchanges) (λ i. due_of i ≤ now) (items_of w) (λ i d. omega (arith, due-before w history c i d)) (items-are P Q w.exchanges w.waiters c.exchanges c.waiters) in
+    let due = All-weaken (IsDueOf P Q w.exchanges) (λ i. due_of i ≤ now) (items_of w) (λ i d. omega (arith, due-before w history c i d)) (items-are P Q w.exchanges w.waiters c.exchanges c.waiters) in
     let empty = both-empty (exchange_items w.exchanges) (waiter_items w.exchanges w.waiters) (none-due now (items_of w) due nothing) in
     let queued = none-queued w.exchanges empty.0 in
     let numbers = All-weaken Q (λ v. v.1.exchange ≡ v.0) w.waiters (λ v f. f.exchange) c.waiters in

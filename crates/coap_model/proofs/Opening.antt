@@ -17,7 +17,8 @@ use Rattle.coap_model.specs.World.{World, has_ids, has_room}
 use Rattle.coap_model.specs.Requests.{opens, new_exchange, new_waiter, next_token}
 use Rattle.coap_model.specs.History.{Entry, Never, opened_in, Gets}
 use Rattle.coap_model.specs.Justified.{IsMember, Act, served_by, on_nothing, opened, IsJustified, delivered, refused, overloaded, lacking, asked, answered, rejected, ignored, idle, nothing_yet}
-use Rattle.coap_model.specs.Carries.{IsExchangeOf, IsGotBy, IsWaiterOf, ArePaired, HasNumber, Carries, entry_of}
+use Rattle.coap_model.specs.Runs.{entry_of}
+use Rattle.coap_model.specs.Carries.{IsExchangeOf, IsGotBy, IsWaiterOf, ArePaired, HasNumber, Carries}
 use Rattle.coap_model.proofs.Places.{here, Never-weaken, Opens-number}
 use Rattle.coap_model.proofs.Verdicts.{openable}
 use Rattle.coap_model.proofs.Rules.{Asked, verdict_in}

@@ -3,8 +3,8 @@ use Rattle.std.proofs.Common.{◌≡◌, ⊎_elim, ℕ, ◌+◌, ◌%◌, ◌<�
 use Rattle.coap_message.specs.Message.{Message}
 use Rattle.coap_message.proofs.WholeMessages.{one_message}
 use Rattle.coap_model.specs.World.{World}
-use Rattle.coap_model.specs.History.{Entry, Place, IsPlaceOf, gives_id, ids_in}
-use Rattle.coap_model.specs.Carries.{Gives, AreIds, Carries}
+use Rattle.coap_model.specs.History.{Entry, Place, IsPlaceOf, gives_id, ids_in, Gives, AreIds}
+use Rattle.coap_model.specs.Carries.{Carries}
 use Rattle.coap_model.specs.Promised.{IdsDiffer, Promised}
 use Rattle.coap_model.proofs.Holding.{within-bound}
 

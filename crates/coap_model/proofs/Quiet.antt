@@ -3,9 +3,9 @@ use Rattle.std.proofs.Common.{◌≡◌, ◌≢◌, ℕ, ◌+◌, ◌%◌, ◌�
 use Rattle.coap_model.specs.declared.report.Outcome.TheVariants.{Answered, SentRequest}
 use Rattle.coap_model.specs.declared.report.Storing.TheVariants.{NotStored}
 use Rattle.coap_model.specs.World.{World, reserved, later}
-use Rattle.coap_model.specs.History.{Entry, opens_one, sends_one, answers_one, serves_one, gives_id, ids_in}
+use Rattle.coap_model.specs.History.{Entry, opens_one, sends_one, answers_one, serves_one, gives_id, ids_in, Gives}
 use Rattle.coap_model.specs.Justified.{on_nothing, IsJustified}
-use Rattle.coap_model.specs.Carries.{Gives, Carries}
+use Rattle.coap_model.specs.Carries.{Carries}
 use Rattle.coap_model.proofs.Frames.{exchanges_frame, waiters_frame, fresh_frame, sends-not, gets-not}
 
 -- what an entry must be

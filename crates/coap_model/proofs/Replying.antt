@@ -22,7 +22,8 @@ use Rattle.coap_model.specs.Requests.{lacks_id, refuses, overloads, next_token}
 use Rattle.coap_model.specs.Step.{ignores, rejects, message_in}
 use Rattle.coap_model.specs.History.{Entry, ids_in}
 use Rattle.coap_model.specs.Justified.{IsRequestOf, verdict_on, refused, overloaded, lacking, rejected, ignored}
-use Rattle.coap_model.specs.Carries.{Carries, entry_of}
+use Rattle.coap_model.specs.Runs.{entry_of}
+use Rattle.coap_model.specs.Carries.{Carries}
 use Rattle.coap_model.proofs.Spelled.{reset-is, own_reply-is, busy_reply-is, message_in-is, message_in-again}
 use Rattle.coap_model.proofs.Places.{arrival-same}
 use Rattle.coap_model.proofs.Verdicts.{refused-code}

@@ -16,7 +16,7 @@ use Rattle.coap_exchange.specs.declared.exchange.Answer.{Answer}
 use Rattle.coap_exchange.specs.declared.exchange.Exchange.{Exchange}
 use Rattle.coap_exchange.specs.declared.waiter.Waiter.{Waiter}
 use Rattle.coap_exchange.specs.Table.{Numbered}
-use Rattle.coap_model.specs.Events.{Event, arrival, tick}
+use Rattle.coap_model.specs.Events.{Event, arrival, tick, IsEvent}
 use Rattle.coap_message.specs.Codes.{is_request, is_response}
 use Rattle.coap_model.specs.Messages.{is_con, is_non, is_ack, Verdict, refused_with, may_open, verdict_of}
 use Rattle.coap_model.specs.World.{World, Step, has_ids, has_room}
@@ -25,7 +25,6 @@ use Rattle.coap_model.specs.Responses.{awaiting, answers, on_response}
 use Rattle.coap_exchange.specs.Due.{Item, sending, serving, least}
 use Rattle.coap_model.specs.Ticks.{items_of, if_due, sends, delivers, on_item}
 use Rattle.coap_model.specs.Step.{ignores, rejects, unprocessed, on_message, message_in, on_read, step_of}
-use Rattle.coap_model.specs.Carries.{IsEvent}
 use Rattle.coap_model.proofs.Spelled.{message_in-is}
 
 -- a request that is processed came in these bytes

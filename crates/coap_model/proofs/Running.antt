@@ -2,10 +2,10 @@
 use Rattle.std.proofs.Common.{◌≡◌, ℕ, ◌+◌, List, [], ◌∷◌, refl, sym, ◌∙◌, subst}
 use Rattle.coap_target.specs.Routes.{AreRoutes}
 use Rattle.coap_model.specs.Setting.{Setting}
-use Rattle.coap_model.specs.Events.{Event}
+use Rattle.coap_model.specs.Events.{Event, IsEvent}
 use Rattle.coap_model.specs.World.{World, Step}
 use Rattle.coap_model.specs.Step.{step_of}
-use Rattle.coap_model.specs.Carries.{Carries, IsEvent}
+use Rattle.coap_model.specs.Carries.{Carries}
 use Rattle.coap_model.specs.Promised.{Promised}
 use Rattle.coap_model.specs.Runs.{Turn, AreTurns, Run, new_run, one_turn, run_of}
 use Rattle.coap_model.proofs.Rules.{Rule, refusing, lacking, overloading, opening, answering, rejecting, ignoring, forwarding, delivering, idling, rule_of}

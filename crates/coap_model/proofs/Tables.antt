@@ -4,6 +4,7 @@ use Rattle.std.specs.Prelude.{not}
 use Rattle.std.specs.List.{AllByRecursion}
 use Rattle.std.proofs.lemmas.Bool.{eqb-true, eqb-false, eq-eqb, ne_eqb, leb-true}
 use Rattle.std.proofs.lemmas.Option.{same_Some}
+use Rattle.coap_target.proofs.Lists.{All-append}
 use Rattle.coap_exchange.specs.declared.exchange.Answer.{Answer}
 use Rattle.coap_exchange.specs.declared.exchange.ExchangeState.{ExchangeState}
 use Rattle.coap_exchange.specs.declared.exchange.ExchangeState.TheVariants.{Queued, Sent, Done}
@@ -21,16 +22,8 @@ use Rattle.coap_model.specs.Carries.{ArePaired, HasNumber}
 
 -- ---- what is due
 
-abbrev pub AllItems : (Item → Type 0) → List Item → Type 0
-AllItems P [] = Unit {0}
-AllItems P (i ∷ items) = P i × AllItems P items
-
-AllItems-append : (P : Item → Type 0) (xs ys : List Item) → AllItems P xs → AllItems P ys → AllItems P (xs ++ ys)
-AllItems-append P [] ys p q = q
-AllItems-append P (x ∷ xs) ys p q = (p.0, AllItems-append P xs ys p.1 q)
-
 -- the least item is one of them
-pub least-holds : (P : Item → Type 0) (items : List Item) (i : Item) → AllItems P items → least items ≡ Some i → P i
+pub least-holds : (P : Item → Type 0) (items : List Item) (i : Item) → AllByRecursion P items → least items ≡ Some i → P i
 least-holds P [] i all e = absurd cc
 least-holds P (j ∷ items) i all e = go (least items) (λ k f. least-holds P items k all.1 f) refl e
   where
@@ -55,24 +48,24 @@ abbrev pub IsDueOf : (Numbered Exchange → Type 0) → (Numbered Waiter → Typ
 IsDueOf P Q exchanges (sending x) = P x × (is_queued x.1.state ≡ true)
 IsDueOf P Q exchanges (serving v a) = Q v × (answer_in v.1.exchange exchanges ≡ Some a)
 
-exchange_items-are : (P : Numbered Exchange → Type 0) (Q : Numbered Waiter → Type 0) (all xs : List (Numbered Exchange)) → AllByRecursion P xs → AllItems (IsDueOf P Q all) (exchange_items xs)
+exchange_items-are : (P : Numbered Exchange → Type 0) (Q : Numbered Waiter → Type 0) (all xs : List (Numbered Exchange)) → AllByRecursion P xs → AllByRecursion (IsDueOf P Q all) (exchange_items xs)
 exchange_items-are P Q all [] p = tt
 exchange_items-are P Q all (x ∷ xs) p = go (is_queued x.1.state) refl (exchange_items-are P Q all xs p.1)
   where
-    go : (b : Bool) → is_queued x.1.state ≡ b → AllItems (IsDueOf P Q all) (exchange_items xs) → AllItems (IsDueOf P Q all) (cond b (sending x ∷ exchange_items xs) (exchange_items xs))
+    go : (b : Bool) → is_queued x.1.state ≡ b → AllByRecursion (IsDueOf P Q all) (exchange_items xs) → AllByRecursion (IsDueOf P Q all) (cond b (sending x ∷ exchange_items xs) (exchange_items xs))
     go true t rest = ((p.0, t), rest)
     go false t rest = rest
 
-waiter_items-are : (P : Numbered Exchange → Type 0) (Q : Numbered Waiter → Type 0) (all : List (Numbered Exchange)) (vs : List (Numbered Waiter)) → AllByRecursion Q vs → AllItems (IsDueOf P Q all) (waiter_items all vs)
+waiter_items-are : (P : Numbered Exchange → Type 0) (Q : Numbered Waiter → Type 0) (all : List (Numbered Exchange)) (vs : List (Numbered Waiter)) → AllByRecursion Q vs → AllByRecursion (IsDueOf P Q all) (waiter_items all vs)
 waiter_items-are P Q all [] q = tt
 waiter_items-are P Q all (v ∷ vs) q = go (answer_in v.1.exchange all) refl (waiter_items-are P Q all vs q.1)
   where
-    go : (o : Option Answer) → answer_in v.1.exchange all ≡ o → AllItems (IsDueOf P Q all) (waiter_items all vs) → AllItems (IsDueOf P Q all) (with_item v o (waiter_items all vs))
+    go : (o : Option Answer) → answer_in v.1.exchange all ≡ o → AllByRecursion (IsDueOf P Q all) (waiter_items all vs) → AllByRecursion (IsDueOf P Q all) (with_item v o (waiter_items all vs))
     go None e rest = rest
     go (Some a) e rest = ((q.0, e), rest)
 
-pub items-are : (P : Numbered Exchange → Type 0) (Q : Numbered Waiter → Type 0) (xs : List (Numbered Exchange)) (vs : List (Numbered Waiter)) → AllByRecursion P xs → AllByRecursion Q vs → AllItems (IsDueOf P Q xs) (exchange_items xs ++ waiter_items xs vs)
-items-are P Q xs vs p q = AllItems-append (IsDueOf P Q xs) (exchange_items xs) (waiter_items xs vs) (exchange_items-are P Q xs xs p) (waiter_items-are P Q xs vs q)
+pub items-are : (P : Numbered Exchange → Type 0) (Q : Numbered Waiter → Type 0) (xs : List (Numbered Exchange)) (vs : List (Numbered Waiter)) → AllByRecursion P xs → AllByRecursion Q vs → AllByRecursion (IsDueOf P Q xs) (exchange_items xs ++ waiter_items xs vs)
+items-are P Q xs vs p q = All-append (IsDueOf P Q xs) (exchange_items xs) (waiter_items xs vs) (exchange_items-are P Q xs xs p) (waiter_items-are P Q xs vs q)
 
 pub due-sending : (P : Numbered Exchange → Type 0) (Q : Numbered Waiter → Type 0) (xs : List (Numbered Exchange)) (vs : List (Numbered Waiter)) (now : ℕ) (x : Numbered Exchange) → AllByRecursion P xs → AllByRecursion Q vs
     → if_due now (least (exchange_items xs ++ waiter_items xs vs)) ≡ Some (sending x) → P x × (is_queued x.1.state ≡ true)

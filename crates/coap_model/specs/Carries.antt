@@ -1,9 +1,8 @@
 -- A proxy carries a history: each part of its tables is what the history says.
-use Rattle.std.specs.Prelude.{◌≡◌, ◌⊎◌, ℕ, ◌+◌, ◌%◌, ◌^◌, ◌<◌, ◌≤◌, List, [], ◌∷◌, length, Some}
+use Rattle.std.specs.Prelude.{◌≡◌, ◌⊎◌, ℕ, ◌+◌, ◌^◌, ◌<◌, ◌≤◌, List, [], ◌∷◌, length, Some}
 use Rattle.std.specs.List.{AllByRecursion}
 use Rattle.coap_message.specs.Message.{Message}
-use Rattle.coap_message.specs.Spelling.{spelling, Spells}
-use Rattle.coap_message.specs.Uint.{IsBytes}
+use Rattle.coap_message.specs.Spelling.{spelling}
 use Rattle.coap_target.specs.declared.endpoint.Endpoint.{Endpoint}
 use Rattle.coap_target.specs.declared.target.Target.{Target}
 use Rattle.coap_target.specs.Target.{IsTarget}
@@ -15,23 +14,13 @@ use Rattle.coap_exchange.specs.declared.exchange.Exchange.{Exchange}
 use Rattle.coap_exchange.specs.declared.waiter.Waiter.{Waiter}
 use Rattle.coap_exchange.specs.Table.{Numbered, IsRising}
 use Rattle.coap_model.specs.Setting.{Setting}
-use Rattle.coap_model.specs.Events.{Event, arrival, tick}
 use Rattle.coap_model.specs.Messages.{token_of, forwarded, target_sent, answer_of}
 use Rattle.coap_exchange.specs.Exchanges.{is_queued, is_done, count_of}
-use Rattle.coap_model.specs.World.{World, Step, reserved}
-use Rattle.coap_model.specs.History.{Entry, Place, index, IsPlaceOf, Never, opened_in, sent_in, answered_in, served_in, ids_in, gives_id, Opens, Sends, Asks, Gets}
+use Rattle.coap_model.specs.World.{World, reserved}
+use Rattle.coap_model.specs.History.{Entry, Place, index, IsPlaceOf, Never, opened_in, sent_in, answered_in, served_in, ids_in, Opens, Sends, Asks, Gets, last_of, IsInOrder, AreIds}
 use Rattle.coap_model.specs.Justified.{IsRequestOf, IsMember, Act, served_by, IsJustified}
 
 -- ---- the clock, the numbers and the ids
-
-abbrev pub last_of : List Entry → ℕ
-last_of [] = 0
-last_of (e ∷ past) = e.now
-
--- moments don't go back
-abbrev pub IsInOrder : List Entry → Type 0
-IsInOrder [] = Unit {0}
-IsInOrder (e ∷ past) = (last_of past ≤ e.now) × IsInOrder past
 
 pub record Clock (history : List Entry) (w : World) : Type 0 where
   pub events : w.events ≡ length history
@@ -42,18 +31,6 @@ pub record Numbers (history : List Entry) (w : World) : Type 0 where
   pub opened : w.opened ≡ opened_in history
   pub admitted : w.admitted ≡ opened_in history
   pub given : w.given ≡ ids_in history
-
--- an id that an entry gave
-pub record Gives (id : ℕ) (e : Entry) : Type 0 where
-  pub gives : gives_id e.report.outcome ≡ 1
-  pub message : Message
-  pub spells : Spells e.bytes message
-  pub id_is : message.id ≡ id
-
--- ids count up from the first, and begin anew at 0 behind 65,535 (RFC 7252, 4.4)
-abbrev pub AreIds : ℕ → List Entry → Type 0
-AreIds first [] = Unit {0}
-AreIds first (e ∷ past) = (gives_id e.report.outcome ≡ 1 → Gives ((first + ids_in past) % 65536) e) × AreIds first past
 
 -- ---- exchanges
 
@@ -165,12 +142,3 @@ pub record Carries (history : List Entry) (w : World) : Type 0 where
   pub whole : AreWhole history acts w
   pub within : IsWithin w
   pub past : IsJustified w.setting history acts
-
--- the entry of a step
-abbrev pub entry_of : ℕ → ℕ → Event → Step → Entry
-entry_of now draw event s = record { now = now; draw = draw; event = event; report = s.report; bytes = s.bytes }
-
--- datagrams are bytes
-abbrev pub IsEvent : Event → Type 0
-IsEvent (arrival source bytes) = IsBytes bytes
-IsEvent tick = Unit {0}

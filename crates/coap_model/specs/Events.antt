@@ -1,8 +1,14 @@
 -- What happens to a proxy.
 use Rattle.std.specs.Prelude.{ℕ, List}
+use Rattle.coap_message.specs.Uint.{IsBytes}
 use Rattle.coap_target.specs.declared.endpoint.Endpoint.{Endpoint}
 
 -- a datagram with its source, or a tick
 pub data Event : Type 0 where
   arrival : Endpoint → List ℕ → Event
   tick : Event
+
+-- datagrams are bytes
+abbrev pub IsEvent : Event → Type 0
+IsEvent (arrival source bytes) = IsBytes bytes
+IsEvent tick = Unit {0}

@@ -1,6 +1,6 @@
 -- What the traffic alone says: which entry of a history opened, asked, got and admitted what. This file
 -- names no table. A history has its newest entry first.
-use Rattle.std.specs.Prelude.{◌≡◌, ◌⊎◌, ℕ, ◌+◌, ◌-◌, ◌<◌, ◌≤◌, List, [], ◌∷◌, length, true, Some}
+use Rattle.std.specs.Prelude.{◌≡◌, ◌⊎◌, ℕ, ◌+◌, ◌-◌, ◌%◌, ◌<◌, ◌≤◌, List, [], ◌∷◌, length, true, Some}
 use Rattle.coap_message.specs.declared.kind.Kind.TheVariants.{Ack}
 use Rattle.coap_message.specs.Uint.{IsBytes}
 use Rattle.coap_message.specs.Message.{Message}
@@ -147,3 +147,26 @@ pub record Gets (salt x : ℕ) (p : Place) : Type 0 where
   pub asks : Asks salt x asking
   pub same_source : source ≡ asks.sends.to
   pub same_id : response.id ≡ asks.sends.message.id
+
+-- ---- moments and ids
+
+abbrev pub last_of : List Entry → ℕ
+last_of [] = 0
+last_of (e ∷ past) = e.now
+
+-- moments don't go back
+abbrev pub IsInOrder : List Entry → Type 0
+IsInOrder [] = Unit {0}
+IsInOrder (e ∷ past) = (last_of past ≤ e.now) × IsInOrder past
+
+-- an id that an entry gave
+pub record Gives (id : ℕ) (e : Entry) : Type 0 where
+  pub gives : gives_id e.report.outcome ≡ 1
+  pub message : Message
+  pub spells : Spells e.bytes message
+  pub id_is : message.id ≡ id
+
+-- ids count up from the first, and begin anew at 0 behind 65,535 (RFC 7252, 4.4)
+abbrev pub AreIds : ℕ → List Entry → Type 0
+AreIds first [] = Unit {0}
+AreIds first (e ∷ past) = (gives_id e.report.outcome ≡ 1 → Gives ((first + ids_in past) % 65536) e) × AreIds first past

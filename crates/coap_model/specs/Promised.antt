@@ -1,9 +1,8 @@
 -- What a proxy that carries a history promises.
 use Rattle.std.specs.Prelude.{◌≡◌, ℕ, ◌≤◌, List, length}
 use Rattle.coap_model.specs.World.{World}
-use Rattle.coap_model.specs.History.{Entry, Place, IsPlaceOf}
+use Rattle.coap_model.specs.History.{Entry, Place, IsPlaceOf, Gives, AreIds, IsInOrder}
 use Rattle.coap_model.specs.Justified.{Act, IsJustified}
-use Rattle.coap_model.specs.Carries.{Gives, AreIds, IsInOrder}
 use Rattle.coap_model.specs.Held.{held, most_held}
 
 -- Message ids don't come back: two places that gave one id are one place (RFC 7252, 4.4).

@@ -1,11 +1,10 @@
 -- Runs: the steps of a list of turns, one after the other, and the history that they leave.
 use Rattle.std.specs.Prelude.{ℕ, ◌≤◌, List, [], ◌∷◌}
 use Rattle.coap_model.specs.Setting.{Setting}
-use Rattle.coap_model.specs.Events.{Event}
-use Rattle.coap_model.specs.World.{World, new_world}
+use Rattle.coap_model.specs.Events.{Event, IsEvent}
+use Rattle.coap_model.specs.World.{World, Step, new_world}
 use Rattle.coap_model.specs.Step.{step_of}
 use Rattle.coap_model.specs.History.{Entry}
-use Rattle.coap_model.specs.Carries.{entry_of, IsEvent}
 
 -- an event with its moment and its draw
 pub record Turn : Type 0 where
@@ -17,6 +16,10 @@ pub record Turn : Type 0 where
 abbrev pub AreTurns : ℕ → List Turn → Type 0
 AreTurns last [] = Unit {0}
 AreTurns last (t ∷ turns) = (last ≤ t.now) × IsEvent t.event × AreTurns t.now turns
+
+-- the entry of a step
+abbrev pub entry_of : ℕ → ℕ → Event → Step → Entry
+entry_of now draw event s = record { now = now; draw = draw; event = event; report = s.report; bytes = s.bytes }
 
 -- a proxy, and what happened to it
 pub record Run : Type 0 where

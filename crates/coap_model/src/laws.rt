@@ -3,13 +3,13 @@ ghost use Rattle.std.specs.Prelude.{◌≡◌, ℕ, ◌≤◌, List, [], ◌∷�
 ghost use Rattle.coap_target.specs.Routes.{AreRoutes};
 ghost use Rattle.coap_model.specs.Limits.{AreLimits};
 ghost use Rattle.coap_model.specs.Setting.{Setting};
-ghost use Rattle.coap_model.specs.Events.{Event};
+ghost use Rattle.coap_model.specs.Events.{Event, IsEvent};
 ghost use Rattle.coap_model.specs.World.{World, new_world};
 ghost use Rattle.coap_model.specs.Step.{step_of};
 ghost use Rattle.coap_model.specs.History.{Entry};
-ghost use Rattle.coap_model.specs.Carries.{Carries, entry_of, IsEvent};
+ghost use Rattle.coap_model.specs.Carries.{Carries};
 ghost use Rattle.coap_model.specs.Promised.{Promised};
-ghost use Rattle.coap_model.specs.Runs.{Turn, AreTurns, new_run, run_of};
+ghost use Rattle.coap_model.specs.Runs.{Turn, AreTurns, new_run, run_of, entry_of};
 ghost use Rattle.coap_model.specs.Examples.{play, proxy, small_proxy, narrow_proxy, first_answer, first_answer_sent, late_answer, late_answer_sent, error, error_sent, fault, fault_sent, changed, changed_sent, valid, replaced_sent, block_in_response, long_max_age, impostor, impostor_sent, refusals, refusals_sent, long_paths, long_paths_sent, long_segments, long_segments_sent, payload_in_get, payload_in_get_sent, full, full_sent, unprocessed_messages, unprocessed_messages_sent, too_long, too_long_sent, payload_of, payload_of_109_sent, spent_proxy, last_id, last_id_sent, wrapping_proxy, wrapping, wrapping_sent};
 
 /// Runs of the step, computed on the definitions.

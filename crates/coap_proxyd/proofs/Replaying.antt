@@ -6,7 +6,8 @@ use Rattle.std.proofs.KnownBytes.{Appends-trans}
 use Rattle.std.proofs.Math.Seq.{drop-append_seam}
 use Rattle.std.proofs.lemmas.List.{append-nil, length-append}
 use Rattle.coap_model.specs.World.{World}
-use Rattle.coap_model.specs.Carries.{Carries, IsEvent}
+use Rattle.coap_model.specs.Events.{IsEvent}
+use Rattle.coap_model.specs.Carries.{Carries}
 use Rattle.coap_model.specs.Runs.{Turn, AreTurns, Run, one_turn, run_of}
 use Rattle.coap_model.proofs.Running.{clock_after, runs_carry}
 use Rattle.coap_proxyd.specs.declared.turn.Turn.{Turn as TurnRead}

@@ -5,7 +5,8 @@ use Rattle.coap_target.specs.declared.endpoint.Endpoint.{Endpoint}
 use Rattle.coap_model.specs.World.{World, Step}
 use Rattle.coap_model.specs.Step.{step_of}
 use Rattle.coap_model.specs.History.{Entry}
-use Rattle.coap_model.specs.Carries.{Carries, IsEvent}
+use Rattle.coap_model.specs.Events.{IsEvent}
+use Rattle.coap_model.specs.Carries.{Carries}
 use Rattle.coap_model.specs.Runs.{Turn, AreTurns, Run, run_of}
 use Rattle.coap_proxyd.specs.declared.error.ReplayError.{ReplayError}
 use Rattle.coap_proxyd.specs.declared.error.ReplayError.TheVariants.{BadEvent, OutOfMemory, Read, Write}

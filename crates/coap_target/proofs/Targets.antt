@@ -1,4 +1,4 @@
--- The target of a request is a target.
+-- The target that a map gives is a target.
 use Rattle.std.proofs.Common.{◌≡◌, ℕ, suc, zero, Bool, true, false, cond, List, [], ◌∷◌, length, drop, nat_lt, Option, Some, None, option_map, refl, subst}
 use Rattle.std.specs.List.{AllByRecursion}
 use Rattle.coap_message.specs.Message.{Message}

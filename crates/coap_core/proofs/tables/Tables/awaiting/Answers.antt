@@ -4,6 +4,7 @@ use Rattle.coap_exchange.specs.declared.exchange.Exchange.{Exchange}
 use Rattle.coap_exchange.specs.Table.{Numbered}
 use Rattle.coap_model.specs.Messages.{token_of}
 use Rattle.coap_core.proofs.Tokens.{nobody-awaits, awaits-none, awaits-one}
+use Rattle.coap_core.proofs.tables.Tables.awaiting.Goals.{After-get}
 use Rattle.coap_core.proofs.tables.Tables.awaiting.Goals as goal
 
 pub returns-in_err-number : goal.returns-in_err-number
@@ -12,23 +13,27 @@ returns-in_err-number c =
     let short : length m.token ≢ 8 = rw (← c.response.view_is, ← c.as_slice.ensures.bytes) c.in_err-number.ensures.missing in
     rw (← c.self.view_is) (c.from_residual.ensures ∙ ap (option_map {T = Numbered Exchange} (λ x. x.0)) (sym (nobody-awaits c.self.inside.salt c.args.source m c.self.inside.exchanges.items short)))
 
+-- the response has the token of the exchange of that number
+token : (c : After-get) → token_of c.self.inside.salt c.in_ok-number.number ≡ c.args.response.now.token
+token c = rw (← c.response.view_is, ← c.as_slice.ensures.bytes) c.in_ok-number.ensures.found
+
+few : (c : After-get) → c.self.inside.exchanges.admitted < 2 ^ 64
+few c = let o = rw (← c.self.view_is) at c.requires.opened in omega (arith, o)
+
 pub returns-in_err-exchange : goal.returns-in_err-exchange
 returns-in_err-exchange c =
     let m = c.args.response.now in
-    let token : token_of c.self.inside.salt c.in_ok-number.number ≡ m.token = rw (← c.response.view_is, ← c.as_slice.ensures.bytes) c.in_ok-number.ensures.found in
-    let few : c.self.inside.exchanges.admitted < 2 ^ 64 = let o = rw (← c.self.view_is) at c.requires.opened in omega (arith, o) in
-    rw (← c.self.view_is) (c.from_residual-in_err-exchange.ensures ∙ sym (awaits-none c.self.inside.salt c.args.source m c.in_ok-number.number c.self.inside.exchanges c.in_ok-number.ensures.small token c.get.ensures.sound few (sym c.in_err-exchange.ensures.exact)))
+    let got = (goal.at.returns-in_err-exchange c).After-get in
+    rw (← c.self.view_is) (c.from_residual-in_err-exchange.ensures ∙ sym (awaits-none c.self.inside.salt c.args.source m c.in_ok-number.number c.self.inside.exchanges c.in_ok-number.ensures.small (token got) c.get.ensures.sound (few got) (sym c.in_err-exchange.ensures.exact)))
 
 pub returns-then-awaits : goal.returns-then-awaits
 returns-then-awaits c =
     let m = c.args.response.now in
-    let token : token_of c.self.inside.salt c.in_ok-number.number ≡ m.token = rw (← c.response.view_is, ← c.as_slice.ensures.bytes) c.in_ok-number.ensures.found in
-    let few : c.self.inside.exchanges.admitted < 2 ^ 64 = let o = rw (← c.self.view_is) at c.requires.opened in omega (arith, o) in
-    rw (← c.self.view_is) (sym (awaits-one c.self.inside.salt c.args.source m c.in_ok-number.number c.self.inside.exchanges c.in_ok-number.ensures.small token c.get.ensures.sound few c.in_ok-exchange.exchange.now (sym c.in_ok-exchange.ensures.exact) true (rw (← c.response.view_is) c.if-awaits.ensures)))
+    let got = (goal.at.returns-then-awaits c).After-get in
+    rw (← c.self.view_is) (sym (awaits-one c.self.inside.salt c.args.source m c.in_ok-number.number c.self.inside.exchanges c.in_ok-number.ensures.small (token got) c.get.ensures.sound (few got) c.in_ok-exchange.exchange.now (sym c.in_ok-exchange.ensures.exact) true (rw (← c.response.view_is) c.if-awaits.ensures)))
 
 pub returns-else-awaits : goal.returns-else-awaits
 returns-else-awaits c =
     let m = c.args.response.now in
-    let token : token_of c.self.inside.salt c.in_ok-number.number ≡ m.token = rw (← c.response.view_is, ← c.as_slice.ensures.bytes) c.in_ok-number.ensures.found in
-    let few : c.self.inside.exchanges.admitted < 2 ^ 64 = let o = rw (← c.self.view_is) at c.requires.opened in omega (arith, o) in
-    rw (← c.self.view_is) (sym (awaits-one c.self.inside.salt c.args.source m c.in_ok-number.number c.self.inside.exchanges c.in_ok-number.ensures.small token c.get.ensures.sound few c.in_ok-exchange.exchange.now (sym c.in_ok-exchange.ensures.exact) false (rw (← c.response.view_is) c.if-awaits.ensures)))
+    let got = (goal.at.returns-else-awaits c).After-get in
+    rw (← c.self.view_is) (sym (awaits-one c.self.inside.salt c.args.source m c.in_ok-number.number c.self.inside.exchanges c.in_ok-number.ensures.small (token got) c.get.ensures.sound (few got) c.in_ok-exchange.exchange.now (sym c.in_ok-exchange.ensures.exact) false (rw (← c.response.view_is) c.if-awaits.ensures)))
