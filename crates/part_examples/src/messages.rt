@@ -6,6 +6,7 @@ use coap_message::{
     encode_into, uint_bytes,
 };
 use std::alloc::Global;
+use std::process::Abort;
 use std::test::*;
 
 /// One datagram a line.
@@ -135,39 +136,51 @@ const DATAGRAMS: &str = "\
 50010008376E6F7768657265D417636F6170
 ";
 
-/// Datagrams that are refused, and why.
-const REFUSED: [(&str, DecodeError); 9] = [
-    ("500100", DecodeError::Short),
-    ("10010007", DecodeError::Version),
-    ("59010007000000000000000000", DecodeError::Format),
-    ("50010007F0", DecodeError::Format),
-    ("50010007B574", DecodeError::Format),
-    ("50010007FF", DecodeError::Format),
-    ("50010007E0FFFF", DecodeError::Format),
-    ("4000000900", DecodeError::Format),
-    ("40010007FF", DecodeError::Format),
-];
+/// Decodes a datagram, and encodes the message into another.
+fn rewrite(rt: &impl Abort, alloc: Global, bytes: &[u8], out: &mut Datagram) -> Result<(), Fail> {
+    let message = decode(alloc, bytes)?;
+    assert!(rt; out.room() >= 128);
+    Ok(encode_into(&message, out, 128)?)
+}
 
 #[test]
 fn datagrams_are_written_back(rt: HostRuntime) -> Result<(), Fail> {
     let mut out = Datagram::new(rt.alloc(), 128)?;
     for line in DATAGRAMS.lines() {
         let bytes = hex::decode(rt.alloc(), line)?;
-        let message = decode(rt.alloc(), &bytes)?;
-        assert!(rt; out.room() >= 128);
-        encode_into(&message, &mut out, 128)?;
+        rewrite(&rt, rt.alloc(), &bytes, &mut out)?;
         assert_eq!(rt; out.bytes(), bytes.as_slice(), "{line}");
+    }
+    Ok(())
+}
+
+/// Checks that the datagrams of these lines are refused so.
+fn check_refused(
+    rt: &impl Abort,
+    alloc: Global,
+    lines: &str,
+    error: DecodeError,
+) -> Result<(), Fail> {
+    for line in lines.lines() {
+        let bytes = hex::decode(alloc, line)?;
+        assert_eq!(rt; decode(alloc, &bytes).err(), Some(error), "{line}");
     }
     Ok(())
 }
 
 #[test]
 fn malformed_datagrams_are_refused(rt: HostRuntime) -> Result<(), Fail> {
-    for (line, error) in REFUSED {
-        let bytes = hex::decode(rt.alloc(), line)?;
-        assert_eq!(rt; decode(rt.alloc(), &bytes).err(), Some(error), "{line}");
-    }
-    Ok(())
+    let malformed = "\
+59010007000000000000000000
+50010007F0
+50010007B574
+50010007FF
+50010007E0FFFF
+4000000900
+40010007FF";
+    check_refused(&rt, rt.alloc(), malformed, DecodeError::Format)?;
+    check_refused(&rt, rt.alloc(), "500100", DecodeError::Short)?;
+    check_refused(&rt, rt.alloc(), "10010007", DecodeError::Version)
 }
 
 /// A number of an option, the length of its value, and the length of a message of this one option: at
@@ -206,20 +219,28 @@ fn one_option(alloc: Global, number: u16, length: usize) -> Result<OptionList, O
     Ok(options)
 }
 
+/// Checks that a message is written in so many bytes and in no fewer, and is read from them again.
+fn check_length(
+    rt: &impl Abort,
+    alloc: Global,
+    message: &Message,
+    out: &mut Datagram,
+    length: usize,
+) {
+    assert!(rt; 1 <= length && length <= out.room());
+    assert!(rt; encode_into(message, out, length - 1).is_err());
+    assert!(rt; encode_into(message, out, length).is_ok());
+    assert_eq!(rt; out.bytes().len(), length);
+    assert!(rt; decode(alloc, out.bytes()).ok().as_ref() == Some(message));
+}
+
 #[test]
 fn deltas_and_lengths_at_their_boundaries(rt: HostRuntime) -> Result<(), Fail> {
     let mut out = Datagram::new(rt.alloc(), 70000)?;
     for (number, length, expected) in BOUNDARIES {
-        assert!(rt; length <= 65804 && out.room() >= 70000);
+        assert!(rt; length <= 65804);
         let message = get(rt.alloc(), one_option(rt.alloc(), number, length)?);
-        encode_into(&message, &mut out, 70000)?;
-        assert_eq!(rt;
-            out.bytes().len(),
-            expected,
-            "option {number} of {length} bytes"
-        );
-        assert!(rt; decode(rt.alloc(), out.bytes())? == message);
-        assert!(rt; encode_into(&message, &mut out, expected - 1).is_err());
+        check_length(&rt, rt.alloc(), &message, &mut out, expected);
     }
     Ok(())
 }

@@ -5,15 +5,13 @@ use std::test::*;
 #[test]
 fn numbers_are_given_once(rt: HostRuntime) -> Result<(), Fail> {
     let mut table = Table::new(rt.alloc(), 2)?;
-    assert_eq!(rt; table.admit(10u32), Ok(1));
-    assert_eq!(rt; table.admit(20), Ok(2));
-    assert_eq!(rt; table.admit(30), Err(AdmitError::Full));
+    for (item, number) in [(10u32, Ok(1)), (20, Ok(2)), (30, Err(AdmitError::Full))] {
+        assert!(rt; table.admit(item) == number);
+    }
     table.close(1);
-    assert!(rt; table.get(1).is_none());
-    assert_eq!(rt; table.admit(40), Ok(3));
-    assert_eq!(rt; table.get(2).copied(), Some(20));
-    assert_eq!(rt; table.get(3).copied(), Some(40));
-    assert_eq!(rt; table.len(), 2);
-    assert_eq!(rt; table.admitted(), 3);
+    assert!(rt; table.admit(40) == Ok(3));
+    let kept = (table.get(1), table.get(2), table.get(3));
+    assert!(rt; kept == (None, Some(&20), Some(&40)));
+    assert!(rt; (table.len(), table.admitted()) == (2, 3));
     Ok(())
 }

@@ -101,6 +101,21 @@ impl Write for Small {
     }
 }
 
+/// What a replay ends with: its result, how many events the core has processed, and at which moment the
+/// last was.
+type Ended = (Result<u64, ReplayError>, u64, u64);
+
+/// Replays what a reader lends on a new core of the default limits with the fixed route.
+fn replay_anew(
+    alloc: Global,
+    reader: &mut impl BufRead,
+    writer: &mut impl Write,
+) -> Result<Ended, Fail> {
+    let mut core = usual_core(alloc)?;
+    let result = replay(alloc, reader, writer, &mut core);
+    Ok((result, core.events(), core.last()))
+}
+
 /// Replays a text on a core, and checks the result and what was written.
 fn check_on(
     rt: &impl Abort,
@@ -154,34 +169,28 @@ fn an_empty_input_has_no_events(rt: HostRuntime) -> Result<(), Fail> {
     check(&rt, alloc, "# no event\n\n#", (Ok(0), ""))
 }
 
-/// Lines that may stand in place of the request of the first run, the number of the client's port, and what
-/// is delivered then.
-const REQUESTS: [(&str, &str); 4] = [
-    ("0 1000 127.0.0.1:40001 50010007b174", DELIVERED),
-    (
-        "# a client asks\n\n0 0 127.0.0.1:40001 50010007B174",
-        DELIVERED,
-    ),
-    (
-        "0 0 [2001:DB8:0:0:0:0:0:1]:0 50010007B174",
-        "0 [2001:db8:0:0:0:0:0:1]:0 50450002D1010AFF3231\n",
-    ),
-    (
-        "0 0 [0000:0:0:0:0:0:0:0]:65535 50010007B174",
-        "0 [0:0:0:0:0:0:0:0]:65535 50450002D1010AFF3231\n",
-    ),
-];
+/// Replays the first run with another request in it, and another delivery.
+fn check_form(rt: &impl Abort, alloc: Global, request: &str, delivered: &str) -> Result<(), Fail> {
+    let (_, behind) = FIRST_RUN.split_once('\n').ok_or("one line")?;
+    let text = format!(in alloc; "{request}\n{behind}")?;
+    let lines = format!(in alloc; "{SENT_ON}{delivered}")?;
+    check(rt, alloc, text.as_str(), (Ok(4), lines.as_str()))
+}
 
 #[test]
 fn lines_are_read_and_written_in_their_forms(rt: HostRuntime) -> Result<(), Fail> {
     let alloc = rt.alloc();
-    let (_, behind) = FIRST_RUN.split_once('\n').ok_or("one line")?;
-    for (request, delivered) in REQUESTS {
-        let text = format!(in alloc; "{request}\n{behind}")?;
-        let lines = format!(in alloc; "{SENT_ON}{delivered}")?;
-        check(&rt, alloc, text.as_str(), (Ok(4), lines.as_str()))?;
-    }
-    Ok(())
+    // the number of the client's port
+    let request = "0 1000 127.0.0.1:40001 50010007b174";
+    check_form(&rt, alloc, request, DELIVERED)?;
+    let request = "# a client asks\n\n0 0 127.0.0.1:40001 50010007B174";
+    check_form(&rt, alloc, request, DELIVERED)?;
+    let request = "0 0 [2001:DB8:0:0:0:0:0:1]:0 50010007B174";
+    let delivered = "0 [2001:db8:0:0:0:0:0:1]:0 50450002D1010AFF3231\n";
+    check_form(&rt, alloc, request, delivered)?;
+    let request = "0 0 [0000:0:0:0:0:0:0:0]:65535 50010007B174";
+    let delivered = "0 [0:0:0:0:0:0:0:0]:65535 50450002D1010AFF3231\n";
+    check_form(&rt, alloc, request, delivered)
 }
 
 #[test]
@@ -205,40 +214,54 @@ fn a_replay_goes_on_where_the_last_one_ended(rt: HostRuntime) -> Result<(), Fail
 // ---- bad lines
 
 /// Lines that say no event which may follow an event at the moment 1.
-const BAD: [&str; 32] = [
-    "0 0 bogus",
-    "0 0 tick",
-    "1 1001 tick",
-    "01 0 tick",
-    "1 00 tick",
-    "+1 0 tick",
-    "-1 0 tick",
-    "1.0 0 tick",
-    "4611686018427387905 0 tick",
-    "99999999999999999999 0 tick",
-    "1 0 TICK",
-    "1 0 tick ",
-    "1 0  tick",
-    " 1 0 tick",
-    "1\t0\ttick",
-    "1 0 tick\r",
-    "1 0 tick -",
-    "1 0",
-    "1 tick",
-    "1 0 127.0.0.1:1",
-    "1 0 127.0.0.1:1 ",
-    "1 0 127.0.0.1:1 5001000",
-    "1 0 127.0.0.1:1 5001000G",
-    "1 0 127.0.0.1:1 --",
-    "1 0 127.0.0.1 -",
-    "1 0 127.0.0.1:65536 -",
-    "1 0 127.0.0.1:01 -",
-    "1 0 127.0.0.256:1 -",
-    "1 0 127.0.0.01:1 -",
-    "1 0 [::1]:1 -",
-    "1 0 [1:2:3:4:5:6:7:12345]:1 -",
-    "1 0 localhost:1 -",
-];
+const BAD: &str = "\
+0 0 bogus
+0 0 tick
+1 1001 tick
+01 0 tick
+1 00 tick
++1 0 tick
+-1 0 tick
+1.0 0 tick
+4611686018427387905 0 tick
+99999999999999999999 0 tick
+1 0 TICK
+1 0 tick\x20
+1 0  tick
+ 1 0 tick
+1\t0\ttick
+1 0 tick\r
+1 0 tick -
+1 0
+1 tick
+1 0 127.0.0.1:1
+1 0 127.0.0.1:1\x20
+1 0 127.0.0.1:1 5001000
+1 0 127.0.0.1:1 5001000G
+1 0 127.0.0.1:1 --
+1 0 127.0.0.1 -
+1 0 127.0.0.1:65536 -
+1 0 127.0.0.1:01 -
+1 0 127.0.0.256:1 -
+1 0 127.0.0.01:1 -
+1 0 [::1]:1 -
+1 0 [1:2:3:4:5:6:7:12345]:1 -
+1 0 localhost:1 -";
+
+/// Replays a text on a new core, and checks what it ends with and what was written.
+fn check_ended(
+    rt: &impl Abort,
+    alloc: Global,
+    text: &str,
+    expected: (Ended, &str),
+) -> Result<(), Fail> {
+    let mut written = Vec::new(alloc);
+    let mut reader = text.as_bytes();
+    let ended = replay_anew(alloc, &mut reader, &mut written)?;
+    assert_eq!(rt; ended, expected.0, "{text}");
+    assert_eq!(rt; written.as_slice(), expected.1.as_bytes(), "{text}");
+    Ok(())
+}
 
 #[test]
 fn a_bad_third_line_leaves_those_before(rt: HostRuntime) -> Result<(), Fail> {
@@ -246,11 +269,9 @@ fn a_bad_third_line_leaves_those_before(rt: HostRuntime) -> Result<(), Fail> {
     let refused = Err(ReplayError::BadEvent { line: 3 });
     let before = "0 0 127.0.0.1:40001 50010007B174\n1 0 tick\n";
     let sent_on = "1 127.0.0.1:5690 480100010000000000000001B474656D70\n";
-    for bad in BAD {
+    for bad in BAD.split('\n') {
         let text = format!(in alloc; "{before}{bad}\n1 0 tick\n")?;
-        let mut core = usual_core(alloc)?;
-        check_on(&rt, alloc, &mut core, text.as_bytes(), (refused, sent_on));
-        assert_eq!(rt; (core.events(), core.last()), (2, 1), "{bad}");
+        check_ended(&rt, alloc, text.as_str(), ((refused, 2, 1), sent_on))?;
     }
     Ok(())
 }
@@ -326,20 +347,17 @@ fn lines_have_a_greatest_length(rt: HostRuntime) -> Result<(), Fail> {
 fn check_reader(
     rt: &impl Abort,
     alloc: Global,
-    (given, piece, fails): (usize, usize, bool),
+    reader: (usize, usize, bool),
     expected: (Result<u64, ReplayError>, u64, &str),
 ) -> Result<(), Fail> {
+    let (given, piece, fails) = reader;
     let rest = FIRST_RUN.as_bytes().get(..given).ok_or("too many bytes")?;
     let mut reader = Pieces { rest, piece, fails };
     let mut written = Vec::new(alloc);
-    let mut core = usual_core(alloc)?;
-    let result = replay(alloc, &mut reader, &mut written, &mut core);
-    assert_eq!(rt; result, expected.0, "after {given} bytes");
-    assert_eq!(rt; core.events(), expected.1, "after {given} bytes");
+    let (result, events, _) = replay_anew(alloc, &mut reader, &mut written)?;
     assert_eq!(rt;
-        written.as_slice(),
-        expected.2.as_bytes(),
-        "after {given} bytes"
+        (result, events, written.as_slice()),
+        (expected.0, expected.1, expected.2.as_bytes())
     );
     Ok(())
 }
@@ -349,15 +367,15 @@ fn a_reader_that_fails_leaves_whole_lines(rt: HostRuntime) -> Result<(), Fail> {
     let alloc = rt.alloc();
     let both = first_lines(alloc)?;
     for given in 0..=FIRST_RUN.len() {
-        let bytes = FIRST_RUN.as_bytes().get(..given).ok_or("too many bytes")?;
-        let done = bytes.iter().filter(|byte| **byte == b'\n').count() as u64;
-        let lines = match done {
+        let lines = FIRST_RUN.bytes().take(given).filter(|byte| *byte == b'\n');
+        let done = lines.count() as u64;
+        let written = match done {
             0 | 1 => "",
             2 | 3 => SENT_ON,
             _ => both.as_str(),
         };
         for piece in [1, 7, LONGEST] {
-            let expected = (Err(ReplayError::Read), done, lines);
+            let expected = (Err(ReplayError::Read), done, written);
             check_reader(&rt, alloc, (given, piece, true), expected)?;
         }
     }
@@ -375,25 +393,35 @@ fn an_input_may_come_in_pieces(rt: HostRuntime) -> Result<(), Fail> {
     Ok(())
 }
 
+/// Replays the first run into a writer with so much room, and checks the result, how many events the core
+/// did, and that the writer holds these bytes.
+fn check_writer(
+    rt: &impl Abort,
+    alloc: Global,
+    (room, when_full): (usize, WhenFull),
+    expected: (Result<u64, ReplayError>, u64, &[u8]),
+) -> Result<(), Fail> {
+    let mut writer = Small {
+        held: Vec::new(alloc),
+        room,
+        when_full,
+    };
+    let mut reader = FIRST_RUN.as_bytes();
+    let (result, events, _) = replay_anew(alloc, &mut reader, &mut writer)?;
+    assert_eq!(rt; (result, events, writer.held.as_slice()), expected);
+    Ok(())
+}
+
 #[test]
 fn a_writer_that_fails_has_the_bytes_before(rt: HostRuntime) -> Result<(), Fail> {
     let alloc = rt.alloc();
     let both = first_lines(alloc)?;
     for room in 0..both.len() {
-        for when_full in [WhenFull::Fails, WhenFull::TakesNothing] {
-            let mut writer = Small {
-                held: Vec::new(alloc),
-                room,
-                when_full,
-            };
-            let mut core = usual_core(alloc)?;
-            let mut reader = FIRST_RUN.as_bytes();
-            let result = replay(alloc, &mut reader, &mut writer, &mut core);
-            assert_eq!(rt; result, Err(ReplayError::Write), "room for {room} bytes");
-            let events = if room < SENT_ON.len() { 2 } else { 4 };
-            assert_eq!(rt; core.events(), events, "room for {room} bytes");
-            assert_eq!(rt; Some(writer.held.as_slice()), both.as_bytes().get(..room));
-        }
+        let before = both.as_bytes().get(..room).ok_or("too much room")?;
+        let events = if room < SENT_ON.len() { 2 } else { 4 };
+        let expected = (Err(ReplayError::Write), events, before);
+        check_writer(&rt, alloc, (room, WhenFull::Fails), expected)?;
+        check_writer(&rt, alloc, (room, WhenFull::TakesNothing), expected)?;
     }
     Ok(())
 }
@@ -402,14 +430,6 @@ fn a_writer_that_fails_has_the_bytes_before(rt: HostRuntime) -> Result<(), Fail>
 fn a_writer_with_just_enough_room_gets_all(rt: HostRuntime) -> Result<(), Fail> {
     let alloc = rt.alloc();
     let both = first_lines(alloc)?;
-    let mut writer = Small {
-        held: Vec::new(alloc),
-        room: both.len(),
-        when_full: WhenFull::Fails,
-    };
-    let mut core = usual_core(alloc)?;
-    let mut reader = FIRST_RUN.as_bytes();
-    assert_eq!(rt; replay(alloc, &mut reader, &mut writer, &mut core), Ok(4));
-    assert_eq!(rt; writer.held.as_slice(), both.as_bytes());
-    Ok(())
+    let expected = (Ok(4), 4, both.as_bytes());
+    check_writer(&rt, alloc, (both.len(), WhenFull::Fails), expected)
 }

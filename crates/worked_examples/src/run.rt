@@ -1,5 +1,5 @@
 //! Runs of a core, told as lines of text: what happens at a moment, and what the core makes of it.
-use coap_core::{Core, Counts, Event, Limits, Outcome, Report};
+use coap_core::{Core, Counts, Event, LimitValues, Limits, Outcome, Report};
 use coap_message::{Datagram, OutOfMemory};
 use coap_target::{Endpoint, Ip, Routes};
 use std::alloc::Global;
@@ -40,6 +40,19 @@ fn name_of(place: Endpoint) -> &'static str {
         }
     }
     "elsewhere"
+}
+
+/// What a line tells before its outcome: a moment, and a source with the digits of a datagram, or a tick.
+fn told(line: &str) -> Result<(u64, Option<(Endpoint, &str)>), Fail> {
+    let mut words = line.split(' ');
+    let now = words.next().ok_or("no moment")?.parse::<u64>()?;
+    let source = words.next().ok_or("no source")?;
+    if source == "T" {
+        return Ok((now, None));
+    }
+    let from = place_of(source).ok_or("an unknown source")?;
+    let digits = words.next().ok_or("no datagram")?;
+    Ok((now, Some((from, if digits == "-" { "" } else { digits }))))
 }
 
 /// What a core tells of itself.
@@ -107,24 +120,25 @@ impl Run {
     /// datagram, or `T` for a tick; then the outcome, and to whom which datagram is sent, if one is.
     pub(crate) fn play(&mut self, rt: &impl Abort, lines: &str) -> Result<(), Fail> {
         for line in lines.lines() {
-            let (told, expected) = line.split_once(" > ").ok_or("a line without an outcome")?;
-            let report = self.tell(rt, told)?;
+            let (before, expected) = line.split_once(" > ").ok_or("a line without an outcome")?;
+            let (now, happens) = told(before)?;
+            let report = self.tell(rt, now, happens)?;
             let shown = self.show(report)?;
             assert_eq!(rt; shown.as_str(), expected, "{line}");
         }
         Ok(())
     }
 
-    fn tell(&mut self, rt: &impl Abort, told: &str) -> Result<Report, Fail> {
-        let mut words = told.split(' ');
-        let now = words.next().ok_or("no moment")?.parse::<u64>()?;
-        let source = words.next().ok_or("no source")?;
-        if source == "T" {
+    fn tell(
+        &mut self,
+        rt: &impl Abort,
+        now: u64,
+        happens: Option<(Endpoint, &str)>,
+    ) -> Result<Report, Fail> {
+        let Some((from, digits)) = happens else {
             return Ok(self.step(rt, now, Event::Tick)?);
-        }
-        let from = place_of(source).ok_or("an unknown source")?;
-        let text = words.next().ok_or("no datagram")?;
-        let bytes = hex::decode(self.alloc, if text == "-" { "" } else { text })?;
+        };
+        let bytes = hex::decode(self.alloc, digits)?;
         let event = Event::Datagram {
             from,
             bytes: &bytes,
@@ -153,4 +167,31 @@ impl Run {
         }
         Ok(text)
     }
+}
+
+/// Plays lines on a new core of these limits, with this first id and this number from which tokens are
+/// counted.
+pub(crate) fn play_from(
+    rt: &impl Abort,
+    alloc: Global,
+    (values, first_id, salt): (LimitValues, u16, u64),
+    lines: &str,
+) -> Result<(), Fail> {
+    let limits = Limits::new(values)?;
+    Run::new(alloc, limits, first_id, salt)?.play(rt, lines)
+}
+
+/// Plays lines on a new core of these limits, whose first id is 1 and whose tokens are counted from 0.
+pub(crate) fn play_with(
+    rt: &impl Abort,
+    alloc: Global,
+    values: LimitValues,
+    lines: &str,
+) -> Result<(), Fail> {
+    play_from(rt, alloc, (values, 1, 0), lines)
+}
+
+/// Plays lines on a new core of the default limits.
+pub(crate) fn play(rt: &impl Abort, alloc: Global, lines: &str) -> Result<(), Fail> {
+    play_with(rt, alloc, LimitValues::default(), lines)
 }

@@ -1,46 +1,29 @@
 //! Runs of a core: what it makes of datagrams and ticks, to the byte.
-use crate::run::{Run, Seen, local};
+use crate::run::{Run, Seen, local, play, play_from, play_with};
 use coap_core::{Counts, Event, LimitValues, Limits, Outcome, Report, Storing};
 use coap_message::{Code, OutOfMemory};
-use std::alloc::{AllocError, Global};
+use std::alloc::Global;
 use std::process::Abort;
 use std::test::*;
 
-/// A core of these limits.
-fn limited(alloc: Global, values: LimitValues) -> Result<Run, Fail> {
-    Ok(Run::new(alloc, Limits::new(values)?, 1, 0)?)
-}
+/// Nothing, to be filled up: `{NONE:6>218}` are the digits of 109 bytes `f`.
+const NONE: &str = "";
 
-/// A core of the default limits.
-fn usual(alloc: Global) -> Result<Run, Fail> {
-    limited(alloc, LimitValues::default())
-}
-
-/// A core whose datagrams have at most 128 bytes.
-fn narrow(alloc: Global) -> Result<Run, Fail> {
-    let values = LimitValues {
+/// Limits by which datagrams have at most 128 bytes.
+fn narrow() -> LimitValues {
+    LimitValues {
         datagram: 128,
         ..LimitValues::default()
-    };
-    limited(alloc, values)
-}
-
-/// So many times the same two digits.
-fn repeated(alloc: Global, digits: &str, times: usize) -> Result<String, AllocError> {
-    let mut text = String::new(alloc);
-    for _ in 0..times {
-        text.push_str(digits)?;
     }
-    Ok(text)
 }
 
 // ---- answers
 
 #[test]
 fn a_request_is_sent_on_and_answered(rt: HostRuntime) -> Result<(), Fail> {
-    let mut run = usual(rt.alloc())?;
-    run.play(
+    play(
         &rt,
+        rt.alloc(),
         "\
 0 C1 50010007B174 > Opened
 0 T > SentRequest S 480100010000000000000001B474656D70
@@ -50,8 +33,13 @@ fn a_request_is_sent_on_and_answered(rt: HostRuntime) -> Result<(), Fail> {
 }
 
 /// A request at the moment 0, a response at once, and what the client is given at a later moment.
-fn serve(rt: &impl Abort, alloc: Global, row: (&str, u64, &str)) -> Result<(), Fail> {
-    let (response, later, reply) = row;
+fn serve(
+    rt: &impl Abort,
+    alloc: Global,
+    response: &str,
+    later: &str,
+    reply: &str,
+) -> Result<(), Fail> {
     let lines = format!(in alloc;
         "\
 0 C1 50010007B174 > Opened
@@ -59,99 +47,61 @@ fn serve(rt: &impl Abort, alloc: Global, row: (&str, u64, &str)) -> Result<(), F
 0 S {response} > Answered NotStored
 {later} T > Delivered C1 {reply}"
     )?;
-    let mut run = usual(alloc)?;
-    run.play(rt, lines.as_str())
+    play(rt, alloc, lines.as_str())
 }
 
-/// Responses with the token of the first request, the moments at which they are delivered, and what the
-/// client is given (RFC 7252, 5.6.1 and 5.7.1).
-const SHOWN: [(&str, u64, &str); 22] = [
-    // content that is fresh for ten seconds: what is left of them
-    (
-        "684500010000000000000001D1010AFF3231",
-        1,
-        "50450002D10109FF3231",
-    ),
-    (
-        "684500010000000000000001D1010AFF3231",
-        1000,
-        "50450002D10109FF3231",
-    ),
-    (
-        "684500010000000000000001D1010AFF3231",
-        1001,
-        "50450002D10108FF3231",
-    ),
-    (
-        "684500010000000000000001D1010AFF3231",
-        2500,
-        "50450002D10107FF3231",
-    ),
-    (
-        "684500010000000000000001D1010AFF3231",
-        9000,
-        "50450002D10101FF3231",
-    ),
-    (
-        "684500010000000000000001D1010AFF3231",
-        9001,
-        "50450002D001FF3231",
-    ),
-    (
-        "684500010000000000000001D1010AFF3231",
-        3600000,
-        "50450002D001FF3231",
-    ),
-    // no payload; a Max-Age of 0, one with a zero in front, and long ones
-    ("684500010000000000000001D1010A", 0, "50450002D1010A"),
-    ("684500010000000000000001D001FF32", 0, "50450002D001FF32"),
-    (
-        "684500010000000000000001D201000AFF32",
-        0,
-        "50450002D1010AFF32",
-    ),
-    (
-        "684500010000000000000001D2010100FF32",
-        1,
-        "50450002D101FFFF32",
-    ),
-    (
-        "684500010000000000000001D401FFFFFFFFFF32",
-        1,
-        "50450002D401FFFFFFFEFF32",
-    ),
-    // a minute where there is no Max-Age
-    ("684500010000000000000001FF32", 0, "50450002D1013CFF32"),
-    ("684500010000000000000001FF32", 1001, "50450002D1013AFF32"),
-    // errors of the origin
-    ("688400010000000000000001D1011E", 0, "50840002D1011E"),
-    ("688400010000000000000001D1011E", 2500, "50840002D1011B"),
-    ("688400010000000000000001", 0, "50840002D1013C"),
-    ("68A000010000000000000001FF39", 0, "50A00002D1013CFF39"),
-    ("68A200010000000000000001", 0, "50A20002D1013C"),
-    // other responses, as they came
-    ("684400010000000000000001", 0, "50440002"),
-    (
-        "684400010000000000000001D1010AFF39",
-        5000,
-        "50440002D1010AFF39",
-    ),
-    ("684100010000000000000001", 0, "50410002"),
-];
-
-#[test]
-fn answers_are_shown(rt: HostRuntime) -> Result<(), Fail> {
-    for row in SHOWN {
-        serve(&rt, rt.alloc(), row)?;
+/// Checks lines such as `684400010000000000000001 0 > 50440002`: a response, a later moment, and what the
+/// client is given then. Lines that begin with `#` say what follows.
+fn check_served(rt: &impl Abort, alloc: Global, lines: &str) -> Result<(), Fail> {
+    for line in lines.lines().filter(|line| !line.starts_with('#')) {
+        let (before, reply) = line.split_once(" > ").ok_or("a line without a reply")?;
+        let (response, later) = before.split_once(' ').ok_or("a line without a moment")?;
+        serve(rt, alloc, response, later, reply)?;
     }
     Ok(())
 }
 
+/// Responses with the token of the first request, the moments at which they are delivered, and what the
+/// client is given (RFC 7252, 5.6.1 and 5.7.1).
+const SHOWN: &str = "\
+# content that is fresh for ten seconds: what is left of them
+684500010000000000000001D1010AFF3231 1 > 50450002D10109FF3231
+684500010000000000000001D1010AFF3231 1000 > 50450002D10109FF3231
+684500010000000000000001D1010AFF3231 1001 > 50450002D10108FF3231
+684500010000000000000001D1010AFF3231 2500 > 50450002D10107FF3231
+684500010000000000000001D1010AFF3231 9000 > 50450002D10101FF3231
+684500010000000000000001D1010AFF3231 9001 > 50450002D001FF3231
+684500010000000000000001D1010AFF3231 3600000 > 50450002D001FF3231
+# no payload; a Max-Age of 0, one with a zero in front, and long ones
+684500010000000000000001D1010A 0 > 50450002D1010A
+684500010000000000000001D001FF32 0 > 50450002D001FF32
+684500010000000000000001D201000AFF32 0 > 50450002D1010AFF32
+684500010000000000000001D2010100FF32 1 > 50450002D101FFFF32
+684500010000000000000001D401FFFFFFFFFF32 1 > 50450002D401FFFFFFFEFF32
+# a minute where there is no Max-Age
+684500010000000000000001FF32 0 > 50450002D1013CFF32
+684500010000000000000001FF32 1001 > 50450002D1013AFF32
+# errors of the origin
+688400010000000000000001D1011E 0 > 50840002D1011E
+688400010000000000000001D1011E 2500 > 50840002D1011B
+688400010000000000000001 0 > 50840002D1013C
+68A000010000000000000001FF39 0 > 50A00002D1013CFF39
+68A200010000000000000001 0 > 50A20002D1013C
+# other responses, as they came
+684400010000000000000001 0 > 50440002
+684400010000000000000001D1010AFF39 5000 > 50440002D1010AFF39
+684100010000000000000001 0 > 50410002";
+
+#[test]
+fn answers_are_shown(rt: HostRuntime) -> Result<(), Fail> {
+    check_served(&rt, rt.alloc(), SHOWN)
+}
+
 #[test]
 fn the_age_is_counted_from_the_arrival(rt: HostRuntime) -> Result<(), Fail> {
-    let mut run = usual(rt.alloc())?;
-    run.play(
+    play(
         &rt,
+        rt.alloc(),
         "\
 0 C1 50010007B174 > Opened
 1000 T > SentRequest S 480100010000000000000001B474656D70
@@ -161,51 +111,49 @@ fn the_age_is_counted_from_the_arrival(rt: HostRuntime) -> Result<(), Fail> {
 }
 
 /// Responses that aren't passed on: for them the client is given a 5.02.
-const REPLACED: [&str; 5] = [
-    // 2.03, though no one asked for validation
-    "684300010000000000000001",
-    // Block2, Proxy-Scheme, a second Max-Age, and a Max-Age of five bytes
-    "684500010000000000000001D10A06FF3231",
-    "684500010000000000000001D41A636F6170FF3231",
-    "684500010000000000000001D1010A010AFF3231",
-    "684500010000000000000001D5010000000001FF3231",
-];
+const REPLACED: &str = "\
+# 2.03, though no one asked for validation
+684300010000000000000001 0 > 50A20002
+684300010000000000000001 2500 > 50A20002
+# Block2, Proxy-Scheme, a second Max-Age, and a Max-Age of five bytes
+684500010000000000000001D10A06FF3231 0 > 50A20002
+684500010000000000000001D10A06FF3231 2500 > 50A20002
+684500010000000000000001D41A636F6170FF3231 0 > 50A20002
+684500010000000000000001D41A636F6170FF3231 2500 > 50A20002
+684500010000000000000001D1010A010AFF3231 0 > 50A20002
+684500010000000000000001D1010A010AFF3231 2500 > 50A20002
+684500010000000000000001D5010000000001FF3231 0 > 50A20002
+684500010000000000000001D5010000000001FF3231 2500 > 50A20002";
 
 #[test]
 fn what_is_not_passed_on_is_replaced(rt: HostRuntime) -> Result<(), Fail> {
-    for response in REPLACED {
-        serve(&rt, rt.alloc(), (response, 0, "50A20002"))?;
-        serve(&rt, rt.alloc(), (response, 2500, "50A20002"))?;
-    }
-    Ok(())
+    check_served(&rt, rt.alloc(), REPLACED)
 }
 
 #[test]
 fn answers_fit_a_datagram(rt: HostRuntime) -> Result<(), Fail> {
-    let payload = repeated(rt.alloc(), "39", 109)?;
-    let payload = payload.as_str();
+    // payloads of 109 bytes, and of 110
     let lines = format!(in rt.alloc();
         "\
 0 C1 580100070102030405060708B174 > Opened
 0 T > SentRequest S 480100010000000000000001B474656D70
-0 S 684500010000000000000001D401FFFFFFFFFF{payload} > Answered NotStored
-0 T > Delivered C1 584500020102030405060708D401FFFFFFFFFF{payload}
+0 S 684500010000000000000001D401FFFFFFFFFF{NONE:6>218} > Answered NotStored
+0 T > Delivered C1 584500020102030405060708D401FFFFFFFFFF{NONE:6>218}
 0 C1 50010008B174 > Opened
 0 T > SentRequest S 480100030000000000000002B474656D70
-0 S 684500030000000000000002FF{payload}39 > Answered NotStored
+0 S 684500030000000000000002FF{NONE:6>220} > Answered NotStored
 0 T > Delivered C1 50A20004"
     )?;
-    let mut run = narrow(rt.alloc())?;
-    run.play(&rt, lines.as_str())
+    play_with(&rt, rt.alloc(), narrow(), lines.as_str())
 }
 
 #[test]
 fn only_the_awaited_response_is_taken(rt: HostRuntime) -> Result<(), Fail> {
-    let mut run = usual(rt.alloc())?;
     // before the request is sent, from other endpoints, with other ids and tokens, and once more before
     // and after the delivery (RFC 7252, 5.3.2)
-    run.play(
+    play(
         &rt,
+        rt.alloc(),
         "\
 0 C1 50010007B174 > Opened
 0 S 684500010000000000000001D1010AFF3231 > Ignored
@@ -229,9 +177,9 @@ fn only_the_awaited_response_is_taken(rt: HostRuntime) -> Result<(), Fail> {
 
 #[test]
 fn answers_go_out_in_the_order_in_which_they_came(rt: HostRuntime) -> Result<(), Fail> {
-    let mut run = usual(rt.alloc())?;
-    run.play(
+    play(
         &rt,
+        rt.alloc(),
         "\
 0 C1 51010007AAB174 > Opened
 0 C2 52010008BBCCB174 > Opened
@@ -249,9 +197,9 @@ fn answers_go_out_in_the_order_in_which_they_came(rt: HostRuntime) -> Result<(),
 
 #[test]
 fn at_one_moment_requests_go_out_before_answers(rt: HostRuntime) -> Result<(), Fail> {
-    let mut run = usual(rt.alloc())?;
-    run.play(
+    play(
         &rt,
+        rt.alloc(),
         "\
 3 C1 51010007AAB174 > Opened
 3 C2 52010008BBCCB174 > Opened
@@ -270,36 +218,33 @@ fn at_one_moment_requests_go_out_before_answers(rt: HostRuntime) -> Result<(), F
 // ---- requests and other messages
 
 /// Requests, and what the origin is sent: the rest of the path goes on, and a payload doesn't.
-const SENT_ON: [(&str, &str); 3] = [
-    (
-        "50010007B1740161026263",
-        "480100010000000000000001B474656D700161026263",
-    ),
-    ("50010007B17400", "480100010000000000000001B474656D7000"),
-    ("50010007B174FF39", "480100010000000000000001B474656D70"),
-];
+const SENT_ON: &str = "\
+50010007B1740161026263 > 480100010000000000000001B474656D700161026263
+50010007B17400 > 480100010000000000000001B474656D7000
+50010007B174FF39 > 480100010000000000000001B474656D70";
+
+/// Plays a request, and what is sent on.
+fn send_on(rt: &impl Abort, alloc: Global, request: &str, forwarded: &str) -> Result<(), Fail> {
+    let lines = format!(in alloc; "0 C1 {request} > Opened\n0 T > SentRequest S {forwarded}")?;
+    play(rt, alloc, lines.as_str())
+}
 
 #[test]
 fn requests_are_sent_on(rt: HostRuntime) -> Result<(), Fail> {
-    for (request, forwarded) in SENT_ON {
-        let lines = format!(in rt.alloc();
-            "\
-0 C1 {request} > Opened
-0 T > SentRequest S {forwarded}"
-        )?;
-        let mut run = usual(rt.alloc())?;
-        run.play(&rt, lines.as_str())?;
+    for line in SENT_ON.lines() {
+        let (request, forwarded) = line.split_once(" > ").ok_or("a line without a request")?;
+        send_on(&rt, rt.alloc(), request, forwarded)?;
     }
     Ok(())
 }
 
 #[test]
 fn requests_are_refused(rt: HostRuntime) -> Result<(), Fail> {
-    let mut run = usual(rt.alloc())?;
     // methods; Block2; paths; and where there are more faults, the method before the options and the
     // options before the path
-    run.play(
+    play(
         &rt,
+        rt.alloc(),
         "\
 0 C1 50020007B174 > Refused 4.05 C1 50850001
 0 C1 50050007B174 > Refused 4.05 C1 50850002
@@ -318,44 +263,43 @@ fn requests_are_refused(rt: HostRuntime) -> Result<(), Fail> {
 
 #[test]
 fn long_requests_are_refused(rt: HostRuntime) -> Result<(), Fail> {
-    // a segment of 256 bytes
-    let segment = repeated(rt.alloc(), "61", 256)?;
-    let segment = segment.as_str();
-    let line = format!(in rt.alloc(); "0 C1 50010007B1740DF3{segment} > Refused 4.02 C1 50820001")?;
-    usual(rt.alloc())?.play(&rt, line.as_str())?;
-
-    // a request that would be sent on with 129 bytes, and one with 128
-    let segment = repeated(rt.alloc(), "61", 109)?;
-    let segment = segment.as_str();
+    // that would be sent on with 129 bytes, and with 128
     let lines = format!(in rt.alloc();
         "\
-0 C1 50010007B1740D61{segment}61 > Refused 4.13 C1 508D0001
-0 C1 50010007B1740D60{segment} > Opened
-0 T > SentRequest S 480100020000000000000001B474656D700D60{segment}"
+0 C1 50010007B1740D61{NONE:6>220} > Refused 4.13 C1 508D0001
+0 C1 50010007B1740D60{NONE:6>218} > Opened
+0 T > SentRequest S 480100020000000000000001B474656D700D60{NONE:6>218}"
     )?;
-    narrow(rt.alloc())?.play(&rt, lines.as_str())
+    play_with(&rt, rt.alloc(), narrow(), lines.as_str())
+}
+
+#[test]
+fn long_segments_are_refused(rt: HostRuntime) -> Result<(), Fail> {
+    // of 256 bytes
+    let line = format!(in rt.alloc();
+        "0 C1 50010007B1740DF3{NONE:6>512} > Refused 4.02 C1 50820001"
+    )?;
+    play(&rt, rt.alloc(), line.as_str())
 }
 
 #[test]
 fn long_datagrams_are_not_processed(rt: HostRuntime) -> Result<(), Fail> {
     // 129 bytes, and 128
-    let payload = repeated(rt.alloc(), "39", 121)?;
-    let payload = payload.as_str();
     let lines = format!(in rt.alloc();
         "\
-0 C1 40010007B174FF{payload}39 > Rejected C1 70000007
-0 C1 50010007B174FF{payload}39 > Ignored
-0 C1 50010007B174FF{payload} > Opened"
+0 C1 40010007B174FF{NONE:6>244} > Rejected C1 70000007
+0 C1 50010007B174FF{NONE:6>244} > Ignored
+0 C1 50010007B174FF{NONE:6>242} > Opened"
     )?;
-    narrow(rt.alloc())?.play(&rt, lines.as_str())
+    play_with(&rt, rt.alloc(), narrow(), lines.as_str())
 }
 
 #[test]
 fn confirmable_messages_are_rejected(rt: HostRuntime) -> Result<(), Fail> {
-    let mut run = usual(rt.alloc())?;
     // Empty, with a byte too many, malformed in other ways, and of the classes 1, 6 and 7 (RFC 7252, 4.2)
-    run.play(
+    play(
         &rt,
+        rt.alloc(),
         "\
 0 C1 40000009 > Rejected C1 70000009
 0 C1 50000009 > Ignored
@@ -372,11 +316,11 @@ fn confirmable_messages_are_rejected(rt: HostRuntime) -> Result<(), Fail> {
 
 #[test]
 fn other_messages_are_ignored(rt: HostRuntime) -> Result<(), Fail> {
-    let mut run = usual(rt.alloc())?;
     // too short for a message; other versions; malformed; of another class; and acknowledgements and
     // Resets of nothing, or that can't be
-    run.play(
+    play(
         &rt,
+        rt.alloc(),
         "\
 0 C1 - > Ignored
 0 C1 400100 > Ignored
@@ -397,11 +341,11 @@ fn other_messages_are_ignored(rt: HostRuntime) -> Result<(), Fail> {
 
 #[test]
 fn what_is_not_processed_yet(rt: HostRuntime) -> Result<(), Fail> {
-    let mut run = usual(rt.alloc())?;
     // confirmable requests, Empty messages, separate responses, duplicates, repetitions, and options
     // other than Uri-Path and Max-Age
-    run.play(
+    play(
         &rt,
+        rt.alloc(),
         "\
 0 C1 40010007B174 > Rejected C1 70000007
 0 C1 50010007B174 > Opened
@@ -448,7 +392,7 @@ fn a_full_proxy_asks_to_try_again(rt: HostRuntime) -> Result<(), Fail> {
         ..LimitValues::default()
     };
     for values in [one_exchange, one_waiter] {
-        limited(rt.alloc(), values)?.play(&rt, FULL)?;
+        play_with(&rt, rt.alloc(), values, FULL)?;
     }
     Ok(())
 }
@@ -466,25 +410,33 @@ fn the_time_to_try_again_is_a_limit(rt: HostRuntime) -> Result<(), Fail> {
 0 C1 50010007B174 > Opened
 0 C3 50010001B174 > Overloaded C3 {reply}"
         )?;
-        limited(rt.alloc(), values)?.play(&rt, lines.as_str())?;
+        play_with(&rt, rt.alloc(), values, lines.as_str())?;
     }
     Ok(())
 }
 
 #[test]
 fn ids_and_tokens_are_counted_on(rt: HostRuntime) -> Result<(), Fail> {
-    let limits = Limits::new(LimitValues::default())?;
-    Run::new(rt.alloc(), limits, 0x1234, 0x0102030405060708)?.play(
+    let setting = (LimitValues::default(), 0x1234, 0x0102030405060708);
+    play_from(
         &rt,
+        rt.alloc(),
+        setting,
         "\
 0 C1 50010007B174 > Opened
 0 T > SentRequest S 480112340102030405060709B474656D70
 0 S 684512340102030405060709D1010AFF3231 > Answered NotStored
 0 T > Delivered C1 50451235D1010AFF3231",
-    )?;
-    // both go round
-    Run::new(rt.alloc(), limits, 0xFFFF, 0xFFFFFFFFFFFFFFFF)?.play(
+    )
+}
+
+#[test]
+fn ids_and_tokens_go_round(rt: HostRuntime) -> Result<(), Fail> {
+    let setting = (LimitValues::default(), 0xFFFF, 0xFFFFFFFFFFFFFFFF);
+    play_from(
         &rt,
+        rt.alloc(),
+        setting,
         "\
 0 C1 50010007B174 > Opened
 0 T > SentRequest S 4801FFFF0000000000000000B474656D70
@@ -493,61 +445,82 @@ fn ids_and_tokens_are_counted_on(rt: HostRuntime) -> Result<(), Fail> {
     )
 }
 
-/// A core that has given so many ids, each for a refusal.
-fn after_refusals(rt: &impl Abort, alloc: Global, times: u32) -> Result<Run, Fail> {
-    let mut run = usual(alloc)?;
-    for number in 0..times {
-        let event = Event::Datagram {
-            from: local(1, 40001),
-            bytes: b"\x50\x01\x00\x07\xB1u",
-        };
-        let report = run.step(rt, 0, event)?;
-        assert_eq!(rt;
-            report.outcome,
-            Outcome::Refused(Code::NOT_FOUND),
-            "{number}"
-        );
+/// A datagram that is refused with a 4.04.
+const UNKNOWN_PATH: &[u8] = b"\x50\x01\x00\x07\xB1u";
+
+/// So many requests come that are refused: each is given an id.
+fn refuse(rt: &impl Abort, run: &mut Run, times: u32) -> Result<(), OutOfMemory> {
+    for _ in 0..times {
+        let report = run.step(rt, 0, arrival(40001, UNKNOWN_PATH))?;
+        assert!(rt; report.outcome == Outcome::Refused(Code::NOT_FOUND));
     }
-    Ok(run)
+    Ok(())
 }
 
-/// Where no id is free there is no reply, but a Reset has the id of what it rejects.
-const NO_ID: &str = "\
-0 C1 50010007B175 > NoId
-0 C1 50010007B174 > NoId
-0 C1 40000009 > Rejected C1 70000009";
+/// Plays lines on a core that has given so many ids.
+fn play_after_refusals(
+    rt: &impl Abort,
+    alloc: Global,
+    times: u32,
+    lines: &str,
+) -> Result<(), Fail> {
+    let limits = Limits::new(LimitValues::default())?;
+    let mut run = Run::new(alloc, limits, 1, 0)?;
+    refuse(rt, &mut run, times)?;
+    run.play(rt, lines)
+}
+
+// Where no id is free there is no reply, but a Reset has the id of what it rejects.
 
 #[test]
 fn ids_run_out(rt: HostRuntime) -> Result<(), Fail> {
-    let mut run = after_refusals(&rt, rt.alloc(), 32767)?;
-    run.play(&rt, "0 C1 50010007B175 > Refused 4.04 C1 50848000")?;
-    run.play(&rt, NO_ID)
+    play_after_refusals(
+        &rt,
+        rt.alloc(),
+        32767,
+        "\
+0 C1 50010007B175 > Refused 4.04 C1 50848000
+0 C1 50010007B175 > NoId
+0 C1 50010007B174 > NoId
+0 C1 40000009 > Rejected C1 70000009",
+    )
 }
 
 #[test]
 fn an_exchange_needs_two_ids(rt: HostRuntime) -> Result<(), Fail> {
-    let mut run = after_refusals(&rt, rt.alloc(), 32767)?;
-    run.play(&rt, "0 C1 50010007B174 > Overloaded C1 50A38000D10105")?;
-    run.play(&rt, NO_ID)
+    play_after_refusals(
+        &rt,
+        rt.alloc(),
+        32767,
+        "\
+0 C1 50010007B174 > Overloaded C1 50A38000D10105
+0 C1 50010007B175 > NoId
+0 C1 50010007B174 > NoId
+0 C1 40000009 > Rejected C1 70000009",
+    )
 }
 
 #[test]
 fn ids_are_kept_for_an_exchange(rt: HostRuntime) -> Result<(), Fail> {
-    let mut run = after_refusals(&rt, rt.alloc(), 32766)?;
-    run.play(&rt, "0 C1 50010007B174 > Opened")?;
-    run.play(&rt, NO_ID)?;
-    run.play(
+    play_after_refusals(
         &rt,
-        "0 T > SentRequest S 48017FFF0000000000000001B474656D70",
-    )?;
-    run.play(&rt, NO_ID)?;
-    run.play(
-        &rt,
+        rt.alloc(),
+        32766,
         "\
+0 C1 50010007B174 > Opened
+0 C1 50010007B175 > NoId
+0 C1 50010007B174 > NoId
+0 C1 40000009 > Rejected C1 70000009
+0 T > SentRequest S 48017FFF0000000000000001B474656D70
+0 C1 50010007B175 > NoId
+0 C1 50010007B174 > NoId
+0 C1 40000009 > Rejected C1 70000009
 0 S 68457FFF0000000000000001D1010AFF3231 > Answered NotStored
-0 T > Delivered C1 50458000D1010AFF3231",
-    )?;
-    run.play(&rt, NO_ID)
+0 T > Delivered C1 50458000D1010AFF3231
+0 C1 50010007B175 > NoId
+0 C1 50010007B174 > NoId
+0 C1 40000009 > Rejected C1 70000009",
+    )
 }
 
 // ---- what a core tells of itself, and want of memory
@@ -597,90 +570,94 @@ fn insist_on_new(alloc: Global) -> Result<Run, Fail> {
     }
 }
 
-/// The first answer at the moment 0: the number of the event, a datagram from a port or a tick, the outcome,
-/// what is sent, what is due next, and how many exchanges are under way. It is in bytes, so that only the
-/// core takes memory.
-const FIRST_ANSWER: [(u64, Option<(u16, &[u8])>, Outcome, &[u8], Option<u64>, u64); 4] = [
-    (
-        1,
-        Some((40001, b"\x50\x01\x00\x07\xB1t")),
-        Outcome::Opened,
-        b"",
-        Some(0),
-        1,
-    ),
-    (
-        2,
-        None,
-        Outcome::SentRequest,
-        b"\x48\x01\x00\x01\x00\x00\x00\x00\x00\x00\x00\x01\xB4temp",
-        None,
-        1,
-    ),
-    (
-        3,
-        Some((
-            5690,
-            b"\x68\x45\x00\x01\x00\x00\x00\x00\x00\x00\x00\x01\xD1\x01\x0A\xFF21",
-        )),
-        Outcome::Answered {
-            storing: Storing::NotStored,
-        },
-        b"",
-        Some(0),
-        1,
-    ),
-    (
-        4,
-        None,
-        Outcome::Delivered,
-        b"\x50\x45\x00\x02\xD1\x01\x0A\xFF21",
-        None,
-        0,
-    ),
-];
+/// A step at the moment 0, taken again where there was no memory for it: what it answers, what it sends, and
+/// what the core tells behind it.
+fn check_step(
+    rt: &impl Abort,
+    run: &mut Run,
+    event: Event<'_>,
+    expected: (Outcome, &[u8], Seen),
+) -> Result<(), OutOfMemory> {
+    let report = insist(run, rt, 0, event)?;
+    assert_eq!(rt; report.outcome, expected.0);
+    assert_eq!(rt; run.sent(), expected.1);
+    assert_eq!(rt; run.seen(), expected.2);
+    Ok(())
+}
+
+/// A datagram from a port of the loopback network.
+fn arrival(port: u16, bytes: &[u8]) -> Event<'_> {
+    Event::Datagram {
+        from: local(1, port),
+        bytes,
+    }
+}
+
+/// The first answer, in bytes, so that only the core takes memory.
+fn check_first_answer(rt: &impl Abort, run: &mut Run) -> Result<(), OutOfMemory> {
+    let request = arrival(40001, b"\x50\x01\x00\x07\xB1t");
+    let expected = (Outcome::Opened, b"".as_slice(), told(1, 0, Some(0), 1));
+    check_step(rt, run, request, expected)?;
+
+    let bytes = b"\x48\x01\x00\x01\x00\x00\x00\x00\x00\x00\x00\x01\xB4temp";
+    let expected = (Outcome::SentRequest, bytes.as_slice(), told(2, 0, None, 1));
+    check_step(rt, run, Event::Tick, expected)?;
+
+    let bytes = b"\x68\x45\x00\x01\x00\x00\x00\x00\x00\x00\x00\x01\xD1\x01\x0A\xFF21";
+    let storing = Storing::NotStored;
+    let expected = (
+        Outcome::Answered { storing },
+        b"".as_slice(),
+        told(3, 0, Some(0), 1),
+    );
+    check_step(rt, run, arrival(5690, bytes), expected)?;
+
+    let bytes = b"\x50\x45\x00\x02\xD1\x01\x0A\xFF21";
+    let expected = (Outcome::Delivered, bytes.as_slice(), told(4, 0, None, 0));
+    check_step(rt, run, Event::Tick, expected)
+}
 
 // It passes with ample memory, and also where any one request for memory is refused.
 #[test]
 fn steps_can_be_taken_again(rt: HostRuntime) -> Result<(), Fail> {
     let mut run = insist_on_new(rt.alloc())?;
-    for (events, happens, outcome, bytes, next_due, under_way) in FIRST_ANSWER {
-        let event = match happens {
-            Some((port, bytes)) => Event::Datagram {
-                from: local(1, port),
-                bytes,
-            },
-            None => Event::Tick,
-        };
-        let report = insist(&mut run, &rt, 0, event)?;
-        assert_eq!(rt; report.outcome, outcome, "event {events}");
-        assert_eq!(rt; run.sent(), bytes, "event {events}");
-        assert_eq!(rt;
-            run.seen(),
-            told(events, 0, next_due, under_way),
-            "event {events}"
-        );
+    Ok(check_first_answer(&rt, &mut run)?)
+}
+
+/// Lines; and behind each how many events there were, the last moment, what is due next, and how many
+/// exchanges are under way.
+const DUE: [(&str, u64, u64, Option<u64>, u64); 4] = [
+    ("10 C1 50010007B174 > Opened", 1, 10, Some(10), 1),
+    (
+        "20 T > SentRequest S 480100010000000000000001B474656D70",
+        2,
+        20,
+        None,
+        1,
+    ),
+    (
+        "30 S 684500010000000000000001D1010AFF3231 > Answered NotStored",
+        3,
+        30,
+        Some(30),
+        1,
+    ),
+    ("40 T > Delivered C1 50450002D10109FF3231", 4, 40, None, 0),
+];
+
+/// Plays these lines, and checks what the core tells behind each.
+fn check_due(rt: &impl Abort, run: &mut Run) -> Result<(), Fail> {
+    for (line, events, last, next_due, under_way) in DUE {
+        run.play(rt, line)?;
+        assert_eq!(rt; run.seen(), told(events, last, next_due, under_way));
     }
     Ok(())
 }
 
 #[test]
 fn what_is_due_next_is_told(rt: HostRuntime) -> Result<(), Fail> {
-    let mut run = usual(rt.alloc())?;
+    let limits = Limits::new(LimitValues::default())?;
+    let mut run = Run::new(rt.alloc(), limits, 1, 0)?;
     assert_eq!(rt; run.seen(), told(0, 0, None, 0));
-    run.play(&rt, "10 C1 50010007B174 > Opened")?;
-    assert_eq!(rt; run.seen(), told(1, 10, Some(10), 1));
-    run.play(
-        &rt,
-        "20 T > SentRequest S 480100010000000000000001B474656D70",
-    )?;
-    assert_eq!(rt; run.seen(), told(2, 20, None, 1));
-    run.play(
-        &rt,
-        "30 S 684500010000000000000001D1010AFF3231 > Answered NotStored",
-    )?;
-    assert_eq!(rt; run.seen(), told(3, 30, Some(30), 1));
-    run.play(&rt, "40 T > Delivered C1 50450002D10109FF3231")?;
-    assert_eq!(rt; run.seen(), told(4, 40, None, 0));
-    Ok(())
+    check_due(&rt, &mut run)
 }
