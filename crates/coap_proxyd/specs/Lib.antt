@@ -10,3 +10,4 @@ pub mod Examples
 pub mod Replays
 pub mod Faults
 pub mod Words
+pub mod Serving

@@ -13,6 +13,7 @@ mod line;
 mod number;
 mod output;
 mod replays;
+mod serving;
 mod turn;
 mod words;
 
@@ -22,5 +23,5 @@ pub use input::{Next, is_skipped, next_line};
 pub use line::put_line;
 pub use output::write_bytes;
 pub use replays::replay;
+pub use serving::serve;
 pub use turn::{Input, Turn, read_turn};
-pub use words::are_known;

@@ -10,7 +10,7 @@ fn is(word: &String, text: &str) -> bool
 }
 
 /// Whether they are the words that the program knows: `--replay --map /t=coap://127.0.0.1:5690/temp`.
-pub fn are_known(words: &[String]) -> bool
+pub(crate) fn are_known(words: &[String]) -> bool
     ensures exact { result ≡ true ↔ map string_bytes words.now ≡ known_words }
 {
     match words {
