@@ -11,7 +11,8 @@ use Rattle.coap_message.specs.Options.{last_number}
 use Rattle.coap_message.specs.Spelling.{head_spelling, option_spelling, options_spelling, spelling}
 use Rattle.coap_message.proofs.Appending.{Appends-full, Appends-behind}
 use Rattle.coap_target.specs.declared.target.Target.{Target}
-use Rattle.coap_model.specs.Messages.{option_of, host_options, target_options, forwarded}
+use Rattle.coap_message.specs.Options.{option_of}
+use Rattle.coap_model.specs.Messages.{host_options, target_options, forwarded}
 
 options_spelling-append : (before : ℕ) (xs ys : List Opt) → options_spelling before (xs ++ ys) ≡ options_spelling before xs ++ options_spelling (last_number before xs) ys
 options_spelling-append before [] ys = refl

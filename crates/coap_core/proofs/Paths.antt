@@ -13,7 +13,7 @@ use Rattle.coap_option.specs.Screening.{is_refused, first_refused}
 use Rattle.coap_target.specs.declared.error.TargetError.{TargetError}
 use Rattle.coap_target.specs.declared.error.TargetError.TheVariants.{NotFound, OutOfMemory}
 use Rattle.coap_target.specs.declared.target.Target.{Target}
-use Rattle.coap_target.specs.Request.{value_of, first_of}
+use Rattle.coap_target.specs.Request.{value_of, first_value}
 use Rattle.coap_target.specs.Routes.{values_of}
 use Rattle.coap_model.specs.Messages.{is_path_option}
 
@@ -38,7 +38,7 @@ values-none number other (o ∷ os) all =
     rw (eqb-true _ _ own.0, other) (values-none number other os parts.1)
 
 pub no-value : (number : ℕ) → eqb 11 number ≡ false → (m : Message) → list_all is_path_option m.options ≡ true → value_of number m ≡ None
-no-value number other m all = ap first_of (values-none number other m.options all)
+no-value number other m all = ap first_value (values-none number other m.options all)
 
 module _ (target : Result Target TargetError) (mapped : Option Target) (is : target ≡ ok_or mapped NotFound) where
   pub is-mapped : (t : Target) → target ≡ Ok t → Some t ≡ mapped

@@ -1,15 +1,15 @@
 -- Tokens of exchanges: the number that is read off one, and the exchange that awaits a response.
 use Rattle.std.proofs.Common.{◌≡◌, ◌≢◌, ℕ, ◌+◌, ◌-◌, ◌%◌, ◌^◌, ◌<◌, ◌≤◌, Bool, true, false, cond, eqb, List, [], ◌∷◌, length, Option, Some, None, refl, sym, ap, ◌∙◌, subst, arith}
-use Rattle.std.specs.Prelude.{◌&&◌, nat_eq, option_map, slice_index, if◌then◌else◌}
+use Rattle.std.specs.Prelude.{◌&&◌, option_map, slice_index, if◌then◌else◌}
 use Rattle.std.specs.Int.{w64, from_be_bytes}
 use Rattle.std.proofs.lemmas.Nat.{be_bytes_8}
 use Rattle.std.specs.List.{AllByRecursion, find}
-use Rattle.std.specs.Cmp.Lexicographic.{pointwise}
 use Rattle.std.proofs.lemmas.Bool.{eqb-true, eqb-false}
 use Rattle.coap_message.specs.Message.{Message}
 use Rattle.coap_message.specs.Uint.{uint_of}
 use Rattle.coap_target.specs.declared.endpoint.Endpoint.{Endpoint}
 use Rattle.coap_target.specs.Endpoint.{same_endpoint}
+use Rattle.coap_target.specs.Equality.{same_bytes}
 use Rattle.coap_target.proofs.Same.{Tells-bytes}
 use Rattle.coap_exchange.specs.declared.exchange.Exchange.{Exchange}
 use Rattle.coap_exchange.specs.Table.{Numbered, Table, IsRising, IsTable, item_at}
@@ -52,9 +52,9 @@ module _ (salt : ℕ) (source : Endpoint) (m : Message) where
   -- an exchange of another token doesn't
   others-do-not : (x : Numbered Exchange) → token_of salt x.0 ≢ m.token → awaits salt source m x ≡ false
   others-do-not x other =
-      go (has_id m.id x.1.state) (same_endpoint x.1.target.at source) (pointwise nat_eq (token_of salt x.0) m.token) refl
+      go (has_id m.id x.1.state) (same_endpoint x.1.target.at source) (same_bytes (token_of salt x.0) m.token) refl
     where
-      go : (a b t : Bool) → pointwise nat_eq (token_of salt x.0) m.token ≡ t → (a && (b && t)) ≡ false
+      go : (a b t : Bool) → same_bytes (token_of salt x.0) m.token ≡ t → (a && (b && t)) ≡ false
       go a b true e = absurd (other (Tells-bytes.only (token_of salt x.0) m.token e))
       go false b false e = refl
       go true false false e = refl
@@ -63,7 +63,7 @@ module _ (salt : ℕ) (source : Endpoint) (m : Message) where
   -- one of this token does where id and endpoint are right
   this-does : (x : Numbered Exchange) → token_of salt x.0 ≡ m.token → awaits salt source m x ≡ is_right x.1
   this-does x same =
-      let t : pointwise nat_eq (token_of salt x.0) m.token ≡ true = rw same (Tells-bytes.itself m.token) in
+      let t : same_bytes (token_of salt x.0) m.token ≡ true = rw same (Tells-bytes.itself m.token) in
       rw t (go (has_id m.id x.1.state) (same_endpoint x.1.target.at source))
     where
       go : (a b : Bool) → (a && (b && true)) ≡ (a && b)

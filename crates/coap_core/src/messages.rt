@@ -5,8 +5,9 @@ ghost use Rattle.coap_message.specs.Datagram.{Datagram, Appends, holding};
 ghost use Rattle.coap_message.specs.Message.{Message};
 ghost use Rattle.coap_message.specs.Options.{AreOptions, last_number};
 ghost use Rattle.coap_message.specs.Spelling.{spelling, options_spelling};
-ghost use Rattle.coap_target.specs.Target.{IsTarget, IsSegment};
-ghost use Rattle.coap_model.specs.Messages.{token_of, max_age_option, option_of, host_options, target_options, forwarded, are_understood, fits, is_passed_on, answer_of, max_age_of, left_of, carries_max_age, shown, bad_gateway};
+ghost use Rattle.coap_target.specs.Target.{IsTarget, IsShort};
+ghost use Rattle.coap_message.specs.Options.{option_of};
+ghost use Rattle.coap_model.specs.Messages.{token_of, max_age_option, host_options, target_options, forwarded, are_understood, fits, is_passed_on, answer_of, max_age_of, left_of, carries_max_age, shown, bad_gateway};
 ghost use Rattle.coap_model.specs.Ticks.{with_id};
 ghost use Rattle.coap_core.specs.Writing.{message_of, unit_of};
 
@@ -128,7 +129,7 @@ fn put_values(
     requires room { room ≤ out.old.room }
     requires held { length out.old.bytes ≤ room }
     requires above { before ≤ number }
-    requires within { AllByRecursion IsSegment values.now }
+    requires within { AllByRecursion IsShort values.now }
     ensures written { Appends out.old out.new room (options_spelling before (map (option_of number) values.now)) (unit_of result) }
     ensures last { IfOk result (λ last. last ≡ last_number before (map (option_of number) values.now)) }
 {
@@ -144,7 +145,7 @@ fn put_values(
 fn put_host(out: &mut Datagram, room: usize, host: &Option<Seq<u8>>) -> Result<u16, Full>
     requires room { room ≤ out.old.room }
     requires held { length out.old.bytes ≤ room }
-    requires within { IfSome host.now IsSegment }
+    requires within { IfSome host.now IsShort }
     ensures written { Appends out.old out.new room (options_spelling 0 (host_options host.now)) (unit_of result) }
     ensures last { IfOk result (λ last. last ≡ last_number 0 (host_options host.now)) }
 {

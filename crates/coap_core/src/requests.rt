@@ -87,7 +87,7 @@ impl Tables {
     fn verdict_of(&self, request: &Message, out: &mut Datagram) -> Result<Verdict, OutOfMemory>
         requires can { CanGoOn self.now }
         requires room { self.now.setting.limits.datagram ≤ out.old.room }
-        ensures exact { IfOk result (λ verdict. verdict_seen verdict ≡ verdict_of self.now.setting.routes self.now.setting.limits.datagram (next_token self.now) request.now) }
+        ensures exact { IfOk result (λ verdict. verdict_seen verdict ≡ verdict_of self.now.setting.routes self.now.setting.limits.datagram request.now) }
         ensures form { IfOk result (λ verdict. FormIs (next_token self.now) verdict out.new.bytes) }
         ensures kept { out.new.room ≡ out.old.room }
     {
@@ -126,7 +126,7 @@ impl Tables {
         requires can { CanGoOn self.now }
         requires room { self.now.setting.limits.datagram ≤ out.old.room }
         requires target { IsTarget target }
-        ensures exact { verdict_seen result ≡ verdict_of_target self.now.setting.limits.datagram (next_token self.now) (Some target) }
+        ensures exact { verdict_seen result ≡ verdict_of_target self.now.setting.limits.datagram (Some target) }
         ensures form { FormIs (next_token self.now) result out.new.bytes }
         ensures kept { out.new.room ≡ out.old.room }
     {

@@ -4,7 +4,7 @@ use Rattle.std.proofs.lemmas.Bool.{eqb-true, eqb-false, eq-eqb, ne_eqb}
 use Rattle.coap_exchange.specs.declared.exchange.ExchangeState.{ExchangeState}
 use Rattle.coap_exchange.specs.declared.exchange.Exchange.{Exchange}
 use Rattle.coap_exchange.specs.Due.{sending, exchange_items}
-use Rattle.coap_exchange.specs.Exchanges.{with_state, is_queued, queued_at, count_of}
+use Rattle.coap_exchange.specs.Exchanges.{with_state, is_queued, queued_at, count_where}
 use Rattle.coap_exchange.specs.Table.{Numbered, Table, IsRising, IsTable, item_at, without, withdrawn_at, withdrawn}
 use Rattle.coap_exchange.proofs.States.{with_state-below}
 use Rattle.coap_exchange.proofs.Tables.{none-below}
@@ -13,25 +13,25 @@ use Rattle.coap_exchange.proofs.Tables.{none-below}
 abbrev pub one_if : Bool → ℕ
 one_if b = cond b 1 0
 
-pub count_of-length : (test : ExchangeState → Bool) (xs : List (Numbered Exchange)) → count_of test xs ≤ length xs
-count_of-length test [] = omega arith
-count_of-length test (x ∷ xs) = go (test x.1.state) (count_of-length test xs)
+pub count_where-length : (test : ExchangeState → Bool) (xs : List (Numbered Exchange)) → count_where test xs ≤ length xs
+count_where-length test [] = omega arith
+count_where-length test (x ∷ xs) = go (test x.1.state) (count_where-length test xs)
   where
-    go : (b : Bool) → count_of test xs ≤ length xs → cond b 1 0 + count_of test xs ≤ length (x ∷ xs)
+    go : (b : Bool) → count_where test xs ≤ length xs → cond b 1 0 + count_where test xs ≤ length (x ∷ xs)
     go true i = omega arith
     go false i = omega arith
 
-pub count_of-push : (test : ExchangeState → Bool) (xs : List (Numbered Exchange)) (x : Numbered Exchange) → count_of test (xs ++ x ∷ []) ≡ count_of test xs + one_if (test x.1.state)
-count_of-push test [] x = omega arith
-count_of-push test (y ∷ xs) x = let i = count_of-push test xs x in omega arith
+pub count_where-push : (test : ExchangeState → Bool) (xs : List (Numbered Exchange)) (x : Numbered Exchange) → count_where test (xs ++ x ∷ []) ≡ count_where test xs + one_if (test x.1.state)
+count_where-push test [] x = omega arith
+count_where-push test (y ∷ xs) x = let i = count_where-push test xs x in omega arith
 
 -- an exchange that comes to a state that isn't queued is counted no more
-pub count_of-with_state : (n least : ℕ) (s : ExchangeState) (xs : List (Numbered Exchange)) → IsRising least xs → is_queued s ≡ false → count_of is_queued (with_state n s xs) + one_if (queued_at (item_at n xs)) ≡ count_of is_queued xs
-count_of-with_state n least s [] r off = refl
-count_of-with_state n least s (x ∷ xs) r off = go (eqb x.0 n) refl (count_of-with_state n x.0 s xs r.1 off)
+pub count_where-with_state : (n least : ℕ) (s : ExchangeState) (xs : List (Numbered Exchange)) → IsRising least xs → is_queued s ≡ false → count_where is_queued (with_state n s xs) + one_if (queued_at (item_at n xs)) ≡ count_where is_queued xs
+count_where-with_state n least s [] r off = refl
+count_where-with_state n least s (x ∷ xs) r off = go (eqb x.0 n) refl (count_where-with_state n x.0 s xs r.1 off)
   where
-    go : (b : Bool) → eqb x.0 n ≡ b → count_of is_queued (with_state n s xs) + one_if (queued_at (item_at n xs)) ≡ count_of is_queued xs
-        → count_of is_queued (with_state n s (x ∷ xs)) + one_if (queued_at (item_at n (x ∷ xs))) ≡ count_of is_queued (x ∷ xs)
+    go : (b : Bool) → eqb x.0 n ≡ b → count_where is_queued (with_state n s xs) + one_if (queued_at (item_at n xs)) ≡ count_where is_queued xs
+        → count_where is_queued (with_state n s (x ∷ xs)) + one_if (queued_at (item_at n (x ∷ xs))) ≡ count_where is_queued (x ∷ xs)
     go true t rest =
         let turned : eqb n x.0 ≡ true = eq-eqb n x.0 (sym (eqb-true x.0 n t)) in
         let others : with_state n s xs ≡ xs = with_state-below n x.0 s xs (omega (arith, eqb-true x.0 n t)) r.1 in
@@ -41,12 +41,12 @@ count_of-with_state n least s (x ∷ xs) r off = go (eqb x.0 n) refl (count_of-w
         rw (t, turned) (omega arith)
 
 -- an exchange that is taken out is counted no more
-pub count_of-without : (n least : ℕ) (xs : List (Numbered Exchange)) → IsRising least xs → count_of is_queued (without n xs) + one_if (queued_at (item_at n xs)) ≡ count_of is_queued xs
-count_of-without n least [] r = refl
-count_of-without n least (x ∷ xs) r = go (eqb x.0 n) refl (count_of-without n x.0 xs r.1)
+pub count_where-without : (n least : ℕ) (xs : List (Numbered Exchange)) → IsRising least xs → count_where is_queued (without n xs) + one_if (queued_at (item_at n xs)) ≡ count_where is_queued xs
+count_where-without n least [] r = refl
+count_where-without n least (x ∷ xs) r = go (eqb x.0 n) refl (count_where-without n x.0 xs r.1)
   where
-    go : (b : Bool) → eqb x.0 n ≡ b → count_of is_queued (without n xs) + one_if (queued_at (item_at n xs)) ≡ count_of is_queued xs
-        → count_of is_queued (without n (x ∷ xs)) + one_if (queued_at (item_at n (x ∷ xs))) ≡ count_of is_queued (x ∷ xs)
+    go : (b : Bool) → eqb x.0 n ≡ b → count_where is_queued (without n xs) + one_if (queued_at (item_at n xs)) ≡ count_where is_queued xs
+        → count_where is_queued (without n (x ∷ xs)) + one_if (queued_at (item_at n (x ∷ xs))) ≡ count_where is_queued (x ∷ xs)
     go true t rest =
         let turned : eqb n x.0 ≡ true = eq-eqb n x.0 (sym (eqb-true x.0 n t)) in
         let others : without n xs ≡ xs = none-below n x.0 xs (omega (arith, eqb-true x.0 n t)) r.1 in
@@ -56,18 +56,18 @@ count_of-without n least (x ∷ xs) r = go (eqb x.0 n) refl (count_of-without n 
         rw (t, turned) (omega arith)
 
 -- so is one that is withdrawn
-pub count_of-withdrawn : (t : Table Exchange) → IsTable t → count_of is_queued (withdrawn t).items + one_if (queued_at (item_at t.admitted t.items)) ≡ count_of is_queued t.items
-count_of-withdrawn t is = go (item_at t.admitted t.items) refl
+pub count_where-withdrawn : (t : Table Exchange) → IsTable t → count_where is_queued (withdrawn t).items + one_if (queued_at (item_at t.admitted t.items)) ≡ count_where is_queued t.items
+count_where-withdrawn t is = go (item_at t.admitted t.items) refl
   where
-    go : (o : Option Exchange) → item_at t.admitted t.items ≡ o → count_of is_queued (withdrawn_at o t).items + one_if (queued_at o) ≡ count_of is_queued t.items
+    go : (o : Option Exchange) → item_at t.admitted t.items ≡ o → count_where is_queued (withdrawn_at o t).items + one_if (queued_at o) ≡ count_where is_queued t.items
     go None e = omega arith
-    go (Some x) e = rw e at (count_of-without t.admitted 0 t.items is.rising)
+    go (Some x) e = rw e at (count_where-without t.admitted 0 t.items is.rising)
 
 -- where none is queued nothing is to be sent
-pub none-queued : (xs : List (Numbered Exchange)) → count_of is_queued xs ≡ 0 → exchange_items xs ≡ []
+pub none-queued : (xs : List (Numbered Exchange)) → count_where is_queued xs ≡ 0 → exchange_items xs ≡ []
 none-queued [] e = refl
 none-queued (x ∷ xs) e = go (is_queued x.1.state) e (λ f. none-queued xs f)
   where
-    go : (b : Bool) → cond b 1 0 + count_of is_queued xs ≡ 0 → (count_of is_queued xs ≡ 0 → exchange_items xs ≡ []) → cond b (sending x ∷ exchange_items xs) (exchange_items xs) ≡ []
+    go : (b : Bool) → cond b 1 0 + count_where is_queued xs ≡ 0 → (count_where is_queued xs ≡ 0 → exchange_items xs ≡ []) → cond b (sending x ∷ exchange_items xs) (exchange_items xs) ≡ []
     go true f rest = absurd (omega (arith, f))
     go false f rest = rest (omega (arith, f))

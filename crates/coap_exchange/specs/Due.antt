@@ -59,7 +59,7 @@ abbrev pub due_as : Item → Due
 due_as i = record { at = due_of i; number = number_of i }
 
 -- the earlier of two, and at one moment the former
-abbrev pub first_of : Option Due → Option Due → Option Due
-first_of None later = later
-first_of (Some a) None = Some a
-first_of (Some a) (Some b) = if nat_le a.at b.at then Some a else Some b
+abbrev pub earlier_due : Option Due → Option Due → Option Due
+earlier_due None later = later
+earlier_due (Some a) None = Some a
+earlier_due (Some a) (Some b) = if nat_le a.at b.at then Some a else Some b

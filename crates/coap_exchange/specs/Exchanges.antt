@@ -25,9 +25,9 @@ is_done (Sent s) = false
 is_done (Done a) = true
 
 -- how many exchanges are in a state that passes the test
-abbrev pub count_of : (ExchangeState → Bool) → List (Numbered Exchange) → ℕ
-count_of test [] = 0
-count_of test (x ∷ xs) = (if test x.1.state then 1 else 0) + count_of test xs
+abbrev pub count_where : (ExchangeState → Bool) → List (Numbered Exchange) → ℕ
+count_where test [] = 0
+count_where test (x ∷ xs) = (if test x.1.state then 1 else 0) + count_where test xs
 
 -- whether there is an exchange, and its request waits for its turn
 abbrev pub queued_at : Option Exchange → Bool

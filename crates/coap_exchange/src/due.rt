@@ -1,6 +1,6 @@
 //! What is due.
 ghost use Rattle.std.specs.Prelude.{◌≡◌, Some};
-ghost use Rattle.coap_exchange.specs.Due.{first_of};
+ghost use Rattle.coap_exchange.specs.Due.{earlier_due};
 
 /// Something that is due.
 #[derive(Clone, Copy, Debug, PartialEq, Eq)]
@@ -14,7 +14,7 @@ pub struct Due {
 impl Due {
     /// What is due first, of this and of what was found before; at one moment what was found before.
     pub(crate) fn or_earlier(self, found: Option<Due>) -> Due
-        ensures exact { Some result ≡ first_of found (Some self) }
+        ensures exact { Some result ≡ earlier_due found (Some self) }
     {
         match found {
             Some(found) if found.at <= self.at => found,

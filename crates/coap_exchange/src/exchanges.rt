@@ -6,7 +6,7 @@ ghost use Rattle.indexmap.specs.IndexMap.{get};
 ghost use Rattle.coap_exchange.specs.declared.exchange.ExchangeState.TheVariants.{Queued, Sent, Done};
 ghost use Rattle.coap_exchange.specs.declared.table.AdmitError.TheVariants.{Full};
 ghost use Rattle.coap_exchange.specs.Due.{due_as, exchange_items, least, answer_in};
-ghost use Rattle.coap_exchange.specs.Exchanges.{with_state, is_queued, queued_at, count_of};
+ghost use Rattle.coap_exchange.specs.Exchanges.{with_state, is_queued, queued_at, count_where};
 ghost use Rattle.coap_exchange.specs.Table.{empty_table, item_at, admitted_to, without, withdrawn, IsTable};
 
 use crate::due::Due;
@@ -29,14 +29,14 @@ pub struct Exchanges {
 impl Model for Exchanges {
     ghost use Rattle.std.specs.Prelude.{◌≡◌};
     ghost use Rattle.coap_exchange.specs.declared.exchange.Exchange.{Exchange};
-    ghost use Rattle.coap_exchange.specs.Exchanges.{is_queued, count_of};
+    ghost use Rattle.coap_exchange.specs.Exchanges.{is_queued, count_where};
     ghost use Rattle.coap_exchange.specs.Table.{Table};
 
     ghost Value = { Table Exchange };
 
     ghost view = { λ e. e.table };
 
-    ghost invariant = { λ e. e.queued ≡ count_of is_queued e.table.items };
+    ghost invariant = { λ e. e.queued ≡ count_where is_queued e.table.items };
 }
 
 impl Exchanges {
@@ -64,7 +64,7 @@ impl Exchanges {
 
     /// How many are still to be sent.
     pub fn queued(&self) -> usize
-        ensures exact { result ≡ count_of is_queued self.now.items }
+        ensures exact { result ≡ count_where is_queued self.now.items }
     {
         self.queued
     }
@@ -199,7 +199,7 @@ fn set_state(exchanges: &mut IndexMap<u64, Exchange>, number: u64, state: Exchan
 
 /// How many are still to be sent, once the exchange of this number no longer is.
 fn queued_without(queued: usize, exchanges: &Table<Exchange>, number: u64) -> usize
-    requires { queued ≡ count_of is_queued exchanges.now.items }
+    requires { queued ≡ count_where is_queued exchanges.now.items }
     ensures fewer { result + (if queued_at (item_at number exchanges.now.items) then 1 else 0) ≡ queued }
     ensures sound { IsTable exchanges.now }
 {

@@ -2,6 +2,10 @@
 use Rattle.std.specs.Prelude.{ℕ, ◌<◌, ◌≤◌, List, [], ◌∷◌, length}
 use Rattle.coap_message.specs.declared.options.Opt.{Opt}
 
+-- an option of this number, with this value
+abbrev pub option_of : ℕ → List ℕ → Opt
+option_of number value = record { number = number; value = value }
+
 -- Options in order of number, the first not below `before`: each number has sixteen bits, and each
 -- value at most 65,804 bytes, the greatest length that can be written.
 abbrev pub AreOptions : ℕ → List Opt → Type 0

@@ -18,9 +18,9 @@ abbrev pub body_of : Content → Body
 body_of c = record { token = c.token; options = c.options; payload = c.payload }
 
 -- Read as the definition reads: a format error exactly where it answers nothing.
-abbrev pub Finds : {X Y : Type 0} → (X → Y) → Result X DecodeError → Option Y → Type 0
-Finds view (Ok x) found = found ≡ Some (view x)
-Finds view (Err errors.Format) found = found ≡ None
-Finds view (Err errors.OutOfMemory) found = IsSome found
-Finds view (Err errors.Short) found = ⊥
-Finds view (Err errors.Version) found = ⊥
+abbrev pub ReadsAs : {X Y : Type 0} → (X → Y) → Result X DecodeError → Option Y → Type 0
+ReadsAs view (Ok x) found = found ≡ Some (view x)
+ReadsAs view (Err errors.Format) found = found ≡ None
+ReadsAs view (Err errors.OutOfMemory) found = IsSome found
+ReadsAs view (Err errors.Short) found = ⊥
+ReadsAs view (Err errors.Version) found = ⊥

@@ -3,7 +3,7 @@ ghost use Rattle.std.specs.Prelude.{◌≡◌, ◌<◌, ◌≤◌, IfSome, IsSom
 ghost use Rattle.coap_message.specs.Message.{Message};
 ghost use Rattle.coap_message.specs.Spelling.{Spells, SpellsNone, IsVersionOne};
 ghost use Rattle.coap_message.specs.Reading.{extended, option_at, begins_option, payload_at, options_at, body_at, body_behind, read_message, head_at, Reads};
-ghost use Rattle.coap_message.specs.Parsing.{parsed, body_of, counted, Finds};
+ghost use Rattle.coap_message.specs.Parsing.{parsed, body_of, counted, ReadsAs};
 
 use crate::code::Code;
 use crate::error::{DecodeError, OutOfMemory};
@@ -134,7 +134,7 @@ fn read_options(
 
 #[tactic(auto, unfolding(crate::specs::Reading::body_at))]
 fn read_body(alloc: Global, token_length: usize, bytes: &[u8]) -> Result<Content, DecodeError>
-    ensures { Finds body_of result (body_at token_length bytes.now) }
+    ensures { ReadsAs body_of result (body_at token_length bytes.now) }
 {
     if token_length > Token::MOST || bytes.len() < token_length {
         return Err(DecodeError::Format);
@@ -156,7 +156,7 @@ fn read_content(
     token_length: usize,
     bytes: &[u8],
 ) -> Result<Content, DecodeError>
-    ensures { Finds body_of result (body_behind code.0 token_length bytes.now) }
+    ensures { ReadsAs body_of result (body_behind code.0 token_length bytes.now) }
 {
     if !code.is_empty() {
         return read_body(alloc, token_length, bytes);

@@ -1,7 +1,7 @@
 -- An answer that is got keeps what is carried.
 use Rattle.std.proofs.Common.{◌≡◌, inl, inr, ⊎_elim, ℕ, ◌^◌, ◌<◌, ◌≤◌, true, List, ◌∷◌, Some, refl, sym, ap, ◌∙◌, subst, arith}
-use Rattle.std.specs.Prelude.{◌&&◌, nat_eq}
-use Rattle.std.specs.Cmp.Lexicographic.{pointwise, same_text}
+use Rattle.std.specs.Prelude.{◌&&◌}
+use Rattle.std.specs.Cmp.Lexicographic.{same_text}
 use Rattle.std.proofs.lemmas.Bool.{eqb-true, and_parts}
 use Rattle.coap_message.specs.declared.kind.Kind.{Kind}
 use Rattle.coap_message.specs.declared.kind.Kind.TheVariants.{Con, Non, Ack, Rst}
@@ -11,6 +11,7 @@ use Rattle.coap_message.specs.Spelling.{Spells}
 use Rattle.coap_message.proofs.WholeMessages.{one_message}
 use Rattle.coap_target.specs.declared.endpoint.Endpoint.{Endpoint}
 use Rattle.coap_target.specs.Endpoint.{same_endpoint}
+use Rattle.coap_target.specs.Equality.{same_bytes}
 use Rattle.coap_target.proofs.Same.{Tells-endpoint}
 use Rattle.coap_exchange.specs.declared.exchange.ExchangeState.{ExchangeState}
 use Rattle.coap_exchange.specs.declared.exchange.ExchangeState.TheVariants.{Queued, Sent, Done}
@@ -18,6 +19,7 @@ use Rattle.coap_exchange.specs.declared.exchange.Exchange.{Exchange}
 use Rattle.coap_exchange.specs.declared.exchange.Sending.{Sending}
 use Rattle.coap_exchange.specs.Exchanges.{moved, is_queued, is_done}
 use Rattle.coap_exchange.specs.Table.{Numbered}
+use Rattle.coap_exchange.proofs.Counts.{one_if}
 use Rattle.coap_exchange.proofs.States.{moved-cases, length-with_state, IsRising-with_state}
 use Rattle.coap_model.specs.Events.{arrival}
 use Rattle.coap_message.specs.Codes.{is_response}
@@ -26,13 +28,13 @@ use Rattle.coap_model.specs.World.{World}
 use Rattle.coap_model.specs.Step.{message_in}
 use Rattle.coap_model.specs.Responses.{has_id, awaits, awaiting, answers}
 use Rattle.coap_model.specs.History.{Entry, Never, Sends, Gets}
-use Rattle.coap_model.specs.Justified.{on_exchange, answered}
+use Rattle.coap_model.specs.Justified.{answered}
 use Rattle.coap_model.specs.Runs.{entry_of}
 use Rattle.coap_model.specs.Carries.{WasAsked, IsState, IsExchangeOf, Carries}
 use Rattle.coap_model.proofs.Lists.{find-holds, All-map, Has, All-there}
 use Rattle.coap_model.proofs.Places.{here, Opens-number, arrival-same}
 use Rattle.coap_model.proofs.Spelled.{token-same, message_in-is}
-use Rattle.coap_model.proofs.Tables.{ArePaired-with_state, HasNumber-with_state, one, count-moved}
+use Rattle.coap_model.proofs.Tables.{ArePaired-with_state, HasNumber-with_state, count-moved}
 use Rattle.coap_model.proofs.Frames.{exchange_frame, waiters_frame, fresh_frame, sends-not, number-small}
 use Rattle.coap_model.proofs.Forwarding.{same_target}
 
@@ -65,8 +67,8 @@ record IsAwaited (w : World) (history : List Entry) (source : Endpoint) (m : Mes
 awaited : (w : World) (history : List Entry) → Carries history w → (source : Endpoint) (m : Message) (x : Numbered Exchange) → awaiting w source m ≡ Some x → IsAwaited w history source m x
 awaited w history c source m x found =
     let f = find-holds (λ y. IsExchangeOf w.setting history y × Has y w.exchanges) (awaits w.setting.salt source m) w.exchanges x (All-there (IsExchangeOf w.setting history) w.exchanges c.exchanges) found in
-    let parts = and_parts (has_id m.id x.1.state) (same_endpoint x.1.target.at source && pointwise nat_eq (token_of w.setting.salt x.0) m.token) f.1 in
-    let more = and_parts (same_endpoint x.1.target.at source) (pointwise nat_eq (token_of w.setting.salt x.0) m.token) parts.1 in
+    let parts = and_parts (has_id m.id x.1.state) (same_endpoint x.1.target.at source && same_bytes (token_of w.setting.salt x.0) m.token) f.1 in
+    let more = and_parts (same_endpoint x.1.target.at source) (same_bytes (token_of w.setting.salt x.0) m.token) parts.1 in
     let sent = sent_with m.id x.1.state parts.0 in
     let state : IsState w.setting history x.0 x.1.target (Sent sent.0) = subst (IsState w.setting history x.0 x.1.target) sent.1 f.0.0.state in
     record { exchange = f.0.0; there = f.0.1; sending = sent.0; state_is = sent.1; was = state.0; ungot = state.1; source_is = Tells-endpoint.only x.1.target.at source more.0; id_is = sent.2; token_is = sym (same_text _ _ (sym more.1)) }
@@ -106,10 +108,10 @@ keeps_answering w history c now draw source bytes m x onward fits read response 
     let next : ExchangeState = Done (answer_of w.setting.limits.datagram now m) in
     let as_many_queued = count-moved is_queued x 0 next w.exchanges c.whole.rising a.there in
     let more_done = count-moved is_done x 0 next w.exchanges c.whole.rising a.there in
-    let was_sent : one (is_queued x.1.state) ≡ 0 = ap (λ (s : ExchangeState). one (is_queued s)) a.state_is in
-    let was_not_done : one (is_done x.1.state) ≡ 0 = ap (λ (s : ExchangeState). one (is_done s)) a.state_is in
+    let was_sent : one_if (is_queued x.1.state) ≡ 0 = ap (λ (s : ExchangeState). one_if (is_queued s)) a.state_is in
+    let was_not_done : one_if (is_done x.1.state) ≡ 0 = ap (λ (s : ExchangeState). one_if (is_done s)) a.state_is in
     record {
-      acts = on_exchange x.0 ∷ c.acts;
+      served = c.served;
       routes = c.routes;
       clock = record { events = let h = c.clock.events in omega arith; last = refl; in_order = (let h = c.clock.last in omega arith, c.clock.in_order) };
       numbers = record { opened = let h = c.numbers.opened in omega arith; admitted = let h = c.numbers.admitted in omega arith; given = let h = c.numbers.given in omega arith };
@@ -137,7 +139,7 @@ keeps_answering w history c now draw source bytes m x onward fits read response 
           })
           (λ other. exchange_frame w.setting history e y (unsent y.0) (λ h. other (number y.0 (number-small history w c y g) h)) g))
           c.exchanges;
-      waiters = waiters_frame w.setting history c.acts (on_exchange x.0 ∷ c.acts) e w.waiters refl c.waiters;
+      waiters = waiters_frame w.setting history c.served e w.waiters c.waiters;
       whole = record {
         rising = IsRising-with_state x.0 0 next w.exchanges c.whole.rising;
         paired = ArePaired-with_state x.0 next w.exchanges w.waiters c.whole.paired;

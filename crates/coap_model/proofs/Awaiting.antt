@@ -1,8 +1,7 @@
 -- A response that an exchange awaits is never ignored.
 use Rattle.std.proofs.Common.{◌≡◌, inr, ⊎_elim, ℕ, ◌<◌, ◌≤◌, true, false, List, [], ◌∷◌, Some, None, sym, ap, ◌∙◌, subst}
-use Rattle.std.specs.Prelude.{◌&&◌, nat_eq}
+use Rattle.std.specs.Prelude.{◌&&◌}
 use Rattle.std.specs.List.{AllByRecursion}
-use Rattle.std.specs.Cmp.Lexicographic.{pointwise}
 use Rattle.std.proofs.lemmas.Cmp.{nat_list_eq_equiv}
 use Rattle.std.proofs.lemmas.Bool.{eq-eqb, and_from}
 use Rattle.coap_message.specs.Message.{Message}
@@ -12,6 +11,7 @@ use Rattle.coap_message.proofs.WholeMessages.{read_again, one_message}
 use Rattle.coap_target.specs.declared.endpoint.Endpoint.{Endpoint}
 use Rattle.coap_target.specs.declared.target.Target.{Target}
 use Rattle.coap_target.specs.Endpoint.{same_endpoint}
+use Rattle.coap_target.specs.Equality.{same_bytes}
 use Rattle.coap_target.proofs.Same.{Tells-both, Tells-endpoint}
 use Rattle.coap_exchange.specs.declared.exchange.ExchangeState.{ExchangeState}
 use Rattle.coap_exchange.specs.declared.exchange.ExchangeState.TheVariants.{Queued, Sent, Done}
@@ -24,7 +24,7 @@ use Rattle.coap_model.specs.Messages.{is_ack, token_of}
 use Rattle.coap_model.specs.World.{World}
 use Rattle.coap_model.specs.Responses.{has_id, awaits, awaiting}
 use Rattle.coap_model.specs.History.{Entry, Place, IsPlaceOf, opened_in, Sends, Asks, Gets}
-use Rattle.coap_model.specs.Justified.{IsAwaited, IsMember, Act, served_by, IsJustified, nothing_yet, refused, overloaded, lacking, opened, asked, answered, delivered, rejected, ignored, idle}
+use Rattle.coap_model.specs.Justified.{IsAwaited, IsMember, IsJustified, nothing_yet, refused, overloaded, lacking, opened, asked, answered, delivered, rejected, ignored, idle}
 use Rattle.coap_model.specs.Carries.{IsState, IsExchangeOf, HasNumber, Carries}
 use Rattle.coap_model.proofs.Lists.{none-found}
 use Rattle.coap_model.proofs.Spelled.{message_in-again}
@@ -59,7 +59,7 @@ record WasAnswered (salt n : ℕ) (history : List Entry) : Type 0 where
 before : {salt n : ℕ} {past : List Entry} (e : Entry) → WasAnswered salt n past → WasAnswered salt n (e ∷ past)
 before e a = record { getting = a.getting; was_got = inr a.was_got; gets = a.gets }
 
-served-got : {setting : Setting} {history : List Entry} {acts : List Act} → IsJustified setting history acts → (n : ℕ) → IsMember n (served_by acts) → WasAnswered setting.salt n history
+served-got : {setting : Setting} {history : List Entry} {served : List ℕ} → IsJustified setting history served → (n : ℕ) → IsMember n served → WasAnswered setting.salt n history
 served-got nothing_yet n m = absurd m
 served-got (refused e code j o r) n m = before e (served-got j n m)
 served-got (overloaded e j o r) n m = before e (served-got j n m)
@@ -117,7 +117,7 @@ not-ignored w history c x source bytes a none = ⊎_elim in_table was_served (c.
         (message_in-again w.setting.limits.datagram bytes a.response (ap read_message came.1 ∙ read_again a.bytes a.response a.spells) (rw came.1 a.short))
         (and_from (is_ack a.response.kind) (is_response a.response.code) (ap is_ack a.kind) a.code)
 
-    was_served : IsMember x (served_by c.acts) → ⊥
+    was_served : IsMember x c.served → ⊥
     was_served member = let s = served-got c.past x member in Never-at (Gets w.setting.salt x) history s.getting a.ungot s.was_got s.gets
 
     in_table : HasNumber x w.exchanges → ⊥
@@ -128,7 +128,7 @@ not-ignored w history c x source bytes a none = ⊎_elim in_table was_served (c.
         let state = subst (λ (n : ℕ). IsState w.setting history n y.1.target y.1.state) (sym f.1) f.2.state in
         let test = passes w.setting history x source bytes a y.1.target y.1.state state (sym came.0) in
         let token : token_of salt y.0 ≡ a.response.token = ap (token_of salt) (sym f.1) ∙ sym a.token in
-        let right = and_from (same_endpoint y.1.target.at source) (pointwise nat_eq (token_of salt y.0) a.response.token) ((Tells-both same_endpoint Tells-endpoint y.1.target.at source).1 test.1) (rw token (nat_list_eq_equiv.refl a.response.token)) in
-        let found = and_from (has_id a.response.id y.1.state) (same_endpoint y.1.target.at source && pointwise nat_eq (token_of salt y.0) a.response.token) test.0 right in
+        let right = and_from (same_endpoint y.1.target.at source) (same_bytes (token_of salt y.0) a.response.token) ((Tells-both same_endpoint Tells-endpoint y.1.target.at source).1 test.1) (rw token (nat_list_eq_equiv.refl a.response.token)) in
+        let found = and_from (has_id a.response.id y.1.state) (same_endpoint y.1.target.at source && same_bytes (token_of salt y.0) a.response.token) test.0 right in
         let both : true ≡ false = sym found ∙ f.3 in
         cc

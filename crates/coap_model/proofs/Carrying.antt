@@ -35,7 +35,7 @@ keeps_step w history now draw event c onward fits = keeps_rule history c onward 
 pub starts : (setting : Setting) → AreRoutes setting.routes → Carries [] (new_world setting)
 starts setting are =
     record {
-      acts = [];
+      served = [];
       routes = are;
       clock = record { events = refl; last = refl; in_order = tt };
       numbers = record { opened = refl; admitted = refl; given = refl };

@@ -13,39 +13,40 @@ use Rattle.coap_exchange.specs.declared.exchange.ExchangeState.{ExchangeState}
 use Rattle.coap_exchange.specs.declared.exchange.ExchangeState.TheVariants.{Done}
 use Rattle.coap_exchange.specs.declared.exchange.Exchange.{Exchange}
 use Rattle.coap_exchange.specs.declared.waiter.Waiter.{Waiter}
+use Rattle.coap_exchange.proofs.Counts.{one_if}
 use Rattle.coap_exchange.proofs.Tables.{IsRising-without}
 use Rattle.coap_exchange.specs.Table.{Numbered, without}
 use Rattle.coap_model.specs.Events.{tick}
 use Rattle.coap_model.specs.Messages.{answer_of, shown}
-use Rattle.coap_exchange.specs.Exchanges.{is_queued, is_done, count_of}
+use Rattle.coap_exchange.specs.Exchanges.{is_queued, is_done, count_where}
 use Rattle.coap_model.specs.World.{World, next_id, later}
 use Rattle.coap_exchange.specs.Due.{serving, least, answer_in}
 use Rattle.coap_model.specs.Ticks.{items_of, if_due, without_idle, delivers}
 use Rattle.coap_model.specs.History.{Entry, Place, index, Opens}
-use Rattle.coap_model.specs.Justified.{IsRequestOf, IsMember, Act, served_by, on_waiter, delivered, IsDelivery}
+use Rattle.coap_model.specs.Justified.{IsRequestOf, IsMember, delivered, IsDelivery}
 use Rattle.coap_model.specs.Runs.{entry_of}
 use Rattle.coap_model.specs.Carries.{WasGot, IsState, IsExchangeOf, IsGotBy, IsWaiterOf, HasNumber, Carries}
 use Rattle.coap_model.proofs.Lists.{All-filter, Has, All-there}
 use Rattle.coap_model.proofs.Places.{Never-at, Opens-unique, request-unique}
 use Rattle.coap_model.proofs.Spelled.{shown-is}
-use Rattle.coap_model.proofs.Tables.{due-serving, answer-holds, answer-number, ArePaired-without, length-paired, length-without, HasNumber-without, HasNumber-paired, one, count-without, not_awaited}
+use Rattle.coap_model.proofs.Tables.{due-serving, answer-holds, answer-number, ArePaired-without, length-paired, length-without, HasNumber-without, HasNumber-paired, count-without, not_awaited}
 use Rattle.coap_model.proofs.Frames.{exchange_frame, waiter_frame, fresh_frame, sends-not, gets-not}
 use Rattle.coap_model.proofs.Replying.{id-same}
 
 -- ---- what is served
 
 -- what is known of a waiter that is served with an answer
-pub record IsServed (w : World) (history : List Entry) (acts : List Act) (v : Numbered Waiter) (a : Answer) : Type 0 where
-  pub waiter : IsWaiterOf w.setting history acts v
+pub record IsServed (w : World) (history : List Entry) (served : List ℕ) (v : Numbered Waiter) (a : Answer) : Type 0 where
+  pub waiter : IsWaiterOf w.setting history served v
   pub there : HasNumber v.0 w.exchanges
-  pub counted : (t : ExchangeState → Bool) → count_of t (without v.0 w.exchanges) + one (t (Done a)) ≡ count_of t w.exchanges
+  pub counted : (t : ExchangeState → Bool) → count_where t (without v.0 w.exchanges) + one_if (t (Done a)) ≡ count_where t w.exchanges
   pub target : Target
   pub target_is : mapped_target w.setting.routes waiter.request ≡ Some target
   pub got : WasGot w.setting history v.0 target a
 
-pub served : (w : World) (history : List Entry) (c : Carries history w) (now : ℕ) (v : Numbered Waiter) (a : Answer) → if_due now (least (items_of w)) ≡ Some (serving v a) → IsServed w history c.acts v a
+pub served : (w : World) (history : List Entry) (c : Carries history w) (now : ℕ) (v : Numbered Waiter) (a : Answer) → if_due now (least (items_of w)) ≡ Some (serving v a) → IsServed w history c.served v a
 served w history c now v a due =
-    let item = due-serving (IsExchangeOf w.setting history) (IsWaiterOf w.setting history c.acts) w.exchanges w.waiters now v a c.exchanges c.waiters due in
+    let item = due-serving (IsExchangeOf w.setting history) (IsWaiterOf w.setting history c.served) w.exchanges w.waiters now v a c.exchanges c.waiters due in
     let g = item.0 in
     let answer : answer_in v.0 w.exchanges ≡ Some a = subst (λ (n : ℕ). answer_in n w.exchanges ≡ Some a) g.exchange item.1 in
     let found = answer-holds (λ y. IsExchangeOf w.setting history y × Has y w.exchanges) w.exchanges v.0 a (All-there (IsExchangeOf w.setting history) w.exchanges c.exchanges) answer in
@@ -59,8 +60,8 @@ served w history c now v a due =
       waiter = g;
       there = answer-number w.exchanges v.0 a answer;
       counted = λ t.
-          subst (λ (s : ExchangeState). count_of t (without v.0 w.exchanges) + one (t s) ≡ count_of t w.exchanges) found.3
-          (subst (λ (n : ℕ). count_of t (without n w.exchanges) + one (t x.1.state) ≡ count_of t w.exchanges) same (count-without t x 0 w.exchanges c.whole.rising found.1.1));
+          subst (λ (s : ExchangeState). count_where t (without v.0 w.exchanges) + one_if (t s) ≡ count_where t w.exchanges) found.3
+          (subst (λ (n : ℕ). count_where t (without n w.exchanges) + one_if (t x.1.state) ≡ count_where t w.exchanges) same (count-without t x 0 w.exchanges c.whole.rising found.1.1));
       target = x.1.target;
       target_is = sym (ap (mapped_target w.setting.routes) request.1) ∙ f.target_is;
       got = subst (λ (n : ℕ). WasGot w.setting history n x.1.target a) same state;
@@ -68,15 +69,15 @@ served w history c now v a due =
 
 -- ---- what is told
 
-reply-is : (w : World) (history : List Entry) (acts : List Act) (now id : ℕ) (v : Numbered Waiter) (a : Answer) → IsServed w history acts v a → IsMessage (shown now a id v.1.token)
-reply-is w history acts now id v a s =
+reply-is : (w : World) (history : List Entry) (served : List ℕ) (now id : ℕ) (v : Numbered Waiter) (a : Answer) → IsServed w history served v a → IsMessage (shown now a id v.1.token)
+reply-is w history served now id v a s =
     let got = s.got in
     let short : length v.1.token ≤ 8 = subst (λ (t : List ℕ). length t ≤ 8) (sym s.waiter.token_is) s.waiter.asked.spells.message.token in
     let is = shown-is w.setting.limits.datagram now got.getting.entry.now got.gets.response id v.1.token got.gets.came.spells.message got.gets.code short in
     subst (λ (b : Answer). IsMessage (shown now b id v.1.token)) (sym got.answer_is) is
 
-delivery : (w : World) (history : List Entry) (acts : List Act) (e : Entry) (id : ℕ) (v : Numbered Waiter) (a : Answer) → IsServed w history acts v a → e.event ≡ tick → e.report.send ≡ Some v.1.client → Spells e.bytes (shown e.now a id v.1.token) → IsDelivery w.setting history e v.0
-delivery w history acts e id v a s due sent spells =
+delivery : (w : World) (history : List Entry) (served : List ℕ) (e : Entry) (id : ℕ) (v : Numbered Waiter) (a : Answer) → IsServed w history served v a → e.event ≡ tick → e.report.send ≡ Some v.1.client → Spells e.bytes (shown e.now a id v.1.token) → IsDelivery w.setting history e v.0
+delivery w history served e id v a s due sent spells =
     let g = s.waiter in
     let got = s.got in
     let salt = w.setting.salt in
@@ -113,17 +114,17 @@ delivery w history acts e id v a s due sent spells =
 -- the exchange goes with its waiter
 exchanges_left : (w : World) (history : List Entry) (c : Carries history w) (v : Numbered Waiter) → v.1.exchange ≡ v.0 → without_idle v.1.exchange (without v.0 w.waiters) w.exchanges ≡ without v.0 w.exchanges
 exchanges_left w history c v own =
-    let idle = not_awaited v.0 w.waiters (All-weaken (IsWaiterOf w.setting history c.acts) (λ u. u.1.exchange ≡ u.0) w.waiters (λ u f. f.exchange) c.waiters) in
+    let idle = not_awaited v.0 w.waiters (All-weaken (IsWaiterOf w.setting history c.served) (λ u. u.1.exchange ≡ u.0) w.waiters (λ u f. f.exchange) c.waiters) in
     rw (own, idle) refl
 
 -- the other waiters are not served
-others_wait : (w : World) (history : List Entry) (c : Carries history w) (e : Entry) (n : ℕ) → AllByRecursion (IsWaiterOf w.setting (e ∷ history) (on_waiter n ∷ c.acts)) (without n w.waiters)
+others_wait : (w : World) (history : List Entry) (c : Carries history w) (e : Entry) (n : ℕ) → AllByRecursion (IsWaiterOf w.setting (e ∷ history) (n ∷ c.served)) (without n w.waiters)
 others_wait w history c e n =
-    All-weaken (λ u. IsWaiterOf w.setting history c.acts u × (not (eqb u.0 n) ≡ true)) (IsWaiterOf w.setting (e ∷ history) (on_waiter n ∷ c.acts)) (without n w.waiters)
-    (λ u f. waiter_frame w.setting history c.acts (on_waiter n ∷ c.acts) e u (unserved u.0 f.1 f.0.unserved) f.0)
-    (All-filter (IsWaiterOf w.setting history c.acts) (λ u. not (eqb u.0 n)) w.waiters c.waiters)
+    All-weaken (λ u. IsWaiterOf w.setting history c.served u × (not (eqb u.0 n) ≡ true)) (IsWaiterOf w.setting (e ∷ history) (n ∷ c.served)) (without n w.waiters)
+    (λ u f. waiter_frame w.setting history c.served (n ∷ c.served) e u (unserved u.0 f.1 f.0.unserved) f.0)
+    (All-filter (IsWaiterOf w.setting history c.served) (λ u. not (eqb u.0 n)) w.waiters c.waiters)
   where
-    unserved : (m : ℕ) → not (eqb m n) ≡ true → ¬ IsMember m (served_by c.acts) → ¬ IsMember m (n ∷ served_by c.acts)
+    unserved : (m : ℕ) → not (eqb m n) ≡ true → ¬ IsMember m c.served → ¬ IsMember m (n ∷ c.served)
     unserved m other never member = ⊎_elim (λ (same : m ≡ n). absurd (let f : false ≡ true = subst (λ (b : Bool). not b ≡ true) (eq-eqb m n same) other in cc)) never member
 
 -- ---- the rule
@@ -134,7 +135,7 @@ keeps_delivering w history c now draw v a onward due =
     let e = entry_of now draw tick (delivers w now v a) in
     let s = served w history c now v a due in
     let reply = shown now a (next_id w) v.1.token in
-    let spells : Spells (spelling reply) reply = spelled reply (reply-is w history c.acts now (next_id w) v a s) in
+    let spells : Spells (spelling reply) reply = spelled reply (reply-is w history c.served now (next_id w) v a s) in
     let unsent = sends-not w.setting history e (λ o. cc) in
     let ungot = gets-not w.setting history e (λ o. cc) in
     let waits : HasNumber v.0 w.waiters = HasNumber-paired v.0 w.exchanges w.waiters c.whole.paired s.there in
@@ -146,7 +147,7 @@ keeps_delivering w history c now draw v a onward due =
     let fewer_done = s.counted is_done in
     subst (λ (xs : List (Numbered Exchange)). Carries (e ∷ history) (record (later w now) { waiters = without v.0 w.waiters; exchanges = xs; given = w.given + 1 })) (sym (exchanges_left w history c v s.waiter.exchange)) (
     record {
-      acts = on_waiter v.0 ∷ c.acts;
+      served = v.0 ∷ c.served;
       routes = c.routes;
       clock = record { events = let h = c.clock.events in omega arith; last = refl; in_order = (let h = c.clock.last in omega arith, c.clock.in_order) };
       numbers = record { opened = let h = c.numbers.opened in omega arith; admitted = let h = c.numbers.admitted in omega arith; given = let h = c.numbers.given in omega arith };
@@ -166,10 +167,10 @@ keeps_delivering w history c now draw v a onward due =
         unserved = let h = c.whole.unserved in omega arith;
       };
       within = record { exchanges = let h = c.within.exchanges in omega arith; waiters = let h = c.within.waiters in omega arith; ids = let h = c.within.ids in omega arith };
-      past = delivered e v.0 c.past refl (delivery w history c.acts e (next_id w) v a s refl refl spells) s.waiter.unserved;
+      past = delivered e v.0 c.past refl (delivery w history c.served e (next_id w) v a s refl refl spells) s.waiter.unserved;
     }
     )
   where
-    complete_left : (b : Bool) (n : ℕ) → eqb n v.0 ≡ b → HasNumber n w.exchanges ⊎ IsMember n (served_by c.acts) → HasNumber n (without v.0 w.exchanges) ⊎ IsMember n (v.0 ∷ served_by c.acts)
+    complete_left : (b : Bool) (n : ℕ) → eqb n v.0 ≡ b → HasNumber n w.exchanges ⊎ IsMember n c.served → HasNumber n (without v.0 w.exchanges) ⊎ IsMember n (v.0 ∷ c.served)
     complete_left true n t h = inr (inl (eqb-true n v.0 t))
     complete_left false n t h = ⊎_elim (λ (there : HasNumber n w.exchanges). inl (HasNumber-without v.0 n w.exchanges (eqb-false n v.0 t) there)) (λ member. inr (inr member)) h

@@ -129,7 +129,7 @@ rule_fits {w = w} history c are (answering source bytes m x fit read response fo
 rule_fits {w = w} history c are (rejecting source bytes head is con) = omega (arith, are.datagram.0, reset-short head.id)
 rule_fits {w = w} history c are (ignoring source bytes none) = omega arith
 rule_fits {w = w} {now = now} history c are (forwarding x due) =
-    let f = due-sending (IsExchangeOf w.setting history) (IsWaiterOf w.setting history c.acts) w.exchanges w.waiters now x c.exchanges c.waiters due in
+    let f = due-sending (IsExchangeOf w.setting history) (IsWaiterOf w.setting history c.served) w.exchanges w.waiters now x c.exchanges c.waiters due in
     omega (arith, length-with_id (next_id w) x.1.form, f.0.form_short)
 rule_fits {w = w} {now = now} history c are (delivering v a due) =
     let s = served w history c now v a due in

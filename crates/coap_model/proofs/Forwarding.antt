@@ -11,6 +11,7 @@ use Rattle.coap_exchange.specs.declared.exchange.ExchangeState.TheVariants.{Queu
 use Rattle.coap_exchange.specs.declared.exchange.Exchange.{Exchange}
 use Rattle.coap_exchange.specs.Exchanges.{moved, is_queued, is_done}
 use Rattle.coap_exchange.specs.Table.{Numbered}
+use Rattle.coap_exchange.proofs.Counts.{one_if}
 use Rattle.coap_exchange.proofs.States.{moved-cases, length-with_state, IsRising-with_state}
 use Rattle.coap_model.specs.Events.{tick}
 use Rattle.coap_model.specs.Messages.{token_of, forwarded}
@@ -19,13 +20,13 @@ use Rattle.coap_exchange.specs.Due.{sending, least}
 use Rattle.coap_model.specs.Ticks.{items_of, if_due, with_id, sends}
 use Rattle.coap_target.specs.Routes.{mapped_target}
 use Rattle.coap_model.specs.History.{Entry, Place, Opens, Sends, Gets}
-use Rattle.coap_model.specs.Justified.{IsRequestOf, on_exchange, asked}
+use Rattle.coap_model.specs.Justified.{IsRequestOf, asked}
 use Rattle.coap_model.specs.Runs.{entry_of}
 use Rattle.coap_model.specs.Carries.{IsState, IsExchangeOf, IsWaiterOf, Carries}
 use Rattle.coap_model.proofs.Lists.{All-map, Has, All-there}
 use Rattle.coap_model.proofs.Places.{here, Opens-number, Opens-unique, request-unique}
 use Rattle.coap_model.proofs.Spelled.{forwarded-is, length-token_of, token-same, with_id-forwarded, target_sent-forwarded}
-use Rattle.coap_model.proofs.Tables.{due-sending, ArePaired-with_state, HasNumber-with_state, one, count-moved}
+use Rattle.coap_model.proofs.Tables.{due-sending, ArePaired-with_state, HasNumber-with_state, count-moved}
 use Rattle.coap_model.proofs.Frames.{exchange_frame, waiters_frame, fresh_frame, gets-not, number-small}
 use Rattle.coap_model.proofs.Replying.{id-same}
 
@@ -49,7 +50,7 @@ keeps_forwarding w history c now draw x onward due =
     let p = here history e in
     let salt = w.setting.salt in
     let id = next_id w in
-    let found = due-sending (λ y. IsExchangeOf w.setting history y × Has y w.exchanges) (IsWaiterOf w.setting history c.acts) w.exchanges w.waiters now x (All-there (IsExchangeOf w.setting history) w.exchanges c.exchanges) c.waiters due in
+    let found = due-sending (λ y. IsExchangeOf w.setting history y × Has y w.exchanges) (IsWaiterOf w.setting history c.served) w.exchanges w.waiters now x (All-there (IsExchangeOf w.setting history) w.exchanges c.exchanges) c.waiters due in
     let f = found.0.0 in
     let there = found.0.1 in
     let queued = queued_state x.1.state found.1 in
@@ -63,11 +64,11 @@ keeps_forwarding w history c now draw x onward due =
     let next : ExchangeState = Sent (record { asked = w.events; id = id }) in
     let fewer_queued = count-moved is_queued x 0 next w.exchanges c.whole.rising there in
     let as_many_done = count-moved is_done x 0 next w.exchanges c.whole.rising there in
-    let was_queued : one (is_queued x.1.state) ≡ 1 = ap one found.1 in
-    let was_not_done : one (is_done x.1.state) ≡ 0 = ap (λ (s : ExchangeState). one (is_done s)) queued in
+    let was_queued : one_if (is_queued x.1.state) ≡ 1 = ap one_if found.1 in
+    let was_not_done : one_if (is_done x.1.state) ≡ 0 = ap (λ (s : ExchangeState). one_if (is_done s)) queued in
     let first_is : Sends salt x.0 p = record { outcome = refl; to = x.1.target.at; sent = refl; message = request; spells = spells; token = refl } in
     record {
-      acts = on_exchange x.0 ∷ c.acts;
+      served = c.served;
       routes = c.routes;
       clock = record { events = let h = c.clock.events in omega arith; last = refl; in_order = (let h = c.clock.last in omega arith, c.clock.in_order) };
       numbers = record { opened = let h = c.numbers.opened in omega arith; admitted = let h = c.numbers.admitted in omega arith; given = let h = c.numbers.given in omega arith };
@@ -104,7 +105,7 @@ keeps_forwarding w history c now draw x onward due =
           })
           (λ other. exchange_frame w.setting history e y (λ s. other (number y.0 (number-small history w c y g) s)) (ungot y.0) g))
           c.exchanges;
-      waiters = waiters_frame w.setting history c.acts (on_exchange x.0 ∷ c.acts) e w.waiters refl c.waiters;
+      waiters = waiters_frame w.setting history c.served e w.waiters c.waiters;
       whole = record {
         rising = IsRising-with_state x.0 0 next w.exchanges c.whole.rising;
         paired = ArePaired-with_state x.0 next w.exchanges w.waiters c.whole.paired;

@@ -1,5 +1,5 @@
 -- What stays as the history grows by an entry.
-use Rattle.std.proofs.Common.{◌≡◌, ◌≢◌, inr, ℕ, ◌^◌, ◌<◌, ◌≤◌, List, [], ◌∷◌, length, subst, arith}
+use Rattle.std.proofs.Common.{◌≢◌, inr, ℕ, ◌^◌, ◌<◌, ◌≤◌, List, [], ◌∷◌, length, arith}
 use Rattle.std.specs.List.{AllByRecursion}
 use Rattle.coap_target.specs.declared.target.Target.{Target}
 use Rattle.coap_target.proofs.Lists.{All-weaken}
@@ -14,7 +14,7 @@ use Rattle.coap_model.specs.declared.report.Storing.TheVariants.{NotStored}
 use Rattle.coap_model.specs.Setting.{Setting}
 use Rattle.coap_model.specs.World.{World}
 use Rattle.coap_model.specs.History.{Entry, index, serves_one, gives_id, opened_in, served_in, ids_in, Sends, Gets}
-use Rattle.coap_model.specs.Justified.{IsMember, Act, served_by}
+use Rattle.coap_model.specs.Justified.{IsMember}
 use Rattle.coap_model.specs.Carries.{IsState, IsExchangeOf, IsWaiterOf, IsFresh, Carries}
 use Rattle.coap_model.proofs.Places.{here, index_below, Opens-number}
 use Rattle.coap_model.proofs.Tables.{length-paired}
@@ -51,8 +51,8 @@ exchanges_frame setting history e xs unsent ungot all =
     All-weaken (IsExchangeOf setting history) (IsExchangeOf setting (e ∷ history)) xs (λ x f. exchange_frame setting history e x (unsent x.0) (ungot x.0) f) all
 
 -- a waiter stays that isn't served
-pub waiter_frame : (setting : Setting) (history : List Entry) (acts after : List Act) (e : Entry) (v : Numbered Waiter) → ¬ IsMember v.0 (served_by after) → IsWaiterOf setting history acts v → IsWaiterOf setting (e ∷ history) after v
-waiter_frame setting history acts after e v unserved f =
+pub waiter_frame : (setting : Setting) (history : List Entry) (served after : List ℕ) (e : Entry) (v : Numbered Waiter) → ¬ IsMember v.0 after → IsWaiterOf setting history served v → IsWaiterOf setting (e ∷ history) after v
+waiter_frame setting history served after e v unserved f =
     record {
       admission = f.admission;
       client = f.client;
@@ -68,9 +68,9 @@ waiter_frame setting history acts after e v unserved f =
     }
 
 -- all waiters stay where none is served
-pub waiters_frame : (setting : Setting) (history : List Entry) (acts after : List Act) (e : Entry) (vs : List (Numbered Waiter)) → served_by after ≡ served_by acts → AllByRecursion (IsWaiterOf setting history acts) vs → AllByRecursion (IsWaiterOf setting (e ∷ history) after) vs
-waiters_frame setting history acts after e vs same all =
-    All-weaken (IsWaiterOf setting history acts) (IsWaiterOf setting (e ∷ history) after) vs (λ v f. waiter_frame setting history acts after e v (λ m. f.unserved (subst (IsMember v.0) same m)) f) all
+pub waiters_frame : (setting : Setting) (history : List Entry) (served : List ℕ) (e : Entry) (vs : List (Numbered Waiter)) → AllByRecursion (IsWaiterOf setting history served) vs → AllByRecursion (IsWaiterOf setting (e ∷ history) served) vs
+waiters_frame setting history served e vs all =
+    All-weaken (IsWaiterOf setting history served) (IsWaiterOf setting (e ∷ history) served) vs (λ v f. waiter_frame setting history served served e v f.unserved f) all
 
 pub fresh_frame : (setting : Setting) (history : List Entry) (e : Entry) → ((x : ℕ) → opened_in history < x → x < 2 ^ 64 → ¬ Sends setting.salt x (here history e)) → ((x : ℕ) → opened_in history < x → x < 2 ^ 64 → ¬ Gets setting.salt x (here history e))
     → IsFresh setting history → IsFresh setting (e ∷ history)

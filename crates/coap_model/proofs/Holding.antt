@@ -22,10 +22,10 @@ use Rattle.coap_exchange.specs.declared.waiter.Waiter.{Waiter}
 use Rattle.coap_exchange.specs.Table.{Numbered}
 use Rattle.coap_model.specs.Setting.{Setting}
 use Rattle.coap_message.specs.Codes.{is_code}
-use Rattle.coap_model.specs.Messages.{option_of, host_options, target_options, forwarded, are_understood, widest, fits, bad_gateway, is_passed_on, answer_of}
+use Rattle.coap_message.specs.Options.{option_of}
+use Rattle.coap_model.specs.Messages.{host_options, target_options, forwarded, are_understood, widest, fits, bad_gateway, is_passed_on, answer_of}
 use Rattle.coap_model.specs.World.{World}
 use Rattle.coap_model.specs.History.{Entry}
-use Rattle.coap_model.specs.Justified.{Act}
 use Rattle.coap_model.specs.Carries.{IsState, IsExchangeOf, IsWaiterOf, Carries}
 use Rattle.coap_model.specs.Held.{value_bytes, host_bytes, target_bytes, response_bytes, state_bytes, exchange_bytes, waiter_bytes, held, most_held}
 
@@ -96,14 +96,14 @@ exchange-held setting history x f = go x.1.state f.state
         let short = answer-short setting.limits.datagram state.getting.entry.now state.gets.response in
         omega (arith, target, f.form_short, subst (λ (b : Answer). response_bytes b.message ≤ setting.limits.datagram + 5) (sym state.answer_is) short)
 
-waiter-held : (setting : Setting) (history : List Entry) (acts : List Act) (v : Numbered Waiter) → IsWaiterOf setting history acts v → waiter_bytes v ≤ setting.limits.datagram + 256
-waiter-held setting history acts v f = omega (arith, ap length f.token_is, f.asked.spells.message.token)
+waiter-held : (setting : Setting) (history : List Entry) (served : List ℕ) (v : Numbered Waiter) → IsWaiterOf setting history served v → waiter_bytes v ≤ setting.limits.datagram + 256
+waiter-held setting history served v f = omega (arith, ap length f.token_is, f.asked.spells.message.token)
 
 pub within-bound : (history : List Entry) (w : World) → Carries history w → held w ≤ most_held w.setting.limits
 within-bound history w c =
     let d = w.setting.limits.datagram in
     let xs = sum_by-le exchange_bytes (4 * d + 256) w.exchanges (All-from_recursion (λ x. exchange_bytes x ≤ 4 * d + 256) w.exchanges (All-weaken (IsExchangeOf w.setting history) (λ x. exchange_bytes x ≤ 4 * d + 256) w.exchanges (exchange-held w.setting history) c.exchanges)) in
-    let vs = sum_by-le waiter_bytes (d + 256) w.waiters (All-from_recursion (λ v. waiter_bytes v ≤ d + 256) w.waiters (All-weaken (IsWaiterOf w.setting history c.acts) (λ v. waiter_bytes v ≤ d + 256) w.waiters (waiter-held w.setting history c.acts) c.waiters)) in
+    let vs = sum_by-le waiter_bytes (d + 256) w.waiters (All-from_recursion (λ v. waiter_bytes v ≤ d + 256) w.waiters (All-weaken (IsWaiterOf w.setting history c.served) (λ v. waiter_bytes v ≤ d + 256) w.waiters (waiter-held w.setting history c.served) c.waiters)) in
     let most_xs = mul-le (length w.exchanges) (4 * d + 256) w.setting.limits.exchanges (4 * d + 256) c.within.exchanges (omega arith) in
     let most_vs = mul-le (length w.waiters) (d + 256) w.setting.limits.waiters (d + 256) c.within.waiters (omega arith) in
     let l = w.setting.limits in

@@ -12,7 +12,7 @@ use Rattle.coap_exchange.specs.declared.waiter.Waiter.{Waiter}
 use Rattle.coap_exchange.specs.Table.{Numbered, IsRising}
 use Rattle.coap_model.specs.Events.{tick}
 use Rattle.coap_model.specs.Messages.{is_passed_on, bad_gateway, answer_of}
-use Rattle.coap_exchange.specs.Exchanges.{is_queued, is_done, count_of}
+use Rattle.coap_exchange.specs.Exchanges.{is_queued, is_done, count_where}
 use Rattle.coap_model.specs.World.{World}
 use Rattle.coap_exchange.specs.Due.{Item, sending, serving, due_of, exchange_items, answer_at, answer_in, with_item, waiter_items, earlier, least}
 use Rattle.coap_model.specs.Ticks.{items_of, if_due, on_item}
@@ -43,7 +43,7 @@ got-is most now m = go (is_passed_on most m)
     go false = refl
 
 -- each item came to be due no later than the last moment
-due-before : (w : World) (history : List Entry) (c : Carries history w) (i : Item) → IsDueOf (IsExchangeOf w.setting history) (IsWaiterOf w.setting history c.acts) w.exchanges i → due_of i ≤ w.last
+due-before : (w : World) (history : List Entry) (c : Carries history w) (i : Item) → IsDueOf (IsExchangeOf w.setting history) (IsWaiterOf w.setting history c.served) w.exchanges i → due_of i ≤ w.last
 due-before w history c (sending x) d =
     let f = d.0 in
     let i = before-last history f.opening c.clock.in_order f.was_opened in
@@ -88,11 +88,11 @@ both-empty (x ∷ xs) ys e = absurd cc
 
 -- ---- then nothing is queued and nothing done
 
-none-queued : (xs : List (Numbered Exchange)) → exchange_items xs ≡ [] → count_of is_queued xs ≡ 0
+none-queued : (xs : List (Numbered Exchange)) → exchange_items xs ≡ [] → count_where is_queued xs ≡ 0
 none-queued [] e = refl
 none-queued (x ∷ xs) e = go (is_queued x.1.state) e (none-queued xs)
   where
-    go : (b : Bool) → cond b (sending x ∷ exchange_items xs) (exchange_items xs) ≡ [] → (exchange_items xs ≡ [] → count_of is_queued xs ≡ 0) → cond b 1 0 + count_of is_queued xs ≡ 0
+    go : (b : Bool) → cond b (sending x ∷ exchange_items xs) (exchange_items xs) ≡ [] → (exchange_items xs ≡ [] → count_where is_queued xs ≡ 0) → cond b 1 0 + count_where is_queued xs ≡ 0
     go true f rest = absurd cc
     go false f rest = let i = rest f in omega arith
 
@@ -109,14 +109,14 @@ answers-own least (x ∷ xs) r = (rw (eq-eqb x.0 x.0 refl) refl, behind xs (all-
     behind [] above own = tt
     behind (y ∷ ys) above own = (rw (ne_eqb x.0 y.0 (λ e. let lt = above.0 in omega arith)) own.0, behind ys above.1 own.1)
 
-none-done : (all xs : List (Numbered Exchange)) (vs : List (Numbered Waiter)) → AllByRecursion (λ x. answer_in x.0 all ≡ answer_at x.1.state) xs → AllByRecursion (λ v. v.1.exchange ≡ v.0) vs → ArePaired xs vs → waiter_items all vs ≡ [] → count_of is_done xs ≡ 0
+none-done : (all xs : List (Numbered Exchange)) (vs : List (Numbered Waiter)) → AllByRecursion (λ x. answer_in x.0 all ≡ answer_at x.1.state) xs → AllByRecursion (λ v. v.1.exchange ≡ v.0) vs → ArePaired xs vs → waiter_items all vs ≡ [] → count_where is_done xs ≡ 0
 none-done all [] vs own numbers pairs e = refl
 none-done all (x ∷ xs) [] own numbers pairs e = absurd pairs
 none-done all (x ∷ xs) (v ∷ vs) own numbers pairs e =
     let same : v.1.exchange ≡ x.0 = numbers.0 ∙ sym pairs.0 in
     go x.1.state (ap (λ (n : ℕ). answer_in n all) same ∙ own.0) (λ f. none-done all xs vs own.1 numbers.1 pairs.1 f)
   where
-    go : (s : ExchangeState) → answer_in v.1.exchange all ≡ answer_at s → (waiter_items all vs ≡ [] → count_of is_done xs ≡ 0) → cond (is_done s) 1 0 + count_of is_done xs ≡ 0
+    go : (s : ExchangeState) → answer_in v.1.exchange all ≡ answer_at s → (waiter_items all vs ≡ [] → count_where is_done xs ≡ 0) → cond (is_done s) 1 0 + count_where is_done xs ≡ 0
     go Queued f rest = let i = rest (subst (λ (o : Option Answer). with_item v o (waiter_items all vs) ≡ []) f e) in omega arith
     go (Sent s) f rest = let i = rest (subst (λ (o : Option Answer). with_item v o (waiter_items all vs) ≡ []) f e) in omega arith
     go (Done a) f rest = absurd (let g : with_item v (Some a) (waiter_items all vs) ≡ [] = subst (λ (o : Option Answer). with_item v o (waiter_items all vs) ≡ []) f e in cc)
@@ -127,7 +127,7 @@ pub keeps_idling : (w : World) (history : List Entry) (c : Carries history w) (n
 keeps_idling w history c now draw onward nothing =
     let e = entry_of now draw tick (on_item w now None) in
     let P = IsExchangeOf w.setting history in
-    let Q = IsWaiterOf w.setting history c.acts in
+    let Q = IsWaiterOf w.setting history c.served in
     let due = All-weaken (IsDueOf P Q w.exchanges) (λ i. due_of i ≤ now) (items_of w) (λ i d. omega (arith, due-before w history c i d)) (items-are P Q w.exchanges w.waiters c.exchanges c.waiters) in
     let empty = both-empty (exchange_items w.exchanges) (waiter_items w.exchanges w.waiters) (none-due now (items_of w) due nothing) in
     let queued = none-queued w.exchanges empty.0 in

@@ -8,27 +8,29 @@ use Rattle.coap_message.specs.Message.{Message}
 use Rattle.coap_target.specs.declared.endpoint.Endpoint.{Endpoint}
 use Rattle.coap_target.specs.declared.target.Target.{Target}
 use Rattle.coap_target.proofs.Lists.{All-append, All-weaken}
+use Rattle.coap_exchange.proofs.Counts.{count_where-push}
 use Rattle.coap_exchange.proofs.Tables.{IsRising-push}
 use Rattle.coap_model.specs.Setting.{Setting}
 use Rattle.coap_model.specs.Events.{arrival}
 use Rattle.coap_model.specs.Messages.{may_open}
-use Rattle.coap_exchange.specs.Exchanges.{is_queued, is_done, count_of}
+use Rattle.coap_exchange.specs.Exchanges.{is_queued, is_done, count_where}
 use Rattle.coap_model.specs.World.{World, has_ids, has_room}
 use Rattle.coap_model.specs.Requests.{opens, new_exchange, new_waiter, next_token}
 use Rattle.coap_model.specs.History.{Entry, Never, opened_in, Gets}
-use Rattle.coap_model.specs.Justified.{IsMember, Act, served_by, on_nothing, opened, IsJustified, delivered, refused, overloaded, lacking, asked, answered, rejected, ignored, idle, nothing_yet}
+use Rattle.coap_model.specs.Justified.{IsMember, opened, IsJustified, delivered, refused, overloaded, lacking, asked, answered, rejected, ignored, idle, nothing_yet}
 use Rattle.coap_model.specs.Runs.{entry_of}
 use Rattle.coap_model.specs.Carries.{IsExchangeOf, IsGotBy, IsWaiterOf, ArePaired, HasNumber, Carries}
 use Rattle.coap_model.proofs.Places.{here, Never-weaken, Opens-number}
+use Rattle.coap_model.proofs.Spelled.{length-token_of}
 use Rattle.coap_model.proofs.Verdicts.{openable}
 use Rattle.coap_model.proofs.Rules.{Asked, verdict_in}
-use Rattle.coap_model.proofs.Tables.{ArePaired-push, HasNumber-push, HasNumber-last, count-push}
+use Rattle.coap_model.proofs.Tables.{ArePaired-push, HasNumber-push, HasNumber-last}
 use Rattle.coap_model.proofs.Room.{room-there}
 use Rattle.coap_model.proofs.Frames.{exchanges_frame, waiters_frame, fresh_frame, sends-not, gets-not, opened-few}
-use Rattle.coap_model.proofs.Replying.{request-came, verdict-same}
+use Rattle.coap_model.proofs.Replying.{request-came}
 
 -- a waiter that was served has a number that was opened
-served-number : {setting : Setting} {history : List Entry} {acts : List Act} → IsJustified setting history acts → (n : ℕ) → IsMember n (served_by acts) → n ≤ opened_in history
+served-number : {setting : Setting} {history : List Entry} {served : List ℕ} → IsJustified setting history served → (n : ℕ) → IsMember n served → n ≤ opened_in history
 served-number nothing_yet n m = absurd m
 served-number (refused e code j o r) n m = let i = served-number j n m in omega arith
 served-number (overloaded e j o r) n m = let i = served-number j n m in omega arith
@@ -55,7 +57,7 @@ pub keeps_opening : (w : World) (history : List Entry) (c : Carries history w) �
 keeps_opening w history c now draw client bytes m t onward fits asks verdict room =
     let e = entry_of now draw (arrival client bytes) (opens w now client m t) in
     let came = request-came w client bytes m fits asks in
-    let may = openable w.setting.routes w.setting.limits.datagram (next_token w) m t c.routes verdict in
+    let may = openable w.setting.routes w.setting.limits.datagram m t c.routes verdict in
     let number : w.opened + 1 ≡ opened_in history + 1 = let h = c.numbers.opened in omega arith in
     let same : w.admitted + 1 ≡ w.opened + 1 = let h = c.numbers.opened in let k = c.numbers.admitted in omega arith in
     let small : w.opened + 1 < 2 ^ 64 = let h = c.numbers.opened in let l = opened-few history w c in omega arith in
@@ -66,14 +68,14 @@ keeps_opening w history c now draw client bytes m t onward fits asks verdict roo
     let more = and_parts (ltb (length w.waiters) w.setting.limits.waiters) (has_ids 2 w) parts.1 in
     let exchange_room = ltb-true (length w.exchanges) w.setting.limits.exchanges parts.0 in
     let waiter_room = ltb-true (length w.waiters) w.setting.limits.waiters more.0 in
-    let ids_room = leb-true (w.given + (length w.waiters + count_of is_queued w.exchanges) + 2) 32768 more.1 in
+    let ids_room = leb-true (w.given + (length w.waiters + count_where is_queued w.exchanges) + 2) 32768 more.1 in
     let longer_exchanges = length-append w.exchanges (new_exchange w now t ∷ []) in
     let longer_waiters = length-append w.waiters (new_waiter w client m ∷ []) in
-    let more_queued = count-push is_queued (w.opened + 1) w.exchanges (new_exchange w now t).1 in
-    let as_many_done = count-push is_done (w.opened + 1) w.exchanges (new_exchange w now t).1 in
+    let more_queued = count_where-push is_queued w.exchanges (new_exchange w now t) in
+    let as_many_done = count_where-push is_done w.exchanges (new_exchange w now t) in
     let below : AllByRecursion (λ x. x.0 < w.opened + 1) w.exchanges = subst (λ (n : ℕ). AllByRecursion (λ x. x.0 < n) w.exchanges) (sym number) (exchanges-below w history c) in
     record {
-      acts = on_nothing ∷ c.acts;
+      served = c.served;
       routes = c.routes;
       clock = record { events = let h = c.clock.events in omega arith; last = refl; in_order = (let h = c.clock.last in omega arith, c.clock.in_order) };
       numbers = record { opened = number; admitted = same ∙ number; given = let h = c.numbers.given in omega arith };
@@ -92,13 +94,13 @@ keeps_opening w history c now draw client bytes m t onward fits asks verdict roo
               target_is = may.target_is;
               sound = may.sound;
               form_is = refl;
-              form_short = may.short;
+              form_short = may.short (next_token w) (length-token_of w.setting.salt (w.opened + 1));
               state = ((unsent (w.opened + 1), new.0), (ungot (w.opened + 1), new.1));
             },
             tt,
           );
       waiters =
-          All-append (IsWaiterOf w.setting (e ∷ history) (on_nothing ∷ c.acts)) w.waiters (new_waiter w client m ∷ []) (waiters_frame w.setting history c.acts (on_nothing ∷ c.acts) e w.waiters refl c.waiters) (
+          All-append (IsWaiterOf w.setting (e ∷ history) c.served) w.waiters (new_waiter w client m ∷ []) (waiters_frame w.setting history c.served e w.waiters c.waiters) (
             record {
               admission = here history e;
               client = client;
@@ -127,5 +129,5 @@ keeps_opening w history c now draw client bytes m t onward fits asks verdict roo
         unserved = let h = c.whole.unserved in omega arith;
       };
       within = record { exchanges = omega arith; waiters = omega arith; ids = omega arith };
-      past = opened e c.past refl (record { client = client; request = m; target = t; asked = came; verdict = verdict-same w history c m ∙ verdict; room = room-there history w c room; silent = record { sent = refl; bytes = refl } });
+      past = opened e c.past refl (record { client = client; request = m; target = t; asked = came; verdict = verdict; room = room-there history w c room; silent = record { sent = refl; bytes = refl } });
     }

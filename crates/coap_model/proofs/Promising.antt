@@ -74,7 +74,7 @@ ids-differ history w c p q id at_p at_q g h =
 pub promises : (history : List Entry) (w : World) → Carries history w → Promised history w
 promises history w c =
     record {
-      acts = c.acts;
+      served = c.served;
       justified = c.past;
       in_order = c.clock.in_order;
       exchanges = c.within.exchanges;

@@ -4,7 +4,7 @@ use Rattle.coap_model.specs.declared.report.Outcome.TheVariants.{Answered, SentR
 use Rattle.coap_model.specs.declared.report.Storing.TheVariants.{NotStored}
 use Rattle.coap_model.specs.World.{World, reserved, later}
 use Rattle.coap_model.specs.History.{Entry, opens_one, sends_one, answers_one, serves_one, gives_id, ids_in, Gives}
-use Rattle.coap_model.specs.Justified.{on_nothing, IsJustified}
+use Rattle.coap_model.specs.Justified.{IsJustified}
 use Rattle.coap_model.specs.Carries.{Carries}
 use Rattle.coap_model.proofs.Frames.{exchanges_frame, waiters_frame, fresh_frame, sends-not, gets-not}
 
@@ -22,21 +22,21 @@ quiet_world w now given = record (later w now) { given = given }
 
 pub keeps_quiet : (w : World) (history : List Entry) (c : Carries history w) (e : Entry) (given : ℕ) → IsQuiet e → w.last ≤ e.now → given ≡ w.given + gives_id e.report.outcome
     → (gives_id e.report.outcome ≡ 1 → Gives ((w.setting.first_id + ids_in history) % 65536) e) → given + reserved w ≤ 32768
-    → IsJustified w.setting (e ∷ history) (on_nothing ∷ c.acts) → Carries (e ∷ history) (quiet_world w e.now given)
+    → IsJustified w.setting (e ∷ history) c.served → Carries (e ∷ history) (quiet_world w e.now given)
 keeps_quiet w history c e given q onward given_is gives room past =
     let opens = q.opens in
     let sends = q.sends in
     let answers = q.answers in
     let serves = q.serves in
     record {
-      acts = on_nothing ∷ c.acts;
+      served = c.served;
       routes = c.routes;
       clock = record { events = let h = c.clock.events in omega arith; last = refl; in_order = (let h = c.clock.last in omega arith, c.clock.in_order) };
       numbers = record { opened = let h = c.numbers.opened in omega arith; admitted = let h = c.numbers.admitted in omega arith; given = let h = c.numbers.given in omega arith };
       ids = (gives, c.ids);
       fresh = fresh_frame w.setting history e (λ x above small. sends-not w.setting history e q.unsent x) (λ x above small. gets-not w.setting history e q.ungot x) c.fresh;
       exchanges = exchanges_frame w.setting history e w.exchanges (sends-not w.setting history e q.unsent) (gets-not w.setting history e q.ungot) c.exchanges;
-      waiters = waiters_frame w.setting history c.acts (on_nothing ∷ c.acts) e w.waiters refl c.waiters;
+      waiters = waiters_frame w.setting history c.served e w.waiters c.waiters;
       whole = record {
         rising = c.whole.rising;
         paired = c.whole.paired;

@@ -16,12 +16,12 @@ use Rattle.coap_target.specs.declared.endpoint.Endpoint.{Endpoint}
 use Rattle.coap_target.specs.declared.target.Target.{Target}
 use Rattle.coap_model.specs.Events.{arrival}
 use Rattle.coap_message.specs.Codes.{is_request}
-use Rattle.coap_model.specs.Messages.{is_con, is_non, reset, own_reply, busy_reply, token_of, refused_with, may_open, verdict_of}
+use Rattle.coap_model.specs.Messages.{is_con, is_non, reset, own_reply, busy_reply, refused_with, may_open}
 use Rattle.coap_model.specs.World.{World, reserved, next_id, has_ids, has_room}
-use Rattle.coap_model.specs.Requests.{lacks_id, refuses, overloads, next_token}
+use Rattle.coap_model.specs.Requests.{lacks_id, refuses, overloads}
 use Rattle.coap_model.specs.Step.{ignores, rejects, message_in}
 use Rattle.coap_model.specs.History.{Entry, ids_in}
-use Rattle.coap_model.specs.Justified.{IsRequestOf, verdict_on, refused, overloaded, lacking, rejected, ignored}
+use Rattle.coap_model.specs.Justified.{IsRequestOf, refused, overloaded, lacking, rejected, ignored}
 use Rattle.coap_model.specs.Runs.{entry_of}
 use Rattle.coap_model.specs.Carries.{Carries}
 use Rattle.coap_model.proofs.Spelled.{reset-is, own_reply-is, busy_reply-is, message_in-is, message_in-again}
@@ -53,10 +53,6 @@ request-came w client bytes m fits asked =
     let tests = and_parts (is_non m.kind) (is_request m.code) asked.request in
     record { bytes = bytes; came = refl; spells = read.0; short = read.1; kind = non_is m.kind tests.0; method = tests.1 }
 
--- the verdict, as the history says it
-pub verdict-same : (w : World) (history : List Entry) (c : Carries history w) (m : Message) → verdict_on w.setting history m ≡ verdict_in w m
-verdict-same w history c m = ap (λ (n : ℕ). verdict_of w.setting.routes w.setting.limits.datagram (token_of w.setting.salt (n + 1)) m) (sym c.numbers.opened)
-
 pub id-same : (w : World) (history : List Entry) (c : Carries history w) → next_id w ≡ (w.setting.first_id + ids_in history) % 65536
 id-same w history c = ap (λ (n : ℕ). (w.setting.first_id + n) % 65536) c.numbers.given
 
@@ -70,12 +66,12 @@ pub keeps_refusing : (w : World) (history : List Entry) (c : Carries history w) 
 keeps_refusing w history c now draw client bytes m code onward fits asked verdict free =
     let e = entry_of now draw (arrival client bytes) (refuses w now client m code) in
     let came = request-came w client bytes m fits asked in
-    let some = refused-code w.setting.routes w.setting.limits.datagram (next_token w) m code c.routes verdict in
+    let some = refused-code w.setting.routes w.setting.limits.datagram m code c.routes verdict in
     let reply = own_reply code [] (next_id w) m.token in
     let spells : Spells (spelling reply) reply = spelled reply (own_reply-is code [] (next_id w) m.token some tt came.spells.message.token) in
     keeps_quiet w history c e (w.given + 1) (record { opens = refl; sends = refl; answers = refl; serves = refl; unsent = λ o. cc; ungot = λ o. cc }) onward refl
     (λ g. record { gives = refl; message = reply; spells = spells; id_is = id-same w history c }) (free-one w free)
-    (refused e code c.past refl (record { client = client; request = m; id = next_id w; asked = came; verdict = verdict-same w history c m ∙ verdict; ids = ids-free 1 history w c free; tells = record { sent = refl; spells = spells } }))
+    (refused e code c.past refl (record { client = client; request = m; id = next_id w; asked = came; verdict = verdict; ids = ids-free 1 history w c free; tells = record { sent = refl; spells = spells } }))
 
 pub keeps_overloading : (w : World) (history : List Entry) (c : Carries history w) (now draw : ℕ) (client : Endpoint) (bytes : List ℕ) (m : Message) (t : Target) → w.last ≤ now → IsBytes bytes → Asked w bytes m → verdict_in w m ≡ may_open t → has_room w ≡ false → has_ids 1 w ≡ true
     → Carries (entry_of now draw (arrival client bytes) (overloads w now client m) ∷ history) (overloads w now client m).world
@@ -86,7 +82,7 @@ keeps_overloading w history c now draw client bytes m t onward fits asked verdic
     let spells : Spells (spelling reply) reply = spelled reply (busy_reply-is w.setting.limits.retry_s (next_id w) m.token came.spells.message.token) in
     keeps_quiet w history c e (w.given + 1) (record { opens = refl; sends = refl; answers = refl; serves = refl; unsent = λ o. cc; ungot = λ o. cc }) onward refl
     (λ g. record { gives = refl; message = reply; spells = spells; id_is = id-same w history c }) (free-one w free)
-    (overloaded e c.past refl (record { client = client; request = m; target = t; id = next_id w; asked = came; verdict = verdict-same w history c m ∙ verdict; no_room = room-none history w c full; ids = ids-free 1 history w c free; tells = record { sent = refl; spells = spells } }))
+    (overloaded e c.past refl (record { client = client; request = m; target = t; id = next_id w; asked = came; verdict = verdict; no_room = room-none history w c full; ids = ids-free 1 history w c free; tells = record { sent = refl; spells = spells } }))
 
 pub keeps_lacking : (w : World) (history : List Entry) (c : Carries history w) (now draw : ℕ) (client : Endpoint) (bytes : List ℕ) (m : Message) → w.last ≤ now → IsBytes bytes → Asked w bytes m → ((t : Target) → verdict_in w m ≡ may_open t → has_room w ≡ false) → has_ids 1 w ≡ false
     → Carries (entry_of now draw (arrival client bytes) (lacks_id w now) ∷ history) (lacks_id w now).world

@@ -2,7 +2,7 @@
 use Rattle.std.proofs.Common.{◌≡◌, ℕ, ◌+◌, ◌-◌, true, false, ltb, List, length, arith}
 use Rattle.std.specs.Prelude.{◌&&◌}
 use Rattle.std.proofs.lemmas.Bool.{leb-true, leb-false, ltb-true, ltb-false, and_parts}
-use Rattle.coap_exchange.specs.Exchanges.{is_queued, count_of}
+use Rattle.coap_exchange.specs.Exchanges.{is_queued, count_where}
 use Rattle.coap_model.specs.World.{World, reserved, has_ids, has_room}
 use Rattle.coap_model.specs.History.{Entry, opened_in, sent_in, ids_in, under_way, HasIds, HasRoom}
 use Rattle.coap_model.specs.Carries.{Carries}
@@ -15,7 +15,7 @@ waiters-length history w c = let p = length-paired w.exchanges w.waiters c.whole
 exchanges-length : (history : List Entry) (w : World) → Carries history w → length w.exchanges ≡ under_way history
 exchanges-length history w c = let u = c.whole.under_way in omega arith
 
-queued-unsent : (history : List Entry) (w : World) → Carries history w → count_of is_queued w.exchanges ≡ opened_in history - sent_in history
+queued-unsent : (history : List Entry) (w : World) → Carries history w → count_where is_queued w.exchanges ≡ opened_in history - sent_in history
 queued-unsent history w c = let u = c.whole.unsent in omega arith
 
 ids-sum : (k : ℕ) (history : List Entry) (w : World) → Carries history w → w.given + reserved w + k ≡ ids_in history + under_way history + (opened_in history - sent_in history) + k

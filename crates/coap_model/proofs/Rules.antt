@@ -20,7 +20,7 @@ use Rattle.coap_model.specs.Events.{Event, arrival, tick, IsEvent}
 use Rattle.coap_message.specs.Codes.{is_request, is_response}
 use Rattle.coap_model.specs.Messages.{is_con, is_non, is_ack, Verdict, refused_with, may_open, verdict_of}
 use Rattle.coap_model.specs.World.{World, Step, has_ids, has_room}
-use Rattle.coap_model.specs.Requests.{lacks_id, refuses, overloads, opens, next_token, on_verdict, on_request}
+use Rattle.coap_model.specs.Requests.{lacks_id, refuses, overloads, opens, on_verdict, on_request}
 use Rattle.coap_model.specs.Responses.{awaiting, answers, on_response}
 use Rattle.coap_exchange.specs.Due.{Item, sending, serving, least}
 use Rattle.coap_model.specs.Ticks.{items_of, if_due, sends, delivers, on_item}
@@ -43,7 +43,7 @@ pub record IsNothing (w : World) (source : Endpoint) (bytes : List ℕ) : Type 0
   pub response : (m : Message) → message_in w.setting.limits.datagram bytes ≡ Some m → (is_ack m.kind && is_response m.code) ≡ true → awaiting w source m ≡ None
 
 abbrev pub verdict_in : World → Message → Verdict
-verdict_in w m = verdict_of w.setting.routes w.setting.limits.datagram (next_token w) m
+verdict_in w m = verdict_of w.setting.routes w.setting.limits.datagram m
 
 pub data Rule (w : World) (now draw : ℕ) : Event → Step → Type 0 where
   refusing : (client : Endpoint) (bytes : List ℕ) (m : Message) (code : Code) → IsBytes bytes → Asked w bytes m → verdict_in w m ≡ refused_with code → has_ids 1 w ≡ true → Rule w now draw (arrival client bytes) (refuses w now client m code)

@@ -17,11 +17,13 @@ use Rattle.coap_message.specs.Spelling.{IsMessage, Spells, spelling}
 use Rattle.coap_message.specs.Reading.{read_message}
 use Rattle.coap_message.proofs.WholeMessages.{read_is}
 use Rattle.coap_target.specs.declared.target.Target.{Target}
-use Rattle.coap_target.specs.Target.{IsSegment, IsTarget}
+use Rattle.coap_target.specs.Target.{IsShort, IsTarget}
 use Rattle.coap_target.specs.Routes.{values_of}
 use Rattle.coap_exchange.specs.declared.exchange.Answer.{Answer}
 use Rattle.coap_message.specs.Codes.{is_response}
-use Rattle.coap_model.specs.Messages.{reset, own_reply, max_age_option, busy_reply, token_of, option_of, host_options, target_options, forwarded, first_value, target_sent, is_passed_on, bad_gateway, answer_of, carries_max_age, left_of, shown}
+use Rattle.coap_message.specs.Options.{option_of}
+use Rattle.coap_target.specs.Request.{first_value}
+use Rattle.coap_model.specs.Messages.{reset, own_reply, max_age_option, busy_reply, token_of, host_options, target_options, forwarded, target_sent, is_passed_on, bad_gateway, answer_of, carries_max_age, left_of, shown}
 use Rattle.coap_model.specs.Ticks.{with_id}
 use Rattle.coap_model.specs.Step.{message_in}
 
@@ -33,7 +35,7 @@ AreOptions-lower low high [] le are = tt
 AreOptions-lower low high (o ∷ os) le are = (omega (arith, are.0), are.1, are.2, are.3)
 
 -- values of one number, short enough, behind a lower number and before the others
-AreOptions-map : (low number : ℕ) (values : List (List ℕ)) (os : List Opt) → low ≤ number → number < 65536 → AllByRecursion IsSegment values → AreOptions number os → AreOptions low (map (option_of number) values ++ os)
+AreOptions-map : (low number : ℕ) (values : List (List ℕ)) (os : List Opt) → low ≤ number → number < 65536 → AllByRecursion IsShort values → AreOptions number os → AreOptions low (map (option_of number) values ++ os)
 AreOptions-map low number [] os le small short are = AreOptions-lower low number os le are
 AreOptions-map low number (v ∷ values) os le small short are = (le, small, omega (arith, short.0), AreOptions-map number number values os (omega arith) small short.1 are)
 
@@ -47,7 +49,7 @@ target-options t is = go t.host is.host
     path : (low : ℕ) → low ≤ 11 → AreOptions low (map (option_of 11) t.path ++ map (option_of 15) t.query)
     path low le = AreOptions-map low 11 t.path (map (option_of 15) t.query) le (omega arith) is.path query
 
-    go : (host : Option (List ℕ)) → IfSome host IsSegment → AreOptions 0 (host_options host ++ (map (option_of 11) t.path ++ map (option_of 15) t.query))
+    go : (host : Option (List ℕ)) → IfSome host IsShort → AreOptions 0 (host_options host ++ (map (option_of 11) t.path ++ map (option_of 15) t.query))
     go None short = path 0 (omega arith)
     go (Some h) short = (omega arith, omega arith, omega (arith, short), path 3 (omega arith))
 

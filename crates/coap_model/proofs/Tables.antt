@@ -10,9 +10,10 @@ use Rattle.coap_exchange.specs.declared.exchange.ExchangeState.{ExchangeState}
 use Rattle.coap_exchange.specs.declared.exchange.ExchangeState.TheVariants.{Queued, Sent, Done}
 use Rattle.coap_exchange.specs.declared.exchange.Exchange.{Exchange}
 use Rattle.coap_exchange.specs.declared.waiter.Waiter.{Waiter}
-use Rattle.coap_exchange.proofs.Tables.{none-below}
-use Rattle.coap_exchange.specs.Exchanges.{with_state, is_queued, count_of}
+use Rattle.coap_exchange.specs.Exchanges.{with_state, is_queued, count_where}
 use Rattle.coap_exchange.specs.Table.{Numbered, without, IsRising}
+use Rattle.coap_exchange.proofs.Counts.{one_if}
+use Rattle.coap_exchange.proofs.Tables.{none-below}
 use Rattle.coap_exchange.proofs.States.{moved-number, with_state-below}
 use Rattle.coap_exchange.specs.Due.{Item, sending, serving, due_of, exchange_items, answer_at, answer_in, with_item, waiter_items, earlier, least}
 use Rattle.coap_exchange.specs.Waiters.{is_awaited}
@@ -171,13 +172,6 @@ HasNumber-last n (x ∷ xs) a = inr (HasNumber-last n xs a)
 
 -- ---- how many are in a state
 
-abbrev pub one : Bool → ℕ
-one b = cond b 1 0
-
-pub count-push : (t : ExchangeState → Bool) (n : ℕ) (xs : List (Numbered Exchange)) (x : Exchange) → count_of t (xs ++ (n, x) ∷ []) ≡ count_of t xs + one (t x.state)
-count-push t n [] x = omega arith
-count-push t n (y ∷ ys) x = let i = count-push t n ys x in omega arith
-
 -- what is there is above the least
 Has-above : (least : ℕ) (xs : List (Numbered Exchange)) (x : Numbered Exchange) → IsRising least xs → Has x xs → least < x.0
 Has-above least [] x r h = absurd h
@@ -188,7 +182,7 @@ Has-above least (y ∷ ys) x r h =
     h
 
 -- one comes to another state
-pub count-moved : (t : ExchangeState → Bool) (x : Numbered Exchange) (least : ℕ) (s : ExchangeState) (xs : List (Numbered Exchange)) → IsRising least xs → Has x xs → count_of t (with_state x.0 s xs) + one (t x.1.state) ≡ count_of t xs + one (t s)
+pub count-moved : (t : ExchangeState → Bool) (x : Numbered Exchange) (least : ℕ) (s : ExchangeState) (xs : List (Numbered Exchange)) → IsRising least xs → Has x xs → count_where t (with_state x.0 s xs) + one_if (t x.1.state) ≡ count_where t xs + one_if (t s)
 count-moved t x least s [] r h = absurd h
 count-moved t x least s (y ∷ ys) r h =
     ⊎_elim
@@ -197,7 +191,7 @@ count-moved t x least s (y ∷ ys) r h =
     let state : t x.1.state ≡ t y.1.state = ap (λ (z : Numbered Exchange). t z.1.state) same in
     let here : eqb y.0 x.0 ≡ true = eq-eqb _ _ (sym n) in
     let rest = with_state-below x.0 y.0 s ys (omega (arith, n)) r.1 in
-    rw (here, rest, state) (swap (one (t s)) (count_of t ys) (one (t y.1.state))))
+    rw (here, rest, state) (swap (one_if (t s)) (count_where t ys) (one_if (t y.1.state))))
     (λ (there : Has x ys).
     let above = Has-above y.0 ys x r.1 there in
     let other : eqb y.0 x.0 ≡ false = ne_eqb _ _ (λ e. omega arith) in
@@ -209,7 +203,7 @@ count-moved t x least s (y ∷ ys) r h =
     swap p q k = omega arith
 
 -- one is closed
-pub count-without : (t : ExchangeState → Bool) (x : Numbered Exchange) (least : ℕ) (xs : List (Numbered Exchange)) → IsRising least xs → Has x xs → count_of t (without x.0 xs) + one (t x.1.state) ≡ count_of t xs
+pub count-without : (t : ExchangeState → Bool) (x : Numbered Exchange) (least : ℕ) (xs : List (Numbered Exchange)) → IsRising least xs → Has x xs → count_where t (without x.0 xs) + one_if (t x.1.state) ≡ count_where t xs
 count-without t x least [] r h = absurd h
 count-without t x least (y ∷ ys) r h =
     ⊎_elim
@@ -218,7 +212,7 @@ count-without t x least (y ∷ ys) r h =
     let state : t x.1.state ≡ t y.1.state = ap (λ (z : Numbered Exchange). t z.1.state) same in
     let here : eqb y.0 x.0 ≡ true = eq-eqb _ _ (sym n) in
     let rest = none-below x.0 y.0 ys (omega (arith, n)) r.1 in
-    rw (here, rest, state) (swap (count_of t ys) (one (t y.1.state))))
+    rw (here, rest, state) (swap (count_where t ys) (one_if (t y.1.state))))
     (λ (there : Has x ys).
     let above = Has-above y.0 ys x r.1 there in
     let other : eqb y.0 x.0 ≡ false = ne_eqb _ _ (λ e. omega arith) in

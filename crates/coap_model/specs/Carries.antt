@@ -15,10 +15,10 @@ use Rattle.coap_exchange.specs.declared.waiter.Waiter.{Waiter}
 use Rattle.coap_exchange.specs.Table.{Numbered, IsRising}
 use Rattle.coap_model.specs.Setting.{Setting}
 use Rattle.coap_model.specs.Messages.{token_of, forwarded, target_sent, answer_of}
-use Rattle.coap_exchange.specs.Exchanges.{is_queued, is_done, count_of}
+use Rattle.coap_exchange.specs.Exchanges.{is_queued, is_done, count_where}
 use Rattle.coap_model.specs.World.{World, reserved}
 use Rattle.coap_model.specs.History.{Entry, Place, index, IsPlaceOf, Never, opened_in, sent_in, answered_in, served_in, ids_in, Opens, Sends, Asks, Gets, last_of, IsInOrder, AreIds}
-use Rattle.coap_model.specs.Justified.{IsRequestOf, IsMember, Act, served_by, IsJustified}
+use Rattle.coap_model.specs.Justified.{IsRequestOf, IsMember, IsJustified}
 
 -- ---- the clock, the numbers and the ids
 
@@ -81,7 +81,7 @@ IsGotBy salt x p q = Gets salt x q × (index q ≤ index p)
 
 -- the waiter is the one that the history admitted under its number, with an exchange of its own, and
 -- wasn't served
-pub record IsWaiterOf (setting : Setting) (history : List Entry) (acts : List Act) (v : Numbered Waiter) : Type 0 where
+pub record IsWaiterOf (setting : Setting) (history : List Entry) (served : List ℕ) (v : Numbered Waiter) : Type 0 where
   pub admission : Place
   pub client : Endpoint
   pub request : Message
@@ -92,7 +92,7 @@ pub record IsWaiterOf (setting : Setting) (history : List Entry) (acts : List Ac
   pub client_is : v.1.client ≡ client
   pub token_is : v.1.token ≡ request.token
   pub not_got_by : Never (IsGotBy setting.salt v.0 admission) history
-  pub unserved : ¬ IsMember v.0 (served_by acts)
+  pub unserved : ¬ IsMember v.0 served
 
 -- ---- the tables as wholes
 
@@ -109,13 +109,13 @@ HasNumber n (x ∷ xs) = (n ≡ x.0) ⊎ HasNumber n xs
 
 -- Nothing is missing and nothing is there twice: what was opened waits or was served, and the lengths
 -- are what the history counts.
-pub record AreWhole (history : List Entry) (acts : List Act) (w : World) : Type 0 where
+pub record AreWhole (history : List Entry) (served : List ℕ) (w : World) : Type 0 where
   pub rising : IsRising 0 w.exchanges
   pub paired : ArePaired w.exchanges w.waiters
-  pub complete : (n : ℕ) → 0 < n → n ≤ opened_in history → HasNumber n w.exchanges ⊎ IsMember n (served_by acts)
+  pub complete : (n : ℕ) → 0 < n → n ≤ opened_in history → HasNumber n w.exchanges ⊎ IsMember n served
   pub under_way : length w.exchanges + served_in history ≡ opened_in history
-  pub unsent : count_of is_queued w.exchanges + sent_in history ≡ opened_in history
-  pub unserved : count_of is_done w.exchanges + served_in history ≡ answered_in history
+  pub unsent : count_where is_queued w.exchanges + sent_in history ≡ opened_in history
+  pub unserved : count_where is_done w.exchanges + served_in history ≡ answered_in history
 
 -- no exchange that isn't opened was sent or got
 abbrev pub IsFresh : Setting → List Entry → Type 0
@@ -131,14 +131,14 @@ pub record IsWithin (w : World) : Type 0 where
 -- ---- all of it
 
 pub record Carries (history : List Entry) (w : World) : Type 0 where
-  pub acts : List Act
+  pub served : List ℕ
   pub routes : AreRoutes w.setting.routes
   pub clock : Clock history w
   pub numbers : Numbers history w
   pub ids : AreIds w.setting.first_id history
   pub fresh : IsFresh w.setting history
   pub exchanges : AllByRecursion (IsExchangeOf w.setting history) w.exchanges
-  pub waiters : AllByRecursion (IsWaiterOf w.setting history acts) w.waiters
-  pub whole : AreWhole history acts w
+  pub waiters : AllByRecursion (IsWaiterOf w.setting history served) w.waiters
+  pub whole : AreWhole history served w
   pub within : IsWithin w
-  pub past : IsJustified w.setting history acts
+  pub past : IsJustified w.setting history served

@@ -1,22 +1,18 @@
 -- Runs of the step, computed on the definitions.
 use Rattle.std.specs.Prelude.{ℕ, ◌+◌, ◌-◌, List, [], ◌∷◌, replicate, Some, None}
 use Rattle.coap_message.specs.declared.code.TheConstants.Code.{BAD_OPTION, NOT_FOUND, METHOD_NOT_ALLOWED, REQUEST_ENTITY_TOO_LARGE}
-use Rattle.coap_target.specs.declared.endpoint.Ip.TheVariants.{V4}
 use Rattle.coap_target.specs.declared.endpoint.Endpoint.{Endpoint}
+use Rattle.coap_target.specs.Examples.{loopback}
 use Rattle.coap_target.specs.Routes.{fixed_routes}
 use Rattle.coap_model.specs.declared.report.Outcome.{Outcome}
 use Rattle.coap_model.specs.declared.report.Outcome.TheVariants.{Ignored, Rejected, Refused, Opened, Overloaded, NoId, Answered, SentRequest, Delivered, Idle}
 use Rattle.coap_model.specs.declared.report.Storing.TheVariants.{NotStored}
 use Rattle.coap_model.specs.declared.report.Report.{Report}
 use Rattle.coap_model.specs.Limits.{default_limits}
-use Rattle.coap_model.specs.Events.{Event, arrival, tick}
+use Rattle.coap_model.specs.Events.{arrival, tick}
 use Rattle.coap_model.specs.World.{World, Step, new_world}
 use Rattle.coap_model.specs.Step.{step_of}
-
--- an event with its moment
-pub record Moment : Type 0 where
-  pub now : ℕ
-  pub event : Event
+use Rattle.coap_model.specs.Runs.{Turn}
 
 -- what a step answered, and the datagram that it sent
 abbrev pub Sent : Type 0
@@ -25,26 +21,23 @@ Sent = Report × List ℕ
 abbrev pub sent_by : Step → Sent
 sent_by s = (s.report, s.bytes)
 
--- what a proxy sends at these events, one after the other, all with the draw 0
-abbrev pub play : World → List Moment → List Sent
+-- what a proxy sends at these turns, one after the other
+abbrev pub play : World → List Turn → List Sent
 play w [] = []
-play w (m ∷ moments) = sent_by (step_of w m.now 0 m.event) ∷ play (step_of w m.now 0 m.event).world moments
-
-abbrev pub local : ℕ → Endpoint
-local port = record { ip = V4 (127 ∷ 0 ∷ 0 ∷ 1 ∷ []); port = port }
+play w (t ∷ turns) = sent_by (step_of w t.now t.draw t.event) ∷ play (step_of w t.now t.draw t.event).world turns
 
 -- the origin of the fixed route, and clients by number
 abbrev pub origin : Endpoint
-origin = local 5690
+origin = loopback 5690
 
 abbrev pub client : ℕ → Endpoint
-client n = local (40000 + n)
+client n = loopback (40000 + n)
 
-abbrev pub from : ℕ → Endpoint → List ℕ → Moment
-from now source bytes = record { now = now; event = arrival source bytes }
+abbrev pub from : ℕ → Endpoint → List ℕ → Turn
+from now source bytes = record { now = now; draw = 0; event = arrival source bytes }
 
-abbrev pub tick_at : ℕ → Moment
-tick_at now = record { now = now; event = tick }
+abbrev pub tick_at : ℕ → Turn
+tick_at now = record { now = now; draw = 0; event = tick }
 
 abbrev pub nothing : Outcome → Sent
 nothing outcome = (record { send = None; outcome = outcome }, [])
@@ -83,56 +76,56 @@ abbrev pub content_for_client : ℕ → List ℕ
 content_for_client left = 0x50 ∷ 0x45 ∷ 0 ∷ 2 ∷ 0xD1 ∷ 1 ∷ left ∷ 0xFF ∷ 0x32 ∷ 0x31 ∷ []
 
 -- a request, a tick that sends it on, an answer, and a tick that delivers it
-abbrev pub answered_by : ℕ → List ℕ → List Moment
+abbrev pub answered_by : ℕ → List ℕ → List Turn
 answered_by served response = from 0 (client 1) (get_t []) ∷ tick_at 0 ∷ from 0 origin response ∷ tick_at served ∷ []
 
 abbrev pub delivered_as : List ℕ → List Sent
 delivered_as reply = nothing Opened ∷ to SentRequest origin (get_temp []) ∷ nothing (Answered NotStored) ∷ to Delivered (client 1) reply ∷ []
 
 -- the first answer
-abbrev pub first_answer : List Moment
+abbrev pub first_answer : List Turn
 first_answer = answered_by 0 content
 
 abbrev pub first_answer_sent : List Sent
 first_answer_sent = delivered_as (content_for_client 10)
 
 -- the same, delivered 2,500 milliseconds after the answer came: seven seconds are left of its ten
-abbrev pub late_answer : List Moment
+abbrev pub late_answer : List Turn
 late_answer = answered_by 2500 content
 
 abbrev pub late_answer_sent : List Sent
 late_answer_sent = delivered_as (content_for_client 7)
 
 -- an error without Max-Age is given one of sixty seconds
-abbrev pub error : List Moment
+abbrev pub error : List Turn
 error = answered_by 0 (answer 0x68 0x84 1 1 [])
 
 abbrev pub error_sent : List Sent
 error_sent = delivered_as (0x50 ∷ 0x84 ∷ 0 ∷ 2 ∷ 0xD1 ∷ 1 ∷ 60 ∷ [])
 
 -- so is an error of the origin's own, of class 5
-abbrev pub fault : List Moment
+abbrev pub fault : List Turn
 fault = answered_by 0 (answer 0x68 0xA0 1 1 [])
 
 abbrev pub fault_sent : List Sent
 fault_sent = delivered_as (0x50 ∷ 0xA0 ∷ 0 ∷ 2 ∷ 0xD1 ∷ 1 ∷ 60 ∷ [])
 
 -- a 2.04 goes on as it came
-abbrev pub changed : List Moment
+abbrev pub changed : List Turn
 changed = answered_by 0 (answer 0x68 0x44 1 1 [])
 
 abbrev pub changed_sent : List Sent
 changed_sent = delivered_as (0x50 ∷ 0x44 ∷ 0 ∷ 2 ∷ [])
 
 -- a 2.03, and a response with an option that isn't understood, are replaced by 5.02
-abbrev pub valid : List Moment
+abbrev pub valid : List Turn
 valid = answered_by 0 (answer 0x68 0x43 1 1 [])
 
-abbrev pub block_in_response : List Moment
+abbrev pub block_in_response : List Turn
 block_in_response = answered_by 0 (answer 0x68 0x45 1 1 (0xD1 ∷ 10 ∷ 6 ∷ 0xFF ∷ 0x32 ∷ 0x31 ∷ []))
 
 -- a Max-Age has at most four bytes
-abbrev pub long_max_age : List Moment
+abbrev pub long_max_age : List Turn
 long_max_age = answered_by 0 (answer 0x68 0x45 1 1 (0xD5 ∷ 1 ∷ 0 ∷ 0 ∷ 0 ∷ 0 ∷ 10 ∷ []))
 
 abbrev pub replaced_sent : List Sent
@@ -140,7 +133,7 @@ replaced_sent = delivered_as (0x50 ∷ 0xA2 ∷ 0 ∷ 2 ∷ [])
 
 -- The response of another endpoint, or with another token or id, is no one's; in a confirmable message
 -- it is rejected. The right one is still taken after them.
-abbrev pub impostor : List Moment
+abbrev pub impostor : List Turn
 impostor =
     from 0 (client 1) (get_t []) ∷ tick_at 0 ∷ from 0 (client 2) content ∷ from 0 origin (answer 0x68 0x45 1 2 (0xFF ∷ 0x39 ∷ [])) ∷ from 0 origin (answer 0x68 0x45 2 1 (0xFF ∷ 0x39 ∷ []))
     ∷ from 0 origin (answer 0x48 0x45 9 1 (0xFF ∷ 0x39 ∷ [])) ∷ from 0 origin (answer 0x58 0x45 9 1 (0xFF ∷ 0x39 ∷ [])) ∷ tick_at 0 ∷ from 0 origin content ∷ tick_at 0 ∷ []
@@ -151,7 +144,7 @@ impostor_sent =
     ∷ to Rejected origin (0x70 ∷ 0 ∷ 0 ∷ 9 ∷ []) ∷ nothing Ignored ∷ nothing Idle ∷ nothing (Answered NotStored) ∷ to Delivered (client 1) (content_for_client 10) ∷ []
 
 -- refusals: a method other than GET, an option that isn't understood, a path without a map
-abbrev pub refusals : List Moment
+abbrev pub refusals : List Turn
 refusals =
     from 0 (client 1) (0x50 ∷ 2 ∷ 0 ∷ 7 ∷ 0xB1 ∷ 0x74 ∷ []) ∷ from 0 (client 1) (0x50 ∷ 1 ∷ 0 ∷ 8 ∷ 0xB1 ∷ 0x74 ∷ 0xC1 ∷ 6 ∷ [])
     ∷ from 0 (client 1) (0x50 ∷ 1 ∷ 0 ∷ 9 ∷ 0xB1 ∷ 0x75 ∷ []) ∷ []
@@ -166,28 +159,28 @@ abbrev pub segment : ℕ → List ℕ
 segment n = 0x0D ∷ (n - 13) ∷ replicate n 0x61
 
 -- with a segment of 110 bytes the request that would be sent on has 129 bytes, with one of 109 it has 128
-abbrev pub long_paths : List Moment
+abbrev pub long_paths : List Turn
 long_paths = from 0 (client 1) (get_t (segment 110)) ∷ from 0 (client 1) (get_t (segment 109)) ∷ tick_at 0 ∷ []
 
 abbrev pub long_paths_sent : List Sent
 long_paths_sent = to (Refused REQUEST_ENTITY_TOO_LARGE) (client 1) (0x50 ∷ 0x8D ∷ 0 ∷ 1 ∷ []) ∷ nothing Opened ∷ to SentRequest origin (0x48 ∷ 1 ∷ 0 ∷ 2 ∷ 0 ∷ 0 ∷ 0 ∷ 0 ∷ 0 ∷ 0 ∷ 0 ∷ 1 ∷ 0xB4 ∷ 0x74 ∷ 0x65 ∷ 0x6D ∷ 0x70 ∷ segment 109) ∷ []
 
 -- a segment has at most 255 bytes
-abbrev pub long_segments : List Moment
+abbrev pub long_segments : List Turn
 long_segments = from 0 (client 1) (get_t (segment 256)) ∷ from 0 (client 1) (get_t (segment 255)) ∷ []
 
 abbrev pub long_segments_sent : List Sent
 long_segments_sent = to (Refused BAD_OPTION) (client 1) (0x50 ∷ 0x82 ∷ 0 ∷ 1 ∷ []) ∷ nothing Opened ∷ []
 
 -- the payload of a GET is ignored
-abbrev pub payload_in_get : List Moment
+abbrev pub payload_in_get : List Turn
 payload_in_get = from 0 (client 1) (get_t (0xFF ∷ 0x39 ∷ [])) ∷ tick_at 0 ∷ []
 
 abbrev pub payload_in_get_sent : List Sent
 payload_in_get_sent = nothing Opened ∷ to SentRequest origin (get_temp []) ∷ []
 
 -- two clients where there is room for one exchange: the second is told to try again after five seconds
-abbrev pub full : List Moment
+abbrev pub full : List Turn
 full = from 0 (client 1) (get_t []) ∷ from 0 (client 3) (get_t []) ∷ []
 
 abbrev pub full_sent : List Sent
@@ -195,7 +188,7 @@ full_sent = nothing Opened ∷ to Overloaded (client 3) (0x50 ∷ 0xA3 ∷ 0 ∷
 
 -- empty and malformed messages, and one of a class that isn't used: a Reset where they are confirmable,
 -- else silence; fewer than four bytes, and another version, are no messages
-abbrev pub unprocessed_messages : List Moment
+abbrev pub unprocessed_messages : List Turn
 unprocessed_messages =
     from 0 (client 1) (0x40 ∷ 0 ∷ 0 ∷ 9 ∷ []) ∷ from 0 (client 1) (0x50 ∷ 0 ∷ 0 ∷ 9 ∷ []) ∷ from 0 (client 1) (0x40 ∷ 0 ∷ 0 ∷ 9 ∷ 0 ∷ [])
     ∷ from 0 (client 1) (0x40 ∷ 1 ∷ 0 ∷ 7 ∷ 0xFF ∷ []) ∷ from 0 (client 1) (0x40 ∷ 0x20 ∷ 0 ∷ 4 ∷ []) ∷ from 0 (client 1) (0x40 ∷ 1 ∷ 0 ∷ []) ∷ from 0 (client 1) (0 ∷ 1 ∷ 0 ∷ 7 ∷ []) ∷ []
@@ -206,7 +199,7 @@ unprocessed_messages_sent =
     ∷ to Rejected (client 1) (0x70 ∷ 0 ∷ 0 ∷ 7 ∷ []) ∷ to Rejected (client 1) (0x70 ∷ 0 ∷ 0 ∷ 4 ∷ []) ∷ nothing Ignored ∷ nothing Ignored ∷ []
 
 -- a confirmable message that is longer than a datagram may be
-abbrev pub too_long : List Moment
+abbrev pub too_long : List Turn
 too_long = from 0 (client 1) (0x40 ∷ 1 ∷ 0 ∷ 7 ∷ 0xFF ∷ replicate 124 0x39) ∷ []
 
 abbrev pub too_long_sent : List Sent
@@ -214,7 +207,7 @@ too_long_sent = to Rejected (client 1) (0x70 ∷ 0 ∷ 0 ∷ 7 ∷ []) ∷ []
 
 -- the longest payload that still fits datagrams of 128 bytes, with a token of eight bytes and a Max-Age of four; one
 -- byte more is replaced by 5.02
-abbrev pub payload_of : ℕ → List Moment
+abbrev pub payload_of : ℕ → List Turn
 payload_of n = answered_by 0 (answer 0x68 0x45 1 1 (0xFF ∷ replicate n 0x39))
 
 abbrev pub payload_of_109_sent : List Sent
@@ -225,7 +218,7 @@ payload_of_109_sent = delivered_as (0x50 ∷ 0x45 ∷ 0 ∷ 2 ∷ 0xD1 ∷ 1 ∷
 abbrev pub spent_proxy : World
 spent_proxy = record proxy { given = 32767 }
 
-abbrev pub last_id : List Moment
+abbrev pub last_id : List Turn
 last_id = from 0 (client 1) (get_t []) ∷ from 0 (client 2) (get_t []) ∷ from 0 (client 3) (0x50 ∷ 1 ∷ 0 ∷ 9 ∷ 0xB1 ∷ 0x75 ∷ []) ∷ []
 
 abbrev pub last_id_sent : List Sent
@@ -235,7 +228,7 @@ last_id_sent = to Overloaded (client 1) (0x50 ∷ 0xA3 ∷ 0x80 ∷ 0 ∷ 0xD1 �
 abbrev pub wrapping_proxy : World
 wrapping_proxy = new_world (record { limits = default_limits; routes = fixed_routes; first_id = 65535; salt = 18446744073709551615 })
 
-abbrev pub wrapping : List Moment
+abbrev pub wrapping : List Turn
 wrapping = from 0 (client 1) (get_t []) ∷ tick_at 0 ∷ from 0 origin (0x68 ∷ 0x44 ∷ 0xFF ∷ 0xFF ∷ replicate 8 0) ∷ tick_at 0 ∷ []
 
 abbrev pub wrapping_sent : List Sent

@@ -1,5 +1,5 @@
 -- What justifies each entry of a history: the entries before it alone. No table is named.
-use Rattle.std.specs.Prelude.{◌≡◌, ◌≢◌, ◌⊎◌, ℕ, ◌+◌, ◌<◌, ◌≤◌, true, List, [], ◌∷◌, length, Some, None}
+use Rattle.std.specs.Prelude.{◌≡◌, ◌≢◌, ◌⊎◌, ℕ, ◌<◌, ◌≤◌, true, List, [], ◌∷◌, length, Some, None}
 use Rattle.coap_message.specs.declared.kind.Kind.TheVariants.{Con, Non, Ack}
 use Rattle.coap_message.specs.declared.code.Code.{Code}
 use Rattle.coap_message.specs.declared.message.Head.{Head}
@@ -28,9 +28,9 @@ pub record IsRequestOf (setting : Setting) (client : Endpoint) (request : Messag
   pub kind : request.kind ≡ Non
   pub method : is_request request.code ≡ true
 
--- what becomes of a request behind this history, leaving room aside
-abbrev pub verdict_on : Setting → List Entry → Message → Verdict
-verdict_on setting history request = verdict_of setting.routes setting.limits.datagram (token_of setting.salt (opened_in history + 1)) request
+-- what becomes of a request, leaving room aside
+abbrev pub verdict_on : Setting → Message → Verdict
+verdict_on setting request = verdict_of setting.routes setting.limits.datagram request
 
 -- the datagram goes to this endpoint and is this message
 pub record Tells (to : Endpoint) (m : Message) (e : Entry) : Type 0 where
@@ -48,7 +48,7 @@ pub record IsRefusal (setting : Setting) (past : List Entry) (e : Entry) (code :
   pub request : Message
   pub id : ℕ
   pub asked : IsRequestOf setting client request e.event
-  pub verdict : verdict_on setting past request ≡ refused_with code
+  pub verdict : verdict_on setting request ≡ refused_with code
   pub ids : HasIds 1 past
   pub tells : Tells client (own_reply code [] id request.token) e
 
@@ -59,7 +59,7 @@ pub record IsOverload (setting : Setting) (past : List Entry) (e : Entry) : Type
   pub target : Target
   pub id : ℕ
   pub asked : IsRequestOf setting client request e.event
-  pub verdict : verdict_on setting past request ≡ may_open target
+  pub verdict : verdict_on setting request ≡ may_open target
   pub no_room : ¬ HasRoom setting.limits past
   pub ids : HasIds 1 past
   pub tells : Tells client (busy_reply setting.limits.retry_s id request.token) e
@@ -78,7 +78,7 @@ pub record IsOpening (setting : Setting) (past : List Entry) (e : Entry) : Type 
   pub request : Message
   pub target : Target
   pub asked : IsRequestOf setting client request e.event
-  pub verdict : verdict_on setting past request ≡ may_open target
+  pub verdict : verdict_on setting request ≡ may_open target
   pub room : HasRoom setting.limits past
   pub silent : IsSilent e
 
@@ -187,40 +187,27 @@ abbrev pub IsMember : ℕ → List ℕ → Type 0
 IsMember n [] = ⊥
 IsMember n (m ∷ ms) = (n ≡ m) ⊎ IsMember n ms
 
--- what an entry acted on: nothing that is to be told apart, an exchange, or a waiter
-pub data Act : Type 0 where
-  on_nothing : Act
-  on_exchange : ℕ → Act
-  on_waiter : ℕ → Act
-
--- the waiters that were served, the latest first
-abbrev pub served_by : List Act → List ℕ
-served_by [] = []
-served_by (on_nothing ∷ acts) = served_by acts
-served_by (on_exchange n ∷ acts) = served_by acts
-served_by (on_waiter n ∷ acts) = n ∷ served_by acts
-
 -- Each entry is justified by the entries before it, and there is no other kind of entry. Beside the
--- history stands what each entry acted on: each waiter is served at most once.
-pub data IsJustified (setting : Setting) : List Entry → List Act → Type 0 where
+-- history stand the waiters that were served, the latest first: each is served at most once.
+pub data IsJustified (setting : Setting) : List Entry → List ℕ → Type 0 where
   nothing_yet : IsJustified setting [] []
-  refused : {past : List Entry} {acts : List Act} (e : Entry) (code : Code) → IsJustified setting past acts
-      → e.report.outcome ≡ Refused code → IsRefusal setting past e code → IsJustified setting (e ∷ past) (on_nothing ∷ acts)
-  overloaded : {past : List Entry} {acts : List Act} (e : Entry) → IsJustified setting past acts
-      → e.report.outcome ≡ Overloaded → IsOverload setting past e → IsJustified setting (e ∷ past) (on_nothing ∷ acts)
-  lacking : {past : List Entry} {acts : List Act} (e : Entry) → IsJustified setting past acts
-      → e.report.outcome ≡ NoId → IsLack setting past e → IsJustified setting (e ∷ past) (on_nothing ∷ acts)
-  opened : {past : List Entry} {acts : List Act} (e : Entry) → IsJustified setting past acts
-      → e.report.outcome ≡ Opened → IsOpening setting past e → IsJustified setting (e ∷ past) (on_nothing ∷ acts)
-  asked : {past : List Entry} {acts : List Act} (e : Entry) (exchange : ℕ) → IsJustified setting past acts
-      → e.report.outcome ≡ SentRequest → IsForwarding setting past e exchange → IsJustified setting (e ∷ past) (on_exchange exchange ∷ acts)
-  answered : {past : List Entry} {acts : List Act} (e : Entry) (exchange : ℕ) → IsJustified setting past acts
-      → e.report.outcome ≡ Answered NotStored → IsAnswer setting past e exchange → IsJustified setting (e ∷ past) (on_exchange exchange ∷ acts)
-  delivered : {past : List Entry} {acts : List Act} (e : Entry) (waiter : ℕ) → IsJustified setting past acts
-      → e.report.outcome ≡ Delivered → IsDelivery setting past e waiter → ¬ IsMember waiter (served_by acts) → IsJustified setting (e ∷ past) (on_waiter waiter ∷ acts)
-  rejected : {past : List Entry} {acts : List Act} (e : Entry) → IsJustified setting past acts
-      → e.report.outcome ≡ Rejected → IsRejection e → IsJustified setting (e ∷ past) (on_nothing ∷ acts)
-  ignored : {past : List Entry} {acts : List Act} (e : Entry) → IsJustified setting past acts
-      → e.report.outcome ≡ Ignored → IsIgnored setting past e → IsJustified setting (e ∷ past) (on_nothing ∷ acts)
-  idle : {past : List Entry} {acts : List Act} (e : Entry) → IsJustified setting past acts
-      → e.report.outcome ≡ Idle → IsIdle past e → IsJustified setting (e ∷ past) (on_nothing ∷ acts)
+  refused : {past : List Entry} {served : List ℕ} (e : Entry) (code : Code) → IsJustified setting past served
+      → e.report.outcome ≡ Refused code → IsRefusal setting past e code → IsJustified setting (e ∷ past) served
+  overloaded : {past : List Entry} {served : List ℕ} (e : Entry) → IsJustified setting past served
+      → e.report.outcome ≡ Overloaded → IsOverload setting past e → IsJustified setting (e ∷ past) served
+  lacking : {past : List Entry} {served : List ℕ} (e : Entry) → IsJustified setting past served
+      → e.report.outcome ≡ NoId → IsLack setting past e → IsJustified setting (e ∷ past) served
+  opened : {past : List Entry} {served : List ℕ} (e : Entry) → IsJustified setting past served
+      → e.report.outcome ≡ Opened → IsOpening setting past e → IsJustified setting (e ∷ past) served
+  asked : {past : List Entry} {served : List ℕ} (e : Entry) (exchange : ℕ) → IsJustified setting past served
+      → e.report.outcome ≡ SentRequest → IsForwarding setting past e exchange → IsJustified setting (e ∷ past) served
+  answered : {past : List Entry} {served : List ℕ} (e : Entry) (exchange : ℕ) → IsJustified setting past served
+      → e.report.outcome ≡ Answered NotStored → IsAnswer setting past e exchange → IsJustified setting (e ∷ past) served
+  delivered : {past : List Entry} {served : List ℕ} (e : Entry) (waiter : ℕ) → IsJustified setting past served
+      → e.report.outcome ≡ Delivered → IsDelivery setting past e waiter → ¬ IsMember waiter served → IsJustified setting (e ∷ past) (waiter ∷ served)
+  rejected : {past : List Entry} {served : List ℕ} (e : Entry) → IsJustified setting past served
+      → e.report.outcome ≡ Rejected → IsRejection e → IsJustified setting (e ∷ past) served
+  ignored : {past : List Entry} {served : List ℕ} (e : Entry) → IsJustified setting past served
+      → e.report.outcome ≡ Ignored → IsIgnored setting past e → IsJustified setting (e ∷ past) served
+  idle : {past : List Entry} {served : List ℕ} (e : Entry) → IsJustified setting past served
+      → e.report.outcome ≡ Idle → IsIdle past e → IsJustified setting (e ∷ past) served

@@ -10,11 +10,13 @@ use Rattle.coap_message.specs.declared.code.TheConstants.Code.{EMPTY, GET, VALID
 use Rattle.coap_message.specs.declared.options.Opt.{Opt}
 use Rattle.coap_message.specs.Codes.{is_code}
 use Rattle.coap_message.specs.Message.{Message}
+use Rattle.coap_message.specs.Options.{option_of}
 use Rattle.coap_message.specs.Spelling.{spelling}
 use Rattle.coap_message.specs.Uint.{uint_of, uint_spelling}
 use Rattle.coap_target.specs.declared.endpoint.Endpoint.{Endpoint}
 use Rattle.coap_target.specs.declared.target.Target.{Target}
 use Rattle.coap_target.specs.declared.routes.Routes.{Routes}
+use Rattle.coap_target.specs.Request.{first_value}
 use Rattle.coap_target.specs.Routes.{values_of, mapped_target}
 use Rattle.coap_exchange.specs.declared.exchange.Answer.{Answer}
 
@@ -58,12 +60,13 @@ busy_reply seconds id token = own_reply SERVICE_UNAVAILABLE (max_age_option seco
 
 -- ---- the request that is sent on
 
+-- a token of eight bytes
+abbrev pub eight_zeros : List ℕ
+eight_zeros = 0 ∷ 0 ∷ 0 ∷ 0 ∷ 0 ∷ 0 ∷ 0 ∷ 0 ∷ []
+
 -- the token of the request of an exchange: the salt and its number, in eight bytes
 unfoldable pub token_of : ℕ → ℕ → List ℕ
 token_of salt number = to_be_bytes w64 ((salt + number) % 2 ^ 64)
-
-abbrev pub option_of : ℕ → List ℕ → Opt
-option_of number value = record { number = number; value = value }
 
 abbrev pub host_options : Option (List ℕ) → List Opt
 host_options None = []
@@ -77,10 +80,6 @@ target_options t = host_options t.host ++ (map (option_of 11) t.path ++ map (opt
 -- a confirmable GET of the target
 abbrev pub forwarded : List ℕ → Target → ℕ → Message
 forwarded token t id = record { kind = Con; code = GET; id = id; token = token; options = target_options t; payload = [] }
-
-abbrev pub first_value : List (List ℕ) → Option (List ℕ)
-first_value [] = None
-first_value (value ∷ values) = Some value
 
 -- the target of a request that was sent to an endpoint, read off the request
 unfoldable pub target_sent : Endpoint → Message → Target
@@ -96,15 +95,15 @@ pub data Verdict : Type 0 where
 abbrev pub is_path_option : Opt → Bool
 is_path_option o = (o.number == 11) && nat_le (length o.value) 255
 
--- a form that is too long for a datagram isn't sent on
-abbrev pub verdict_of_target : ℕ → List ℕ → Option Target → Verdict
-verdict_of_target most token None = refused_with NOT_FOUND
-verdict_of_target most token (Some t) = if nat_le (length (spelling (forwarded token t 0))) most then may_open t else refused_with REQUEST_ENTITY_TOO_LARGE
+-- A request that is too long for a datagram isn't sent on. It is as long with any token of eight bytes and any id.
+abbrev pub verdict_of_target : ℕ → Option Target → Verdict
+verdict_of_target most None = refused_with NOT_FOUND
+verdict_of_target most (Some t) = if nat_le (length (spelling (forwarded eight_zeros t 0))) most then may_open t else refused_with REQUEST_ENTITY_TOO_LARGE
 
 -- the method, the options, the target, the length: the first that is at fault decides
-unfoldable pub verdict_of : Routes → ℕ → List ℕ → Message → Verdict
-verdict_of routes most token m =
-    if is_code m.code GET then (if list_all is_path_option m.options then verdict_of_target most token (mapped_target routes m) else refused_with BAD_OPTION) else refused_with METHOD_NOT_ALLOWED
+unfoldable pub verdict_of : Routes → ℕ → Message → Verdict
+verdict_of routes most m =
+    if is_code m.code GET then (if list_all is_path_option m.options then verdict_of_target most (mapped_target routes m) else refused_with BAD_OPTION) else refused_with METHOD_NOT_ALLOWED
 
 -- ---- answers
 
@@ -116,7 +115,7 @@ are_understood (o ∷ p ∷ more) = false
 
 -- a response fits where it fits a datagram with a token of eight bytes and a Max-Age of four
 abbrev pub widest : Message → Message
-widest m = record { kind = Non; code = m.code; id = 0; token = 0 ∷ 0 ∷ 0 ∷ 0 ∷ 0 ∷ 0 ∷ 0 ∷ 0 ∷ []; options = option_of 14 (0 ∷ 0 ∷ 0 ∷ 0 ∷ []) ∷ []; payload = m.payload }
+widest m = record { kind = Non; code = m.code; id = 0; token = eight_zeros; options = option_of 14 (0 ∷ 0 ∷ 0 ∷ 0 ∷ []) ∷ []; payload = m.payload }
 
 abbrev pub fits : ℕ → Message → Bool
 fits most m = nat_le (length (spelling (widest m))) most

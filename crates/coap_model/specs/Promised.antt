@@ -2,7 +2,7 @@
 use Rattle.std.specs.Prelude.{◌≡◌, ℕ, ◌≤◌, List, length}
 use Rattle.coap_model.specs.World.{World}
 use Rattle.coap_model.specs.History.{Entry, Place, IsPlaceOf, Gives, AreIds, IsInOrder}
-use Rattle.coap_model.specs.Justified.{Act, IsJustified}
+use Rattle.coap_model.specs.Justified.{IsJustified}
 use Rattle.coap_model.specs.Held.{held, most_held}
 
 -- Message ids don't come back: two places that gave one id are one place (RFC 7252, 4.4).
@@ -11,8 +11,8 @@ IdsDiffer history = (p q : Place) (id : ℕ) → IsPlaceOf history p → IsPlace
 
 pub record Promised (history : List Entry) (w : World) : Type 0 where
   -- each entry is justified by the entries before it, and each waiter is served at most once
-  pub acts : List Act
-  pub justified : IsJustified w.setting history acts
+  pub served : List ℕ
+  pub justified : IsJustified w.setting history served
   pub in_order : IsInOrder history
   -- the limits hold
   pub exchanges : length w.exchanges ≤ w.setting.limits.exchanges

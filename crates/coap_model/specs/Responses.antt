@@ -1,10 +1,10 @@
 -- The step of a response that comes in an acknowledgement (RFC 7252, 5.2.1 and 5.3.2).
-use Rattle.std.specs.Prelude.{ℕ, ◌==◌, ◌&&◌, Bool, false, nat_eq, Option, Some, None}
+use Rattle.std.specs.Prelude.{ℕ, ◌==◌, ◌&&◌, Bool, false, Option, Some, None}
 use Rattle.std.specs.List.{find}
-use Rattle.std.specs.Cmp.Lexicographic.{pointwise}
 use Rattle.coap_message.specs.Message.{Message}
 use Rattle.coap_target.specs.declared.endpoint.Endpoint.{Endpoint}
 use Rattle.coap_target.specs.Endpoint.{same_endpoint}
+use Rattle.coap_target.specs.Equality.{same_bytes}
 use Rattle.coap_exchange.specs.declared.exchange.ExchangeState.{ExchangeState}
 use Rattle.coap_exchange.specs.declared.exchange.ExchangeState.TheVariants.{Queued, Sent, Done}
 use Rattle.coap_exchange.specs.declared.exchange.Exchange.{Exchange}
@@ -23,7 +23,7 @@ has_id id (Done a) = false
 
 -- whether the exchange awaits this response of this endpoint: by endpoint, id and token
 abbrev pub awaits : ℕ → Endpoint → Message → Numbered Exchange → Bool
-awaits salt source m x = has_id m.id x.1.state && (same_endpoint x.1.target.at source && pointwise nat_eq (token_of salt x.0) m.token)
+awaits salt source m x = has_id m.id x.1.state && (same_endpoint x.1.target.at source && same_bytes (token_of salt x.0) m.token)
 
 abbrev pub awaiting : World → Endpoint → Message → Option (Numbered Exchange)
 awaiting w source m = find (awaits w.setting.salt source m) w.exchanges

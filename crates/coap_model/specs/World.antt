@@ -5,7 +5,7 @@ use Rattle.coap_message.specs.Spelling.{spelling}
 use Rattle.coap_target.specs.declared.endpoint.Endpoint.{Endpoint}
 use Rattle.coap_exchange.specs.declared.exchange.Exchange.{Exchange}
 use Rattle.coap_exchange.specs.declared.waiter.Waiter.{Waiter}
-use Rattle.coap_exchange.specs.Exchanges.{is_queued, count_of}
+use Rattle.coap_exchange.specs.Exchanges.{is_queued, count_where}
 use Rattle.coap_exchange.specs.Ids.{nth_id}
 use Rattle.coap_exchange.specs.Table.{Numbered}
 use Rattle.coap_model.specs.declared.report.Outcome.{Outcome}
@@ -55,7 +55,7 @@ next_id w = nth_id w.setting.first_id w.given
 
 -- ids that are kept for exchanges which are still to be sent, and for clients which are still to be served
 abbrev pub reserved : World → ℕ
-reserved w = length w.waiters + count_of is_queued w.exchanges
+reserved w = length w.waiters + count_where is_queued w.exchanges
 
 -- so many ids are free
 abbrev pub has_ids : ℕ → World → Bool

@@ -4,20 +4,20 @@ use Rattle.std.proofs.Common.{Result, Ok, Err, OnErr, ◌≡◌, ◌≢◌, ℕ,
 use Rattle.coap_message.specs.declared.options.Opt.{Opt}
 use Rattle.coap_message.specs.Options.{AreOptions}
 use Rattle.coap_option.specs.declared.places.Run.{Run}
-use Rattle.coap_option.specs.Places.{Place, places, places_behind}
+use Rattle.coap_option.specs.Places.{PlacedOption, places, places_behind}
 use Rattle.coap_option.proofs.Passing.{IsAt, IsAt-none, IsAt-step, places_behind-step, places_behind-none}
 
 -- the first place of all is the first of those left
-pub record IsSeeking (test : Place → Bool) (options : List Opt) (i : ℕ) (run : Run) : Type 0 where
+pub record IsSeeking (test : PlacedOption → Bool) (options : List Opt) (i : ℕ) (run : Run) : Type 0 where
   pub run_is : IsAt options i run
   pub rest : find test (places options) ≡ find test (places_behind (take i options) (drop i options))
 
 -- `list` has what `f` makes of the options in the places passed; the others are among those left
-pub record IsPicking {A : Type 0} (f : Opt → A) (test : Place → Bool) (options : List Opt) (i : ℕ) (run : Run) (list : List A) : Type 0 where
+pub record IsPicking {A : Type 0} (f : Opt → A) (test : PlacedOption → Bool) (options : List Opt) (i : ℕ) (run : Run) (list : List A) : Type 0 where
   pub run_is : IsAt options i run
   pub rest : map (λ p. f p.option) (filter test (places options)) ≡ list ++ map (λ p. f p.option) (filter test (places_behind (take i options) (drop i options)))
 
-module _ (test : Place → Bool) (options : List Opt) where
+module _ (test : PlacedOption → Bool) (options : List Opt) where
   -- none is passed yet
   pub IsSeeking-none : AreOptions 0 options → IsSeeking test options 0 (record { number = 0; count = 0 })
   IsSeeking-none are = record { run_is = IsAt-none options are; rest = refl }
@@ -49,7 +49,7 @@ append-nonempty : {A : Type 0} (xs : List A) (x : A) (ys : List A) → (xs ++ x 
 append-nonempty [] x ys same = cc
 append-nonempty (z ∷ zs) x ys same = cc
 
-module _ {A : Type 0} (f : Opt → A) (test : Place → Bool) (options : List Opt) where
+module _ {A : Type 0} (f : Opt → A) (test : PlacedOption → Bool) (options : List Opt) where
   -- none is passed yet
   pub IsPicking-none : AreOptions 0 options → IsPicking f test options 0 (record { number = 0; count = 0 }) []
   IsPicking-none are = record { run_is = IsAt-none options are; rest = refl }

@@ -10,10 +10,6 @@ use Rattle.coap_option.specs.Recognition.{is_recognised}
 abbrev pub zeros : ℕ → ℕ → Opt
 zeros number length = record { number = number; value = replicate length 0 }
 
--- an option of this number, with this value
-abbrev pub with_value : ℕ → List ℕ → Opt
-with_value number value = record { number = number; value = value }
-
 -- a message with this code and these options
 abbrev pub message : ℕ → List Opt → Message
 message code options = record { kind = Con; code = record { 0 = code }; id = 7; token = []; options = options; payload = [] }

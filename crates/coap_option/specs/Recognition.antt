@@ -20,9 +20,9 @@ times_of Request row = row.requests
 times_of Response row = row.responses
 
 -- a value of this length is in the row's range (RFC 7252, 5.4.3), and may stand behind so many
-abbrev pub fits : Row → Side → ℕ → ℕ → Bool
-fits row side length before = nat_le row.shortest length && nat_le length row.longest && may_stand (times_of side row) before
+abbrev pub recognises : Row → Side → ℕ → ℕ → Bool
+recognises row side length before = nat_le row.shortest length && nat_le length row.longest && may_stand (times_of side row) before
 
 -- an option of this side, number and length is recognised behind so many of its number
 abbrev pub is_recognised : Side → ℕ → ℕ → ℕ → Bool
-is_recognised side number length before = option_map_or (λ row. fits row side length before) (row_of number) false
+is_recognised side number length before = option_map_or (λ row. recognises row side length before) (row_of number) false

@@ -8,12 +8,12 @@ use Rattle.coap_message.specs.Message.{Message}
 use Rattle.coap_option.specs.declared.side.Side.{Side}
 use Rattle.coap_option.specs.declared.side.Side.TheVariants.{Request, Response}
 use Rattle.coap_option.specs.Classes.{is_no_cache_key}
-use Rattle.coap_option.specs.Places.{Place, places, is_recognised_at}
+use Rattle.coap_option.specs.Places.{PlacedOption, places, is_recognised_at}
 use Rattle.coap_option.specs.Side.{side_of}
 use Rattle.coap_message.specs.Uint.{uint_of}
 
 -- the options in places for which the test holds, in order
-abbrev pub selected : (Place → Bool) → List Opt → List Opt
+abbrev pub selected : (PlacedOption → Bool) → List Opt → List Opt
 selected test options = map (λ p. p.option) (filter test (places options))
 
 -- Uri-Host, Observe, Uri-Port, Uri-Path, Max-Age, Uri-Query, Proxy-Uri, Proxy-Scheme: what they say
@@ -23,15 +23,15 @@ used_up = 3 ∷ 6 ∷ 7 ∷ 11 ∷ 14 ∷ 15 ∷ 35 ∷ 39 ∷ []
 
 -- the option of a request stays at the proxy: it is recognised, and one of those, or an ETag of a GET
 -- (code 0.01), which the proxy answers itself (RFC 7252, 5.10.6.2)
-abbrev pub stays : Code → Place → Bool
+abbrev pub stays : Code → PlacedOption → Bool
 stays code p = is_recognised_at Request p && (list_any (λ n. n == p.option.number) used_up || (code.0 == 1 && p.option.number == 4))
 
 -- the options of a request that are sent on
-abbrev pub forwarded : Message → List Opt
-forwarded m = selected (λ p. not (stays m.code p)) m.options
+abbrev pub sent_on : Message → List Opt
+sent_on m = selected (λ p. not (stays m.code p)) m.options
 
 -- the option of a request is part of the cache key (RFC 7252, 5.4.2)
-abbrev pub is_key : Code → Place → Bool
+abbrev pub is_key : Code → PlacedOption → Bool
 is_key code p = not (stays code p) && not (is_no_cache_key p.option.number)
 
 -- the options of a request that are part of the cache key (RFC 7252, 5.6)
@@ -39,7 +39,7 @@ abbrev pub key_of : Message → List Opt
 key_of m = selected (is_key m.code) m.options
 
 -- a recognised option of this side and number
-abbrev pub is_of : Side → ℕ → Place → Bool
+abbrev pub is_of : Side → ℕ → PlacedOption → Bool
 is_of side number p = p.option.number == number && is_recognised_at side p
 
 -- the values of the recognised ETags of a message (RFC 7252, 5.10.6)

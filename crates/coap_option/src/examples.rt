@@ -2,8 +2,9 @@
 ghost use Rattle.std.specs.Prelude.{◌≡◌, ◌∷◌, [], true, map, filter};
 ghost use Rattle.std.specs.List.{list_all, range_with_len};
 ghost use Rattle.coap_option.specs.Screening.{first_refused};
-ghost use Rattle.coap_option.specs.Selection.{forwarded, key_of, max_age_of, tags_of};
-ghost use Rattle.coap_option.specs.Examples.{content, get, has_range, is_known, of_requests, of_responses, put, with_value, zeros};
+ghost use Rattle.coap_message.specs.Options.{option_of};
+ghost use Rattle.coap_option.specs.Selection.{sent_on, key_of, max_age_of, tags_of};
+ghost use Rattle.coap_option.specs.Examples.{content, get, has_range, is_known, of_requests, of_responses, put, zeros};
 
 use crate::numbers::*;
 use crate::side::Side;
@@ -49,21 +50,21 @@ pub fn screened()
 
 /// Which options of some messages are sent on, are part of the key, or say how the message is cached.
 pub fn selected()
-    ensures accepts { forwarded (get (zeros 17 1 ∷ zeros 17 1 ∷ [])) ≡ zeros 17 1 ∷ zeros 17 1 ∷ [] }
-    ensures observe { forwarded (get (zeros 6 0 ∷ zeros 17 1 ∷ [])) ≡ zeros 17 1 ∷ [] }
-    ensures long_observe { forwarded (get (zeros 6 4 ∷ [])) ≡ zeros 6 4 ∷ [] }
-    ensures max_age_of_request { forwarded (get (zeros 14 1 ∷ [])) ≡ [] }
-    ensures tag_of_get { forwarded (get (zeros 4 1 ∷ zeros 4 9 ∷ [])) ≡ zeros 4 9 ∷ [] }
-    ensures tag_of_put { forwarded (put (zeros 4 1 ∷ [])) ≡ zeros 4 1 ∷ [] }
-    ensures size1 { forwarded (get (zeros 17 1 ∷ zeros 60 1 ∷ [])) ≡ zeros 17 1 ∷ zeros 60 1 ∷ [] }
+    ensures accepts { sent_on (get (zeros 17 1 ∷ zeros 17 1 ∷ [])) ≡ zeros 17 1 ∷ zeros 17 1 ∷ [] }
+    ensures observe { sent_on (get (zeros 6 0 ∷ zeros 17 1 ∷ [])) ≡ zeros 17 1 ∷ [] }
+    ensures long_observe { sent_on (get (zeros 6 4 ∷ [])) ≡ zeros 6 4 ∷ [] }
+    ensures max_age_of_request { sent_on (get (zeros 14 1 ∷ [])) ≡ [] }
+    ensures tag_of_get { sent_on (get (zeros 4 1 ∷ zeros 4 9 ∷ [])) ≡ zeros 4 9 ∷ [] }
+    ensures tag_of_put { sent_on (put (zeros 4 1 ∷ [])) ≡ zeros 4 1 ∷ [] }
+    ensures size1 { sent_on (get (zeros 17 1 ∷ zeros 60 1 ∷ [])) ≡ zeros 17 1 ∷ zeros 60 1 ∷ [] }
     ensures key { key_of (get (zeros 17 1 ∷ zeros 60 1 ∷ [])) ≡ zeros 17 1 ∷ [] }
 
-    ensures tags_of_request { tags_of (get (with_value 4 (1 ∷ []) ∷ with_value 4 (2 ∷ []) ∷ [])) ≡ (1 ∷ []) ∷ (2 ∷ []) ∷ [] }
-    ensures tag_of_response { tags_of (content (with_value 4 (1 ∷ []) ∷ with_value 4 (2 ∷ []) ∷ [])) ≡ (1 ∷ []) ∷ [] }
+    ensures tags_of_request { tags_of (get (option_of 4 (1 ∷ []) ∷ option_of 4 (2 ∷ []) ∷ [])) ≡ (1 ∷ []) ∷ (2 ∷ []) ∷ [] }
+    ensures tag_of_response { tags_of (content (option_of 4 (1 ∷ []) ∷ option_of 4 (2 ∷ []) ∷ [])) ≡ (1 ∷ []) ∷ [] }
     ensures bad_first_tag { tags_of (content (zeros 4 9 ∷ zeros 4 1 ∷ [])) ≡ [] }
 
     ensures no_max_age { max_age_of (content []) ≡ 60 }
-    ensures leading_zeros { max_age_of (content (with_value 14 (0 ∷ 0 ∷ 1 ∷ 44 ∷ []) ∷ [])) ≡ 300 }
+    ensures leading_zeros { max_age_of (content (option_of 14 (0 ∷ 0 ∷ 1 ∷ 44 ∷ []) ∷ [])) ≡ 300 }
     ensures empty_max_age { max_age_of (content (zeros 14 0 ∷ [])) ≡ 0 }
     ensures long_max_age { max_age_of (content (zeros 14 5 ∷ [])) ≡ 60 }
 {}

@@ -2,7 +2,7 @@
 //! it.
 ghost use Rattle.std.specs.Prelude.{◌≡◌, ◌≢◌, ◌==◌, ◌+◌, ◌-◌, ◌^◌, ◌<◌, if◌then◌else◌, filter, find, map, [], IfOk, OnErr};
 ghost use Rattle.std.specs.Option.{option_map, option_copied};
-ghost use Rattle.coap_option.specs.Places.{Place, places};
+ghost use Rattle.coap_option.specs.Places.{PlacedOption, places};
 ghost use Rattle.coap_option.specs.Selection.{selected};
 
 use coap_message::{Opt, OptionList, OutOfMemory, Seq};
@@ -12,7 +12,7 @@ use std::alloc::Global;
 pub(crate) trait Test {
     ghost use Rattle.std.specs.Prelude.{Bool};
 
-    ghost holds: { Self → Place → Bool };
+    ghost holds: { Self → PlacedOption → Bool };
 
     /// Whether it holds of an option behind so many of its number.
     fn holds_of(&self, option: &Opt, before: usize) -> bool

@@ -15,7 +15,7 @@ pub fn recognised(side: Side, number: u16, length: usize, before: usize) -> bool
     ensures { result ≡ is_recognised side number length before }
 {
     match Row::of(number) {
-        Some(row) => row.fits(side, length, before),
+        Some(row) => row.recognises(side, length, before),
         None => false,
     }
 }

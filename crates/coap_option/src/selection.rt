@@ -1,7 +1,7 @@
 //! Which options of a message are sent on, are part of the cache key, or say how it is cached
 //! (RFC 7252, 5.4.2, 5.6, 5.7 and 5.10).
 ghost use Rattle.std.specs.Prelude.{◌≡◌, ◌≢◌, [], IfOk, OnErr, not};
-ghost use Rattle.coap_option.specs.Selection.{forwarded, is_key, is_of, key_of, max_age_of, stays, tags_of};
+ghost use Rattle.coap_option.specs.Selection.{sent_on, is_key, is_of, key_of, max_age_of, stays, tags_of};
 
 use crate::classes::is_no_cache_key;
 use crate::numbers;
@@ -52,12 +52,12 @@ impl Test for InKey {
 
 /// Recognised on this side, and of this number.
 #[derive(Clone, Copy)]
-struct Numbered {
+struct OfNumber {
     side: Side,
     number: u16,
 }
 
-impl Test for Numbered {
+impl Test for OfNumber {
     ghost holds = { λ t p. is_of t.side t.number p };
 
     fn holds_of(&self, option: &Opt, before: usize) -> bool {
@@ -69,8 +69,8 @@ impl Test for Numbered {
 /// Observe, Uri-Port, Uri-Path, Max-Age, Uri-Query, Proxy-Uri and Proxy-Scheme, and in a GET all but
 /// the recognised ETags, too. An `Err` is for want of memory; where no option is sent on, none is taken.
 pub fn forward_options(alloc: Global, message: &Message) -> Result<OptionList, OutOfMemory>
-    ensures ok { IfOk result (λ list. list ≡ forwarded message.now) }
-    ensures err { OnErr result (forwarded message.now ≢ []) }
+    ensures ok { IfOk result (λ list. list ≡ sent_on message.now) }
+    ensures err { OnErr result (sent_on message.now ≢ []) }
 {
     select(alloc, &message.options, &Forwarded(message.code))
 }
@@ -92,7 +92,7 @@ pub fn tags(alloc: Global, message: &Message) -> Result<Seq<Seq<u8>>, OutOfMemor
     ensures ok { IfOk result (λ tags. tags ≡ tags_of message.now) }
     ensures err { OnErr result (tags_of message.now ≢ []) }
 {
-    let tag = Numbered {
+    let tag = OfNumber {
         side: Side::of(message.code),
         number: numbers::ETAG,
     };
@@ -103,7 +103,7 @@ pub fn tags(alloc: Global, message: &Message) -> Result<Seq<Seq<u8>>, OutOfMemor
 pub fn max_age(message: &Message) -> u32
     ensures { result ≡ max_age_of message.now }
 {
-    let max_age = Numbered {
+    let max_age = OfNumber {
         side: Side::Response,
         number: numbers::MAX_AGE,
     };

@@ -40,7 +40,7 @@ pub(crate) struct Row {
 
 impl Row {
     ghost use Rattle.coap_option.specs.Table.{row_of};
-    ghost use Rattle.coap_option.specs.Recognition.{times_of, fits};
+    ghost use Rattle.coap_option.specs.Recognition.{times_of, recognises};
 
     /// What is known of an option of this number, if it is defined at all.
     pub(crate) fn of(number: u16) -> Option<Row>
@@ -86,8 +86,8 @@ impl Row {
 
     /// Whether an option with a value of this length is allowed on this side, behind so many of its
     /// number.
-    pub(crate) fn fits(self, side: Side, length: usize, before: usize) -> bool
-        ensures { result ≡ fits self side length before }
+    pub(crate) fn recognises(self, side: Side, length: usize, before: usize) -> bool
+        ensures { result ≡ recognises self side length before }
     {
         self.shortest <= length && length <= self.longest && self.times(side).allows(before)
     }

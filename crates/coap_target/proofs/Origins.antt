@@ -21,11 +21,11 @@ use Rattle.coap_target.specs.Hosts.{address_of}
 use Rattle.coap_target.specs.Request.{named_target, target_at_host, remote}
 use Rattle.coap_target.specs.RouteLists.{HaveTargets}
 use Rattle.coap_target.specs.RouteTexts.{Pair, prefix_of, target_at, without_query, origin_at, map_with, map_read, all_of}
-use Rattle.coap_target.specs.Target.{IsSegment, IsTarget}
+use Rattle.coap_target.specs.Target.{IsShort, IsTarget}
 use Rattle.coap_target.specs.Uri.{is_short, is_short_host, are_short, host_part, port_part, path_parts, query_parts, is_plain, with_host, url_or_bad, uri_read, uri_of}
 
 -- parts that are all short enough
-pub All-list_all : (xs : List (List ℕ)) → list_all is_short xs ≡ true → AllByRecursion IsSegment xs
+pub All-list_all : (xs : List (List ℕ)) → list_all is_short xs ≡ true → AllByRecursion IsShort xs
 All-list_all [] all = tt
 All-list_all (x ∷ xs) all =
     let parts = and_parts (is_short x) (list_all is_short xs) all in
@@ -58,8 +58,8 @@ unfolding uri_of
 uri_of-short text uri is = uri_read-short (url_or_bad (parse_url None text)) uri is
 
 -- the target of a URI with short parts
-module _ (hosts : List KnownHost) (uri : UriParts) (t : Target) (path : AllByRecursion IsSegment uri.path) (query : AllByRecursion IsSegment uri.query) where
-  named-is : (ip : Option Ip) (name : List ℕ) → IsSegment name → named_target ip name uri ≡ Ok t → IsTarget t
+module _ (hosts : List KnownHost) (uri : UriParts) (t : Target) (path : AllByRecursion IsShort uri.path) (query : AllByRecursion IsShort uri.query) where
+  named-is : (ip : Option Ip) (name : List ℕ) → IsShort name → named_target ip name uri ≡ Ok t → IsTarget t
   named-is None name short is = absurd cc
   named-is (Some ip) name short is =
       let made : Target = record { host = Some name; at = record { ip = ip; port = uri.port }; path = uri.path; query = uri.query } in

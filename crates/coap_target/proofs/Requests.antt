@@ -22,7 +22,7 @@ use Rattle.coap_target.specs.Address.{ip_of}
 use Rattle.coap_target.specs.Hosts.{is_own}
 use Rattle.coap_target.specs.Request.{value_of, port_of, local, remote, resolved, of_uri, by_uri, composed, is_coap, by_scheme, if_any, by_options, request_target}
 use Rattle.coap_target.specs.Routes.{path_of, query_of, map_of, mapped, mapped_target, AreRoutes}
-use Rattle.coap_target.specs.Target.{IsSegment, IsTarget}
+use Rattle.coap_target.specs.Target.{IsShort, IsTarget}
 use Rattle.coap_target.specs.Uri.{is_short, is_short_host, are_short, host_or, host_of, uri_of}
 use Rattle.std.specs.List.{list_all}
 use Rattle.coap_target.proofs.Origins.{All-list_all, uri_of-short, target_at_host-is}
@@ -30,7 +30,7 @@ use Rattle.coap_target.proofs.Screened.{path_of-short, uri_host-short, query_of-
 use Rattle.coap_target.proofs.Targets.{All-map_of, mapped-is}
 
 module _ (routes : Routes) (are : AreRoutes routes) (t : Target) where
-  local-is : (path query : List (List ℕ)) → AllByRecursion IsSegment path → AllByRecursion IsSegment query → local routes path query ≡ Ok t → IsTarget t
+  local-is : (path query : List (List ℕ)) → AllByRecursion IsShort path → AllByRecursion IsShort query → local routes path query ≡ Ok t → IsTarget t
   local-is path query of_path of_query e = go (map_of routes.maps path) refl e
     where
       go : (o : Option Map) → map_of routes.maps path ≡ o → ok_or (option_map (mapped path query) o) NotFound ≡ Ok t → IsTarget t
@@ -39,7 +39,7 @@ module _ (routes : Routes) (are : AreRoutes routes) (t : Target) where
           let same : mapped path query n ≡ t = cc in
           subst IsTarget same (mapped-is path query n (All-map_of (λ k. IsTarget k.origin) routes.maps path n are found) of_path of_query)
 
-  resolved-is : (uri : UriParts) → is_short_host uri.host ≡ true → AllByRecursion IsSegment uri.path → AllByRecursion IsSegment uri.query → resolved routes uri ≡ Ok t → IsTarget t
+  resolved-is : (uri : UriParts) → is_short_host uri.host ≡ true → AllByRecursion IsShort uri.path → AllByRecursion IsShort uri.query → resolved routes uri ≡ Ok t → IsTarget t
   resolved-is uri host path query e = go (is_own routes.names uri.host) e
     where
       go : (b : Bool) → cond b (local routes uri.path uri.query) (remote routes.hosts uri) ≡ Ok t → IsTarget t

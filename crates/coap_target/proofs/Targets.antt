@@ -5,7 +5,7 @@ use Rattle.coap_message.specs.Message.{Message}
 use Rattle.coap_target.specs.declared.target.Target.{Target}
 use Rattle.coap_target.specs.declared.map.Map.{Map}
 use Rattle.coap_target.specs.declared.routes.Routes.{Routes}
-use Rattle.coap_target.specs.Target.{IsSegment, IsTarget}
+use Rattle.coap_target.specs.Target.{IsShort, IsTarget}
 use Rattle.coap_target.specs.Routes.{begins, longer, map_of, mapped, path_of, query_of, mapped_target, AreRoutes}
 use Rattle.coap_target.proofs.Lists.{All-append}
 
@@ -31,15 +31,15 @@ All-map_of P (n ∷ maps) path m all found = go (λ later e. All-map_of P maps p
     go holds false (Some later) e is = subst P (let same : later ≡ m = cc in same) (holds later e)
 
 -- a mapped path and query make a target
-pub mapped-is : (path query : List (List ℕ)) (m : Map) → IsTarget m.origin → AllByRecursion IsSegment path → AllByRecursion IsSegment query → IsTarget (mapped path query m)
+pub mapped-is : (path query : List (List ℕ)) (m : Map) → IsTarget m.origin → AllByRecursion IsShort path → AllByRecursion IsShort query → IsTarget (mapped path query m)
 mapped-is path query m is of_path of_query = record {
   host = is.host;
-  path = All-append IsSegment m.origin.path (drop (length m.prefix) path) is.path (All-drop IsSegment (length m.prefix) path of_path);
+  path = All-append IsShort m.origin.path (drop (length m.prefix) path) is.path (All-drop IsShort (length m.prefix) path of_path);
   query = of_query;
 }
 
 -- the target of a request whose segments and parts are short enough
-pub target-is : (routes : Routes) (m : Message) (t : Target) → AreRoutes routes → AllByRecursion IsSegment (path_of m) → AllByRecursion IsSegment (query_of m) → mapped_target routes m ≡ Some t → IsTarget t
+pub target-is : (routes : Routes) (m : Message) (t : Target) → AreRoutes routes → AllByRecursion IsShort (path_of m) → AllByRecursion IsShort (query_of m) → mapped_target routes m ≡ Some t → IsTarget t
 unfolding mapped_target
 target-is routes m t are path query e = go (map_of routes.maps (path_of m)) refl e
   where

@@ -10,10 +10,6 @@ use Rattle.coap_target.specs.declared.routes.Routes.{Routes}
 use Rattle.coap_target.specs.declared.target.Target.{Target}
 use Rattle.coap_target.specs.declared.uri.HostPart.TheVariants.{Name}
 
--- an option of this number, with this value
-abbrev pub option_of : ℕ → List ℕ → Opt
-option_of number value = record { number = number; value = value }
-
 -- a GET with these options
 abbrev pub get : List Opt → Message
 get options = record { kind = Non; code = record { 0 = 1 }; id = 7; token = []; options = options; payload = [] }

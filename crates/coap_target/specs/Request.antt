@@ -20,12 +20,12 @@ use Rattle.coap_target.specs.Routes.{values_of, path_of, query_of, mapped_by}
 use Rattle.coap_target.specs.Uri.{host_of, uri_of}
 
 -- the value of the first option of a number
-abbrev pub first_of : List (List ℕ) → Option (List ℕ)
-first_of [] = None
-first_of (value ∷ values) = Some value
+abbrev pub first_value : List (List ℕ) → Option (List ℕ)
+first_value [] = None
+first_value (value ∷ values) = Some value
 
 abbrev pub value_of : ℕ → Message → Option (List ℕ)
-value_of number m = first_of (values_of number m.options)
+value_of number m = first_value (values_of number m.options)
 
 -- The port that Uri-Port says. Without one it is that of the scheme (RFC 7252, 6.1), not the one that the request
 -- came to (5.10.1).

@@ -4,10 +4,10 @@ use Rattle.std.specs.List.{AllByRecursion}
 use Rattle.coap_target.specs.declared.target.Target.{Target}
 
 -- hosts, segments and parts of a query have at most 255 bytes (RFC 7252, 5.10)
-abbrev pub IsSegment : List ℕ → Type 0
-IsSegment bytes = length bytes ≤ 255
+abbrev pub IsShort : List ℕ → Type 0
+IsShort bytes = length bytes ≤ 255
 
 pub record IsTarget (t : Target) : Type 0 where
-  pub host : IfSome t.host IsSegment
-  pub path : AllByRecursion IsSegment t.path
-  pub query : AllByRecursion IsSegment t.query
+  pub host : IfSome t.host IsShort
+  pub path : AllByRecursion IsShort t.path
+  pub query : AllByRecursion IsShort t.query

@@ -1,8 +1,9 @@
 //! Examples, computed on the definitions.
 ghost use Rattle.std.specs.Prelude.{◌≡◌, ◌∷◌, [], None, Some, Ok, Err, codes};
+ghost use Rattle.coap_message.specs.Options.{option_of};
 ghost use Rattle.coap_target.specs.declared.error.TargetError.{TargetError};
 ghost use Rattle.coap_target.specs.Address.{ipv4_of};
-ghost use Rattle.coap_target.specs.Examples.{at, everything, get, option_of, other, sensor, temperature, with_maps, without_names};
+ghost use Rattle.coap_target.specs.Examples.{at, everything, get, other, sensor, temperature, with_maps, without_names};
 ghost use Rattle.coap_target.specs.Request.{request_target};
 ghost use Rattle.coap_target.specs.RouteTexts.{prefix_of};
 ghost use Rattle.coap_target.specs.Uri.{path_parts, query_parts};

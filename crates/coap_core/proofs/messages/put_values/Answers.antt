@@ -3,7 +3,7 @@ use Rattle.std.proofs.lemmas.List.{drop_more}
 use Rattle.std.proofs.lemmas.Result.{err_from_is_err_and}
 use Rattle.coap_message.specs.Spelling.{option_spelling, options_spelling}
 use Rattle.coap_message.proofs.Appending.{Appends-part}
-use Rattle.coap_model.specs.Messages.{option_of}
+use Rattle.coap_message.specs.Options.{option_of}
 use Rattle.coap_core.proofs.messages.put_values.Goals as goal
 
 pub returns-in_err-put_option-clause-written : goal.returns-in_err-put_option-clause-written

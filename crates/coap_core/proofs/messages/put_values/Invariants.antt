@@ -2,8 +2,8 @@ use Rattle.std.proofs.Common.{◌≡◌, ◌++◌, ◌≤◌, drop, length, map}
 use Rattle.std.specs.List.{AllByRecursion}
 use Rattle.coap_message.specs.Options.{last_number}
 use Rattle.coap_message.specs.Spelling.{options_spelling}
-use Rattle.coap_target.specs.Target.{IsSegment}
-use Rattle.coap_model.specs.Messages.{option_of}
+use Rattle.coap_target.specs.Target.{IsShort}
+use Rattle.coap_message.specs.Options.{option_of}
 use Rattle.coap_core.proofs.messages.put_values.Given as goal
 
 abbrev pub invariant-loop-value : goal.invariant-loop-value
@@ -13,6 +13,6 @@ invariant-loop-value l = record {
   written : l.out.bytes ++ options_spelling l.last (map (option_of l.number) (drop l.value-index l.values)) ≡ l.fn.out.bytes ++ options_spelling l.before (map (option_of l.number) l.values);
   within : length l.out.bytes ≤ l.room;
   above : l.last ≤ l.number;
-  segments : AllByRecursion IsSegment (drop l.value-index l.values);
+  segments : AllByRecursion IsShort (drop l.value-index l.values);
   behind : last_number l.last (map (option_of l.number) (drop l.value-index l.values)) ≡ last_number l.before (map (option_of l.number) l.values);
 }
