@@ -3,7 +3,7 @@ ghost use Rattle.std.specs.Prelude.{◌≡◌, ◌∷◌, [], true, map, filter}
 ghost use Rattle.std.specs.List.{list_all, range_with_len};
 ghost use Rattle.coap_option.specs.Screening.{first_refused};
 ghost use Rattle.coap_message.specs.Options.{option_of};
-ghost use Rattle.coap_option.specs.Selection.{sent_on, key_of, max_age_of, tags_of};
+ghost use Rattle.coap_option.specs.Selection.{key_of, max_age_of, sent_on, tags_of};
 ghost use Rattle.coap_option.specs.Examples.{content, get, has_range, is_known, of_requests, of_responses, put, zeros};
 
 use crate::numbers::*;

@@ -1,7 +1,7 @@
 //! Which options of a message are sent on, are part of the cache key, or say how it is cached
 //! (RFC 7252, 5.4.2, 5.6, 5.7 and 5.10).
 ghost use Rattle.std.specs.Prelude.{◌≡◌, ◌≢◌, [], IfOk, OnErr, not};
-ghost use Rattle.coap_option.specs.Selection.{sent_on, is_key, is_of, key_of, max_age_of, stays, tags_of};
+ghost use Rattle.coap_option.specs.Selection.{is_key, is_of, key_of, max_age_of, sent_on, stays, tags_of};
 
 use crate::classes::is_no_cache_key;
 use crate::numbers;
