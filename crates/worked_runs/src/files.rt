@@ -1,0 +1,33 @@
+//! The files of the runs.
+use std::alloc::{AllocError, Global};
+use std::rt::Files;
+use std::{fs, io};
+
+/// What the names of these files end in.
+const ENDING: &str = ".events";
+
+/// The file of the run of this name.
+pub(crate) fn file_of(alloc: Global, name: &str) -> Result<String, AllocError> {
+    format!(in alloc; "{name}{ENDING}")
+}
+
+/// The name of the run in a file of this name, if it is a run's.
+fn run_in(file: &str) -> Option<&str> {
+    file.strip_suffix(ENDING)
+}
+
+/// The names of the runs in a folder, in order.
+pub(crate) fn run_names<R: Files + AllocGlobal + Clone + Drop>(
+    rt: &R,
+    folder: &str,
+) -> io::Result<Vec<String>> {
+    let mut names = Vec::new(rt.alloc());
+    for entry in fs::read_dir(rt, folder)? {
+        let entry = entry?;
+        if let Some(name) = run_in(entry.file_name()) {
+            names.push(String::from_str(rt.alloc(), name)?)?;
+        }
+    }
+    names.sort()?;
+    Ok(names)
+}
