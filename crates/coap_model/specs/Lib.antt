@@ -10,6 +10,7 @@ pub mod Responses
 pub mod Ticks
 pub mod Step
 pub mod Examples
+pub mod LimitExamples
 pub mod History
 pub mod Justified
 pub mod Carries

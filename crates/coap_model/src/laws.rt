@@ -11,6 +11,7 @@ ghost use Rattle.coap_model.specs.Carries.{Carries};
 ghost use Rattle.coap_model.specs.Promised.{Promised};
 ghost use Rattle.coap_model.specs.Runs.{Turn, AreTurns, new_run, run_of, entry_of};
 ghost use Rattle.coap_model.specs.Examples.{play, proxy, small_proxy, narrow_proxy, first_answer, first_answer_sent, late_answer, late_answer_sent, error, error_sent, fault, fault_sent, changed, changed_sent, valid, replaced_sent, block_in_response, long_max_age, impostor, impostor_sent, refusals, refusals_sent, long_paths, long_paths_sent, long_segments, long_segments_sent, payload_in_get, payload_in_get_sent, full, full_sent, unprocessed_messages, unprocessed_messages_sent, too_long, too_long_sent, payload_of, payload_of_109_sent, spent_proxy, last_id, last_id_sent, wrapping_proxy, wrapping, wrapping_sent};
+ghost use Rattle.coap_model.specs.LimitExamples.{one_exchange, one_waiter, until_served, until_served_sent, retries_after, two_requests, second_is_told, narrow, long_datagrams, long_datagrams_sent, later_proxy, counted_on, counted_on_sent, after_ids, last_refusal, last_refusal_sent, kept_ids, kept_ids_sent};
 
 /// Runs of the step, computed on the definitions.
 pub fn examples()
@@ -34,6 +35,19 @@ pub fn examples()
     ensures payload_that_does_not { play narrow_proxy (payload_of 110) ≡ replaced_sent }
     ensures last_id { play spent_proxy last_id ≡ last_id_sent }
     ensures wrapping { play wrapping_proxy wrapping ≡ wrapping_sent }
+{}
+
+/// Runs of the step with other limits, another first id and another salt, and where ids run out, computed on the
+/// definitions.
+pub fn examples_at_limits()
+    ensures one_exchange { play one_exchange until_served ≡ until_served_sent }
+    ensures one_waiter { play one_waiter until_served ≡ until_served_sent }
+    ensures at_once { play (retries_after 0) two_requests ≡ second_is_told (0xD0 ∷ 1 ∷ []) }
+    ensures in_an_hour { play (retries_after 3600) two_requests ≡ second_is_told (0xD2 ∷ 1 ∷ 0x0E ∷ 0x10 ∷ []) }
+    ensures long_datagrams { play narrow long_datagrams ≡ long_datagrams_sent }
+    ensures counted_on { play later_proxy counted_on ≡ counted_on_sent }
+    ensures last_refusal { play (after_ids 32767) last_refusal ≡ last_refusal_sent }
+    ensures kept_ids { play (after_ids 32766) kept_ids ≡ kept_ids_sent }
 {}
 
 /// Each step of a proxy that carries a history leaves a proxy that carries the history with the step's
