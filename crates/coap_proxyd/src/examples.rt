@@ -27,6 +27,22 @@ pub fn bad_events()
     ensures odd { turn_of 0 (codes "0 0 127.0.0.1:40001 50010007B17") ≡ None }
     ensures no_digits { turn_of 0 (codes "0 0 127.0.0.1:40001 ") ≡ None }
     ensures more { turn_of 0 (codes "0 0 127.0.0.1:40001 50 ") ≡ None }
+    ensures draw_zeros { turn_of 1 (codes "1 00 tick") ≡ None }
+    ensures plus { turn_of 1 (codes "+1 0 tick") ≡ None }
+    ensures minus { turn_of 1 (codes "-1 0 tick") ≡ None }
+    ensures fraction { turn_of 1 (codes "1.0 0 tick") ≡ None }
+    ensures huge { turn_of 1 (codes "99999999999999999999 0 tick") ≡ None }
+    ensures capitals { turn_of 1 (codes "1 0 TICK") ≡ None }
+    ensures space_before { turn_of 1 (codes " 1 0 tick") ≡ None }
+    ensures space_behind { turn_of 1 (codes "1 0 tick ") ≡ None }
+    ensures tabs { turn_of 1 (codes "1\t0\ttick") ≡ None }
+    ensures carriage_return { turn_of 1 (codes "1 0 tick\r") ≡ None }
+    ensures more_than_a_tick { turn_of 1 (codes "1 0 tick -") ≡ None }
+    ensures no_event { turn_of 1 (codes "1 0") ≡ None }
+    ensures no_draw { turn_of 1 (codes "1 tick") ≡ None }
+    ensures no_bytes { turn_of 1 (codes "1 0 127.0.0.1:1") ≡ None }
+    ensures another_digit { turn_of 1 (codes "1 0 127.0.0.1:1 5001000G") ≡ None }
+    ensures two_hyphens { turn_of 1 (codes "1 0 127.0.0.1:1 --") ≡ None }
     ensures empty { turn_of 0 [] ≡ None }
 {}
 
@@ -43,6 +59,9 @@ pub fn endpoints()
     ensures port { endpoint_of (codes "127.0.0.1:65536") ≡ None }
     ensures port_zeros { endpoint_of (codes "127.0.0.1:05683") ≡ None }
     ensures no_port { endpoint_of (codes "127.0.0.1") ≡ None }
+    ensures great_number { endpoint_of (codes "127.0.0.256:1") ≡ None }
+    ensures number_zeros { endpoint_of (codes "127.0.0.01:1") ≡ None }
+    ensures host_name { endpoint_of (codes "localhost:1") ≡ None }
     ensures no_brackets { endpoint_of (codes "1:2:3:4:5:6:7:8:5683") ≡ None }
 {}
 

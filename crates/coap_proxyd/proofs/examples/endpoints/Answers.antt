@@ -11,4 +11,4 @@ use Rattle.coap_proxyd.proofs.examples.endpoints.Goals as goal
 
 pub returns : goal.returns
 unfolding digits number_of group_of ipv4_of read_ipv4 read_octet read_number v4_endpoint segments_read v6_endpoint bytes_read decode_pairs arrival_of event_of turn_of
-returns c = record { four = refl; groups = refl; leading_zeros = refl; either_case = refl; long_group = refl; seven = refl; nine = refl; elided = refl; port = refl; port_zeros = refl; no_port = refl; no_brackets = refl }
+returns c = record { four = refl; groups = refl; leading_zeros = refl; either_case = refl; long_group = refl; seven = refl; nine = refl; elided = refl; port = refl; port_zeros = refl; no_port = refl; great_number = refl; number_zeros = refl; host_name = refl; no_brackets = refl }
