@@ -1,9 +1,8 @@
-//! Tests that cross crates: runs worked out by hand, from the bytes or lines in to the bytes or lines out.
+//! Tests that cross crates, of what no worked run can show: what a core tells of itself, and readers and writers that
+//! fail.
 #![tactic(auto)]
 
 #[cfg(test)]
 mod replays;
-#[cfg(test)]
-mod run;
 #[cfg(test)]
 mod steps;
