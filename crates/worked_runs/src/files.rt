@@ -1,4 +1,6 @@
 //! The files of the runs.
+ghost use Rattle.std.specs.Prelude.{◌≡◌, ◌++◌, codes, IfOk, IfSome, string_bytes};
+
 use std::alloc::{AllocError, Global};
 use std::rt::Files;
 use std::{fs, io};
@@ -7,12 +9,16 @@ use std::{fs, io};
 const ENDING: &str = ".events";
 
 /// The file of the run of this name.
-pub(crate) fn file_of(alloc: Global, name: &str) -> Result<String, AllocError> {
+pub(crate) fn file_of(alloc: Global, name: &str) -> Result<String, AllocError>
+    ensures { IfOk result (λ file. string_bytes file ≡ name.now ++ codes ".events") }
+{
     format!(in alloc; "{name}{ENDING}")
 }
 
 /// The name of the run in a file of this name, if it is a run's.
-fn run_in(file: &str) -> Option<&str> {
+fn run_in(file: &str) -> Option<&str>
+    ensures { IfSome result (λ name. file.now ≡ name.now ++ codes ".events") }
+{
     file.strip_suffix(ENDING)
 }
 

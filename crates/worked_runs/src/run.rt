@@ -1,4 +1,6 @@
 //! One run: its words, and what the program makes of it.
+ghost use Rattle.std.specs.Prelude.{◌≡◌, ◌++◌, codes, IfSome};
+
 use coap_proxyd::{Fault, serve};
 use std::alloc::{AllocError, Global};
 use std::io;
@@ -8,7 +10,9 @@ use std::io::{ErrorKind, Write};
 const MARK: &str = "# words:";
 
 /// What stands behind the mark of a line, if it has the mark.
-fn behind_mark(line: &[u8]) -> Option<&str> {
+fn behind_mark(line: &[u8]) -> Option<&str>
+    ensures { IfSome result (λ words. line.now ≡ codes "# words:" ++ words.now) }
+{
     str::from_utf8(line).ok()?.strip_prefix(MARK)
 }
 
