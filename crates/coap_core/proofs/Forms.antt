@@ -1,6 +1,6 @@
 -- The request that is sent on, as it is written: its head, then the options of its target, number by number.
-use Rattle.std.proofs.Common.{◌≡◌, ℕ, ◌≤◌, List, [], ◌∷◌, ◌++◌, map, Option, Some, None, Result, Ok, Err, refl, sym, ap, ◌∙◌, subst, append_assoc, arith}
-use Rattle.std.proofs.lemmas.List.{append-nil}
+use Rattle.std.proofs.Common.{◌≡◌, ℕ, ◌≤◌, List, [], ◌∷◌, ◌++◌, length, map, Option, Some, None, Result, Ok, Err, refl, sym, ap, ◌∙◌, subst, append_assoc, arith}
+use Rattle.std.proofs.lemmas.List.{append-nil, length-append, map-append}
 use Rattle.coap_message.specs.declared.error.Full.{Full}
 use Rattle.coap_message.specs.declared.message.Head.{Head}
 use Rattle.coap_message.specs.declared.kind.Kind.TheVariants.{Con}
@@ -14,10 +14,38 @@ use Rattle.coap_target.specs.declared.target.Target.{Target}
 use Rattle.coap_message.specs.Options.{option_of}
 use Rattle.coap_model.specs.Messages.{host_options, target_options, forwarded}
 
+-- after a write there is the same room, and no more than that is held
+pub record IsWritten (old new : Datagram) (most : ℕ) : Type 0 where
+  pub room : most ≤ new.room
+  pub held : length new.bytes ≤ most
+
+-- so it is after each write that went well
+pub written : (old new : Datagram) (room : ℕ) (bytes : List ℕ) → room ≤ old.room → Appends old new room bytes (Ok tt) → IsWritten old new room
+written old new room bytes within a = record {
+  room = omega (arith, within, ap (λ (d : Datagram). d.room) a.0);
+  held = omega (arith, ap (λ (d : Datagram). length d.bytes) a.0, length-append old.bytes bytes, a.1);
+}
+
+-- options in two parts are spelled one part behind the other
 options_spelling-append : (before : ℕ) (xs ys : List Opt) → options_spelling before (xs ++ ys) ≡ options_spelling before xs ++ options_spelling (last_number before xs) ys
 options_spelling-append before [] ys = refl
 options_spelling-append before (x ∷ xs) ys =
     ap (λ (l : List ℕ). option_spelling before x ++ l) (options_spelling-append x.number xs ys) ∙ sym (append_assoc (option_spelling before x) (options_spelling x.number xs) (options_spelling (last_number x.number xs) ys))
+
+-- the last number of two parts
+last_number-append : (before : ℕ) (xs ys : List Opt) → last_number before (xs ++ ys) ≡ last_number (last_number before xs) ys
+last_number-append before [] ys = refl
+last_number-append before (x ∷ xs) ys = last_number-append x.number xs ys
+
+-- values in two parts are spelled one part behind the other
+pub values-parts : (before number : ℕ) (xs ys : List (List ℕ)) → options_spelling before (map (option_of number) xs) ++ options_spelling (last_number before (map (option_of number) xs)) (map (option_of number) ys) ≡ options_spelling before (map (option_of number) (xs ++ ys))
+values-parts before number xs ys =
+    sym (ap (options_spelling before) (map-append (option_of number) xs ys) ∙ options_spelling-append before (map (option_of number) xs) (map (option_of number) ys))
+
+-- and their last number is that of the second part
+pub last-parts : (before number : ℕ) (xs ys : List (List ℕ)) → last_number (last_number before (map (option_of number) xs)) (map (option_of number) ys) ≡ last_number before (map (option_of number) (xs ++ ys))
+last-parts before number xs ys =
+    sym (ap (last_number before) (map-append (option_of number) xs ys) ∙ last_number-append before (map (option_of number) xs) (map (option_of number) ys))
 
 -- the last number stays at or below that of the values
 pub last-values : (before number : ℕ) (values : List (List ℕ)) → before ≤ number → last_number before (map (option_of number) values) ≤ number

@@ -5,3 +5,4 @@ pub mod Keeping
 pub mod Paths
 pub mod Tokens
 pub mod Widths
+pub mod Read

@@ -1,6 +1,6 @@
 -- Requests with no options but those of a path: they pass screening, and are to the proxy itself.
-use Rattle.std.proofs.Common.{◌≡◌, ◌≢◌, ◌⊎◌, ⊎_elim, ℕ, true, false, eqb, leb, List, [], ◌∷◌, ◌++◌, length, Option, Some, None, Result, Ok, Err, refl, sym, ap, ◌∙◌, arith}
-use Rattle.std.specs.Prelude.{◌&&◌, not, ok_or, find}
+use Rattle.std.proofs.Common.{◌≡◌, ℕ, true, false, eqb, leb, List, [], ◌∷◌, ◌++◌, length, Option, Some, None, Result, Ok, Err, refl, sym, ap, ◌∙◌, arith}
+use Rattle.std.specs.Prelude.{◌&&◌, not, ok_or, find, option_map, IfSome}
 use Rattle.std.specs.List.{list_all}
 use Rattle.std.proofs.lemmas.Bool.{eqb-true, le-leb, and_parts}
 use Rattle.coap_message.specs.declared.options.Opt.{Opt}
@@ -11,10 +11,14 @@ use Rattle.coap_option.specs.Places.{count_of, places_behind}
 use Rattle.coap_option.specs.Recognition.{is_recognised}
 use Rattle.coap_option.specs.Screening.{is_refused, first_refused}
 use Rattle.coap_target.specs.declared.error.TargetError.{TargetError}
-use Rattle.coap_target.specs.declared.error.TargetError.TheVariants.{NotFound, OutOfMemory}
+use Rattle.coap_target.specs.declared.error.TargetError.TheVariants.{NotFound}
+use Rattle.coap_target.specs.declared.routes.Routes.{Routes}
+use Rattle.coap_target.specs.declared.target.MappedTarget.{MappedTarget}
 use Rattle.coap_target.specs.declared.target.Target.{Target}
-use Rattle.coap_target.specs.Request.{value_of, first_value}
-use Rattle.coap_target.specs.Routes.{values_of}
+use Rattle.coap_target.specs.MappedTarget.{seen}
+use Rattle.coap_target.specs.Request.{value_of, first_value, request_target}
+use Rattle.coap_target.specs.Routes.{values_of, mapped_target}
+use Rattle.coap_target.specs.Target.{IsTarget}
 use Rattle.coap_model.specs.Messages.{is_path_option}
 
 not-refused : (number len before : ℕ) → number ≡ 11 → leb len 255 ≡ true → (is_unsafe number && not (is_recognised Request number len before)) ≡ false
@@ -40,24 +44,8 @@ values-none number other (o ∷ os) all =
 pub no-value : (number : ℕ) → eqb 11 number ≡ false → (m : Message) → list_all is_path_option m.options ≡ true → value_of number m ≡ None
 no-value number other m all = ap first_value (values-none number other m.options all)
 
-module _ (target : Result Target TargetError) (mapped : Option Target) (is : target ≡ ok_or mapped NotFound) where
-  pub is-mapped : (t : Target) → target ≡ Ok t → Some t ≡ mapped
-  is-mapped t e = go mapped (sym e ∙ is)
-    where
-      go : (o : Option Target) → Ok t ≡ ok_or o NotFound → Some t ≡ o
-      go None f = absurd cc
-      go (Some u) f = let same : t ≡ u = cc in ap (λ (v : Target). Some v) same
-
-  pub is-missing : (e : TargetError) → e ≢ OutOfMemory → (e ≡ OutOfMemory) ⊎ (target ≡ Err e) → None ≡ mapped
-  is-missing e other o = go mapped (⊎_elim (λ f. absurd (other f)) (λ f. sym f ∙ is) o)
-    where
-      go : (m : Option Target) → Err e ≡ ok_or m NotFound → None ≡ m
-      go None f = refl
-      go (Some u) f = absurd cc
-
-  pub never-other : (e : TargetError) → e ≢ OutOfMemory → e ≢ NotFound → (e ≡ OutOfMemory) ⊎ (target ≡ Err e) → ⊥
-  never-other e other known o = go mapped (⊎_elim (λ f. absurd (other f)) (λ f. sym f ∙ is) o)
-    where
-      go : (m : Option Target) → Err e ≡ ok_or m NotFound → ⊥
-      go None f = known (let same : e ≡ NotFound = cc in same)
-      go (Some u) f = absurd cc
+-- what such a request is mapped to is a target
+pub mapped-target : (routes : Routes) (m : Message) (found : Option MappedTarget) → option_map seen found ≡ mapped_target routes m → request_target routes m ≡ ok_or (mapped_target routes m) NotFound → ((t : Target) → request_target routes m ≡ Ok t → IsTarget t)
+    → IfSome found (λ t. IsTarget (seen t))
+mapped-target routes m None e law fits = tt
+mapped-target routes m (Some t) e law fits = fits (seen t) (law ∙ ap (λ (o : Option Target). ok_or o NotFound) (sym e))

@@ -3,6 +3,7 @@ use Rattle.std.specs.Prelude.{◌≡◌, ℕ, ◌+◌, ◌<◌, ◌≤◌, ◌^�
 use Rattle.std.specs.List.{AllByRecursion}
 use Rattle.coap_message.specs.Datagram.{Datagram, holding}
 use Rattle.coap_message.specs.Spelling.{spelling}
+use Rattle.coap_target.specs.MappedTarget.{seen}
 use Rattle.coap_exchange.specs.declared.exchange.ExchangeState.{ExchangeState}
 use Rattle.coap_exchange.specs.declared.exchange.ExchangeState.TheVariants.{Queued, Sent, Done}
 use Rattle.coap_exchange.specs.Table.{IsRising, item_at}
@@ -42,12 +43,12 @@ pub record CanGoOn (w : World) : Type 0 where
 
 abbrev pub verdict_seen : Verdict → messages.Verdict
 verdict_seen (RefusedWith code) = messages.refused_with code
-verdict_seen (MayOpen target) = messages.may_open target
+verdict_seen (MayOpen target) = messages.may_open (seen target)
 
 -- where an exchange may be opened, the bytes are those of the request that is sent on
 abbrev pub FormIs : List ℕ → Verdict → List ℕ → Type 0
 FormIs token (RefusedWith code) bytes = Unit {0}
-FormIs token (MayOpen target) bytes = bytes ≡ spelling (messages.forwarded token target 0)
+FormIs token (MayOpen target) bytes = bytes ≡ spelling (messages.forwarded token (seen target) 0)
 
 -- an item by its moment and its number
 abbrev pub item_as : Item → DueItem

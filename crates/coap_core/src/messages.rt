@@ -3,8 +3,9 @@ ghost use Rattle.std.specs.Prelude.{◌≡◌, ◌≢◌, ◌≤◌, ◌<◌, �
 ghost use Rattle.std.specs.List.{AllByRecursion};
 ghost use Rattle.coap_message.specs.Datagram.{Datagram, Appends, holding};
 ghost use Rattle.coap_message.specs.Message.{Message};
-ghost use Rattle.coap_message.specs.Options.{AreOptions, last_number};
+ghost use Rattle.coap_message.specs.Options.{last_number};
 ghost use Rattle.coap_message.specs.Spelling.{spelling, options_spelling};
+ghost use Rattle.coap_target.specs.MappedTarget.{seen};
 ghost use Rattle.coap_target.specs.Target.{IsTarget, IsShort};
 ghost use Rattle.coap_message.specs.Options.{option_of};
 ghost use Rattle.coap_model.specs.Messages.{token_of, max_age_option, host_options, target_options, forwarded, are_understood, fits, is_passed_on, answer_of, max_age_of, left_of, carries_max_age, shown, bad_gateway};
@@ -13,11 +14,11 @@ ghost use Rattle.coap_core.specs.Writing.{message_of, unit_of};
 
 use coap_exchange::Answer;
 use coap_message::{
-    Code, Datagram, Full, Head, Kind, Message, Opt, OptionList, Seq, Token, put_head, put_option,
-    put_options, put_payload, uint, without_zeros,
+    Code, Datagram, Full, Head, Kind, Message, MessageRef, OptionList, Options, OutOfMemory, Seq,
+    Token, put_head, put_option, put_options, put_payload, uint, without_zeros,
 };
 use coap_option::numbers;
-use coap_target::Target;
+use coap_target::{MappedTarget, Segments};
 use std::alloc::Global;
 
 // ---- tokens
@@ -50,10 +51,9 @@ pub(crate) fn put_message(
     out: &mut Datagram,
     head: Head,
     token: &Token,
-    options: &[Opt],
+    options: &Options<'_>,
     payload: &[u8],
 )
-    requires in_order { AreOptions 0 options.now }
     requires fits { length (spelling (message_of head token.now options.now payload.now)) ≤ out.old.room }
     ensures { out.new ≡ holding out.old (spelling (message_of head token.now options.now payload.now)) }
 {
@@ -69,11 +69,10 @@ fn try_message(
     room: usize,
     head: Head,
     token: &Token,
-    options: &[Opt],
+    options: &Options<'_>,
     payload: &[u8],
 ) -> Result<(), Full>
     requires room { room ≤ out.old.room }
-    requires in_order { AreOptions 0 options.now }
     ensures { Appends (holding out.old []) out.new room (spelling (message_of head token.now options.now payload.now)) result }
 {
     put_head(out, room, head, token)?;
@@ -119,23 +118,24 @@ fn try_with_max_age(
 // ---- the request that is sent on
 
 /// Adds an option for each value, behind one of the number `before`. Answers the number of the last.
-fn put_values(
+fn put_values<'a, P: Segments<'a>>(
     out: &mut Datagram,
     room: usize,
     before: u16,
     number: u16,
-    values: &[Seq<u8>],
+    values: P,
 ) -> Result<u16, Full>
     requires room { room ≤ out.old.room }
     requires held { length out.old.bytes ≤ room }
     requires above { before ≤ number }
-    requires within { AllByRecursion IsShort values.now }
-    ensures written { Appends out.old out.new room (options_spelling before (map (option_of number) values.now)) (unit_of result) }
-    ensures last { IfOk result (λ last. last ≡ last_number before (map (option_of number) values.now)) }
+    requires within { AllByRecursion IsShort (P.left values) }
+    ensures written { Appends out.old out.new room (options_spelling before (map (option_of number) (P.left values))) (unit_of result) }
+    ensures last { IfOk result (λ last. last ≡ last_number before (map (option_of number) (P.left values))) }
 {
+    let mut values = values;
     let mut last = before;
-    for value in values {
-        put_option(out, room, last, number, value.as_slice())?;
+    'values: while let Some(value) = values.next_segment() {
+        put_option(out, room, last, number, value)?;
         last = number;
     }
     Ok(last)
@@ -158,6 +158,27 @@ fn put_host(out: &mut Datagram, room: usize, host: &Option<Seq<u8>>) -> Result<u
     }
 }
 
+/// Adds a Uri-Path for each segment of a target, those of the map's origin first, behind an option of the number
+/// `before`. Answers the number of the last.
+fn put_path(
+    out: &mut Datagram,
+    room: usize,
+    before: u16,
+    target: &MappedTarget<'_, '_>,
+) -> Result<u16, Full>
+    requires room { room ≤ out.old.room }
+    requires held { length out.old.bytes ≤ room }
+    requires above { before ≤ 11 }
+    requires within { AllByRecursion IsShort (seen target.now).path }
+    ensures written { Appends out.old out.new room (options_spelling before (map (option_of 11) (seen target.now).path)) (unit_of result) }
+    ensures last { IfOk result (λ last. last ≡ last_number before (map (option_of 11) (seen target.now).path)) }
+{
+    let path = target.origin.path.iter();
+    let last = put_values(out, room, before, numbers::URI_PATH, path)?;
+    let rest = target.rest.again();
+    put_values(out, room, last, numbers::URI_PATH, rest)
+}
+
 /// Writes the request for a target, with the id 0, if it is at most `room` bytes: Uri-Host, a Uri-Path
 /// for each segment and a Uri-Query for each part (RFC 7252, 5.10.1).
 #[tactic(auto, unfolding(coap_message::specs::Spelling::spelling, coap_model::specs::Messages::target_options))]
@@ -165,11 +186,11 @@ pub(crate) fn put_forwarded(
     out: &mut Datagram,
     room: usize,
     token: &Token,
-    target: &Target,
+    target: &MappedTarget<'_, '_>,
 ) -> Result<(), Full>
     requires room { room ≤ out.old.room }
-    requires target { IsTarget target.now }
-    ensures { Appends (holding out.old []) out.new room (spelling (forwarded token.now target.now 0)) result }
+    requires target { IsTarget (seen target.now) }
+    ensures { Appends (holding out.old []) out.new room (spelling (forwarded token.now (seen target.now) 0)) result }
 {
     let head = Head {
         kind: Kind::Con,
@@ -177,15 +198,10 @@ pub(crate) fn put_forwarded(
         id: 0,
     };
     put_head(out, room, head, token)?;
-    let before = put_host(out, room, &target.host)?;
-    let before = put_values(out, room, before, numbers::URI_PATH, target.path.as_slice())?;
-    put_values(
-        out,
-        room,
-        before,
-        numbers::URI_QUERY,
-        target.query.as_slice(),
-    )?;
+    let before = put_host(out, room, &target.origin.host)?;
+    let before = put_path(out, room, before, target)?;
+    let query = target.query.again();
+    put_values(out, room, before, numbers::URI_QUERY, query)?;
     Ok(())
 }
 
@@ -213,10 +229,9 @@ pub(crate) fn put_with_id(out: &mut Datagram, form: &[u8], id: u16)
 const BESIDE_PAYLOAD: usize = 18;
 
 /// Whether a response fits a datagram of so many bytes with any token and any Max-Age.
-fn fits(most: usize, response: &Message) -> bool
-    ensures { result ≡ fits most response.now }
+fn fits(most: usize, payload: &[u8]) -> bool
+    ensures { (m : Message) → m.payload ≡ payload.now → result ≡ fits most m }
 {
-    let payload = response.payload.as_slice();
     if payload.is_empty() {
         BESIDE_PAYLOAD <= most
     } else {
@@ -225,23 +240,23 @@ fn fits(most: usize, response: &Message) -> bool
 }
 
 /// Whether the options of a response are understood: at most one Max-Age of at most four bytes.
-fn are_understood(options: &[Opt]) -> bool
+fn are_understood(options: &Options<'_>) -> bool
     ensures { result ≡ are_understood options.now }
 {
-    match options {
-        [] => true,
-        [option] => option.number == numbers::MAX_AGE && option.value.len() <= 4,
-        _ => false,
-    }
+    let mut left = options.iter();
+    let Some(option) = left.next() else {
+        return true;
+    };
+    left.next().is_none() && option.number == numbers::MAX_AGE && option.value.len() <= 4
 }
 
 /// Whether a response is passed on to clients.
-fn is_passed_on(most: usize, response: &Message) -> bool
+fn is_passed_on(most: usize, response: &MessageRef<'_>) -> bool
     ensures { result ≡ is_passed_on most response.now }
 {
-    are_understood(response.options.as_slice())
+    are_understood(&response.options)
         && response.code != Code::VALID
-        && fits(most, response)
+        && fits(most, response.payload)
 }
 
 /// 5.02, in place of a response that can't be passed on (RFC 7252, 5.9.3.3).
@@ -258,27 +273,37 @@ fn bad_gateway(alloc: Global) -> Message
     }
 }
 
-/// The answer that a response gives.
+/// The answer that a response gives. What is passed on is copied here.
 #[tactic(auto, unfolding(coap_model::specs::Messages::answer_of))]
-pub(crate) fn answer_of(alloc: Global, most: usize, now: u64, response: Message) -> Answer
-    ensures { result ≡ answer_of most now response }
+pub(crate) fn answer_of(
+    alloc: Global,
+    most: usize,
+    now: u64,
+    response: &MessageRef<'_>,
+) -> Result<Answer, OutOfMemory>
+    ensures { IfOk result (λ answer. answer ≡ answer_of most now response.now) }
 {
-    let own = !is_passed_on(most, &response);
-    Answer {
-        message: if own { bad_gateway(alloc) } else { response },
+    let own = !is_passed_on(most, response);
+    let message = if own {
+        bad_gateway(alloc)
+    } else {
+        response.to_message(alloc)?
+    };
+    Ok(Answer {
+        message,
         got: now,
         own,
-    }
+    })
 }
 
 /// The Max-Age of a response, 60 where there is none (RFC 7252, 5.10.5).
-fn max_age_of(options: &[Opt]) -> u64
+fn max_age_of(options: &Options<'_>) -> u64
     requires { are_understood options.now ≡ true }
     ensures { result ≡ max_age_of options.now }
 {
-    match options {
-        [option, ..] => uint(option.value.as_slice()),
-        [] => 60,
+    match options.iter().next() {
+        Some(option) => uint(option.value),
+        None => 60,
     }
 }
 
@@ -289,7 +314,7 @@ fn left_of(now: u64, answer: &Answer) -> u64
     ensures { result ≡ left_of now answer.now }
 {
     let age = now.saturating_sub(answer.got);
-    max_age_of(answer.message.options.as_slice()).saturating_sub((age + 999) / 1000)
+    max_age_of(&answer.message.options.lent()).saturating_sub((age + 999) / 1000)
 }
 
 /// Whether an answer is told with a Max-Age (RFC 7252, 5.7.1).
@@ -316,6 +341,6 @@ pub(crate) fn put_shown(out: &mut Datagram, now: u64, answer: &Answer, id: u16, 
     if carries_max_age(answer) {
         put_with_max_age(out, head, token, left_of(now, answer), payload);
     } else {
-        put_message(out, head, token, message.options.as_slice(), payload);
+        put_message(out, head, token, &message.options.lent(), payload);
     }
 }

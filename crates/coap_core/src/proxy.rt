@@ -1,8 +1,9 @@
 //! The core of a proxy: one step for one event.
-ghost use Rattle.std.specs.Prelude.{◌≡◌, ◌≤◌, ◌<◌, ◌^◌, List, [], ◌∷◌, length, IfOk, IsOk, OnErr};
+ghost use Rattle.std.specs.Prelude.{◌≡◌, ◌≤◌, ◌<◌, ◌^◌, List, [], ◌∷◌, true, length, IfOk, IsOk, OnErr};
 ghost use Rattle.coap_message.specs.Datagram.{holding};
 ghost use Rattle.coap_model.specs.Events.{tick};
 ghost use Rattle.coap_model.specs.Held.{held, most_held};
+ghost use Rattle.coap_model.specs.Memory.{takes_memory};
 ghost use Rattle.coap_model.specs.World.{new_world, counts};
 ghost use Rattle.coap_model.specs.Ticks.{next_due};
 ghost use Rattle.coap_model.specs.Step.{step_of};
@@ -78,8 +79,8 @@ impl Core {
     /// for `datagram()` bytes; fewer than 2^63 steps were done.
     ///
     /// # Errors
-    /// Want of memory, which changes nothing. It is never answered to a tick, nor to a datagram that is too long
-    /// or spells no message.
+    /// Want of memory, which changes nothing. It is answered only where an exchange was to be opened or an answer
+    /// to be kept.
     pub fn step(
         &mut self,
         now: u64,
@@ -108,9 +109,13 @@ impl Core {
         ensures waiters { length self.new.waiters ≤ self.new.setting.limits.waiters }
         ensures held { held self.new ≤ most_held self.new.setting.limits }
 
-        // Where memory is missing, nothing happened. A tick needs none, nor does a datagram without a message.
+        // Where memory is missing, nothing happened.
         ensures err { OnErr result (self.new ≡ self.old) }
         ensures none { OnErr result (out.new ≡ holding out.old []) }
+
+        // It can be missing only where an exchange is opened or an answer is kept: whatever else is done needs none.
+        // So a tick needs none, nor does a datagram without a message.
+        ensures memory { OnErr result (takes_memory (step_of self.old now draw (seen event.entry)).report.outcome ≡ true) }
         ensures ticks { seen event.entry ≡ tick → IsOk result }
         ensures unread { IsUnread self.old.setting.limits.datagram (seen event.entry) → IsOk result }
     {

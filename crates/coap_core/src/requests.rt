@@ -1,10 +1,12 @@
 //! The step of a request (RFC 7252, 5.7.3).
-ghost use Rattle.std.specs.Prelude.{◌≡◌, ◌+◌, ◌≤◌, true, length, Some, IfOk, IfSome, OnErr};
+ghost use Rattle.std.specs.Prelude.{◌≡◌, ◌+◌, ◌≤◌, true, length, Some, IfOk, IfSome, OnErr, option_map};
 ghost use Rattle.std.specs.List.{list_all};
 ghost use Rattle.coap_message.specs.Spelling.{spelling};
 ghost use Rattle.coap_message.specs.declared.kind.Kind.{Kind};
+ghost use Rattle.coap_target.specs.MappedTarget.{seen};
 ghost use Rattle.coap_target.specs.Routes.{mapped_target};
 ghost use Rattle.coap_target.specs.Target.{IsTarget};
+ghost use Rattle.coap_model.specs.Memory.{takes_memory};
 ghost use Rattle.coap_model.specs.Messages.{is_path_option, forwarded, verdict_of, verdict_of_target};
 ghost use Rattle.coap_model.specs.Requests.{lacks_id, refuses, overloads, opens, next_token, on_request};
 ghost use Rattle.coap_model.specs.World.{has_ids};
@@ -13,26 +15,31 @@ ghost use Rattle.coap_core.specs.Steps.{Does, CanGoOn, FormIs, verdict_seen};
 use crate::messages::{put_forwarded, put_message, put_with_max_age, token_of};
 use crate::tables::{Tables, silent};
 use coap_exchange::Waiter;
-use coap_message::{Code, Datagram, Head, Kind, Message, Opt, OutOfMemory, Seq};
+use coap_message::{Code, Datagram, Head, Kind, MessageRef, Options, OutOfMemory, Seq};
 use coap_model::{Outcome, Report};
 use coap_option::numbers;
 use coap_target::laws::{requests_to_the_proxy_are_mapped, targets_fit_options};
-use coap_target::{Endpoint, Target, TargetError};
+use coap_target::{Endpoint, MappedTarget, Target};
 
 /// What becomes of a request.
 #[derive(Drop)]
-pub(crate) enum Verdict {
+pub(crate) enum Verdict<'m, 'a> {
     /// It is refused with this code.
     RefusedWith(Code),
     /// An exchange may be opened for this target.
-    MayOpen(Target),
+    MayOpen(MappedTarget<'m, 'a>),
 }
 
 /// A Uri-Path of at most 255 bytes is the one option that is understood so far.
-fn are_path_options(options: &[Opt]) -> bool
+fn are_path_options(options: &Options<'_>) -> bool
     ensures { result ≡ list_all is_path_option options.now }
 {
-    options.iter().all(|option| option.number == numbers::URI_PATH && option.value.len() <= 255)
+    for option in options.iter() {
+        if option.number != numbers::URI_PATH || option.value.len() > 255 {
+            return false;
+        }
+    }
+    true
 }
 
 /// The head of a reply of the proxy's own.
@@ -51,7 +58,7 @@ impl Tables {
         &mut self,
         now: u64,
         client: Endpoint,
-        request: &Message,
+        request: &MessageRef<'_>,
         out: &mut Datagram,
     ) -> Result<Report, OutOfMemory>
         requires can { CanGoOn self.old }
@@ -60,10 +67,12 @@ impl Tables {
         ensures exact { IfOk result (λ report. Does (on_request self.old now client request.now) report out.old out.new self.new) }
         ensures err { OnErr result (self.new ≡ self.old) }
         ensures kept { out.new.room ≡ out.old.room }
+        ensures memory { OnErr result (takes_memory (on_request self.old now client request.now).report.outcome ≡ true) }
     {
-        match self.verdict_of(request, out)? {
+        match self.verdict_of(request, out) {
             Verdict::MayOpen(target) => {
                 if self.has_room() {
+                    let target = target.to_target(self.alloc)?;
                     self.open(now, client, request, target, out)
                 } else if self.has_ids(1) {
                     Ok(self.overload(now, client, request, out))
@@ -84,49 +93,47 @@ impl Tables {
     /// What becomes of a request: the method, the options, the target, the length of what is sent on; the
     /// first that is at fault decides. Where an exchange may be opened, `out` holds what is sent on.
     #[tactic(auto, unfolding(coap_model::specs::Messages::verdict_of))]
-    fn verdict_of(&self, request: &Message, out: &mut Datagram) -> Result<Verdict, OutOfMemory>
+    fn verdict_of<'m, 'a>(&'m self, request: &MessageRef<'a>, out: &mut Datagram) -> Verdict<'m, 'a>
         requires can { CanGoOn self.now }
         requires room { self.now.setting.limits.datagram ≤ out.old.room }
-        ensures exact { IfOk result (λ verdict. verdict_seen verdict ≡ verdict_of self.now.setting.routes self.now.setting.limits.datagram request.now) }
-        ensures form { IfOk result (λ verdict. FormIs (next_token self.now) verdict out.new.bytes) }
+        ensures exact { verdict_seen result ≡ verdict_of self.now.setting.routes self.now.setting.limits.datagram request.now }
+        ensures form { FormIs (next_token self.now) result out.new.bytes }
         ensures kept { out.new.room ≡ out.old.room }
     {
         if request.code != Code::GET {
-            return Ok(Verdict::RefusedWith(Code::METHOD_NOT_ALLOWED));
+            return Verdict::RefusedWith(Code::METHOD_NOT_ALLOWED);
         }
-        if !are_path_options(request.options.as_slice()) {
-            return Ok(Verdict::RefusedWith(Code::BAD_OPTION));
+        if !are_path_options(&request.options) {
+            return Verdict::RefusedWith(Code::BAD_OPTION);
         }
-        match self.target_of(request)? {
-            Some(target) => Ok(self.verdict_of_target(target, out)),
-            None => Ok(Verdict::RefusedWith(Code::NOT_FOUND)),
+        match self.mapped(request) {
+            Some(target) => self.verdict_of_target(target, out),
+            None => Verdict::RefusedWith(Code::NOT_FOUND),
         }
     }
 
-    /// The target that a request is mapped to, if there is one.
-    fn target_of(&self, request: &Message) -> Result<Option<Target>, OutOfMemory>
+    /// What a request is mapped to, if one of the maps has its path.
+    fn mapped<'m, 'a>(&'m self, request: &MessageRef<'a>) -> Option<MappedTarget<'m, 'a>>
         requires { list_all is_path_option request.now.options ≡ true }
-        ensures exact { IfOk result (λ target. target ≡ mapped_target self.now.setting.routes request.now) }
-        ensures sound { IfOk result (λ target. IfSome target IsTarget) }
+        ensures exact { option_map seen result ≡ mapped_target self.now.setting.routes request.now }
+        ensures sound { IfSome result (λ target. IsTarget (seen target)) }
     {
         targets_fit_options();
         requests_to_the_proxy_are_mapped();
         self.routes.maps();
-        match self.routes.target_of(self.alloc, request) {
-            Ok(target) => Ok(Some(target)),
-            Err(TargetError::NotFound) => Ok(None),
-            Err(TargetError::OutOfMemory) => Err(OutOfMemory),
-            Err(TargetError::BadUri) => unreachable!(),
-            Err(TargetError::NotProxied) => unreachable!(),
-        }
+        self.routes.mapped(request)
     }
 
     /// A form that is too long for a datagram isn't sent on.
-    fn verdict_of_target(&self, target: Target, out: &mut Datagram) -> Verdict
+    fn verdict_of_target<'m, 'a>(
+        &self,
+        target: MappedTarget<'m, 'a>,
+        out: &mut Datagram,
+    ) -> Verdict<'m, 'a>
         requires can { CanGoOn self.now }
         requires room { self.now.setting.limits.datagram ≤ out.old.room }
-        requires target { IsTarget target }
-        ensures exact { verdict_seen result ≡ verdict_of_target self.now.setting.limits.datagram (Some target) }
+        requires target { IsTarget (seen target) }
+        ensures exact { verdict_seen result ≡ verdict_of_target self.now.setting.limits.datagram (Some (seen target.entry)) }
         ensures form { FormIs (next_token self.now) result out.new.bytes }
         ensures kept { out.new.room ≡ out.old.room }
     {
@@ -143,7 +150,7 @@ impl Tables {
         &mut self,
         now: u64,
         client: Endpoint,
-        request: &Message,
+        request: &MessageRef<'_>,
         code: Code,
         out: &mut Datagram,
     ) -> Report
@@ -154,7 +161,13 @@ impl Tables {
     {
         let id = self.take_id();
         self.pass(now);
-        put_message(out, reply_head(code, id), &request.token, &[], &[]);
+        put_message(
+            out,
+            reply_head(code, id),
+            &request.token,
+            &Options::none(),
+            &[],
+        );
         Report {
             send: Some(client),
             outcome: Outcome::Refused(code),
@@ -166,7 +179,7 @@ impl Tables {
         &mut self,
         now: u64,
         client: Endpoint,
-        request: &Message,
+        request: &MessageRef<'_>,
         out: &mut Datagram,
     ) -> Report
         requires can { CanGoOn self.old }
@@ -199,7 +212,7 @@ impl Tables {
         &mut self,
         now: u64,
         client: Endpoint,
-        request: &Message,
+        request: &MessageRef<'_>,
         target: Target,
         out: &mut Datagram,
     ) -> Result<Report, OutOfMemory>

@@ -1,14 +1,15 @@
 //! The step of a response that comes in an acknowledgement (RFC 7252, 5.2.1 and 5.3.2).
-ghost use Rattle.std.specs.Prelude.{◌≡◌, ◌&&◌, option_map};
+ghost use Rattle.std.specs.Prelude.{◌≡◌, ◌&&◌, true, option_map, IfOk, OnErr};
 ghost use Rattle.coap_target.specs.Endpoint.{same_endpoint};
 ghost use Rattle.coap_exchange.specs.declared.exchange.Exchange.{Exchange};
+ghost use Rattle.coap_model.specs.Memory.{takes_memory};
 ghost use Rattle.coap_model.specs.Responses.{has_id, awaiting, answers, on_response};
 ghost use Rattle.coap_core.specs.Steps.{Does, CanGoOn};
 
 use crate::messages::{answer_of, number_of};
 use crate::tables::{Tables, silent};
 use coap_exchange::{Exchange, ExchangeState};
-use coap_message::{Datagram, Message};
+use coap_message::{Datagram, MessageRef, OutOfMemory};
 use coap_model::{Outcome, Report, Storing};
 use coap_target::Endpoint;
 
@@ -34,20 +35,23 @@ impl Tables {
         &mut self,
         now: u64,
         source: Endpoint,
-        response: Message,
+        response: &MessageRef<'_>,
         out: &mut Datagram,
-    ) -> Report
+    ) -> Result<Report, OutOfMemory>
         requires { CanGoOn self.old }
-        ensures { Does (on_response self.old now response (awaiting self.old source response)) result out.old out.new self.new }
+        ensures exact { IfOk result (λ report. Does (on_response self.old now response.now (awaiting self.old source response.now)) report out.old out.new self.new) }
+        ensures err { OnErr result (self.new ≡ self.old) }
+        ensures kept { out.new.room ≡ out.old.room }
+        ensures memory { OnErr result (takes_memory (on_response self.old now response.now (awaiting self.old source response.now)).report.outcome ≡ true) }
     {
-        match self.awaiting(source, &response) {
+        match self.awaiting(source, response) {
             Some(number) => self.answer(now, number, response, out),
-            None => self.ignore(now, out),
+            None => Ok(self.ignore(now, out)),
         }
     }
 
     /// The number of the exchange that awaits this response of this endpoint: by endpoint, id and token.
-    fn awaiting(&self, source: Endpoint, response: &Message) -> Option<u64>
+    fn awaiting(&self, source: Endpoint, response: &MessageRef<'_>) -> Option<u64>
         requires { CanGoOn self.now }
         ensures { result ≡ option_map (λ x. x.0) (awaiting self.now source response.now) }
     {
@@ -61,17 +65,25 @@ impl Tables {
     }
 
     /// The exchange of this number has its answer.
-    fn answer(&mut self, now: u64, number: u64, response: Message, out: &mut Datagram) -> Report
+    fn answer(
+        &mut self,
+        now: u64,
+        number: u64,
+        response: &MessageRef<'_>,
+        out: &mut Datagram,
+    ) -> Result<Report, OutOfMemory>
         requires { CanGoOn self.old }
-        ensures { (x : Exchange) → Does (answers self.old now response (number, x)) result out.old out.new self.new }
+        ensures exact { (x : Exchange) → IfOk result (λ report. Does (answers self.old now response.now (number, x)) report out.old out.new self.new) }
+        ensures err { OnErr result (self.new ≡ self.old) }
+        ensures kept { out.new.room ≡ out.old.room }
     {
         let most = self.limits.datagram as usize;
-        let answer = answer_of(self.alloc, most, now, response);
+        let answer = answer_of(self.alloc, most, now, response)?;
         self.exchanges.answer(number, answer);
         out.clear();
         self.pass(now);
-        silent(Outcome::Answered {
+        Ok(silent(Outcome::Answered {
             storing: Storing::NotStored,
-        })
+        }))
     }
 }

@@ -1,8 +1,9 @@
 //! One step: a datagram or a tick at a moment.
-ghost use Rattle.std.specs.Prelude.{◌≡◌, ◌≤◌, ◌<◌, ◌^◌, [], length, None, IfOk, IsOk, OnErr};
+ghost use Rattle.std.specs.Prelude.{◌≡◌, ◌≤◌, ◌<◌, ◌^◌, [], true, length, None, IfOk, IsOk, OnErr};
 ghost use Rattle.coap_model.specs.Events.{tick};
 ghost use Rattle.coap_message.specs.declared.kind.Kind.{Kind};
 ghost use Rattle.coap_message.specs.Datagram.{holding};
+ghost use Rattle.coap_model.specs.Memory.{takes_memory};
 ghost use Rattle.coap_model.specs.Step.{ignores, rejects, unprocessed, message_in, on_message, on_datagram, step_of};
 ghost use Rattle.coap_core.specs.Events.{IsUnread, seen};
 ghost use Rattle.coap_core.specs.Steps.{Does, CanGoOn};
@@ -10,9 +11,7 @@ ghost use Rattle.coap_core.specs.Steps.{Does, CanGoOn};
 use crate::event::Event;
 use crate::messages::put_message;
 use crate::tables::{Tables, silent};
-use coap_message::{
-    Code, Datagram, DecodeError, Head, Kind, Message, OutOfMemory, Token, decode, head_of,
-};
+use coap_message::{Code, Datagram, Head, Kind, MessageRef, Options, OutOfMemory, Token, head_of};
 use coap_model::{Outcome, Report};
 use coap_target::Endpoint;
 
@@ -31,6 +30,7 @@ impl Tables {
         ensures exact { IfOk result (λ report. Does (step_of self.old now 0 (seen event.entry)) report out.old out.new self.new) }
         ensures err { OnErr result (self.new ≡ self.old) }
         ensures none { OnErr result (out.new ≡ holding out.old []) }
+        ensures memory { OnErr result (takes_memory (step_of self.old now 0 (seen event.entry)).report.outcome ≡ true) }
         ensures ticks { seen event.entry ≡ tick → IsOk result }
         ensures unread { IsUnread self.old.setting.limits.datagram (seen event.entry) → IsOk result }
     {
@@ -56,6 +56,7 @@ impl Tables {
         ensures exact { IfOk result (λ report. Does (step_of self.old now 0 (seen event.entry)) report out.old out.new self.new) }
         ensures err { OnErr result (self.new ≡ self.old) }
         ensures kept { out.new.room ≡ out.old.room }
+        ensures memory { OnErr result (takes_memory (step_of self.old now 0 (seen event.entry)).report.outcome ≡ true) }
         ensures ticks { seen event.entry ≡ tick → IsOk result }
         ensures unread { IsUnread self.old.setting.limits.datagram (seen event.entry) → IsOk result }
     {
@@ -78,31 +79,27 @@ impl Tables {
         ensures exact { IfOk result (λ report. Does (on_datagram self.old now source bytes.now) report out.old out.new self.new) }
         ensures err { OnErr result (self.new ≡ self.old) }
         ensures kept { out.new.room ≡ out.old.room }
+        ensures memory { OnErr result (takes_memory (on_datagram self.old now source bytes.now).report.outcome ≡ true) }
         ensures unread { message_in self.old.setting.limits.datagram bytes.now ≡ None → IsOk result }
     {
-        let Some(head) = head_of(bytes) else {
-            return Ok(self.ignore(now, out));
-        };
-        match self.read(bytes)? {
-            Some(message) => self.on_message(now, source, message, out),
-            None => Ok(self.unprocessed(now, source, head.kind, head.id, out)),
+        if let Some(message) = self.read(bytes) {
+            return self.on_message(now, source, &message, out);
+        }
+        match head_of(bytes) {
+            Some(head) => Ok(self.unprocessed(now, source, head.kind, head.id, out)),
+            None => Ok(self.ignore(now, out)),
         }
     }
 
     /// The message that a datagram spells, if it isn't too long.
     #[tactic(auto, unfolding(coap_model::specs::Step::message_in))]
-    fn read(&self, bytes: &[u8]) -> Result<Option<Message>, OutOfMemory>
-        ensures exact { IfOk result (λ message. message ≡ message_in self.now.setting.limits.datagram bytes.now) }
-        ensures unread { message_in self.now.setting.limits.datagram bytes.now ≡ None → IsOk result }
+    fn read<'a>(&self, bytes: &'a [u8]) -> Option<MessageRef<'a>>
+        ensures { result ≡ message_in self.now.setting.limits.datagram bytes.now }
     {
         if bytes.len() > self.limits.datagram as usize {
-            return Ok(None);
+            return None;
         }
-        match decode(self.alloc, bytes) {
-            Ok(message) => Ok(Some(message)),
-            Err(DecodeError::OutOfMemory) => Err(OutOfMemory),
-            Err(_) => Ok(None),
-        }
+        MessageRef::read(bytes).ok()
     }
 
     /// Non-confirmable requests, and responses in acknowledgements, are what is processed so far.
@@ -110,21 +107,20 @@ impl Tables {
         &mut self,
         now: u64,
         source: Endpoint,
-        message: Message,
+        message: &MessageRef<'_>,
         out: &mut Datagram,
     ) -> Result<Report, OutOfMemory>
         requires can { CanGoOn self.old }
         requires room { self.old.setting.limits.datagram ≤ out.old.room }
-        requires fits { length (on_message self.old now source message).bytes ≤ out.old.room }
-        ensures exact { IfOk result (λ report. Does (on_message self.old now source message) report out.old out.new self.new) }
+        requires fits { length (on_message self.old now source message.now).bytes ≤ out.old.room }
+        ensures exact { IfOk result (λ report. Does (on_message self.old now source message.now) report out.old out.new self.new) }
         ensures err { OnErr result (self.new ≡ self.old) }
         ensures kept { out.new.room ≡ out.old.room }
+        ensures memory { OnErr result (takes_memory (on_message self.old now source message.now).report.outcome ≡ true) }
     {
         match message.kind {
-            Kind::Non if message.code.is_request() => self.on_request(now, source, &message, out),
-            Kind::Ack if message.code.is_response() => {
-                Ok(self.on_response(now, source, message, out))
-            }
+            Kind::Non if message.code.is_request() => self.on_request(now, source, message, out),
+            Kind::Ack if message.code.is_response() => self.on_response(now, source, message, out),
             kind => Ok(self.unprocessed(now, source, kind, message.id, out)),
         }
     }
@@ -159,7 +155,7 @@ impl Tables {
             code: Code::EMPTY,
             id,
         };
-        put_message(out, head, &Token::empty(), &[], &[]);
+        put_message(out, head, &Token::empty(), &Options::none(), &[]);
         self.pass(now);
         Report {
             send: Some(source),

@@ -38,21 +38,3 @@ pub option_written : (before : ℕ) (o : Opt) (delta len delta_bits length_bits 
     → (16 * delta_bits + length_bits) ∷ (more_of delta ++ (more_of len ++ o.value)) ≡ option_spelling before o
 unfolding option_spelling
 option_written before o delta len delta_bits length_bits d l db lb = rw (db, lb, d, l) refl
-
--- ---- options one behind the other: those that are written, and those still to come
-
-pub options_full : (old out new : Datagram) (room before index : ℕ) (o : Opt) (whole : List Opt) (e f : Full) → out.room ≡ old.room → length old.bytes ≤ length out.bytes → out.bytes ++ options_spelling before (drop index whole) ≡ old.bytes ++ options_spelling 0 whole
-    → index < length whole → o ≡ get_or whole index o → Appends out new room (option_spelling before o) (Err e) → Appends old new room (options_spelling 0 whole) (Err f)
-options_full old out new room before index o whole e f same longer written lt item a =
-    let next : drop index whole ≡ o ∷ drop (index + 1) whole = drop_more whole index o lt ∙ ap (λ (x : Opt). x ∷ drop (index + 1) whole) (sym item) in
-    Appends-part old out new room (option_spelling before o) (options_spelling o.number (drop (index + 1) whole)) (options_spelling 0 whole) e f same longer (ap (λ (os : List Opt). out.bytes ++ options_spelling before os) (sym next) ∙ written) a
-
-pub options_done : (old out : Datagram) (room before index : ℕ) (whole : List Opt) → out.room ≡ old.room → out.bytes ++ options_spelling before (drop index whole) ≡ old.bytes ++ options_spelling 0 whole
-    → length whole ≤ index → length out.bytes ≤ room → Appends old out room (options_spelling 0 whole) (Ok tt)
-options_done old out room before index whole same written done within =
-    let none = drop_all index whole done in
-    let bytes : out.bytes ≡ old.bytes ++ options_spelling 0 whole = sym (append-nil out.bytes) ∙ sym (ap (λ (os : List Opt). out.bytes ++ options_spelling before os) none) ∙ written in
-    (both same bytes, omega (arith, ap length bytes, length-append old.bytes (options_spelling 0 whole)))
-  where
-    both : {r r' : ℕ} {b b' : List ℕ} → r ≡ r' → b ≡ b' → ◌≡◌ {A = Datagram} (record { room = r; bytes = b }) (record { room = r'; bytes = b' })
-    both p q = cc

@@ -5,7 +5,6 @@ use Rattle.std.proofs.lemmas.List.{append-nil}
 use Rattle.coap_message.specs.declared.options.Opt.{Opt}
 use Rattle.coap_message.specs.Options.{last_number}
 use Rattle.coap_message.specs.Reading.{option_at, begins_option, payload_at, no_options, one_option_more, options_at}
-use Rattle.coap_message.specs.Parsing.{counted}
 use Rattle.coap_message.proofs.ManyOptions.{options_step, options_fault, options_end}
 
 abbrev pub Found : Type 0
@@ -14,19 +13,6 @@ Found = Option (List Opt × List ℕ)
 -- these options in front
 abbrev pub behind : List Opt → Found → Found
 behind front found = option_map (λ f. (front ++ f.0, f.1)) found
-
-counted_more : (n : ℕ) (o : Opt) (found : Found) → counted n (option_map (one_option_more o) found) ≡ counted (n + 1) found
-counted_more n o None = refl
-counted_more n o (Some f) = ap (λ (k : ℕ). Some k) (omega arith)
-
-pub counted_step : (n before : ℕ) (bytes : List ℕ) (o : Opt) (rest : List ℕ) (total : Option ℕ) → begins_option bytes ≡ true → option_at before bytes ≡ Some (o, rest)
-    → counted n (options_at before bytes) ≡ total → counted (n + 1) (options_at o.number rest) ≡ total
-counted_step n before bytes o rest total begins e so_far =
-    sym (ap (counted n) (options_step before bytes o rest begins e) ∙ counted_more n o (options_at o.number rest)) ∙ so_far
-
-pub counted_end : (n before : ℕ) (bytes payload : List ℕ) (total : Option ℕ) → begins_option bytes ≡ false → payload_at bytes ≡ Some payload → counted n (options_at before bytes) ≡ total → total ≡ Some n
-counted_end n before bytes payload total ends e so_far =
-    sym so_far ∙ ap (counted n) (options_end before bytes ends ∙ ap (option_map no_options) e) ∙ ap (λ (k : ℕ). Some k) (omega arith)
 
 behind_more : (front : List Opt) (o : Opt) (found : Found) → behind front (option_map (one_option_more o) found) ≡ behind (front ++ o ∷ []) found
 behind_more front o None = refl

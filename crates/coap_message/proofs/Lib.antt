@@ -9,3 +9,7 @@ pub mod Refusals
 pub mod Buffers
 pub mod Appending
 pub mod Uints
+pub mod OneForm
+pub mod OptionSpellings
+pub mod Splitting
+pub mod PieceSpellings

@@ -46,7 +46,7 @@ extends_form n within =
 
 -- ---- options
 
-option_form : (before : ℕ) (front : List ℕ) (o : Opt) → SpellsOption before front o → front ≡ option_spelling before o
+pub option_form : (before : ℕ) (front : List ℕ) (o : Opt) → SpellsOption before front o → front ≡ option_spelling before o
 unfolding option_spelling
 option_form before front o s =
     let delta : o.number - before ≡ s.delta = omega (arith, s.number) in
@@ -54,7 +54,7 @@ option_form before front o s =
     let l = Extends-form s.length_bits s.length_more (length o.value) s.length_is in
     s.bytes_are ∙ rw (delta, d.bits_are, d.more_is, l.bits_are, l.more_is) refl
 
-form_option : (before : ℕ) (o : Opt) → before ≤ o.number → o.number < 65536 → length o.value ≤ 65804 → SpellsOption before (option_spelling before o) o
+pub form_option : (before : ℕ) (o : Opt) → before ≤ o.number → o.number < 65536 → length o.value ≤ 65804 → SpellsOption before (option_spelling before o) o
 unfolding option_spelling
 form_option before o above small within = record {
   delta = o.number - before;
@@ -68,12 +68,12 @@ form_option before o above small within = record {
   bytes_are = refl;
 }
 
-options_form : (before : ℕ) (bytes : List ℕ) (os : List Opt) → SpellsOptions before bytes os → bytes ≡ options_spelling before os
+pub options_form : (before : ℕ) (bytes : List ℕ) (os : List Opt) → SpellsOptions before bytes os → bytes ≡ options_spelling before os
 options_form before bytes [] s = s
 options_form before bytes (o ∷ os) s =
     s.2 ∙ ap (λ (t : List ℕ). t ++ s.1) (option_form before s.0 o s.3) ∙ ap (λ (t : List ℕ). option_spelling before o ++ t) (options_form o.number s.1 os s.4)
 
-form_options : (before : ℕ) (os : List Opt) → AreOptions before os → SpellsOptions before (options_spelling before os) os
+pub form_options : (before : ℕ) (os : List Opt) → AreOptions before os → SpellsOptions before (options_spelling before os) os
 form_options before [] are = refl
 form_options before (o ∷ os) are =
     (option_spelling before o, options_spelling o.number os, refl, form_option before o are.0 are.1 are.2, form_options o.number os are.3)
@@ -119,12 +119,12 @@ more-length n =
           ]
     ]
 
-option-length : (before : ℕ) (o : Opt) → length (option_spelling before o) ≡ option_length before o
+pub option-length : (before : ℕ) (o : Opt) → length (option_spelling before o) ≡ option_length before o
 unfolding option_spelling
 option-length before o =
     omega (arith, length-append (more_of (o.number - before)) (more_of (length o.value) ++ o.value), length-append (more_of (length o.value)) o.value, more-length (o.number - before), more-length (length o.value))
 
-options-length : (before : ℕ) (os : List Opt) → length (options_spelling before os) ≡ options_length before os
+pub options-length : (before : ℕ) (os : List Opt) → length (options_spelling before os) ≡ options_length before os
 options-length before [] = refl
 options-length before (o ∷ os) = omega (arith, length-append (option_spelling before o) (options_spelling o.number os), option-length before o, options-length o.number os)
 

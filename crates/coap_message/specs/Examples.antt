@@ -1,7 +1,7 @@
 -- Datagrams whose reading and spelling are computed on the definitions.
 use Rattle.std.specs.Prelude.{◌≡◌, ℕ, List, [], ◌∷◌, Err}
-use Rattle.coap_message.specs.declared.error.DecodeError.{DecodeError}
-use Rattle.coap_message.specs.declared.error.DecodeError.TheVariants.{Format}
+use Rattle.coap_message.specs.declared.error.ReadError.{ReadError}
+use Rattle.coap_message.specs.declared.error.ReadError.TheVariants.{Format}
 use Rattle.coap_message.specs.declared.kind.Kind.TheVariants.{Con, Non}
 use Rattle.coap_message.specs.Message.{Message}
 use Rattle.coap_message.specs.Reading.{read_message}
@@ -21,7 +21,7 @@ content_bytes = 0x41 ∷ 0x45 ∷ 1 ∷ 2 ∷ 0xAA ∷ 0xD1 ∷ 1 ∷ 10 ∷ 0xF
 abbrev pub content_message : Message
 content_message = record { kind = Con; code = record { 0 = 0x45 }; id = 258; token = 0xAA ∷ []; options = record { number = 14; value = 10 ∷ [] } ∷ []; payload = 0x32 ∷ 0x31 ∷ [] }
 
-abbrev pub refused : List ℕ → DecodeError → Type 0
+abbrev pub refused : List ℕ → ReadError → Type 0
 refused bytes error = read_message bytes ≡ Err error
 
 -- fewer than four bytes, and version 0

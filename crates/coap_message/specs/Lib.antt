@@ -11,3 +11,8 @@ pub mod Reading
 pub mod Examples
 pub mod Parsing
 pub mod Uint
+pub mod SpelledOptions
+pub mod OptRef
+pub mod SameOptions
+pub mod LentMessage
+pub mod Pieces

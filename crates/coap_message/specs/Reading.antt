@@ -2,6 +2,8 @@
 use Rattle.std.specs.Prelude.{◌≡◌, ℕ, zero, suc, ◌+◌, ◌*◌, ◌/◌, ◌%◌, ◌==◌, ◌||◌, nat_lt, if◌then◌else◌, List, [], ◌∷◌, length, take, drop, Option, Some, None, option_map, Bool, false, not, Result, Ok, Err, IsOk}
 use Rattle.coap_message.specs.declared.error.DecodeError.{DecodeError}
 use Rattle.coap_message.specs.declared.error.DecodeError.TheVariants as errors
+use Rattle.coap_message.specs.declared.error.ReadError.{ReadError}
+use Rattle.coap_message.specs.declared.error.ReadError.TheVariants as unread
 use Rattle.coap_message.specs.declared.message.Head.{Head}
 use Rattle.coap_message.specs.declared.options.Opt.{Opt}
 use Rattle.coap_message.specs.Kind.{kind_of}
@@ -76,24 +78,34 @@ body_behind zero zero (b ∷ bytes) = None
 body_behind zero (suc n) bytes = None
 body_behind (suc code) token_length bytes = body_at token_length bytes
 
-abbrev pub with_header : ℕ → ℕ → ℕ → Option Body → Result Message DecodeError
-with_header first code id None = Err errors.Format
+abbrev pub with_header : ℕ → ℕ → ℕ → Option Body → Result Message ReadError
+with_header first code id None = Err unread.Format
 with_header first code id (Some body) = Ok (record { kind = kind_of (first / 16 % 4); code = record { 0 = code }; id = id; token = body.token; options = body.options; payload = body.payload })
 
 -- the message that the bytes spell, or why there is none
-unfoldable pub read_message : List ℕ → Result Message DecodeError
-read_message (first ∷ code ∷ high ∷ low ∷ rest) = if first / 64 == 1 then with_header first code (256 * high + low) (body_behind code (first % 16) rest) else Err errors.Version
-read_message _ = Err errors.Short
+unfoldable pub read_message : List ℕ → Result Message ReadError
+read_message (first ∷ code ∷ high ∷ low ∷ rest) = if first / 64 == 1 then with_header first code (256 * high + low) (body_behind code (first % 16) rest) else Err unread.Version
+read_message _ = Err unread.Short
+
+-- what the first four bytes of a datagram of version 1 say
+abbrev pub header_at : ℕ → ℕ → ℕ → ℕ → Option Head
+header_at first code high low = if first / 64 == 1 then Some (record { kind = kind_of (first / 16 % 4); code = record { 0 = code }; id = 256 * high + low }) else None
 
 -- the head of a datagram of at least four bytes and version 1
 abbrev pub head_at : List ℕ → Option Head
-head_at (first ∷ code ∷ high ∷ low ∷ rest) = if first / 64 == 1 then Some (record { kind = kind_of (first / 16 % 4); code = record { 0 = code }; id = 256 * high + low }) else None
+head_at (first ∷ code ∷ high ∷ low ∷ rest) = header_at first code high low
 head_at _ = None
 
--- What a reader gave is what reading gives, and memory is missed only by what can be read.
-abbrev pub Reads : {A : Type 0} → Result A DecodeError → Result A DecodeError → Type 0
-Reads (Ok x) read = read ≡ Ok x
-Reads (Err errors.OutOfMemory) read = IsOk read
-Reads (Err errors.Short) read = read ≡ Err errors.Short
-Reads (Err errors.Version) read = read ≡ Err errors.Version
-Reads (Err errors.Format) read = read ≡ Err errors.Format
+-- a refusal, as a decoder tells it
+abbrev pub decode_error : ReadError → DecodeError
+decode_error unread.Short = errors.Short
+decode_error unread.Version = errors.Version
+decode_error unread.Format = errors.Format
+
+-- What a decoder gave is what reading gives, and memory is missed only by what can be read.
+abbrev pub Decodes : Result Message DecodeError → Result Message ReadError → Type 0
+Decodes (Ok m) read = read ≡ Ok m
+Decodes (Err errors.OutOfMemory) read = IsOk read
+Decodes (Err errors.Short) read = read ≡ Err unread.Short
+Decodes (Err errors.Version) read = read ≡ Err unread.Version
+Decodes (Err errors.Format) read = read ≡ Err unread.Format

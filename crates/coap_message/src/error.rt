@@ -1,6 +1,7 @@
 //! What can go wrong.
 ghost use Rattle.std.specs.Prelude.{◌≡◌};
 ghost use Rattle.coap_message.specs.declared.error.DecodeError.TheVariants as errors;
+ghost use Rattle.coap_message.specs.Reading.{decode_error};
 
 use std::alloc::{AllocError, AllocFailed};
 use thiserror::Error;
@@ -22,7 +23,21 @@ impl<T: Drop> From<AllocFailed<T>> for OutOfMemory {
     }
 }
 
-/// Why bytes were not read as a message. The first that applies, in this order.
+/// Why no message is read in bytes. The first that applies, in this order.
+#[derive(Clone, Copy, Debug, PartialEq, Eq, Error)]
+pub enum ReadError {
+    /// Fewer than four bytes.
+    #[error("fewer than four bytes")]
+    Short,
+    /// The version is not 1 (RFC 7252, 3).
+    #[error("a version other than 1")]
+    Version,
+    /// No message is spelled so.
+    #[error("a message format error")]
+    Format,
+}
+
+/// Why bytes were not read as a message of its own. The first that applies, in this order.
 #[derive(Clone, Copy, Debug, PartialEq, Eq, Error)]
 pub enum DecodeError {
     /// Fewer than four bytes.
@@ -37,6 +52,18 @@ pub enum DecodeError {
     /// The bytes spell a message, and the allocator had no memory for it.
     #[error("out of memory")]
     OutOfMemory,
+}
+
+impl From<ReadError> for DecodeError {
+    ghost from_gives = { λ refused e. e ≡ decode_error refused };
+
+    fn from(refused: ReadError) -> DecodeError {
+        match refused {
+            ReadError::Short => DecodeError::Short,
+            ReadError::Version => DecodeError::Version,
+            ReadError::Format => DecodeError::Format,
+        }
+    }
 }
 
 impl From<OutOfMemory> for DecodeError {

@@ -1,6 +1,6 @@
 //! Laws of reading and spelling: public functions that do nothing, whose contracts are the laws.
 ghost use Rattle.std.specs.Prelude.{◌≡◌, ℕ, ◌<◌, ◌^◌, List, Ok, length};
-ghost use Rattle.coap_message.specs.declared.error.DecodeError.TheVariants.{Short, Version};
+ghost use Rattle.coap_message.specs.declared.error.ReadError.TheVariants.{Short, Version};
 ghost use Rattle.coap_message.specs.Codes.{code_of};
 ghost use Rattle.coap_message.specs.Message.{Message};
 ghost use Rattle.coap_message.specs.Spelling.{Spells, IsMessage, spelling, spelling_length};

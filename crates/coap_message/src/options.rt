@@ -1,7 +1,12 @@
-//! Options, and lists of them in order (RFC 7252, 3.1).
-ghost use Rattle.std.specs.Prelude.{◌≡◌, ◌≤◌, ◌↔◌, ◌++◌, ◌∷◌, [], OnOk, OnErr, IfOk, IsTrue, length};
+//! Options, and lists of them in order (RFC 7252, 3.1), lent as the bytes that spell them.
+ghost use Rattle.std.specs.Prelude.{◌≡◌, ◌<◌, ◌^◌, [], ◌↔◌, IsTrue, IfOk, length, option_map};
+ghost use Rattle.coap_message.specs.Spelling.{options_spelling};
+ghost use Rattle.coap_message.specs.Reading.{options_at};
+ghost use Rattle.coap_message.specs.Options.{AreOptions};
 
 use crate::error::OutOfMemory;
+use crate::option_list::OptionList;
+use crate::reading::{is_option, read_option, read_payload};
 use crate::seq::Seq;
 use std::alloc::Global;
 use std::marker::Model;
@@ -13,79 +18,160 @@ pub struct Opt {
     pub value: Seq<u8>,
 }
 
-/// Options whose numbers don't go down, each with a value of at most 65,804 bytes. A contract sees
-/// the list.
-#[derive(Clone, Debug, Drop, PartialEq, Eq, Hash)]
-pub struct OptionList {
-    options: Seq<Opt>,
+/// An option whose value is lent.
+#[derive(Clone, Copy, Debug)]
+pub struct OptRef<'a> {
+    pub number: u16,
+    pub value: &'a [u8],
 }
 
-impl Model for OptionList {
+/// The options that are left, one after the other. A contract sees the list.
+#[derive(Drop)]
+pub struct OptRefs<'a> {
+    before: u16,
+    rest: &'a [u8],
+}
+
+impl<'a> Model for OptRefs<'a> {
     ghost use Rattle.std.specs.Prelude.{List};
     ghost use Rattle.coap_message.specs.declared.options.Opt.{Opt};
 
     ghost Value = { List Opt };
 
-    ghost use Rattle.coap_message.specs.Options.{AreOptions};
+    ghost use Rattle.coap_message.specs.SpelledOptions.{options_of, SpellOptions};
 
-    ghost view = { λ list. list.options };
+    ghost view = { λ s. options_of s.before s.rest.now };
 
-    ghost invariant = { λ list. AreOptions 0 list.options };
-
-    ghost inverse = { λ options. record { options = options } };
+    ghost invariant = { λ s. SpellOptions s.before s.rest.now };
 }
 
-impl OptionList {
-    ghost use Rattle.coap_message.specs.Options.{AreOptions, last_number};
+impl<'a> OptRefs<'a> {
+    /// The same ones once more.
+    pub fn again(&self) -> OptRefs<'a>
+        ensures { result ≡ self.now }
+    {
+        OptRefs {
+            before: self.before,
+            rest: self.rest,
+        }
+    }
+}
 
-    /// A list without options, which takes no memory yet.
-    pub fn new(alloc: Global) -> OptionList
+impl<'a> Iterator for OptRefs<'a> {
+    ghost use Rattle.std.specs.Iterator.{YieldsFirstBy, item_count};
+    ghost use Rattle.coap_message.specs.OptRef.{seen};
+
+    type Item = OptRef<'a>;
+
+    ghost next_gives = { YieldsFirstBy seen (λ left. left) };
+
+    ghost remaining = { item_count (λ left. left) };
+
+    fn next(&mut self) -> Option<OptRef<'a>> {
+        let option = read_option(self.before, self.rest)?;
+        self.before = option.number;
+        self.rest = option.rest;
+        Some(OptRef {
+            number: option.number,
+            value: option.value,
+        })
+    }
+}
+
+/// Options in order, lent as the bytes that spell them. A contract sees the list.
+#[derive(Drop)]
+pub struct Options<'a> {
+    pub(crate) bytes: &'a [u8],
+    pub(crate) last: u16,
+}
+
+impl<'a> Model for Options<'a> {
+    ghost use Rattle.std.specs.Prelude.{List};
+    ghost use Rattle.coap_message.specs.declared.options.Opt.{Opt};
+
+    ghost Value = { List Opt };
+
+    ghost use Rattle.coap_message.specs.SpelledOptions.{options_of, SpellUpTo};
+
+    ghost view = { λ a. options_of 0 a.bytes.now };
+
+    ghost invariant = { λ a. SpellUpTo a.bytes.now a.last };
+}
+
+impl<'a> Options<'a> {
+    /// No options.
+    pub fn none() -> Options<'static>
         ensures { result ≡ [] }
     {
-        OptionList {
-            options: Seq::new(alloc),
+        Options {
+            bytes: &[],
+            last: 0,
         }
     }
 
-    /// A list without options, with room for so many.
-    pub fn with_capacity(alloc: Global, options: usize) -> Result<OptionList, OutOfMemory>
-        ensures { IfOk result (λ list. list ≡ []) }
+    /// The same options, lent once more.
+    pub fn again(&self) -> Options<'a>
+        ensures { result ≡ self.now }
     {
-        Ok(OptionList {
-            options: Seq::with_capacity(alloc, options)?,
-        })
+        Options {
+            bytes: self.bytes,
+            last: self.last,
+        }
     }
 
-    /// Adds an option behind the others.
-    pub fn push(&mut self, option: Opt) -> Result<(), OutOfMemory>
-        requires in_order { last_number 0 self.old ≤ option.number }
-        requires within { length option.value ≤ 65804 }
-        ensures ok { OnOk result (self.new ≡ self.old ++ option ∷ []) }
-        ensures err { OnErr result (self.new ≡ self.old) }
-    {
-        self.options.push(option)?;
-        Ok(())
-    }
-
-    /// The options in order.
-    pub fn as_slice(&self) -> &[Opt]
-        ensures list { result.now ≡ self.now }
+    /// The options one by one.
+    pub fn iter(&self) -> OptRefs<'a>
+        ensures list { result ≡ self.now }
         ensures in_order { AreOptions 0 self.now }
+        ensures few { length self.now < 2 ^ 64 }
     {
-        self.options.as_slice()
+        let _bytes = self.bytes.len();
+        OptRefs {
+            before: 0,
+            rest: self.bytes,
+        }
     }
 
-    /// The number of options.
-    pub fn len(&self) -> usize
-        ensures { result ≡ length self.now }
+    /// The bytes that spell the options.
+    pub fn bytes(&self) -> &'a [u8]
+        ensures { result.now ≡ options_spelling 0 self.now }
     {
-        self.options.len()
+        self.bytes
     }
 
     /// Whether there is no option.
     pub fn is_empty(&self) -> bool
         ensures { IsTrue result ↔ (self.now ≡ []) }
     {
-        self.options.is_empty()
+        self.bytes.is_empty()
     }
+
+    /// A copy, in one block of memory.
+    pub fn to_owned(&self, alloc: Global) -> Result<OptionList, OutOfMemory>
+        ensures { IfOk result (λ list. list ≡ self.now) }
+    {
+        Ok(OptionList {
+            bytes: Seq::from_slice(alloc, self.bytes)?,
+            last: self.last,
+        })
+    }
+}
+
+/// The options that stand here, and the payload behind them.
+pub(crate) fn split_options(bytes: &[u8]) -> Option<(Options<'_>, &[u8])>
+    ensures { option_map (λ x. (x.0, x.1.now)) result ≡ options_at 0 bytes.now }
+{
+    let mut before = 0;
+    let mut rest = bytes;
+    'options: while is_option(rest) {
+        let option = read_option(before, rest)?;
+        before = option.number;
+        rest = option.rest;
+    }
+    let payload = read_payload(rest)?;
+    let options = Options {
+        bytes: &bytes[..bytes.len() - rest.len()],
+        last: before,
+    };
+    Some((options, payload))
 }

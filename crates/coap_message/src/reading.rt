@@ -1,16 +1,15 @@
 //! Reading a message from bytes (RFC 7252, 3).
-ghost use Rattle.std.specs.Prelude.{◌≡◌, ◌<◌, ◌≤◌, IfSome, IsSome, IfOk, Some, length, option_map, ◌↔◌, MatchResult, Err};
+ghost use Rattle.std.specs.Prelude.{◌≡◌, ◌<◌, ◌≤◌, IfSome, IsSome, IfOk, Some, length, option_map, ◌↔◌, MatchResult, Ok, Err};
 ghost use Rattle.coap_message.specs.Message.{Message};
 ghost use Rattle.coap_message.specs.Spelling.{Spells, SpellsNone, IsVersionOne};
-ghost use Rattle.coap_message.specs.Reading.{extended, option_at, begins_option, payload_at, options_at, body_at, body_behind, read_message, head_at, Reads};
-ghost use Rattle.coap_message.specs.Parsing.{parsed, body_of, counted, ReadsAs};
+ghost use Rattle.coap_message.specs.Reading.{extended, option_at, begins_option, payload_at, options_at, body_at, body_behind, read_message, header_at, head_at, Decodes};
+ghost use Rattle.coap_message.specs.Parsing.{parsed, body_of};
 
 use crate::code::Code;
-use crate::error::{DecodeError, OutOfMemory};
+use crate::error::{DecodeError, ReadError};
 use crate::kind::Kind;
-use crate::message::{Head, Message};
-use crate::options::{Opt, OptionList};
-use crate::seq::Seq;
+use crate::message::{Head, Message, MessageRef};
+use crate::options::{Options, split_options};
 use crate::token::Token;
 use std::alloc::Global;
 
@@ -19,18 +18,18 @@ pub(crate) const PAYLOAD_MARKER: u8 = 0xFF;
 
 /// An option in a datagram, and the bytes behind it.
 #[derive(Clone, Copy)]
-struct Parsed<'a> {
-    number: u16,
-    value: &'a [u8],
-    rest: &'a [u8],
+pub(crate) struct Parsed<'a> {
+    pub(crate) number: u16,
+    pub(crate) value: &'a [u8],
+    pub(crate) rest: &'a [u8],
 }
 
 /// What stands behind the header of a message.
 #[derive(Drop)]
-struct Content {
+struct BodyRef<'a> {
     token: Token,
-    options: OptionList,
-    payload: Seq<u8>,
+    options: Options<'a>,
+    payload: &'a [u8],
 }
 
 #[tactic(auto, unfolding(crate::specs::Reading::extended))]
@@ -47,7 +46,7 @@ fn read_extended(bits: u8, bytes: &[u8]) -> Option<(usize, &[u8])>
 }
 
 #[tactic(auto, unfolding(crate::specs::Reading::option_at))]
-fn read_option(before: u16, bytes: &[u8]) -> Option<Parsed<'_>>
+pub(crate) fn read_option(before: u16, bytes: &[u8]) -> Option<Parsed<'_>>
     ensures exact { option_map parsed result ≡ option_at before bytes.now }
     ensures within { IfSome result (λ option. length option.value.now ≤ 65804) }
 {
@@ -66,7 +65,7 @@ fn read_option(before: u16, bytes: &[u8]) -> Option<Parsed<'_>>
     })
 }
 
-fn is_option(bytes: &[u8]) -> bool
+pub(crate) fn is_option(bytes: &[u8]) -> bool
     ensures { result ≡ begins_option bytes.now }
 {
     match bytes {
@@ -75,24 +74,7 @@ fn is_option(bytes: &[u8]) -> bool
     }
 }
 
-/// How many options stand here, if they and the payload behind them are well formed.
-fn count_options(bytes: &[u8]) -> Option<usize>
-    ensures { result ≡ counted 0 (options_at 0 bytes.now) }
-{
-    let mut count = 0;
-    let mut before = 0;
-    let mut rest = bytes;
-    'options: while is_option(rest) {
-        let option = read_option(before, rest)?;
-        count += 1;
-        before = option.number;
-        rest = option.rest;
-    }
-    read_payload(rest)?;
-    Some(count)
-}
-
-fn read_payload(bytes: &[u8]) -> Option<&[u8]>
+pub(crate) fn read_payload(bytes: &[u8]) -> Option<&[u8]>
     ensures { option_map (λ payload. payload.now) result ≡ payload_at bytes.now }
 {
     match bytes {
@@ -102,98 +84,92 @@ fn read_payload(bytes: &[u8]) -> Option<&[u8]>
     }
 }
 
-/// These options, which are well formed, and the payload behind them. `count` is how many there are.
-fn read_options(
-    alloc: Global,
-    count: usize,
-    bytes: &[u8],
-) -> Result<(OptionList, &[u8]), OutOfMemory>
-    requires { IsSome (options_at 0 bytes.now) }
-    ensures { IfOk result (λ x. options_at 0 bytes.now ≡ Some (x.0, x.1.now)) }
-{
-    let mut options = OptionList::with_capacity(alloc, count)?;
-    let mut before = 0;
-    let mut rest = bytes;
-    'options: while is_option(rest) {
-        let Some(option) = read_option(before, rest) else {
-            unreachable!();
-        };
-        let value = Seq::from_slice(alloc, option.value)?;
-        options.push(Opt {
-            number: option.number,
-            value,
-        })?;
-        before = option.number;
-        rest = option.rest;
-    }
-    let Some(payload) = read_payload(rest) else {
-        unreachable!();
-    };
-    Ok((options, payload))
-}
-
 #[tactic(auto, unfolding(crate::specs::Reading::body_at))]
-fn read_body(alloc: Global, token_length: usize, bytes: &[u8]) -> Result<Content, DecodeError>
-    ensures { ReadsAs body_of result (body_at token_length bytes.now) }
+fn read_body(token_length: usize, bytes: &[u8]) -> Option<BodyRef<'_>>
+    ensures { option_map body_of result ≡ body_at token_length bytes.now }
 {
     if token_length > Token::MOST || bytes.len() < token_length {
-        return Err(DecodeError::Format);
+        return None;
     }
     let (token, rest) = bytes.split_at(token_length);
-    let count = count_options(rest).ok_or(DecodeError::Format)?;
-    let (options, payload) = read_options(alloc, count, rest)?;
-    let payload = Seq::from_slice(alloc, payload)?;
-    Ok(Content {
+    let (options, payload) = split_options(rest)?;
+    Some(BodyRef {
         token: Token::new(token),
         options,
         payload,
     })
 }
 
-fn read_content(
-    alloc: Global,
-    code: Code,
-    token_length: usize,
-    bytes: &[u8],
-) -> Result<Content, DecodeError>
-    ensures { ReadsAs body_of result (body_behind code.0 token_length bytes.now) }
+fn read_content(code: Code, token_length: usize, bytes: &[u8]) -> Option<BodyRef<'_>>
+    ensures { option_map body_of result ≡ body_behind code.0 token_length bytes.now }
 {
     if !code.is_empty() {
-        return read_body(alloc, token_length, bytes);
+        return read_body(token_length, bytes);
     }
     if token_length != 0 || !bytes.is_empty() {
-        return Err(DecodeError::Format);
+        return None;
     }
-    Ok(Content {
+    Some(BodyRef {
         token: Token::empty(),
-        options: OptionList::new(alloc),
-        payload: Seq::new(alloc),
+        options: Options::none(),
+        payload: bytes,
     })
+}
+
+impl<'a> MessageRef<'a> {
+    /// The message that the bytes spell (RFC 7252, 3), all of the bytes. Its options and its payload are lent as
+    /// they stand there, so that it takes no memory.
+    ///
+    /// # Errors
+    /// 1. `Short`: fewer than four bytes. 2. `Version`: a version other than 1. 3. `Format`: no message is spelled
+    /// so.
+    pub fn read(bytes: &'a [u8]) -> Result<MessageRef<'a>, ReadError>
+        // What is read is spelled so, and what is spelled so is read.
+        ensures spelled { (m : Message) → (result ≡ Ok m) ↔ Spells bytes.now m }
+
+        // Which refusal it is.
+        ensures short { (result ≡ Err ReadError.Short) ↔ (length bytes.now < 4) }
+        ensures version { (result ≡ Err ReadError.Version) ↔ ((4 ≤ length bytes.now) × (IsVersionOne bytes.now → ⊥)) }
+        ensures format { (result ≡ Err ReadError.Format) ↔ ((4 ≤ length bytes.now) × IsVersionOne bytes.now × SpellsNone bytes.now) }
+
+        // The same by the function that reads.
+        ensures exact { result ≡ read_message bytes.now }
+    {
+        read_lent(bytes)
+    }
 }
 
 #[tactic(auto, unfolding(crate::specs::Reading::read_message))]
-fn read(alloc: Global, bytes: &[u8]) -> Result<Message, DecodeError>
-    ensures { Reads result (read_message bytes.now) }
+fn read_lent(bytes: &[u8]) -> Result<MessageRef<'_>, ReadError>
+    ensures { result ≡ read_message bytes.now }
 {
     let [first, code, high, low, rest @ ..] = bytes else {
-        return Err(DecodeError::Short);
+        return Err(ReadError::Short);
     };
-    if *first >> 6 != 1 {
-        return Err(DecodeError::Version);
-    }
-    let code = Code(*code);
-    let content = read_content(alloc, code, usize::from(*first & 0x0f), rest)?;
-    Ok(Message {
-        kind: Kind::of_bits(*first >> 4 & 3),
-        code,
-        id: u16::from_be_bytes([*high, *low]),
-        token: content.token,
-        options: content.options,
-        payload: content.payload,
+    let Some(head) = read_header(*first, *code, *high, *low) else {
+        return Err(ReadError::Version);
+    };
+    let Some(body) = read_content(head.code, usize::from(*first & 0x0f), rest) else {
+        return Err(ReadError::Format);
+    };
+    Ok(MessageRef {
+        kind: head.kind,
+        code: head.code,
+        id: head.id,
+        token: body.token,
+        options: body.options,
+        payload: body.payload,
     })
 }
 
-/// The message that the bytes spell (RFC 7252, 3), all of the bytes.
+fn read_copy(alloc: Global, bytes: &[u8]) -> Result<Message, DecodeError>
+    ensures { Decodes result (read_message bytes.now) }
+{
+    let message = MessageRef::read(bytes)?;
+    Ok(message.to_message(alloc)?)
+}
+
+/// The message that the bytes spell (RFC 7252, 3), all of the bytes, as a copy.
 pub fn decode(alloc: Global, bytes: &[u8]) -> Result<Message, DecodeError>
     // What is read is spelled so, and what is spelled so is read, unless memory runs out.
     ensures spelled { IfOk result (λ m. Spells bytes.now m) }
@@ -207,9 +183,9 @@ pub fn decode(alloc: Global, bytes: &[u8]) -> Result<Message, DecodeError>
     ensures memory { result ≡ Err DecodeError.OutOfMemory → (m : Message) × Spells bytes.now m }
 
     // The same by the function that reads.
-    ensures exact { Reads result (read_message bytes.now) }
+    ensures exact { Decodes result (read_message bytes.now) }
 {
-    read(alloc, bytes)
+    read_copy(alloc, bytes)
 }
 
 /// What any datagram of four bytes or more and version 1 begins with, whether or not a message is
@@ -217,15 +193,22 @@ pub fn decode(alloc: Global, bytes: &[u8]) -> Result<Message, DecodeError>
 pub fn head_of(bytes: &[u8]) -> Option<Head>
     ensures { result ≡ head_at bytes.now }
 {
-    let [first, code, high, low, ..] = bytes else {
-        return None;
-    };
-    if *first >> 6 != 1 {
+    match bytes {
+        [first, code, high, low, ..] => read_header(*first, *code, *high, *low),
+        _ => None,
+    }
+}
+
+/// What the first four bytes of a datagram say, if its version is 1 (RFC 7252, 3).
+fn read_header(first: u8, code: u8, high: u8, low: u8) -> Option<Head>
+    ensures { result ≡ header_at first code high low }
+{
+    if first >> 6 != 1 {
         return None;
     }
     Some(Head {
-        kind: Kind::of_bits(*first >> 4 & 3),
-        code: Code(*code),
-        id: u16::from_be_bytes([*high, *low]),
+        kind: Kind::of_bits(first >> 4 & 3),
+        code: Code(code),
+        id: u16::from_be_bytes([high, low]),
     })
 }

@@ -2,7 +2,6 @@
 ghost use Rattle.std.specs.Prelude.{◌≡◌, ◌<◌, ◌≤◌, ◌↔◌, ◌+◌, ◌*◌, ◌/◌, ◌%◌, [], ◌∷◌, length, OnOk, OnErr, IsErr};
 ghost use Rattle.coap_message.specs.Datagram.{Appends, holding};
 ghost use Rattle.coap_message.specs.Kind.{kind_number};
-ghost use Rattle.coap_message.specs.Options.{AreOptions};
 ghost use Rattle.coap_message.specs.Spelling.{IsMessage, Spells, bits_of, more_of, head_spelling, option_spelling, options_spelling, payload_spelling, spelling};
 
 use crate::code::Code;
@@ -10,7 +9,7 @@ use crate::datagram::Datagram;
 use crate::error::Full;
 use crate::kind::Kind;
 use crate::message::{Head, Message};
-use crate::options::Opt;
+use crate::options::Options;
 use crate::reading::PAYLOAD_MARKER;
 use crate::token::Token;
 
@@ -28,7 +27,7 @@ fn append(out: &mut Datagram, room: usize, bytes: &[u8]) -> Result<(), Full>
 }
 
 /// The four bits for a delta or a length (RFC 7252, 3.1).
-fn bits(n: usize) -> u8
+pub(crate) fn bits(n: usize) -> u8
     ensures value { result ≡ bits_of n }
     ensures within { result < 15 }
 {
@@ -75,19 +74,12 @@ pub fn put_option(
 }
 
 /// Adds the options of a message, all of them, if at most `room` bytes are held then. It takes no memory.
-/// Where it is `Full`, a part of them may have been added.
-pub fn put_options(out: &mut Datagram, room: usize, options: &[Opt]) -> Result<(), Full>
-    requires room { room ≤ out.old.room }
-    requires held { length out.old.bytes ≤ room }
-    requires in_order { AreOptions 0 options.now }
+/// Where it is `Full`, none of them was added.
+pub fn put_options(out: &mut Datagram, room: usize, options: &Options<'_>) -> Result<(), Full>
+    requires { room ≤ out.old.room }
     ensures { Appends out.old out.new room (options_spelling 0 options.now) result }
 {
-    let mut before = 0;
-    for option in options {
-        put_option(out, room, before, option.number, option.value.as_slice())?;
-        before = option.number;
-    }
-    Ok(())
+    append(out, room, options.bytes())
 }
 
 /// Adds a payload behind its marker, if there is a payload and at most `room` bytes are held then. It
@@ -138,7 +130,7 @@ fn put_message(out: &mut Datagram, room: usize, message: &Message) -> Result<(),
         id: message.id,
     };
     put_head(out, room, head, &message.token)?;
-    put_options(out, room, message.options.as_slice())?;
+    put_options(out, room, &message.options.lent())?;
     put_payload(out, room, message.payload.as_slice())
 }
 

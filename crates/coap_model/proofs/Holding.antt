@@ -1,8 +1,8 @@
 -- The bytes that a proxy holds are within its bound.
-use Rattle.std.proofs.Common.{◌≡◌, ℕ, ◌+◌, ◌*◌, ◌≤◌, Bool, true, false, cond, eqb, leb, List, [], ◌∷◌, ◌++◌, map, length, Option, Some, None, refl, sym, ap, subst, arith}
+use Rattle.std.proofs.Common.{◌≡◌, ℕ, ◌+◌, ◌-◌, ◌*◌, ◌≤◌, Bool, true, false, cond, eqb, leb, List, [], ◌∷◌, ◌++◌, map, length, Option, Some, None, refl, sym, ap, subst, arith}
 use Rattle.std.specs.Prelude.{◌&&◌, not}
 use Rattle.std.specs.List.{sum_by}
-use Rattle.std.proofs.lemmas.Bool.{leb-true, and_parts}
+use Rattle.std.proofs.lemmas.Bool.{eqb-true, leb-true, lt-ltb, and_parts}
 use Rattle.std.proofs.lemmas.Nat.{mul-le}
 use Rattle.std.proofs.lemmas.List.{append-nil}
 use Rattle.std.proofs.lemmas.List.Elements.{All-from_recursion}
@@ -10,8 +10,10 @@ use Rattle.std.proofs.lemmas.List.Sums.{sum_by-cons, sum_by-le}
 use Rattle.coap_message.specs.declared.code.TheConstants.Code.{VALID}
 use Rattle.coap_message.specs.declared.options.Opt.{Opt}
 use Rattle.coap_message.specs.Message.{Message}
-use Rattle.coap_message.specs.Spelling.{spelling, options_length, payload_length}
-use Rattle.coap_message.proofs.Spellings.{spelling-length}
+use Rattle.coap_message.specs.Pieces.{pieces_spelling}
+use Rattle.coap_message.specs.Spelling.{spelling, more_length, options_spelling, options_length, payload_length}
+use Rattle.coap_message.proofs.PieceSpellings.{pieces-length}
+use Rattle.coap_message.proofs.Spellings.{options-length, spelling-length}
 use Rattle.coap_target.specs.declared.target.Target.{Target}
 use Rattle.coap_target.proofs.Lists.{All-weaken}
 use Rattle.coap_exchange.specs.declared.exchange.Answer.{Answer}
@@ -27,41 +29,58 @@ use Rattle.coap_model.specs.Messages.{host_options, target_options, forwarded, a
 use Rattle.coap_model.specs.World.{World}
 use Rattle.coap_model.specs.History.{Entry}
 use Rattle.coap_model.specs.Carries.{IsState, IsExchangeOf, IsWaiterOf, Carries}
-use Rattle.coap_model.specs.Held.{value_bytes, host_bytes, target_bytes, response_bytes, state_bytes, exchange_bytes, waiter_bytes, held, most_held}
+use Rattle.coap_model.specs.Held.{host_bytes, target_bytes, response_bytes, state_bytes, exchange_bytes, waiter_bytes, held, most_held}
 
--- ---- a target is held in no more than its form
+-- ---- a target is held in hardly more than its form
 
--- options of these values are spelled in at least these bytes
-length_at-least : (before number : ℕ) (values : List (List ℕ)) (os : List Opt) (n : ℕ) → ((low : ℕ) → n ≤ options_length low os) → sum_by value_bytes values + n ≤ options_length before (map (option_of number) values ++ os)
-length_at-least before number [] os n more = omega (arith, more before)
-length_at-least before number (v ∷ values) os n more = omega (arith, length_at-least number number values os n more, sum_by-cons value_bytes v values)
+-- what `bytes` take is at most a 255th more than `spelled`
+record IsLittleMore (bytes spelled : ℕ) : Type 0 where
+  most : 255 * bytes ≤ 256 * spelled
 
-target-short : (before : ℕ) (t : Target) → target_bytes t ≤ options_length before (target_options t)
+-- pieces take little more than the options of these values
+pieces-short : (before number : ℕ) (values : List (List ℕ)) (os : List Opt) (n : ℕ) → ((low : ℕ) → IsLittleMore n (options_length low os)) → IsLittleMore (length (pieces_spelling values) + n) (options_length before (map (option_of number) values ++ os))
+pieces-short before number [] os n more = record { most = omega (arith, (more before).most) }
+pieces-short before number (v ∷ values) os n more =
+    let rest = (pieces-short number number values os n more).most in
+    let here = pieces-length v values in
+    record { most = omega (arith, rest, here) }
+
+target-short : (before : ℕ) (t : Target) → IsLittleMore (target_bytes t) (options_length before (target_options t))
 unfolding target_options
 target-short before t = go t.host
   where
-    query : (low : ℕ) → sum_by value_bytes t.query + 0 ≤ options_length low (map (option_of 15) t.query ++ [])
-    query low = length_at-least low 15 t.query [] 0 (λ _. omega arith)
+    none : (low : ℕ) → IsLittleMore 0 (options_length low [])
+    none low = record { most = omega arith }
 
-    bare : (low : ℕ) → sum_by value_bytes t.query ≤ options_length low (map (option_of 15) t.query)
-    bare low = omega (arith, subst (λ (os : List Opt). sum_by value_bytes t.query + 0 ≤ options_length low os) (append-nil (map (option_of 15) t.query)) (query low))
+    query : (low : ℕ) → IsLittleMore (length (pieces_spelling t.query)) (options_length low (map (option_of 15) t.query))
+    query low =
+        let spelled = pieces-short low 15 t.query [] 0 none in
+        record { most = omega (arith, spelled.most, ap (options_length low) (append-nil (map (option_of 15) t.query))) }
 
-    path : (low : ℕ) → sum_by value_bytes t.path + sum_by value_bytes t.query ≤ options_length low (map (option_of 11) t.path ++ map (option_of 15) t.query)
-    path low = length_at-least low 11 t.path (map (option_of 15) t.query) (sum_by value_bytes t.query) bare
+    path : (low : ℕ) → IsLittleMore (length (pieces_spelling t.path) + length (pieces_spelling t.query)) (options_length low (map (option_of 11) t.path ++ map (option_of 15) t.query))
+    path low = pieces-short low 11 t.path (map (option_of 15) t.query) (length (pieces_spelling t.query)) query
 
-    go : (host : Option (List ℕ)) → host_bytes host + (sum_by value_bytes t.path + sum_by value_bytes t.query) ≤ options_length before (host_options host ++ (map (option_of 11) t.path ++ map (option_of 15) t.query))
-    go None = omega (arith, path before)
-    go (Some h) = omega (arith, path 3)
+    go : (host : Option (List ℕ)) → IsLittleMore (host_bytes host + (length (pieces_spelling t.path) + length (pieces_spelling t.query))) (options_length before (host_options host ++ (map (option_of 11) t.path ++ map (option_of 15) t.query)))
+    go None = record { most = omega (arith, (path before).most) }
+    go (Some h) = record { most = omega (arith, (path 3).most) }
 
-form-holds : (token : List ℕ) (t : Target) → target_bytes t ≤ length (spelling (forwarded token t 0))
-form-holds token t = omega (arith, spelling-length (forwarded token t 0), target-short 0 t)
+form-holds : (token : List ℕ) (t : Target) → IsLittleMore (target_bytes t) (length (spelling (forwarded token t 0)))
+form-holds token t = record { most = omega (arith, spelling-length (forwarded token t 0), (target-short 0 t).most) }
 
 -- ---- an answer is held in no more than a datagram and a Max-Age
 
-options-short : (os : List Opt) → are_understood os ≡ true → sum_by (λ o. value_bytes o.value) os ≤ 5
-options-short [] e = omega arith
-options-short (o ∷ []) e = let parts = and_parts (eqb o.number 14) (leb (length o.value) 4) e in omega (arith, leb-true _ _ parts.1)
-options-short (o ∷ p ∷ more) e = absurd cc
+options-short : (os : List Opt) → are_understood os ≡ true → length (options_spelling 0 os) ≤ 6
+options-short os e = omega (arith, options-length 0 os, counted os e)
+  where
+    counted : (os : List Opt) → are_understood os ≡ true → options_length 0 os ≤ 6
+    counted [] e = omega arith
+    counted (o ∷ []) e =
+        let parts = and_parts (eqb o.number 14) (leb (length o.value) 4) e in
+        one o.number (length o.value) (eqb-true _ _ parts.0) (leb-true _ _ parts.1)
+      where
+        one : (number n : ℕ) → number ≡ 14 → n ≤ 4 → 1 + more_length (number - 0) + more_length n + n + 0 ≤ 6
+        one number n is short = rw (is, lt-ltb n 13 (omega arith)) (omega arith)
+    counted (o ∷ p ∷ more) e = absurd cc
 
 payload-short : (m : Message) → length m.payload ≤ length (spelling (widest m))
 payload-short m = omega (arith, spelling-length (widest m), least m.payload)
@@ -70,11 +89,11 @@ payload-short m = omega (arith, spelling-length (widest m), least m.payload)
     least [] = omega arith
     least (p ∷ ps) = omega arith
 
-answer-short : (most now : ℕ) (m : Message) → response_bytes (answer_of most now m).message ≤ most + 5
+answer-short : (most now : ℕ) (m : Message) → response_bytes (answer_of most now m).message ≤ most + 6
 unfolding answer_of
 answer-short most now m = go (is_passed_on most m) refl
   where
-    go : (b : Bool) → is_passed_on most m ≡ b → response_bytes (cond {A = Answer} b (record { message = m; got = now; own = false }) (record { message = bad_gateway; got = now; own = true })).message ≤ most + 5
+    go : (b : Bool) → is_passed_on most m ≡ b → response_bytes (cond {A = Answer} b (record { message = m; got = now; own = false }) (record { message = bad_gateway; got = now; own = true })).message ≤ most + 6
     go true e =
         let parts = and_parts (are_understood m.options) (not (is_code m.code VALID) && fits most m) e in
         let more = and_parts (not (is_code m.code VALID)) (fits most m) parts.1 in
@@ -86,15 +105,15 @@ answer-short most now m = go (is_passed_on most m) refl
 exchange-held : (setting : Setting) (history : List Entry) (x : Numbered Exchange) → IsExchangeOf setting history x → exchange_bytes x ≤ 4 * setting.limits.datagram + 256
 exchange-held setting history x f = go x.1.state f.state
   where
-    target : target_bytes x.1.target ≤ length x.1.form
-    target = subst (λ (form : List ℕ). target_bytes x.1.target ≤ length form) (sym f.form_is) (form-holds _ x.1.target)
+    target : IsLittleMore (target_bytes x.1.target) (length x.1.form)
+    target = subst (λ (form : List ℕ). IsLittleMore (target_bytes x.1.target) (length form)) (sym f.form_is) (form-holds _ x.1.target)
 
     go : (s : ExchangeState) → IsState setting history x.0 x.1.target s → length x.1.form + target_bytes x.1.target + state_bytes s ≤ 4 * setting.limits.datagram + 256
-    go Queued state = omega (arith, target, f.form_short)
-    go (Sent s) state = omega (arith, target, f.form_short)
+    go Queued state = omega (arith, target.most, f.form_short)
+    go (Sent s) state = omega (arith, target.most, f.form_short)
     go (Done a) state =
         let short = answer-short setting.limits.datagram state.getting.entry.now state.gets.response in
-        omega (arith, target, f.form_short, subst (λ (b : Answer). response_bytes b.message ≤ setting.limits.datagram + 5) (sym state.answer_is) short)
+        omega (arith, target.most, f.form_short, subst (λ (b : Answer). response_bytes b.message ≤ setting.limits.datagram + 6) (sym state.answer_is) short)
 
 waiter-held : (setting : Setting) (history : List Entry) (served : List ℕ) (v : Numbered Waiter) → IsWaiterOf setting history served v → waiter_bytes v ≤ setting.limits.datagram + 256
 waiter-held setting history served v f = omega (arith, ap length f.token_is, f.asked.spells.message.token)

@@ -8,7 +8,7 @@ use Rattle.std.proofs.lemmas.Bool.{leb-true, le-leb}
 use Rattle.std.proofs.lemmas.List.{append-nil}
 use Rattle.std.proofs.lemmas.Nat.{from_be_bytes-to_be_bytes_8}
 use Rattle.coap_message.specs.declared.code.Code.{Code}
-use Rattle.coap_message.specs.declared.error.DecodeError.{DecodeError}
+use Rattle.coap_message.specs.declared.error.ReadError.{ReadError}
 use Rattle.coap_message.specs.declared.options.Opt.{Opt}
 use Rattle.coap_message.specs.Uint.{IsBytes, without_zeros, uint_spelling}
 use Rattle.coap_message.specs.Options.{AreOptions}
@@ -171,7 +171,7 @@ pub message_in-is : (most : ℕ) (bytes : List ℕ) (m : Message) → IsBytes by
 unfolding message_in
 message_in-is most bytes m fits e = go (leb (length bytes) most) refl e
   where
-    ok : (r : Result Message DecodeError) → result_ok r ≡ Some m → r ≡ Ok m
+    ok : (r : Result Message ReadError) → result_ok r ≡ Some m → r ≡ Ok m
     ok (Ok n) f = let same : n ≡ m = cc in ap Ok same
     ok (Err d) f = absurd cc
 

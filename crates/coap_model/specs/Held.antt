@@ -1,7 +1,10 @@
--- How many bytes a proxy holds, and the most that it holds by its limits.
+-- How many bytes a proxy holds, and the most that it holds by its limits. What is held counts as many bytes as the
+-- values of the program keep of it.
 use Rattle.std.specs.Prelude.{ℕ, ◌+◌, ◌*◌, List, length, Option, Some, None}
 use Rattle.std.specs.List.{sum_by}
 use Rattle.coap_message.specs.Message.{Message}
+use Rattle.coap_message.specs.Pieces.{pieces_spelling}
+use Rattle.coap_message.specs.Spelling.{options_spelling}
 use Rattle.coap_target.specs.declared.target.Target.{Target}
 use Rattle.coap_exchange.specs.declared.exchange.ExchangeState.{ExchangeState}
 use Rattle.coap_exchange.specs.declared.exchange.ExchangeState.TheVariants.{Queued, Sent, Done}
@@ -11,20 +14,18 @@ use Rattle.coap_exchange.specs.Table.{Numbered}
 use Rattle.coap_model.specs.Limits.{Limits}
 use Rattle.coap_model.specs.World.{World}
 
--- a value counts with one byte more
-abbrev pub value_bytes : List ℕ → ℕ
-value_bytes value = length value + 1
-
 abbrev pub host_bytes : Option (List ℕ) → ℕ
 host_bytes None = 0
-host_bytes (Some host) = value_bytes host
+host_bytes (Some host) = length host + 1
 
+-- segments and parts of a query count as they are kept: each with its length in front of it
 abbrev pub target_bytes : Target → ℕ
-target_bytes t = host_bytes t.host + (sum_by value_bytes t.path + sum_by value_bytes t.query)
+target_bytes t = host_bytes t.host + (length (pieces_spelling t.path) + length (pieces_spelling t.query))
 
--- a response counts without its token and its id
+-- A response counts without its token and its id; its options count as they are kept, in the bytes that spell them
+-- (RFC 7252, 3.1).
 abbrev pub response_bytes : Message → ℕ
-response_bytes m = sum_by (λ o. value_bytes o.value) m.options + length m.payload
+response_bytes m = length (options_spelling 0 m.options) + length m.payload
 
 abbrev pub state_bytes : ExchangeState → ℕ
 state_bytes Queued = 0

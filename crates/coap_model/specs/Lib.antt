@@ -15,5 +15,6 @@ pub mod History
 pub mod Justified
 pub mod Carries
 pub mod Held
+pub mod Memory
 pub mod Promised
 pub mod Runs

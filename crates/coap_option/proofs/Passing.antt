@@ -1,17 +1,13 @@
 -- One pass over options in order, which counts the options of the last number.
-use Rattle.std.proofs.Common.{◌≡◌, ◌==◌, ℕ, ◌+◌, ◌<◌, ◌≤◌, zero, suc, Bool, true, false, cond, List, [], ◌∷◌, ◌++◌, length, get_or, take, drop, refl, sym, ap, ◌∙◌, arith, eq-eqb, ⊎_elim}
+use Rattle.std.proofs.Common.{◌≡◌, ◌==◌, ℕ, ◌+◌, ◌<◌, ◌≤◌, Bool, true, false, cond, List, [], ◌∷◌, ◌++◌, length, refl, sym, ap, subst, ◌∙◌, arith, eq-eqb, ⊎_elim}
 use Rattle.std.proofs.lemmas.Bool.{cases_eq, ne_eqb}
-use Rattle.std.proofs.lemmas.List.{drop_all, drop_more, take_more}
 use Rattle.std.proofs.lemmas.List.Sums.{sum_by-cons, sum_by_push}
 use Rattle.coap_message.specs.declared.options.Opt.{Opt}
 use Rattle.coap_message.specs.Options.{AreOptions, last_number}
+use Rattle.coap_message.proofs.Counting.{last_number-push}
+use Rattle.coap_message.proofs.OptionLists.{AreOptions-push}
 use Rattle.coap_option.specs.declared.places.Run.{Run}
-use Rattle.coap_option.specs.Places.{count_of, places_behind}
-
--- the number of the option that was added
-pub last_number-push : (b : ℕ) (xs : List Opt) (x : Opt) → last_number b (xs ++ x ∷ []) ≡ x.number
-last_number-push b [] x = refl
-last_number-push b (y ∷ ys) x = last_number-push y.number ys x
+use Rattle.coap_option.specs.Places.{PlacedOption, count_of, places, places_behind}
 
 -- numbers don't go down
 last_number-le : (b : ℕ) (xs : List Opt) → AreOptions b xs → b ≤ last_number b xs
@@ -36,67 +32,32 @@ before_is passed x run before in_order number count le counted =
     (rw (ne_eqb x.number run.number other) at counted) ∙ sym (count_of-above x.number 0 passed in_order above))
     (cases_eq x.number run.number)
 
--- options in order, up to one of them and at it
-AreOptions-at : (b : ℕ) (xs : List Opt) (i : ℕ) (x : Opt) → AreOptions b xs → i < length xs → x ≡ get_or xs i x → AreOptions b (take i xs) × (last_number b (take i xs) ≤ x.number) × (length x.value ≤ 65804)
-AreOptions-at b [] i x are within item = absurd (omega arith)
-AreOptions-at b (y ∷ ys) zero x are within item = rw item (tt, are.0, are.2)
-AreOptions-at b (y ∷ ys) (suc i) x are within item =
-    let rest = AreOptions-at y.number ys i x are.3 (omega arith) item in
-    ((are.0, are.1, are.2, rest.0), rest.1, rest.2)
+-- how many of an option's number stand before it, by the run behind the options passed
+abbrev pub before_of : Run → Opt → ℕ
+before_of run o = cond (o.number == run.number) run.count 0
 
--- a loop over options in order has passed the first `i` of them: the run has the number of the last,
--- and how many of them have it
-pub record IsAt (options : List Opt) (i : ℕ) (run : Run) : Type 0 where
-  pub in_order : AreOptions 0 options
-  pub number : run.number ≡ last_number 0 (take i options)
-  pub count : run.count ≡ count_of run.number (take i options)
-  pub within : run.count ≤ i
+-- the run behind it
+abbrev pub run_behind : Run → Opt → Run
+run_behind run o = record { number = o.number; count = before_of run o + 1 }
 
--- The loop comes to the option x, and the run says that `before` of its number stand before it.
-module _ (options : List Opt) (i : ℕ) (x : Opt) (run : Run) (before : ℕ) (within : i < length options) (item : x ≡ get_or options i x) (counted : before ≡ cond (x.number == run.number) run.count 0) where
-  -- what is passed with it
-  take_more-item : take (i + 1) options ≡ take i options ++ x ∷ []
-  take_more-item = take_more options i x within ∙ ap (λ (y : Opt). take i options ++ y ∷ []) (sym item)
+-- the places of options behind a run
+abbrev pub places_after : Run → List Opt → List PlacedOption
+places_after run [] = []
+places_after run (o ∷ os) = record { option = o; before = before_of run o } ∷ places_after (run_behind run o) os
 
-  -- what is left from it on
-  drop_more-item : drop i options ≡ x ∷ drop (i + 1) options
-  drop_more-item = drop_more options i x within ∙ ap (λ (y : Opt). y ∷ drop (i + 1) options) (sym item)
+abbrev placed : Opt → ℕ → PlacedOption
+placed o n = record { option = o; before = n }
 
-  module _ (run_is : IsAt options i run) where
-    -- how many of its number stand before it
-    before_at : before ≡ count_of x.number (take i options)
-    before_at =
-        let at = AreOptions-at 0 options i x run_is.in_order within item in
-        before_is (take i options) x run before at.0 run_is.number run_is.count at.1 counted
+places_behind-after : (passed left : List Opt) (run : Run) → AreOptions 0 passed → AreOptions (last_number 0 passed) left → run.number ≡ last_number 0 passed → run.count ≡ count_of run.number passed
+    → places_behind passed left ≡ places_after run left
+places_behind-after passed [] run are left number count = refl
+places_behind-after passed (o ∷ os) run are left number count =
+    let here : before_of run o ≡ count_of o.number passed = before_is passed o run (before_of run o) are number count left.0 refl in
+    let more : before_of run o + 1 ≡ count_of o.number (passed ++ o ∷ []) = rw (sum_by_push (λ (x : Opt). cond (x.number == o.number) 1 0) passed o, eq-eqb o.number o.number refl) (ap (λ (n : ℕ). n + 1) here) in
+    let last : last_number 0 (passed ++ o ∷ []) ≡ o.number = last_number-push 0 passed o in
+    let others = places_behind-after (passed ++ o ∷ []) os (run_behind run o) (AreOptions-push 0 passed o are left.0 left.1 left.2) (subst (λ (n : ℕ). AreOptions n os) (sym last) left.3) (sym last) more in
+    ap (λ (n : ℕ). placed o n ∷ places_behind (passed ++ o ∷ []) os) (sym here) ∙ ap (λ (ps : List PlacedOption). record { option = o; before = before_of run o } ∷ ps) others
 
-    -- it is in order, and short enough
-    pub in_order-step : (run.number ≤ x.number) × (length x.value ≤ 65804)
-    in_order-step =
-        let at = AreOptions-at 0 options i x run_is.in_order within item in
-        (rw run_is.number at.1, at.2)
-
-    -- its place is the first of those left
-    pub places_behind-step : places_behind (take i options) (drop i options) ≡ record { option = x; before = before } ∷ places_behind (take (i + 1) options) (drop (i + 1) options)
-    places_behind-step = rw (drop_more-item, take_more-item, before_at) refl
-
-    -- the run behind it
-    pub IsAt-step : IsAt options (i + 1) (record { number = x.number; count = before + 1 })
-    IsAt-step = record {
-      in_order = run_is.in_order;
-      number = rw take_more-item (sym (last_number-push 0 (take i options) x));
-      count = rw (take_more-item, sum_by_push (λ (o : Opt). cond (o.number == x.number) 1 0) (take i options) x, eq-eqb x.number x.number refl, before_at) refl;
-      within = before-le (x.number == run.number) run.count before i counted run_is.within;
-    }
-      where
-        -- the count grows by one at most
-        before-le : (same : Bool) (count before i : ℕ) → before ≡ cond same count 0 → count ≤ i → before + 1 ≤ i + 1
-        before-le true count before i e le = omega arith
-        before-le false count before i e le = omega arith
-
--- no option was passed
-pub IsAt-none : (options : List Opt) → AreOptions 0 options → IsAt options 0 (record { number = 0; count = 0 })
-IsAt-none options are = record { in_order = are; number = refl; count = refl; within = omega arith }
-
--- nothing is left
-pub places_behind-none : (passed options : List Opt) (i : ℕ) → length options ≤ i → places_behind passed (drop i options) ≡ []
-places_behind-none passed options i all = rw (drop_all i options all) refl
+-- the places of a message's options
+pub places-after : (options : List Opt) → AreOptions 0 options → places options ≡ places_after (record { number = 0; count = 0 }) options
+places-after options are = places_behind-after [] options (record { number = 0; count = 0 }) tt are refl refl

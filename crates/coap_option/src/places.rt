@@ -1,22 +1,24 @@
 //! One pass over the options of a message, each in its place: with how many of its number stand before
 //! it.
 ghost use Rattle.std.specs.Prelude.{◌≡◌, ◌≢◌, ◌==◌, ◌+◌, ◌-◌, ◌^◌, ◌<◌, if◌then◌else◌, filter, find, map, [], IfOk, OnErr};
-ghost use Rattle.std.specs.Option.{option_map, option_copied};
+ghost use Rattle.std.specs.Option.{option_map};
+ghost use Rattle.coap_message.specs.OptRef.{seen};
 ghost use Rattle.coap_option.specs.Places.{PlacedOption, places};
 ghost use Rattle.coap_option.specs.Selection.{selected};
 
-use coap_message::{Opt, OptionList, OutOfMemory, Seq};
+use coap_message::{OptRef, OptionList, Options, OutOfMemory, Pieces};
 use std::alloc::Global;
 
 /// A question about an option in its place.
 pub(crate) trait Test {
     ghost use Rattle.std.specs.Prelude.{Bool};
+    ghost use Rattle.coap_message.specs.OptRef.{seen};
 
     ghost holds: { Self → PlacedOption → Bool };
 
     /// Whether it holds of an option behind so many of its number.
-    fn holds_of(&self, option: &Opt, before: usize) -> bool
-        ensures { result ≡ holds self.now (record { option = option.now; before = before }) };
+    fn holds_of(&self, option: OptRef<'_>, before: usize) -> bool
+        ensures { result ≡ holds self.now (record { option = seen option.entry; before = before }) };
 }
 
 /// How many options of the last number were passed. Options come in order of number, so those of one
@@ -52,11 +54,11 @@ impl Run {
 }
 
 /// The first option for which the test holds.
-pub(crate) fn first<'a, T: Test>(options: &'a OptionList, test: &T) -> Option<&'a Opt>
-    ensures { option_copied result ≡ option_map (λ p. p.option) (find (T.holds test.now) (places options.entry.now)) }
+pub(crate) fn first<'a, T: Test>(options: &Options<'a>, test: &T) -> Option<OptRef<'a>>
+    ensures { option_map seen result ≡ option_map (λ p. p.option) (find (T.holds test.now) (places options.now)) }
 {
     let mut run = Run::new();
-    for option in options.as_slice() {
+    for option in options.iter() {
         let before = run.pass(option.number);
         if test.holds_of(option, before) {
             return Some(option);
@@ -65,20 +67,10 @@ pub(crate) fn first<'a, T: Test>(options: &'a OptionList, test: &T) -> Option<&'
     None
 }
 
-/// A copy of an option.
-fn copy_of(alloc: Global, option: &Opt) -> Result<Opt, OutOfMemory>
-    ensures { IfOk result (λ copy. copy ≡ option.now) }
-{
-    Ok(Opt {
-        number: option.number,
-        value: Seq::from_slice(alloc, option.value.as_slice())?,
-    })
-}
-
-/// The options for which the test holds, in order.
+/// The options for which the test holds, in order, in no more room than they need.
 pub(crate) fn select<T: Test>(
     alloc: Global,
-    options: &OptionList,
+    options: &Options<'_>,
     test: &T,
 ) -> Result<OptionList, OutOfMemory>
     ensures ok { IfOk result (λ list. list ≡ selected (T.holds test.now) options.now) }
@@ -86,31 +78,33 @@ pub(crate) fn select<T: Test>(
 {
     let mut run = Run::new();
     let mut list = OptionList::new(alloc);
-    for option in options.as_slice() {
+    for option in options.iter() {
         let before = run.pass(option.number);
         if test.holds_of(option, before) {
-            list.push(copy_of(alloc, option)?)?;
+            list.push(option.number, option.value)?;
         }
     }
+    list.shrink_to_fit();
     Ok(list)
 }
 
-/// The values of the options for which the test holds, in order.
+/// The values of the options for which the test holds, in order, in no more room than they need.
 pub(crate) fn values<T: Test>(
     alloc: Global,
-    options: &OptionList,
+    options: &Options<'_>,
     test: &T,
-) -> Result<Seq<Seq<u8>>, OutOfMemory>
+) -> Result<Pieces, OutOfMemory>
     ensures ok { IfOk result (λ list. list ≡ map (λ p. p.option.value) (filter (T.holds test.now) (places options.now))) }
     ensures err { OnErr result (map (λ p. p.option.value) (filter (T.holds test.now) (places options.now)) ≢ []) }
 {
     let mut run = Run::new();
-    let mut list = Seq::new(alloc);
-    for option in options.as_slice() {
+    let mut list = Pieces::new(alloc);
+    for option in options.iter() {
         let before = run.pass(option.number);
         if test.holds_of(option, before) {
-            list.push(Seq::from_slice(alloc, option.value.as_slice())?)?;
+            list.push(option.value)?;
         }
     }
+    list.shrink_to_fit();
     Ok(list)
 }

@@ -1,11 +1,12 @@
 //! Which options are recognised (RFC 7252, 5.4.1, 5.4.3 and 5.4.5).
 ghost use Rattle.std.specs.Prelude.{◌≡◌};
 ghost use Rattle.coap_option.specs.Recognition.{is_recognised};
+ghost use Rattle.coap_message.specs.OptRef.{seen};
 ghost use Rattle.coap_option.specs.Places.{is_recognised_at};
 
 use crate::side::Side;
 use crate::table::Row;
-use coap_message::Opt;
+use coap_message::OptRef;
 
 /// Whether an option is recognised: it is defined for this side, its value's length, in bytes, is in
 /// the range of its definition (RFC 7252, 5.4.3), and it is repeatable on this side or the first of
@@ -21,8 +22,8 @@ pub fn recognised(side: Side, number: u16, length: usize, before: usize) -> bool
 }
 
 /// Whether an option is recognised behind so many of its number.
-pub(crate) fn option_recognised(side: Side, option: &Opt, before: usize) -> bool
-    ensures { result ≡ is_recognised_at side (record { option = option.now; before = before }) }
+pub(crate) fn option_recognised(side: Side, option: OptRef<'_>, before: usize) -> bool
+    ensures { result ≡ is_recognised_at side (record { option = seen option.entry; before = before }) }
 {
     recognised(side, option.number, option.value.len(), before)
 }

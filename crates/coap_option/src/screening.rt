@@ -6,7 +6,7 @@ use crate::classes::is_unsafe;
 use crate::places::{Test, first};
 use crate::recognition::option_recognised;
 use crate::side::Side;
-use coap_message::{Message, Opt};
+use coap_message::{MessageRef, OptRef};
 use thiserror::Error;
 
 /// The number of an option that is unsafe to forward and not recognised.
@@ -23,14 +23,14 @@ struct Refused(Side);
 impl Test for Refused {
     ghost holds = { λ t p. is_refused t.0 p };
 
-    fn holds_of(&self, option: &Opt, before: usize) -> bool {
+    fn holds_of(&self, option: OptRef<'_>, before: usize) -> bool {
         is_unsafe(option.number) && !option_recognised(self.0, option, before)
     }
 }
 
 /// Refuses a request for its first option that is unsafe and not recognised (RFC 7252, 5.7.1: a proxy
 /// answers it with 4.02).
-pub fn screen_request(message: &Message) -> Result<(), BadOption>
+pub fn screen_request(message: &MessageRef<'_>) -> Result<(), BadOption>
     ensures ok { OnOk result (first_refused Side.Request message.now.options ≡ None) }
     ensures err { IfErr result (λ bad. first_refused Side.Request message.now.options ≡ Some bad.number) }
 {
@@ -39,7 +39,7 @@ pub fn screen_request(message: &Message) -> Result<(), BadOption>
 
 /// Refuses a response for its first option that is unsafe and not recognised (RFC 7252, 5.7.1: a proxy
 /// answers 5.02 in its place).
-pub fn screen_response(message: &Message) -> Result<(), BadOption>
+pub fn screen_response(message: &MessageRef<'_>) -> Result<(), BadOption>
     ensures ok { OnOk result (first_refused Side.Response message.now.options ≡ None) }
     ensures err { IfErr result (λ bad. first_refused Side.Response message.now.options ≡ Some bad.number) }
 {
@@ -47,7 +47,7 @@ pub fn screen_response(message: &Message) -> Result<(), BadOption>
 }
 
 /// Refuses a message of this side for its first option that is unsafe and not recognised.
-fn screen(side: Side, message: &Message) -> Result<(), BadOption>
+fn screen(side: Side, message: &MessageRef<'_>) -> Result<(), BadOption>
     ensures ok { OnOk result (first_refused side message.now.options ≡ None) }
     ensures err { IfErr result (λ bad. first_refused side message.now.options ≡ Some bad.number) }
 {

@@ -8,7 +8,7 @@ use crate::numbers;
 use crate::places::{Test, first, select, values};
 use crate::recognition::option_recognised;
 use crate::side::Side;
-use coap_message::{Code, Message, Opt, OptionList, OutOfMemory, Seq, uint};
+use coap_message::{Code, MessageRef, OptRef, OptionList, OutOfMemory, Pieces, uint};
 use std::alloc::Global;
 
 /// The Max-Age of a response that has none, in seconds (RFC 7252, 5.10.5).
@@ -21,7 +21,7 @@ struct Forwarded(Code);
 impl Test for Forwarded {
     ghost holds = { λ t p. not (stays t.0 p) };
 
-    fn holds_of(&self, option: &Opt, before: usize) -> bool {
+    fn holds_of(&self, option: OptRef<'_>, before: usize) -> bool {
         let used_up = match option.number {
             numbers::URI_HOST
             | numbers::OBSERVE
@@ -45,7 +45,7 @@ struct InKey(Code);
 impl Test for InKey {
     ghost holds = { λ t p. is_key t.0 p };
 
-    fn holds_of(&self, option: &Opt, before: usize) -> bool {
+    fn holds_of(&self, option: OptRef<'_>, before: usize) -> bool {
         !is_no_cache_key(option.number) && Forwarded(self.0).holds_of(option, before)
     }
 }
@@ -60,7 +60,7 @@ struct OfNumber {
 impl Test for OfNumber {
     ghost holds = { λ t p. is_of t.side t.number p };
 
-    fn holds_of(&self, option: &Opt, before: usize) -> bool {
+    fn holds_of(&self, option: OptRef<'_>, before: usize) -> bool {
         option.number == self.number && option_recognised(self.side, option, before)
     }
 }
@@ -68,7 +68,7 @@ impl Test for OfNumber {
 /// The options of a request that are sent on, in order: all but the recognised ones of Uri-Host,
 /// Observe, Uri-Port, Uri-Path, Max-Age, Uri-Query, Proxy-Uri and Proxy-Scheme, and in a GET all but
 /// the recognised ETags, too. An `Err` is for want of memory; where no option is sent on, none is taken.
-pub fn forward_options(alloc: Global, message: &Message) -> Result<OptionList, OutOfMemory>
+pub fn forward_options(alloc: Global, message: &MessageRef<'_>) -> Result<OptionList, OutOfMemory>
     ensures ok { IfOk result (λ list. list ≡ sent_on message.now) }
     ensures err { OnErr result (sent_on message.now ≢ []) }
 {
@@ -78,7 +78,7 @@ pub fn forward_options(alloc: Global, message: &Message) -> Result<OptionList, O
 /// The options of a request that are part of its cache key, in order: those that are sent on, less
 /// the NoCacheKey ones (RFC 7252, 5.4.2 and 5.6). An `Err` is for want of memory; for an empty key,
 /// none is taken.
-pub fn key_options(alloc: Global, message: &Message) -> Result<OptionList, OutOfMemory>
+pub fn key_options(alloc: Global, message: &MessageRef<'_>) -> Result<OptionList, OutOfMemory>
     ensures ok { IfOk result (λ list. list ≡ key_of message.now) }
     ensures err { OnErr result (key_of message.now ≢ []) }
 {
@@ -88,7 +88,7 @@ pub fn key_options(alloc: Global, message: &Message) -> Result<OptionList, OutOf
 /// The values of the recognised ETags, in order: of a request any number, of a response the first
 /// alone, and that only if its length is in range (RFC 7252, 5.10.6). An `Err` is for want of memory;
 /// without a recognised ETag, none is taken.
-pub fn tags(alloc: Global, message: &Message) -> Result<Seq<Seq<u8>>, OutOfMemory>
+pub fn tags(alloc: Global, message: &MessageRef<'_>) -> Result<Pieces, OutOfMemory>
     ensures ok { IfOk result (λ tags. tags ≡ tags_of message.now) }
     ensures err { OnErr result (tags_of message.now ≢ []) }
 {
@@ -100,7 +100,7 @@ pub fn tags(alloc: Global, message: &Message) -> Result<Seq<Seq<u8>>, OutOfMemor
 }
 
 /// The recognised Max-Age of a response, in seconds: 60 where it has none (RFC 7252, 5.10.5).
-pub fn max_age(message: &Message) -> u32
+pub fn max_age(message: &MessageRef<'_>) -> u32
     ensures { result ≡ max_age_of message.now }
 {
     let max_age = OfNumber {
@@ -108,7 +108,7 @@ pub fn max_age(message: &Message) -> u32
         number: numbers::MAX_AGE,
     };
     match first(&message.options, &max_age) {
-        Some(option) => uint(option.value.as_slice()) as u32,
+        Some(option) => uint(option.value) as u32,
         None => DEFAULT_MAX_AGE,
     }
 }

@@ -12,3 +12,4 @@ pub mod RouteTexts
 pub mod Equality
 pub mod Winner
 pub mod Examples
+pub mod MappedTarget

@@ -1,13 +1,13 @@
 //! Entries of the routes: maps from paths to origins, and the addresses of hosts.
 use crate::endpoint::Ip;
 use crate::target::Target;
-use coap_message::Seq;
+use coap_message::{Pieces, Seq};
 
 /// Where paths lead that begin with the prefix: to the origin, with what is left of the path behind the
 /// origin's own.
 #[derive(Clone, Debug, Drop, PartialEq, Eq, Hash)]
 pub struct Map {
-    pub prefix: Seq<Seq<u8>>,
+    pub prefix: Pieces,
     pub origin: Target,
 }
 

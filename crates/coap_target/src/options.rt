@@ -1,34 +1,65 @@
 //! The options of one number.
-ghost use Rattle.std.specs.Prelude.{◌≡◌, ◌==◌, filter, length, take_while, nat_lt};
+ghost use Rattle.std.specs.Prelude.{◌≡◌};
 
-use coap_message::{Opt, OptionList};
+use coap_message::{OptRefs, Options};
+use std::marker::Model;
 
-/// How many options at the head have a lower number.
-fn count_below(options: &[Opt], number: u16) -> usize
-    ensures { result ≡ length (take_while (λ o. nat_lt o.number number) options.now) }
-{
-    options
-        .iter()
-        .take_while(|option| option.number < number)
-        .count()
+/// The values that are left of the options of a number. A contract sees the list.
+#[derive(Drop)]
+pub struct Values<'a> {
+    number: u16,
+    left: OptRefs<'a>,
 }
 
-/// How many options at the head have this number.
-fn count_of(options: &[Opt], number: u16) -> usize
-    ensures { result ≡ length (take_while (λ o. o.number == number) options.now) }
-{
-    options
-        .iter()
-        .take_while(|option| option.number == number)
-        .count()
+impl<'a> Model for Values<'a> {
+    ghost use Rattle.std.specs.Prelude.{ℕ, List};
+
+    ghost Value = { List (List ℕ) };
+
+    ghost use Rattle.coap_target.specs.Routes.{values_of};
+
+    ghost view = { λ v. values_of v.number v.left };
 }
 
-/// The options of a number, in order. They stand together, since options come in order of number (RFC
-/// 7252, 3.1).
-pub(crate) fn options_of(options: &OptionList, number: u16) -> &[Opt]
-    ensures { result.now ≡ filter (λ o. o.number == number) options.now }
-{
-    let options = options.as_slice();
-    let rest = &options[count_below(options, number)..];
-    &rest[..count_of(rest, number)]
+impl<'a> Iterator for Values<'a> {
+    ghost use Rattle.std.specs.Iterator.{YieldsFirstRef, item_count};
+
+    type Item = &'a [u8];
+
+    ghost next_gives = { YieldsFirstRef (λ left. left) };
+
+    ghost remaining = { item_count (λ left. left) };
+
+    fn next(&mut self) -> Option<&'a [u8]> {
+        while let Some(option) = self.left.next() {
+            if option.number == self.number {
+                return Some(option.value);
+            }
+        }
+        None
+    }
+}
+
+impl<'a> Values<'a> {
+    ghost use Rattle.coap_target.specs.Routes.{values_of};
+
+    /// The same ones once more.
+    pub(crate) fn again(&self) -> Values<'a>
+        ensures { result ≡ self.now }
+    {
+        Values {
+            number: self.number,
+            left: self.left.again(),
+        }
+    }
+
+    /// The values of the options of a number.
+    pub(crate) fn of(options: &Options<'a>, number: u16) -> Values<'a>
+        ensures { result ≡ values_of number options.now }
+    {
+        Values {
+            number,
+            left: options.iter(),
+        }
+    }
 }

@@ -5,7 +5,7 @@ ghost use Rattle.std.specs.Option.{option_copied};
 ghost use Rattle.percent_encoding.specs.Percent as spec;
 ghost use Rattle.coap_target.specs.Uri.{decoded_parts, is_short, parts_left};
 
-use coap_message::{OutOfMemory, Seq};
+use coap_message::{OutOfMemory, Pieces, Seq};
 use percent_encoding::percent_decode;
 use std::alloc::Global;
 
@@ -18,6 +18,7 @@ pub(crate) fn decoded(alloc: Global, text: &[u8]) -> Result<Seq<u8>, OutOfMemory
 {
     let mut bytes = Vec::new(alloc);
     percent_decode(text).append_to(&mut bytes)?;
+    bytes.shrink_to_fit();
     Ok(Seq::from_vec(bytes))
 }
 
@@ -26,16 +27,17 @@ pub(crate) fn split_decoded(
     alloc: Global,
     text: &[u8],
     separator: u8,
-) -> Result<Seq<Seq<u8>>, OutOfMemory>
+) -> Result<Pieces, OutOfMemory>
     ensures { IfOk result (λ parts. parts ≡ decoded_parts separator text.now) }
 {
-    let mut parts = Seq::new(alloc);
+    let mut parts = Pieces::new(alloc);
     let mut rest = Some(text);
     while let Some(text) = rest {
         let (part, behind) = cut(text, separator);
-        parts.push(decoded(alloc, part)?)?;
+        parts.push(decoded(alloc, part)?.as_slice())?;
         rest = behind;
     }
+    parts.shrink_to_fit();
     Ok(parts)
 }
 
@@ -58,8 +60,13 @@ fn place_of(text: &[u8], byte: u8) -> Option<usize>
 }
 
 /// Whether no part is too long.
-pub(crate) fn all_short(parts: &[Seq<u8>]) -> bool
+pub(crate) fn all_short(parts: &Pieces) -> bool
     ensures { result ≡ list_all is_short parts.now }
 {
-    parts.iter().all(|part| part.len() <= LONGEST)
+    for part in parts.iter() {
+        if part.len() > LONGEST {
+            return false;
+        }
+    }
+    true
 }

@@ -15,7 +15,7 @@ use crate::request::remote;
 use crate::routes::Routes;
 use crate::target::Target;
 use crate::uri::{HostPart, path_parts, split_uri};
-use coap_message::Seq;
+use coap_message::{Pieces, Seq};
 use std::alloc::Global;
 
 /// The most own names.
@@ -50,6 +50,7 @@ fn read_all<E, T: Drop, R: Reader<E, T>>(
     for entry in entries {
         parts.push(reader.read(alloc, entry)?)?;
     }
+    parts.shrink_to_fit();
     Ok(parts)
 }
 
@@ -140,7 +141,7 @@ fn is_prefix(text: &[u8]) -> bool
 }
 
 /// The segments of a prefix.
-fn read_prefix(alloc: Global, text: &String) -> Result<Seq<Seq<u8>>, RouteError>
+fn read_prefix(alloc: Global, text: &String) -> Result<Pieces, RouteError>
     ensures { Answers errors.OutOfMemory result (ok_or (spec.prefix_of (string_bytes text.now)) errors.Unreadable) }
 {
     if !is_prefix(text.as_bytes()) {

@@ -1,36 +1,34 @@
 //! The target of a request (RFC 7252, 5.7.2, 5.7.3, 5.10.1 and 5.10.2).
-ghost use Rattle.std.specs.Prelude.{◌≡◌, ◌≤◌, None, IfOk, length};
-ghost use Rattle.std.specs.Prelude.{map as map_list};
+ghost use Rattle.std.specs.Prelude.{◌≡◌, ◌++◌, None, IfOk, option_map};
 ghost use Rattle.std.specs.Option.{option_copied};
 ghost use Rattle.coap_option.specs.declared.side.Side.{Side};
 ghost use Rattle.coap_option.specs.Screening.{first_refused};
 ghost use Rattle.coap_target.specs.Answer.{Answers};
 ghost use Rattle.coap_target.specs.Hosts as names;
 ghost use Rattle.coap_target.specs.Request as spec;
-ghost use Rattle.coap_target.specs.Routes.{mapped, path_of, query_of};
+ghost use Rattle.coap_target.specs.MappedTarget.{seen};
+ghost use Rattle.coap_target.specs.Routes.{mapped, mapped_target, path_of, query_of};
 ghost use Rattle.coap_target.specs.declared.error.TargetError.TheVariants as errors;
 
 use crate::address::read_host;
 use crate::endpoint::{Endpoint, Ip};
 use crate::error::{TargetError, UriError};
 use crate::map::{KnownHost, Map};
-use crate::options::options_of;
+use crate::options::Values;
 use crate::routes::{Routes, map_of};
-use crate::segment::{Segment, append};
-use crate::target::Target;
+use crate::segment::{Segments, copies, joined, skip};
+use crate::target::{MappedTarget, Target};
 use crate::uri::{DEFAULT_PORT, HostPart, UriParts, split_uri};
-use coap_message::{Message, Opt, OutOfMemory, Seq, uint};
+use coap_message::{MessageRef, OutOfMemory, Seq, uint};
 use coap_option::numbers;
 use std::alloc::Global;
 
 /// The value of the first option of a number.
-fn value_of(request: &Message, number: u16) -> Option<&[u8]>
+fn value_of<'a>(request: &MessageRef<'a>, number: u16) -> Option<&'a [u8]>
     ensures { option_copied result ≡ spec.value_of number request.now }
 {
-    match options_of(&request.options, number) {
-        [first, ..] => Some(first.value.as_slice()),
-        [] => None,
-    }
+    let mut values = Values::of(&request.options, number);
+    values.next()
 }
 
 /// A copy of a host, if there is one.
@@ -43,31 +41,48 @@ fn copy_of(alloc: Global, host: &Option<Seq<u8>>) -> Result<Option<Seq<u8>>, Out
     }
 }
 
-/// The origin's path followed by what stands behind the map's prefix, and the query.
-fn mapped<P: Segment, Q: Segment>(
+/// A resource of an origin: its own path with these segments behind it, and this query.
+fn resource<'a, P: Segments<'a>>(
     alloc: Global,
-    map: &Map,
-    path: &[P],
-    query: &[Q],
+    origin: &Target,
+    rest: P,
+    query: P,
 ) -> Result<Target, OutOfMemory>
-    requires { length map.now.prefix ≤ length path.now }
-    ensures { IfOk result (λ target. target ≡ mapped (map_list P.bytes_of path.now) (map_list Q.bytes_of query.now) map.now) }
+    ensures { IfOk result (λ target. target ≡ record { host = origin.now.host; at = origin.now.at; path = origin.now.path ++ P.left rest; query = P.left query }) }
 {
-    let mut segments = Seq::new(alloc);
-    append(alloc, &mut segments, map.origin.path.as_slice())?;
-    append(alloc, &mut segments, &path[map.prefix.len()..])?;
-    let mut parts = Seq::new(alloc);
-    append(alloc, &mut parts, query)?;
     Ok(Target {
-        host: copy_of(alloc, &map.origin.host)?,
-        at: map.origin.at,
-        path: segments,
-        query: parts,
+        host: copy_of(alloc, &origin.host)?,
+        at: origin.at,
+        path: joined(alloc, &origin.path, rest)?,
+        query: copies(alloc, query)?,
     })
 }
 
+/// The origin's path followed by what stands behind the map's prefix, and the query.
+fn mapped<'a, P: Segments<'a>>(
+    alloc: Global,
+    map: &Map,
+    path: P,
+    query: P,
+) -> Result<Target, OutOfMemory>
+    ensures { IfOk result (λ target. target ≡ mapped (P.left path) (P.left query) map.now) }
+{
+    let mut rest = path;
+    skip(&mut rest, map.prefix.len());
+    resource(alloc, &map.origin, rest, query)
+}
+
+impl MappedTarget<'_, '_> {
+    /// A copy of the target, in no more room than it needs.
+    pub fn to_target(&self, alloc: Global) -> Result<Target, OutOfMemory>
+        ensures { IfOk result (λ target. target ≡ seen self.now) }
+    {
+        resource(alloc, self.origin, self.rest.again(), self.query.again())
+    }
+}
+
 /// The port that Uri-Port says.
-fn port_of(request: &Message) -> u16
+fn port_of(request: &MessageRef<'_>) -> u16
     requires { first_refused Side.Request request.now.options ≡ None }
     ensures { result ≡ spec.port_of request.now }
 {
@@ -113,26 +128,17 @@ pub(crate) fn remote(hosts: &[KnownHost], uri: UriParts) -> Result<Target, Targe
 }
 
 /// The Uri-Path options of a request (RFC 7252, 5.10.1).
-fn path_of(request: &Message) -> &[Opt]
-    ensures { map_list (λ o. o.value) result.now ≡ path_of request.now }
+fn path_of<'a>(request: &MessageRef<'a>) -> Values<'a>
+    ensures { result ≡ path_of request.now }
 {
-    options_of(&request.options, numbers::URI_PATH)
+    Values::of(&request.options, numbers::URI_PATH)
 }
 
 /// The Uri-Query options of a request (RFC 7252, 5.10.1).
-fn query_of(request: &Message) -> &[Opt]
-    ensures { map_list (λ o. o.value) result.now ≡ query_of request.now }
+fn query_of<'a>(request: &MessageRef<'a>) -> Values<'a>
+    ensures { result ≡ query_of request.now }
 {
-    options_of(&request.options, numbers::URI_QUERY)
-}
-
-/// Copies of the values of options.
-fn copies(alloc: Global, options: &[Opt]) -> Result<Seq<Seq<u8>>, OutOfMemory>
-    ensures { IfOk result (λ values. values ≡ map_list (λ o. o.value) options.now) }
-{
-    let mut values = Seq::new(alloc);
-    append(alloc, &mut values, options)?;
-    Ok(values)
+    Values::of(&request.options, numbers::URI_QUERY)
 }
 
 /// Whether a scheme is `coap`, in either case (RFC 3986, 3.1).
@@ -143,16 +149,32 @@ fn is_coap(scheme: &[u8]) -> bool
 }
 
 impl Routes {
+    /// What a request to the proxy itself is mapped to, if one of the maps has its path (RFC 7252, 5.7.3).
+    /// Nothing is copied, so that it takes no memory.
+    #[tactic(auto, unfolding(crate::specs::Routes::mapped_target))]
+    pub fn mapped<'m, 'a>(&'m self, request: &MessageRef<'a>) -> Option<MappedTarget<'m, 'a>>
+        ensures { option_map seen result ≡ mapped_target self.now request.now }
+    {
+        let mut path = path_of(request);
+        let map = map_of(self.maps.as_slice(), &path)?;
+        skip(&mut path, map.prefix.len());
+        Some(MappedTarget {
+            origin: &map.origin,
+            rest: path,
+            query: query_of(request),
+        })
+    }
+
     /// The target of a request to the proxy itself.
-    fn local<P: Segment, Q: Segment>(
+    fn local<'a, P: Segments<'a>>(
         &self,
         alloc: Global,
-        path: &[P],
-        query: &[Q],
+        path: P,
+        query: P,
     ) -> Result<Target, TargetError>
-        ensures { Answers errors.OutOfMemory result (spec.local self.now (map_list P.bytes_of path.now) (map_list Q.bytes_of query.now)) }
+        ensures { Answers errors.OutOfMemory result (spec.local self.now (P.left path) (P.left query)) }
     {
-        match map_of(self.maps.as_slice(), path) {
+        match map_of(self.maps.as_slice(), &path) {
             Some(map) => Ok(mapped(alloc, map, path, query)?),
             None => Err(TargetError::NotFound),
         }
@@ -170,7 +192,7 @@ impl Routes {
         ensures { Answers errors.OutOfMemory result (spec.resolved self.now uri) }
     {
         if self.is_own(&uri.host) {
-            self.local(alloc, uri.path.as_slice(), uri.query.as_slice())
+            self.local(alloc, uri.path.iter(), uri.query.iter())
         } else {
             remote(self.hosts.as_slice(), uri)
         }
@@ -197,7 +219,7 @@ impl Routes {
     fn by_scheme(
         &self,
         alloc: Global,
-        request: &Message,
+        request: &MessageRef<'_>,
         scheme: &[u8],
     ) -> Result<Target, TargetError>
         requires { first_refused Side.Request request.now.options ≡ None }
@@ -230,7 +252,7 @@ impl Routes {
     /// where there are no own names, or the scheme or the host is not served; `NotFound` where no map
     /// has the path of a request to the proxy itself.
     #[tactic(auto, unfolding(crate::specs::Request::request_target))]
-    pub fn target_of(&self, alloc: Global, request: &Message) -> Result<Target, TargetError>
+    pub fn target_of(&self, alloc: Global, request: &MessageRef<'_>) -> Result<Target, TargetError>
         requires { first_refused Side.Request request.now.options ≡ None }
         ensures { Answers errors.OutOfMemory result (spec.request_target self.now request.now) }
     {

@@ -1,15 +1,15 @@
 //! Routes: the own names of a proxy, the hosts that it knows, and the origins that its paths are mapped
 //! to (RFC 7252, 5.7.2 and 5.7.3).
-ghost use Rattle.std.specs.Prelude.{◌≡◌, IfOk, map};
+ghost use Rattle.std.specs.Prelude.{◌≡◌, IfOk};
 ghost use Rattle.std.specs.Option.{option_copied};
 ghost use Rattle.coap_target.specs.Routes as spec;
 
 use crate::endpoint::{Endpoint, Ip};
 use crate::map::{KnownHost, Map};
-use crate::segment::{Segment, begins};
+use crate::segment::{Segments, begins};
 use crate::target::Target;
 use crate::uri::HostPart;
-use coap_message::{OutOfMemory, Seq};
+use coap_message::{OutOfMemory, Pieces, Seq};
 use std::alloc::Global;
 use std::marker::Model;
 
@@ -52,10 +52,10 @@ impl Routes {
     pub fn fixed(alloc: Global) -> Result<Routes, OutOfMemory>
         ensures { IfOk result (λ routes. routes ≡ fixed_routes) }
     {
-        let mut prefix = Seq::new(alloc);
-        prefix.push(Seq::from_slice(alloc, b"t")?)?;
-        let mut path = Seq::new(alloc);
-        path.push(Seq::from_slice(alloc, b"temp")?)?;
+        let mut prefix = Pieces::new(alloc);
+        prefix.push(b"t")?;
+        let mut path = Pieces::new(alloc);
+        path.push(b"temp")?;
         let at = Endpoint {
             ip: Ip::V4([127, 0, 0, 1]),
             port: 5690,
@@ -64,7 +64,7 @@ impl Routes {
             host: None,
             at,
             path,
-            query: Seq::new(alloc),
+            query: Pieces::new(alloc),
         };
         let mut maps = Seq::new(alloc);
         maps.push(Map { prefix, origin })?;
@@ -77,12 +77,12 @@ impl Routes {
 }
 
 /// The map of a path: among those whose prefix begins it the one with the longest, then the earliest.
-pub(crate) fn map_of<'a, S: Segment>(maps: &'a [Map], path: &[S]) -> Option<&'a Map>
-    ensures { option_copied result ≡ spec.map_of maps.entry.now (map S.bytes_of path.now) }
+pub(crate) fn map_of<'m, 'a, P: Segments<'a>>(maps: &'m [Map], path: &P) -> Option<&'m Map>
+    ensures { option_copied result ≡ spec.map_of maps.entry.now (P.left path.now) }
 {
     let mut best: Option<&Map> = None;
     for map in maps {
-        if is_longer(map, best) && begins(map.prefix.as_slice(), path) {
+        if is_longer(map, best) && begins(&map.prefix, path.again()) {
             best = Some(map);
         }
     }

@@ -1,63 +1,118 @@
 //! Segments of paths and parts of queries, wherever they are kept.
-ghost use Rattle.std.specs.Prelude.{◌≡◌, ◌++◌, map, OnOk};
+ghost use Rattle.std.specs.Prelude.{◌≡◌, ◌++◌, ◌∷◌, [], IfOk, MatchOption, OnOk, drop as drop_list};
 ghost use Rattle.coap_target.specs.Routes as spec;
 
-use coap_message::{Opt, OutOfMemory, Seq};
+use crate::options::Values;
+use coap_message::{OutOfMemory, PieceRefs, Pieces};
 use std::alloc::Global;
 
-/// Bytes that are a segment of a path, or a part of a query.
-pub(crate) trait Segment {
+/// Segments of a path, or parts of a query, that are left. A contract sees the list.
+pub trait Segments<'a>: Drop {
     ghost use Rattle.std.specs.Prelude.{ℕ, List};
 
-    ghost bytes_of: { Self → List ℕ };
+    ghost left: { Self → List (List ℕ) };
 
-    /// The bytes.
-    fn bytes(&self) -> &[u8]
-        ensures { result.now ≡ bytes_of self.now };
+    /// The next one.
+    fn next_segment(&mut self) -> Option<&'a [u8]>
+        ensures { MatchOption result ((left self.old ≡ []) × (left self.new ≡ [])) (λ s. left self.old ≡ s.now ∷ left self.new) };
+
+    /// The same ones once more.
+    fn again(&self) -> Self
+        ensures { left result ≡ left self.now };
 }
 
-impl Segment for Seq<u8> {
-    ghost bytes_of = { λ s. s };
+impl<'a> Segments<'a> for PieceRefs<'a> {
+    ghost left = { λ pieces. pieces };
 
-    fn bytes(&self) -> &[u8] {
-        self.as_slice()
+    fn next_segment(&mut self) -> Option<&'a [u8]> {
+        self.next()
+    }
+
+    fn again(&self) -> PieceRefs<'a> {
+        self.again()
     }
 }
 
-/// An option's value (RFC 7252, 5.10.1).
-impl Segment for Opt {
-    ghost bytes_of = { λ o. o.value };
+/// Options' values (RFC 7252, 5.10.1).
+impl<'a> Segments<'a> for Values<'a> {
+    ghost left = { λ values. values };
 
-    fn bytes(&self) -> &[u8] {
-        self.value.as_slice()
+    fn next_segment(&mut self) -> Option<&'a [u8]> {
+        self.next()
+    }
+
+    fn again(&self) -> Values<'a> {
+        self.again()
     }
 }
 
 /// Whether a path begins with the segments of a prefix.
-pub(crate) fn begins<S: Segment>(prefix: &[Seq<u8>], path: &[S]) -> bool
-    ensures { result ≡ spec.begins prefix.now (map S.bytes_of path.now) }
+pub(crate) fn begins<'a, P: Segments<'a>>(prefix: &Pieces, path: P) -> bool
+    ensures { result ≡ spec.begins prefix.now (P.left path) }
 {
-    if path.len() < prefix.len() {
-        return false;
-    }
-    for (index, segment) in prefix.iter().enumerate() {
-        if segment.as_slice() != path[index].bytes() {
+    let mut path = path;
+    for segment in prefix.iter() {
+        let Some(other) = path.next_segment() else {
+            return false;
+        };
+        if segment != other {
             return false;
         }
     }
     true
 }
 
-/// Adds copies of segments at the end.
-pub(crate) fn append<S: Segment>(
-    alloc: Global,
-    list: &mut Seq<Seq<u8>>,
-    segments: &[S],
-) -> Result<(), OutOfMemory>
-    ensures { OnOk result (list.new ≡ list.old ++ map S.bytes_of segments.now) }
+/// Passes so many segments.
+pub(crate) fn skip<'a, P: Segments<'a>>(path: &mut P, count: usize)
+    ensures { P.left path.new ≡ drop_list count (P.left path.old) }
 {
-    for segment in segments {
-        list.push(Seq::from_slice(alloc, segment.bytes())?)?;
+    for index in 0..count {
+        let _index = index;
+        let _passed = path.next_segment();
+    }
+}
+
+/// Adds copies of segments at the end.
+fn append<'a, P: Segments<'a>>(list: &mut Pieces, segments: P) -> Result<(), OutOfMemory>
+    ensures { OnOk result (list.new ≡ list.old ++ P.left segments) }
+{
+    let mut segments = segments;
+    'segments: while let Some(segment) = segments.next_segment() {
+        list.push(segment)?;
     }
     Ok(())
+}
+
+/// How many bytes copies of segments take, as `Pieces` keeps them.
+fn size_of<'a, P: Segments<'a>>(segments: P) -> usize {
+    let mut segments = segments;
+    let mut size = 0usize;
+    'segments: while let Some(segment) = segments.next_segment() {
+        size = size.saturating_add(Pieces::size_of(segment));
+    }
+    size
+}
+
+/// Copies of segments, in no more room than they need.
+pub(crate) fn copies<'a, P: Segments<'a>>(alloc: Global, segments: P) -> Result<Pieces, OutOfMemory>
+    ensures { IfOk result (λ copies. copies ≡ P.left segments) }
+{
+    let mut copies = Pieces::with_room(alloc, size_of(segments.again()))?;
+    append(&mut copies, segments)?;
+    Ok(copies)
+}
+
+/// Pieces and copies of segments behind them, in no more room than they need.
+pub(crate) fn joined<'a, P: Segments<'a>>(
+    alloc: Global,
+    front: &Pieces,
+    behind: P,
+) -> Result<Pieces, OutOfMemory>
+    ensures { IfOk result (λ list. list ≡ front.now ++ P.left behind) }
+{
+    let size = front.size().saturating_add(size_of(behind.again()));
+    let mut list = Pieces::with_room(alloc, size)?;
+    append(&mut list, front.iter())?;
+    append(&mut list, behind)?;
+    Ok(list)
 }

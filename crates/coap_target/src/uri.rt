@@ -13,7 +13,7 @@ use crate::address::{read_ipv4, read_url};
 use crate::endpoint::Ip;
 use crate::error::UriError;
 use crate::parts::{LONGEST, all_short, decoded, split_decoded};
-use coap_message::{OutOfMemory, Seq};
+use coap_message::{OutOfMemory, Pieces, Seq};
 use std::alloc::Global;
 use url::{Host, Url};
 
@@ -42,8 +42,8 @@ impl HostPart {
 pub struct UriParts {
     pub host: HostPart,
     pub port: u16,
-    pub path: Seq<Seq<u8>>,
-    pub query: Seq<Seq<u8>>,
+    pub path: Pieces,
+    pub query: Pieces,
 }
 
 impl UriParts {
@@ -62,7 +62,7 @@ impl UriParts {
             HostPart::Name(name) => name.len() <= LONGEST,
             HostPart::Addr(_) => true,
         };
-        host && all_short(self.path.as_slice()) && all_short(self.query.as_slice())
+        host && all_short(&self.path) && all_short(&self.query)
     }
 }
 
@@ -125,21 +125,21 @@ fn named(alloc: Global, text: &str) -> Result<HostPart, OutOfMemory>
 }
 
 /// The segments behind the first slash of a path; none where nothing stands there.
-pub(crate) fn path_parts(alloc: Global, path: &[u8]) -> Result<Seq<Seq<u8>>, OutOfMemory>
+pub(crate) fn path_parts(alloc: Global, path: &[u8]) -> Result<Pieces, OutOfMemory>
     ensures { IfOk result (λ segments. segments ≡ spec.path_parts path.now) }
 {
     match path {
-        [] | [_] => Ok(Seq::new(alloc)),
+        [] | [_] => Ok(Pieces::new(alloc)),
         [_, behind @ ..] => split_decoded(alloc, behind, b'/'),
     }
 }
 
 /// The parts of a query between `&`; none without a query.
-fn query_parts(alloc: Global, query: Option<&str>) -> Result<Seq<Seq<u8>>, OutOfMemory>
+fn query_parts(alloc: Global, query: Option<&str>) -> Result<Pieces, OutOfMemory>
     ensures { IfOk result (λ parts. parts ≡ spec.query_parts (option_copied query.entry)) }
 {
     match query {
         Some(query) => split_decoded(alloc, query.as_bytes(), b'&'),
-        None => Ok(Seq::new(alloc)),
+        None => Ok(Pieces::new(alloc)),
     }
 }

@@ -1,15 +1,10 @@
-//! Every datagram of the worked examples is read, and written back to the same bytes.
-ghost use Rattle.std.specs.Prelude.{◌≤◌};
-
-use coap_message::{
-    Code, Datagram, DecodeError, Kind, Message, Opt, OptionList, OutOfMemory, Seq, Token, decode,
-    encode_into, uint_bytes,
-};
-use std::alloc::Global;
+//! Every datagram of the worked examples, and some long ones, are read, and written back to the same bytes.
+use coap_message::{Datagram, Message, MessageRef, decode, encode_into};
+use std::alloc::{AllocError, Global};
 use std::process::Abort;
 use std::test::*;
 
-/// One datagram a line.
+/// One datagram a line, of which the last has 17 options.
 const DATAGRAMS: &str = "\
 50010007B174
 480100010000000000000001B474656D70
@@ -134,131 +129,72 @@ const DATAGRAMS: &str = "\
 50A30002D10105
 480100010000000000000001376E6F7768657265421633D413636F6170
 50010008376E6F7768657265D417636F6170
-";
+40010007110111021103110411051106110711081109110A110B110C110D110E110F11101111";
 
-/// Decodes a datagram, and encodes the message into another.
-fn rewrite(rt: &impl Abort, alloc: Global, bytes: &[u8], out: &mut Datagram) -> Result<(), Fail> {
+/// Nothing, to be filled up: `{NONE:0>6}` is six times `0`.
+const NONE: &str = "";
+
+/// The datagrams, and longer ones: of 700 empty options, and of one option whose value has 269 or 65,804 bytes.
+fn datagrams(alloc: Global) -> Result<String, AllocError> {
+    let longest = 2 * 65_804;
+    format!(in alloc;
+        "{DATAGRAMS}
+40010007{NONE:0>1400}
+400100070E0000{NONE:A>538}
+400100071EFFFF{NONE:B>longest$}"
+    )
+}
+
+/// Checks that a message is written as these bytes.
+fn check_written(rt: &impl Abort, message: &Message, out: &mut Datagram, bytes: &[u8]) {
+    let room = out.room();
+    assert!(rt; encode_into(message, out, room).is_ok());
+    assert_eq!(rt; out.bytes(), bytes);
+}
+
+/// Checks that a datagram is read as a message of its own, and written back.
+fn check_decoded(
+    rt: &impl Abort,
+    alloc: Global,
+    bytes: &[u8],
+    out: &mut Datagram,
+) -> Result<(), Fail> {
     let message = decode(alloc, bytes)?;
-    assert!(rt; out.room() >= 128);
-    Ok(encode_into(&message, out, 128)?)
+    check_written(rt, &message, out, bytes);
+    Ok(())
+}
+
+/// Checks that a datagram is read where it stands, and written back from a copy.
+fn check_lent(
+    rt: &impl Abort,
+    alloc: Global,
+    bytes: &[u8],
+    out: &mut Datagram,
+) -> Result<(), Fail> {
+    let lent = MessageRef::read(bytes)?;
+    let message = lent.to_message(alloc)?;
+    check_written(rt, &message, out, bytes);
+    Ok(())
+}
+
+/// Checks that each of these datagrams is written back.
+fn check_datagrams(
+    rt: &impl Abort,
+    alloc: Global,
+    lines: &str,
+    out: &mut Datagram,
+) -> Result<(), Fail> {
+    for line in lines.lines() {
+        let bytes = hex::decode(alloc, line)?;
+        check_decoded(rt, alloc, &bytes, out)?;
+        check_lent(rt, alloc, &bytes, out)?;
+    }
+    Ok(())
 }
 
 #[test]
 fn datagrams_are_written_back(rt: HostRuntime) -> Result<(), Fail> {
-    let mut out = Datagram::new(rt.alloc(), 128)?;
-    for line in DATAGRAMS.lines() {
-        let bytes = hex::decode(rt.alloc(), line)?;
-        rewrite(&rt, rt.alloc(), &bytes, &mut out)?;
-        assert_eq!(rt; out.bytes(), bytes.as_slice(), "{line}");
-    }
-    Ok(())
-}
-
-/// Checks that the datagrams of these lines are refused so.
-fn check_refused(
-    rt: &impl Abort,
-    alloc: Global,
-    lines: &str,
-    error: DecodeError,
-) -> Result<(), Fail> {
-    for line in lines.lines() {
-        let bytes = hex::decode(alloc, line)?;
-        assert_eq!(rt; decode(alloc, &bytes).err(), Some(error), "{line}");
-    }
-    Ok(())
-}
-
-#[test]
-fn malformed_datagrams_are_refused(rt: HostRuntime) -> Result<(), Fail> {
-    let malformed = "\
-59010007000000000000000000
-50010007F0
-50010007B574
-50010007FF
-50010007E0FFFF
-4000000900
-40010007FF";
-    check_refused(&rt, rt.alloc(), malformed, DecodeError::Format)?;
-    check_refused(&rt, rt.alloc(), "500100", DecodeError::Short)?;
-    check_refused(&rt, rt.alloc(), "10010007", DecodeError::Version)
-}
-
-/// A number of an option, the length of its value, and the length of a message of this one option: at
-/// the boundaries of the three ways to write a delta and a length.
-const BOUNDARIES: [(u16, usize, usize); 10] = [
-    (12, 0, 5),
-    (13, 0, 6),
-    (268, 0, 6),
-    (269, 0, 7),
-    (65535, 0, 7),
-    (0, 12, 17),
-    (0, 13, 19),
-    (0, 268, 274),
-    (0, 269, 276),
-    (0, 65804, 65811),
-];
-
-/// A message of these options.
-fn get(alloc: Global, options: OptionList) -> Message {
-    Message {
-        kind: Kind::Non,
-        code: Code::GET,
-        id: 7,
-        token: Token::empty(),
-        options,
-        payload: Seq::new(alloc),
-    }
-}
-
-fn one_option(alloc: Global, number: u16, length: usize) -> Result<OptionList, OutOfMemory>
-    requires { length ≤ 65804 }
-{
-    let value = Seq::from_vec(vec![in alloc; 0x61; length]?);
-    let mut options = OptionList::new(alloc);
-    options.push(Opt { number, value })?;
-    Ok(options)
-}
-
-/// Checks that a message is written in so many bytes and in no fewer, and is read from them again.
-fn check_length(
-    rt: &impl Abort,
-    alloc: Global,
-    message: &Message,
-    out: &mut Datagram,
-    length: usize,
-) {
-    assert!(rt; 1 <= length && length <= out.room());
-    assert!(rt; encode_into(message, out, length - 1).is_err());
-    assert!(rt; encode_into(message, out, length).is_ok());
-    assert_eq!(rt; out.bytes().len(), length);
-    assert!(rt; decode(alloc, out.bytes()).ok().as_ref() == Some(message));
-}
-
-#[test]
-fn deltas_and_lengths_at_their_boundaries(rt: HostRuntime) -> Result<(), Fail> {
+    let lines = datagrams(rt.alloc())?;
     let mut out = Datagram::new(rt.alloc(), 70000)?;
-    for (number, length, expected) in BOUNDARIES {
-        assert!(rt; length <= 65804);
-        let message = get(rt.alloc(), one_option(rt.alloc(), number, length)?);
-        check_length(&rt, rt.alloc(), &message, &mut out, expected);
-    }
-    Ok(())
-}
-
-/// Numbers, and the bytes that stand for them (RFC 7252, 3.2).
-const NUMBERS: [(u64, &[u8]); 6] = [
-    (0, &[]),
-    (1, &[1]),
-    (255, &[255]),
-    (256, &[1, 0]),
-    (65_536, &[1, 0, 0]),
-    (u64::MAX, &[255, 255, 255, 255, 255, 255, 255, 255]),
-];
-
-#[test]
-fn numbers_have_their_shortest_bytes(rt: HostRuntime) -> Result<(), Fail> {
-    for (number, bytes) in NUMBERS {
-        assert_eq!(rt; uint_bytes(rt.alloc(), number)?.as_slice(), bytes);
-    }
-    Ok(())
+    check_datagrams(&rt, rt.alloc(), lines.as_str(), &mut out)
 }

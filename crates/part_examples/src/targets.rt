@@ -1,5 +1,5 @@
 //! The targets of requests, the parts of URIs, and the routes that texts say.
-use coap_message::{Seq, decode};
+use coap_message::{MessageRef, OutOfMemory, Pieces};
 use coap_option::screen_request;
 use coap_target::{
     HostPart, Ip, RouteError, Routes, Target, TargetError, UriError, UriParts, read_ip, split_uri,
@@ -32,8 +32,12 @@ fn pairs(alloc: Global, text: &str, kind: &str) -> Result<Vec<(String, String)>,
     Ok(pairs)
 }
 
-/// The routes that a text says, such as `own:proxy.test; host:a.test=192.0.2.7; map:/t=coap://a.test/x`.
+/// The routes that a text says, such as `own:proxy.test; host:a.test=192.0.2.7; map:/t=coap://a.test/x`, or the
+/// fixed ones.
 fn routes(alloc: Global, text: &str) -> Result<Routes, RouteError> {
+    if text == "fixed" {
+        return Ok(Routes::fixed(alloc)?);
+    }
     let (Ok(names), Ok(hosts), Ok(maps)) = (
         own_names(alloc, text),
         pairs(alloc, text, "host:"),
@@ -49,11 +53,11 @@ fn show_bytes(out: &mut String, bytes: &[u8]) -> Result<(), AllocError> {
     out.push_str(str::from_utf8(bytes).unwrap_or("no text"))
 }
 
-/// Adds each of the parts between two marks.
-fn show_parts(out: &mut String, parts: &[Seq<u8>], marks: (&str, &str)) -> Result<(), AllocError> {
-    for part in parts {
+/// Adds each of the pieces between two marks.
+fn show_pieces(out: &mut String, pieces: &Pieces, marks: (&str, &str)) -> Result<(), AllocError> {
+    for piece in pieces.iter() {
         out.push_str(marks.0)?;
-        show_bytes(out, part.as_slice())?;
+        show_bytes(out, piece)?;
         out.push_str(marks.1)?;
     }
     Ok(())
@@ -70,81 +74,170 @@ fn show_ip(alloc: Global, out: &mut String, ip: &Ip) -> Result<(), AllocError> {
     }
 }
 
-/// A target as text: host, endpoint, segments in brackets, parts of the query in braces.
-fn show_target(alloc: Global, target: &Target) -> Result<String, AllocError> {
-    let mut out = String::new(alloc);
+/// Adds a port, segments in brackets, and parts of a query in braces.
+fn show_parts(
+    out: &mut String,
+    port: u16,
+    path: &Pieces,
+    query: &Pieces,
+) -> Result<(), AllocError> {
+    write!(out, ":{port}")?;
+    show_pieces(out, path, ("[", "]"))?;
+    show_pieces(out, query, ("{", "}"))
+}
+
+/// Adds a target: the host and the endpoint first.
+fn show_target(alloc: Global, out: &mut String, target: &Target) -> Result<(), AllocError> {
     match &target.host {
-        Some(name) => show_bytes(&mut out, name.as_slice())?,
+        Some(name) => show_bytes(out, name.as_slice())?,
         None => out.push_str("-")?,
     }
     out.push_str(" ")?;
-    show_ip(alloc, &mut out, &target.at.ip)?;
-    let port = target.at.port;
-    write!(out, ":{port}")?;
-    show_parts(&mut out, target.path.as_slice(), ("[", "]"))?;
-    show_parts(&mut out, target.query.as_slice(), ("{", "}"))?;
-    Ok(out)
+    show_ip(alloc, out, &target.at.ip)?;
+    show_parts(out, target.at.port, &target.path, &target.query)
 }
 
-/// The parts of a URI as text.
-fn show_uri(alloc: Global, uri: &UriParts) -> Result<String, AllocError> {
-    let mut out = String::new(alloc);
+/// Adds the parts of a URI: the host first, behind `@` an address.
+fn show_uri(alloc: Global, out: &mut String, uri: &UriParts) -> Result<(), AllocError> {
     match &uri.host {
-        HostPart::Name(name) => show_bytes(&mut out, name.as_slice())?,
+        HostPart::Name(name) => show_bytes(out, name.as_slice())?,
         HostPart::Addr(ip) => {
             out.push_str("@")?;
-            show_ip(alloc, &mut out, ip)?;
+            show_ip(alloc, out, ip)?;
         }
     }
-    let port = uri.port;
-    write!(out, ":{port}")?;
-    show_parts(&mut out, uri.path.as_slice(), ("[", "]"))?;
-    show_parts(&mut out, uri.query.as_slice(), ("{", "}"))?;
-    Ok(out)
+    show_parts(out, uri.port, &uri.path, &uri.query)
 }
 
-/// A target or a refusal as text.
-fn show_found(alloc: Global, found: Result<Target, TargetError>) -> Result<String, AllocError> {
-    match found {
-        Ok(target) => show_target(alloc, &target),
-        Err(TargetError::BadUri) => String::from_str(alloc, "BadUri"),
-        Err(TargetError::NotProxied) => String::from_str(alloc, "NotProxied"),
-        Err(TargetError::NotFound) => String::from_str(alloc, "NotFound"),
-        Err(TargetError::OutOfMemory) => Err(AllocError),
-    }
-}
-
-/// The target of the request that a datagram holds, as text, or the refusal.
-fn target(alloc: Global, routes: &Routes, datagram: &str) -> Result<String, Fail> {
-    let bytes = hex::decode(alloc, datagram)?;
-    let request = decode(alloc, &bytes)?;
-    screen_request(&request)?;
-    Ok(show_found(alloc, routes.target_of(alloc, &request))?)
-}
-
-/// Checks lines such as `50010007B175 > NotFound`: a datagram, and the target of the request that it
-/// holds. Lines that begin with `#` say what follows.
-fn check_targets(rt: &impl Abort, alloc: Global, routes: &Routes, lines: &str) -> Result<(), Fail> {
-    for line in lines.lines().filter(|line| !line.starts_with('#')) {
-        let (datagram, expected) = line.split_once(" > ").ok_or("a line without a target")?;
-        let text = target(alloc, routes, datagram)?;
-        assert_eq!(rt; text.as_str(), expected, "{line}");
+/// Adds a mark where a request is mapped, without a copy, to this target.
+fn show_mapped(
+    alloc: Global,
+    out: &mut String,
+    routes: &Routes,
+    request: &MessageRef<'_>,
+    target: &Target,
+) -> Result<(), OutOfMemory> {
+    if let Some(mapped) = routes.mapped(request) {
+        let copy = mapped.to_target(alloc)?;
+        if copy.is(target) {
+            out.push_str(" mapped")?;
+        }
     }
     Ok(())
 }
 
-/// Datagrams with requests at a proxy that is `proxy.test`, knows `sensor.test`, and maps `/t`; and
-/// their targets.
-const TARGETS: &str = "\
+/// The name of a refusal.
+fn name_of(refused: TargetError) -> &'static str {
+    match refused {
+        TargetError::BadUri => "BadUri",
+        TargetError::NotProxied => "NotProxied",
+        TargetError::NotFound => "NotFound",
+        TargetError::OutOfMemory => "OutOfMemory",
+    }
+}
+
+/// Adds the target of a request, or why it has none.
+fn show_found(
+    alloc: Global,
+    out: &mut String,
+    routes: &Routes,
+    request: &MessageRef<'_>,
+) -> Result<(), Fail> {
+    screen_request(request)?;
+    match routes.target_of(alloc, request) {
+        Ok(target) => {
+            show_target(alloc, out, &target)?;
+            Ok(show_mapped(alloc, out, routes, request, &target)?)
+        }
+        Err(refused) => Ok(out.push_str(name_of(refused))?),
+    }
+}
+
+/// Adds the target of the request that a datagram holds, or why it has none.
+fn show_datagram(
+    alloc: Global,
+    out: &mut String,
+    routes: &Routes,
+    datagram: &str,
+) -> Result<(), Fail> {
+    let bytes = hex::decode(alloc, datagram)?;
+    let request = MessageRef::read(&bytes)?;
+    show_found(alloc, out, routes, &request)
+}
+
+/// Checks lines such as `50010007B175 > NotFound`: a datagram, and the target of the request that it holds. Those
+/// that begin with `#` say what follows.
+fn check_targets(
+    rt: &impl Abort,
+    alloc: Global,
+    out: &mut String,
+    routes: &Routes,
+    lines: &str,
+) -> Result<(), Fail> {
+    for line in lines.lines().filter(|line| !line.starts_with('#')) {
+        let (datagram, expected) = line.split_once(" > ").ok_or("a line without a target")?;
+        out.clear();
+        show_datagram(alloc, out, routes, datagram)?;
+        assert_eq!(rt; out.as_str(), expected, "{line}");
+    }
+    Ok(())
+}
+
+/// How a text of routes is refused, if it is.
+fn refusal(alloc: Global, text: &str) -> &'static str {
+    match routes(alloc, text) {
+        Ok(_) => "not refused",
+        Err(RouteError::Unreadable) => "Unreadable",
+        Err(RouteError::TooMany) => "TooMany",
+        Err(RouteError::OutOfMemory) => "OutOfMemory",
+    }
+}
+
+/// Checks lines of requests and their targets at the routes that a text says.
+fn check_known(
+    rt: &impl Abort,
+    alloc: Global,
+    out: &mut String,
+    known: &str,
+    lines: &str,
+) -> Result<(), Fail> {
+    let routes = routes(alloc, known)?;
+    check_targets(rt, alloc, out, &routes, lines)
+}
+
+/// Checks a line of routes and the lines behind it: of readable ones the targets, of others how they are refused.
+fn check_block(rt: &impl Abort, alloc: Global, out: &mut String, block: &str) -> Result<(), Fail> {
+    let (known, lines) = block.split_once('\n').unwrap_or((block, ""));
+    match known.split_once(" > ") {
+        Some((text, expected)) => {
+            assert_eq!(rt; refusal(alloc, text), expected, "{known}");
+            Ok(())
+        }
+        None => check_known(rt, alloc, out, known, lines),
+    }
+}
+
+/// Checks lines about routes. `= own:proxy.test` says those of the lines that follow, and `= own: > Unreadable` how
+/// they are refused.
+fn check_routes(rt: &impl Abort, alloc: Global, out: &mut String, lines: &str) -> Result<(), Fail> {
+    for block in lines.strip_prefix("= ").unwrap_or(lines).split("\n= ") {
+        check_block(rt, alloc, out, block)?;
+    }
+    Ok(())
+}
+
+/// Routes, and requests with their targets. `mapped` says that `Routes::mapped` answers the same target.
+const ROUTED: &str = "\
+= own:Proxy.test; host:Sensor.test=192.0.2.7; map:/t=coap://127.0.0.1:5690/temp
 # without proxy options: by the map, whatever Uri-Host and Uri-Port say
-50010007B174 > - 127.0.0.1:5690[temp]
-50010007376E6F776865726541004174 > - 127.0.0.1:5690[temp]
-50010007B17401610162417800 > - 127.0.0.1:5690[temp][a][b]{x}{}
+50010007B174 > - 127.0.0.1:5690[temp] mapped
+50010007376E6F776865726541004174 > - 127.0.0.1:5690[temp] mapped
+50010007B17401610162417800 > - 127.0.0.1:5690[temp][a][b]{x}{} mapped
 50010007B175 > NotFound
 # Proxy-Scheme with Uri-Host and Uri-Port, without, in upper case, and another
 50010007393132372E302E302E3142163A4474656D70D40F636F6170 > - 127.0.0.1:5690[temp]
-50010007B174D40F636F6170 > - 127.0.0.1:5690[temp]
-50010007B174D40F434F4150 > - 127.0.0.1:5690[temp]
+50010007B174D40F636F6170 > - 127.0.0.1:5690[temp] mapped
+50010007B174D40F434F4150 > - 127.0.0.1:5690[temp] mapped
 50010007B174D40F68747470 > NotProxied
 # a Uri-Port of 0, also without bytes and without a host; but the scheme is read first
 50010007393132372E302E302E3140D413636F6170 > BadUri
@@ -156,7 +249,7 @@ const TARGETS: &str = "\
 500100073D005B323030313A4442383A3A315D8178D40F636F6170 > - 20010db8000000000000000000000001:5683[x]
 50010007335B785DD417636F6170 > NotProxied
 500100073830312E322E332E34D417636F6170 > NotProxied
-500100073A50726F78792E746573748174D40F636F6170 > - 127.0.0.1:5690[temp]
+500100073A50726F78792E746573748174D40F636F6170 > - 127.0.0.1:5690[temp] mapped
 # Proxy-Uri: the same
 50010007DD1607636F61703A2F2F53454E534F522E746573742F78 > sensor.test 192.0.2.7:5683[x]
 50010007DD1608636F61703A2F2F50524F58592E746573743A372F74 > - 127.0.0.1:5690[temp]
@@ -175,86 +268,126 @@ const TARGETS: &str = "\
 50010007DB16636F61703A2F2F612F2366 > BadUri
 50010007DD1602636F61703A2F2F6E6F77686572652F > NotProxied
 50010007DD1606636F61703A2F2F70726F78792E746573742F75 > NotFound
-50010007DA16636F61703A2F2F612FFF > BadUri";
-
-/// Checks such lines on the routes that a text says.
-fn check(rt: &impl Abort, alloc: Global, text: &str, lines: &str) -> Result<(), Fail> {
-    let routes = routes(alloc, text)?;
-    check_targets(rt, alloc, &routes, lines)
-}
+50010007DA16636F61703A2F2F612FFF > BadUri
+# the fixed route
+= fixed
+50010007B1740161 > - 127.0.0.1:5690[temp][a] mapped
+50010007B175 > NotFound
+# without own names nothing is proxied
+= map:/t=coap://127.0.0.1:5690/temp
+50010007B174 > - 127.0.0.1:5690[temp] mapped
+50010007B174D40F636F6170 > NotProxied
+50010007DD1606636F61703A2F2F70726F78792E746573742F75 > NotProxied
+50010007DB16636F61703A2F2F612F2366 > NotProxied
+# own names come before hosts and addresses
+= own:[::1]; own:both.test; host:both.test=192.0.2.7; map:/t=coap://127.0.0.1:5690/temp
+50010007DD1606636F61703A2F2F5B303A303A3A315D3A392F74 > - 127.0.0.1:5690[temp]
+50010007365B303A3A315D8174D40F636F6170 > - 127.0.0.1:5690[temp] mapped
+50010007DD1605636F61703A2F2F626F74682E746573742F74 > - 127.0.0.1:5690[temp]
+# the longest prefix wins, of two the earlier, in whichever order they stand
+= map:/=coap://127.0.0.1:5691/r; map:/t=coap://127.0.0.1:5690/temp; map:/%74=coap://127.0.0.1:5692
+50010007B175 > - 127.0.0.1:5691[r][u] mapped
+50010007B174 > - 127.0.0.1:5690[temp] mapped
+= map:/t=coap://127.0.0.1:5690/temp; map:/=coap://127.0.0.1:5691/r; map:/%74=coap://127.0.0.1:5692
+50010007B175 > - 127.0.0.1:5691[r][u] mapped
+50010007B174 > - 127.0.0.1:5690[temp] mapped
+= map:/t=coap://127.0.0.1:5690/temp; map:/%74=coap://127.0.0.1:5692; map:/=coap://127.0.0.1:5691/r
+50010007B175 > - 127.0.0.1:5691[r][u] mapped
+50010007B174 > - 127.0.0.1:5690[temp] mapped
+# prefixes are cut at slashes, and decoded then
+= map:/=coap://127.0.0.1
+50010007B161 > - 127.0.0.1:5683[a] mapped
+= map:/a=coap://127.0.0.1
+50010007B1610162 > - 127.0.0.1:5683[b] mapped
+= map:/a/=coap://127.0.0.1
+50010007B161 > NotFound
+50010007B16100 > - 127.0.0.1:5683 mapped
+= map:/a//b=coap://127.0.0.1
+50010007B161000162 > - 127.0.0.1:5683 mapped
+50010007B1610162 > NotFound
+= map:/%41=coap://127.0.0.1
+50010007B141 > - 127.0.0.1:5683 mapped
+= map:/%4=coap://127.0.0.1
+50010007B22534 > - 127.0.0.1:5683 mapped
+# a map's host is one of the hosts
+= own:[x]; own:01.2.3.4; own:[::1]; host:[x]=[::1]; map:/=coap://h.%74/ > Unreadable
+= own:[x]; own:01.2.3.4; own:[::1]; host:[x]=[::1]; host:h.t=1.2.3.4; map:/=coap://h.%74/
+50010007B174 > h.t 1.2.3.4:5683[t] mapped
+# no routes at all
+= none
+50010007B174 > NotFound
+# routes that can't be read
+= own: > Unreadable
+= own:a b > Unreadable
+= own:a,b > Unreadable
+= own:é > Unreadable
+= own:a\u{7F} > Unreadable
+= host:=1.2.3.4 > Unreadable
+= host:1.2.3.4=1.2.3.4 > Unreadable
+= host:[::1]=1.2.3.4 > Unreadable
+= host:h=h > Unreadable
+= host:h=::1 > Unreadable
+= host:h=01.2.3.4 > Unreadable
+= host:h=1.2.3.4; host:H=1.2.3.4 > Unreadable
+= map:t=coap://1.2.3.4 > Unreadable
+= map:/t?=coap://1.2.3.4 > Unreadable
+= map:/t#=coap://1.2.3.4 > Unreadable
+= map:/t=coap://1.2.3.4/? > Unreadable
+= map:/t=coap://1.2.3.4/?b=c > Unreadable
+= map:/t=coap://1.2.3.4/#f > Unreadable
+= map:/t=coap://h/ > Unreadable
+= map:/t=coaps://1.2.3.4/ > Unreadable";
 
 #[test]
 fn requests_have_their_targets(rt: HostRuntime) -> Result<(), Fail> {
-    let text = "own:Proxy.test; host:Sensor.test=192.0.2.7; map:/t=coap://127.0.0.1:5690/temp";
-    check(&rt, rt.alloc(), text, TARGETS)
+    let mut out = String::new(rt.alloc());
+    check_routes(&rt, rt.alloc(), &mut out, ROUTED)
 }
 
-#[test]
-fn the_fixed_route_is_mapped(rt: HostRuntime) -> Result<(), Fail> {
-    let lines = "\
-50010007B1740161 > - 127.0.0.1:5690[temp][a]
-50010007B175 > NotFound";
-    let routes = Routes::fixed(rt.alloc())?;
-    check_targets(&rt, rt.alloc(), &routes, lines)
-}
+/// Nothing, to be filled up: `{NONE:a>255}` is 255 times `a`.
+const NONE: &str = "";
 
-#[test]
-fn without_own_names_nothing_is_proxied(rt: HostRuntime) -> Result<(), Fail> {
-    let text = "map:/t=coap://127.0.0.1:5690/temp";
-    let lines = "\
-50010007B174 > - 127.0.0.1:5690[temp]
-50010007B174D40F636F6170 > NotProxied
-50010007DD1606636F61703A2F2F70726F78792E746573742F75 > NotProxied
-50010007DB16636F61703A2F2F612F2366 > NotProxied";
-    check(&rt, rt.alloc(), text, lines)
-}
-
-#[test]
-fn own_names_come_first(rt: HostRuntime) -> Result<(), Fail> {
-    let text =
-        "own:[::1]; own:both.test; host:both.test=192.0.2.7; map:/t=coap://127.0.0.1:5690/temp";
-    let lines = "\
-50010007DD1606636F61703A2F2F5B303A303A3A315D3A392F74 > - 127.0.0.1:5690[temp]
-50010007365B303A3A315D8174D40F636F6170 > - 127.0.0.1:5690[temp]
-50010007DD1605636F61703A2F2F626F74682E746573742F74 > - 127.0.0.1:5690[temp]";
-    check(&rt, rt.alloc(), text, lines)
-}
-
-/// The same maps in three orders.
-const MAPS: &str = "\
-map:/=coap://127.0.0.1:5691/r; map:/t=coap://127.0.0.1:5690/temp; map:/%74=coap://127.0.0.1:5692
-map:/t=coap://127.0.0.1:5690/temp; map:/=coap://127.0.0.1:5691/r; map:/%74=coap://127.0.0.1:5692
-map:/t=coap://127.0.0.1:5690/temp; map:/%74=coap://127.0.0.1:5692; map:/=coap://127.0.0.1:5691/r";
-
-#[test]
-fn the_longest_prefix_wins(rt: HostRuntime) -> Result<(), Fail> {
-    let lines = "\
-50010007B175 > - 127.0.0.1:5691[r][u]
-50010007B174 > - 127.0.0.1:5690[temp]";
-    for text in MAPS.lines() {
-        check(&rt, rt.alloc(), text, lines)?;
+/// So many entries, such as `host:h0=1.2.3.4; `, that differ in their numbers.
+fn entries(alloc: Global, begin: &str, count: u32, end: &str) -> Result<String, AllocError> {
+    let mut out = String::new(alloc);
+    for number in 0..count {
+        write!(out, "{begin}{number}{end}; ")?;
     }
-    Ok(())
+    Ok(out)
 }
 
-/// Maps with their prefixes, a request, and its target.
-const PREFIXES: &str = "\
-map:/=coap://127.0.0.1 > 50010007B161 > - 127.0.0.1:5683[a]
-map:/a=coap://127.0.0.1 > 50010007B1610162 > - 127.0.0.1:5683[b]
-map:/a/=coap://127.0.0.1 > 50010007B161 > NotFound
-map:/a/=coap://127.0.0.1 > 50010007B16100 > - 127.0.0.1:5683
-map:/a//b=coap://127.0.0.1 > 50010007B161000162 > - 127.0.0.1:5683
-map:/a//b=coap://127.0.0.1 > 50010007B1610162 > NotFound
-map:/%41=coap://127.0.0.1 > 50010007B141 > - 127.0.0.1:5683
-map:/%4=coap://127.0.0.1 > 50010007B22534 > - 127.0.0.1:5683";
+/// The most own names, hosts and maps that there may be.
+fn most(alloc: Global) -> Result<String, AllocError> {
+    let mut out = entries(alloc, "own:n", 64, "")?;
+    let hosts = entries(alloc, "host:h", 256, "=1.2.3.4")?;
+    out.push_str(hosts.as_str())?;
+    let maps = entries(alloc, "map:/t", 64, "=coap://h0/")?;
+    out.push_str(maps.as_str())?;
+    Ok(out)
+}
+
+/// Lines about routes with the longest names, and as many as there may be, and about longer ones and more.
+fn limits(alloc: Global) -> Result<String, AllocError> {
+    let most = most(alloc)?;
+    let most = most.as_str();
+    format!(in alloc;
+        "\
+= own:{NONE:a>255}; host:{NONE:b>255}=1.2.3.4
+= own:{NONE:a>256}; host:{NONE:b>255}=1.2.3.4 > Unreadable
+= own:{NONE:a>255}; host:{NONE:b>256}=1.2.3.4 > Unreadable
+= {most}
+= {most}own:m > TooMany
+= {most}host:g=1.2.3.4 > TooMany
+= {most}map:/s=coap://h0/ > TooMany
+= {most}own:m; host:g=1.2.3.4; map:s=coap://h0/ > Unreadable"
+    )
+}
 
 #[test]
-fn prefixes_are_cut_at_slashes(rt: HostRuntime) -> Result<(), Fail> {
-    for line in PREFIXES.lines() {
-        let (text, lines) = line.split_once(" > ").ok_or("a line without a request")?;
-        check(&rt, rt.alloc(), text, lines)?;
-    }
-    Ok(())
+fn routes_have_limits(rt: HostRuntime) -> Result<(), Fail> {
+    let lines = limits(rt.alloc())?;
+    let mut out = String::new(rt.alloc());
+    check_routes(&rt, rt.alloc(), &mut out, lines.as_str())
 }
 
 /// Texts and the URIs that they are.
@@ -297,206 +430,86 @@ http://h/ > Scheme
 http://a b/ > Bad
 h > Bad";
 
-/// What a text is as a URI, as text.
-fn uri(alloc: Global, text: &str) -> Result<String, AllocError> {
-    match split_uri(alloc, text) {
-        Ok(uri) => show_uri(alloc, &uri),
-        Err(UriError::Bad) => String::from_str(alloc, "Bad"),
-        Err(UriError::Scheme) => String::from_str(alloc, "Scheme"),
-        Err(UriError::OutOfMemory) => Err(AllocError),
-    }
+/// Lines of such texts, also of some with parts of 255 bytes, and of 256.
+fn uris(alloc: Global) -> Result<String, AllocError> {
+    format!(in alloc;
+        "{URIS}
+coap://{NONE:a>255}/%62{NONE:b>254}?{NONE:c>255} > {NONE:a>255}:5683[{NONE:b>255}]{{{NONE:c>255}}}
+coap://{NONE:a>256}/{NONE:a>255}?{NONE:a>255} > Bad
+coap://{NONE:a>255}/{NONE:a>256}?{NONE:a>255} > Bad
+coap://{NONE:a>255}/{NONE:a>255}?{NONE:a>256} > Bad"
+    )
 }
 
-#[test]
-fn uris_have_their_parts(rt: HostRuntime) -> Result<(), Fail> {
-    for line in URIS.lines() {
+/// What a text is as a URI, as text.
+fn uri(alloc: Global, text: &str) -> Result<String, AllocError> {
+    let mut out = String::new(alloc);
+    match split_uri(alloc, text) {
+        Ok(uri) => show_uri(alloc, &mut out, &uri)?,
+        Err(UriError::Bad) => out.push_str("Bad")?,
+        Err(UriError::Scheme) => out.push_str("Scheme")?,
+        Err(UriError::OutOfMemory) => out.push_str("OutOfMemory")?,
+    }
+    Ok(out)
+}
+
+/// Checks lines such as `coap://h > h:5683`.
+fn check_uris(rt: &impl Abort, alloc: Global, lines: &str) -> Result<(), Fail> {
+    for line in lines.lines() {
         let (text, expected) = line.split_once(" > ").ok_or("a line without parts")?;
-        let shown = uri(rt.alloc(), text)?;
+        let shown = uri(alloc, text)?;
         assert_eq!(rt; shown.as_str(), expected, "{line}");
     }
     Ok(())
 }
 
-/// Nothing, to be filled up: `{NONE:a>255}` is 255 times `a`.
-const NONE: &str = "";
-
-/// Checks that a URI is refused so, or not at all.
-fn check_refusal(rt: &impl Abort, alloc: Global, text: &str, refusal: Option<UriError>) {
-    assert_eq!(rt; split_uri(alloc, text).err(), refusal, "{text}");
+#[test]
+fn uris_have_their_parts(rt: HostRuntime) -> Result<(), Fail> {
+    let lines = uris(rt.alloc())?;
+    check_uris(&rt, rt.alloc(), lines.as_str())
 }
 
-#[test]
-fn parts_of_255_bytes_are_carried(rt: HostRuntime) -> Result<(), Fail> {
-    let text = format!(in rt.alloc(); "coap://{NONE:a>255}/%61{NONE:a>254}?{NONE:a>255}")?;
-    check_refusal(&rt, rt.alloc(), text.as_str(), None);
-    Ok(())
+/// Texts and the addresses that they are, the empty text among them.
+const ADDRESSES: &str = "\
+192.0.2.7 > 192.0.2.7
+[::1] > 00000000000000000000000000000001
+[::1.2.3.4] > 00000000000000000000000001020304
+1.2.3 > Bad
+1.2.3.04 > Bad
+256.0.0.1 > Bad
+::1 > Bad
+[::1 > Bad
+[::1]:80 > Bad
+[] > Bad
+[x] > Bad
+[::1%1] > Bad
+[::1]/x] > Bad
+h > Bad
+ > Bad";
+
+/// What a text is as an address, as text.
+fn address(alloc: Global, text: &str) -> Result<String, AllocError> {
+    let mut out = String::new(alloc);
+    match read_ip(alloc, text) {
+        Ok(ip) => show_ip(alloc, &mut out, &ip)?,
+        Err(UriError::Bad) => out.push_str("Bad")?,
+        Err(UriError::Scheme) => out.push_str("Scheme")?,
+        Err(UriError::OutOfMemory) => out.push_str("OutOfMemory")?,
+    }
+    Ok(out)
 }
 
-/// Lengths of a host, a segment and a part of the query, one of which is too long.
-const LONG_PARTS: [(usize, usize, usize); 3] = [(256, 255, 255), (255, 256, 255), (255, 255, 256)];
-
-#[test]
-fn longer_parts_are_bad(rt: HostRuntime) -> Result<(), Fail> {
-    for (host, segment, part) in LONG_PARTS {
-        let text = format!(in rt.alloc();
-            "coap://{NONE:a>host$}/{NONE:a>segment$}?{NONE:a>part$}"
-        )?;
-        check_refusal(&rt, rt.alloc(), text.as_str(), Some(UriError::Bad));
+/// Checks lines such as `[::1 > Bad`.
+fn check_addresses(rt: &impl Abort, alloc: Global, lines: &str) -> Result<(), Fail> {
+    for line in lines.lines() {
+        let (text, expected) = line.split_once(" > ").ok_or("a line without an address")?;
+        let shown = address(alloc, text)?;
+        assert_eq!(rt; shown.as_str(), expected, "{line}");
     }
     Ok(())
 }
-
-/// Texts and the addresses that they are.
-const ADDRESSES: [(&str, Ip); 3] = [
-    ("192.0.2.7", Ip::V4([192, 0, 2, 7])),
-    (
-        "[::1]",
-        Ip::V6([0, 0, 0, 0, 0, 0, 0, 0, 0, 0, 0, 0, 0, 0, 0, 1]),
-    ),
-    (
-        "[::1.2.3.4]",
-        Ip::V6([0, 0, 0, 0, 0, 0, 0, 0, 0, 0, 0, 0, 1, 2, 3, 4]),
-    ),
-];
-
-/// Texts that are no address, the empty one among them.
-const NO_ADDRESSES: &str = "\
-1.2.3
-1.2.3.04
-256.0.0.1
-::1
-[::1
-[::1]:80
-[]
-[x]
-[::1%1]
-[::1]/x]
-h
-";
 
 #[test]
 fn addresses_are_read(rt: HostRuntime) -> Result<(), Fail> {
-    for (text, ip) in ADDRESSES {
-        assert!(rt; read_ip(rt.alloc(), text) == Ok(ip), "{text}");
-    }
-    for text in NO_ADDRESSES.split('\n') {
-        assert!(rt; read_ip(rt.alloc(), text) == Err(UriError::Bad), "{text}");
-    }
-    Ok(())
-}
-
-/// Routes that can't be read.
-const UNREADABLE: &str = "\
-own:
-own:a b
-own:a,b
-own:é
-own:a\u{7F}
-host:=1.2.3.4
-host:1.2.3.4=1.2.3.4
-host:[::1]=1.2.3.4
-host:h=h
-host:h=::1
-host:h=01.2.3.4
-host:h=1.2.3.4; host:H=1.2.3.4
-map:t=coap://1.2.3.4
-map:/t?=coap://1.2.3.4
-map:/t#=coap://1.2.3.4
-map:/t=coap://1.2.3.4/?
-map:/t=coap://1.2.3.4/?b=c
-map:/t=coap://1.2.3.4/#f
-map:/t=coap://h/
-map:/t=coaps://1.2.3.4/";
-
-/// Checks that routes are refused so, or not at all.
-fn check_routes(rt: &impl Abort, alloc: Global, text: &str, refusal: Option<RouteError>) {
-    assert_eq!(rt; routes(alloc, text).err(), refusal, "{text}");
-}
-
-#[test]
-fn unreadable_routes_are_refused(rt: HostRuntime) -> Result<(), Fail> {
-    for text in UNREADABLE.lines() {
-        check_routes(&rt, rt.alloc(), text, Some(RouteError::Unreadable));
-    }
-    Ok(())
-}
-
-#[test]
-fn names_have_at_most_255_bytes(rt: HostRuntime) -> Result<(), Fail> {
-    let text = format!(in rt.alloc(); "own:{NONE:a>255}; host:{NONE:b>255}=1.2.3.4")?;
-    check_routes(&rt, rt.alloc(), text.as_str(), None);
-    Ok(())
-}
-
-/// Names that are too long, at an own name and at a host.
-const LONG_NAMES: [(usize, usize); 2] = [(256, 255), (255, 256)];
-
-#[test]
-fn longer_names_are_refused(rt: HostRuntime) -> Result<(), Fail> {
-    for (own, known) in LONG_NAMES {
-        let text = format!(in rt.alloc(); "own:{NONE:a>own$}; host:{NONE:b>known$}=1.2.3.4")?;
-        check_routes(&rt, rt.alloc(), text.as_str(), Some(RouteError::Unreadable));
-    }
-    Ok(())
-}
-
-#[test]
-fn origins_have_known_hosts(rt: HostRuntime) -> Result<(), Fail> {
-    let unknown = "own:[x]; own:01.2.3.4; own:[::1]; host:[x]=[::1]; map:/=coap://h.%74/";
-    check_routes(&rt, rt.alloc(), unknown, Some(RouteError::Unreadable));
-    let known =
-        "own:[x]; own:01.2.3.4; own:[::1]; host:[x]=[::1]; host:h.t=1.2.3.4; map:/=coap://h.%74/";
-    check(&rt, rt.alloc(), known, "50010007B174 > h.t 1.2.3.4:5683[t]")
-}
-
-/// So many names.
-fn many_names(alloc: Global, count: u32) -> Result<Vec<String>, AllocError> {
-    let mut names = Vec::new(alloc);
-    for number in 0..count {
-        names.push(format!(in alloc; "n{number}")?)?;
-    }
-    Ok(names)
-}
-
-/// So many hosts.
-fn many_hosts(alloc: Global, count: u32) -> Result<Vec<(String, String)>, AllocError> {
-    let mut hosts = Vec::new(alloc);
-    for number in 0..count {
-        let name = format!(in alloc; "h{number}")?;
-        hosts.push((name, String::from_str(alloc, "1.2.3.4")?))?;
-    }
-    Ok(hosts)
-}
-
-/// So many maps of one prefix.
-fn many_maps(alloc: Global, count: u32, prefix: &str) -> Result<Vec<(String, String)>, AllocError> {
-    let mut maps = Vec::new(alloc);
-    for _ in 0..count {
-        let prefix = String::from_str(alloc, prefix)?;
-        maps.push((prefix, String::from_str(alloc, "coap://h0/")?))?;
-    }
-    Ok(maps)
-}
-
-/// How the routes of so many names, hosts and maps of one prefix are refused.
-const MANY: [(u32, u32, u32, &str, Option<RouteError>); 6] = [
-    (64, 256, 64, "/t", None),
-    (65, 256, 64, "/t", Some(RouteError::TooMany)),
-    (64, 257, 64, "/t", Some(RouteError::TooMany)),
-    (64, 256, 65, "/t", Some(RouteError::TooMany)),
-    (65, 257, 65, "t", Some(RouteError::Unreadable)),
-    (0, 0, 0, "/t", None),
-];
-
-#[test]
-fn too_many_routes_are_refused(rt: HostRuntime) -> Result<(), Fail> {
-    let alloc = rt.alloc();
-    for (names, hosts, maps, prefix, refusal) in MANY {
-        let names = many_names(alloc, names)?;
-        let hosts = many_hosts(alloc, hosts)?;
-        let maps = many_maps(alloc, maps, prefix)?;
-        let routes = Routes::new(alloc, names.as_slice(), hosts.as_slice(), maps.as_slice());
-        assert_eq!(rt; routes.err(), refusal);
-    }
-    Ok(())
+    check_addresses(&rt, rt.alloc(), ADDRESSES)
 }

@@ -15,4 +15,4 @@ returns-in_err-put_options-clause-written c =
     let options = options_spelling 0 m.options in
     let payload = payload_spelling m.payload in
     rw (p.1, ← c.message.view_is) (Appends-behind (holding c.args.out.now []) c.put_head.new.out c.put_options.new.out c.args.room (head_spelling head m.token) (options ++ payload) tt (Err p.0) c.in_ok-put_head.ensures.written
-    (Appends-full c.put_head.new.out c.put_options.new.out c.args.room options payload c.in_err-put_options.field-0.0 p.0 (rw c.as_slice.ensures.list at c.in_err-put_options.ensures)))
+    (Appends-full c.put_head.new.out c.put_options.new.out c.args.room options payload c.in_err-put_options.field-0.0 p.0 (rw c.lent.ensures at c.in_err-put_options.ensures)))

@@ -1,5 +1,8 @@
-use Rattle.std.proofs.Common.{◌≡◌, ◌++◌, map, take}
+use Rattle.std.proofs.Common.{◌≡◌, ◌++◌, length}
 use Rattle.coap_target.proofs.segment.append.Given as goal
 
-abbrev pub invariant-loop-segment : goal.invariant-loop-segment
-invariant-loop-segment g l = l.list ≡ l.initial.list ++ map g.S.Segment.bytes_of (take l.segment-index l.segments)
+abbrev pub invariant-segments : goal.invariant-segments
+invariant-segments g l = l.fn.list ++ g.P.Segments.left l.fn.segments ≡ l.list ++ g.P.Segments.left l.segments
+
+abbrev pub decreases-segments : goal.decreases-segments
+decreases-segments g l = length (g.P.Segments.left l.segments)

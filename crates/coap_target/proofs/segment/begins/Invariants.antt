@@ -1,6 +1,6 @@
-use Rattle.std.proofs.Common.{◌≡◌, map, drop}
+use Rattle.std.proofs.Common.{◌≡◌}
 use Rattle.coap_target.specs.Routes.{begins}
 use Rattle.coap_target.proofs.segment.begins.Given as goal
 
-abbrev pub invariant-loop-index : goal.invariant-loop-index
-invariant-loop-index g l = begins l.prefix (map g.S.Segment.bytes_of l.path) ≡ begins (drop l.index l.prefix) (map g.S.Segment.bytes_of (drop l.index l.path))
+abbrev pub invariant-loop-segment : goal.invariant-loop-segment
+invariant-loop-segment g l = begins l.prefix (g.P.Segments.left l.fn.path) ≡ begins l.segment-iterator (g.P.Segments.left l.path)

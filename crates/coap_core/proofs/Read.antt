@@ -1,0 +1,28 @@
+-- A datagram in which a message is read: its head is that of the message.
+use Rattle.std.proofs.Common.{◌≡◌, ℕ, leb, cond, Bool, true, false, List, length, Option, Some, None, Result, Ok, Err, refl, sym, ap, ◌∙◌}
+use Rattle.std.specs.Result.{result_ok}
+use Rattle.std.proofs.lemmas.Option.{same_Some}
+use Rattle.coap_message.specs.declared.error.ReadError.{ReadError}
+use Rattle.coap_message.specs.declared.message.Head.{Head}
+use Rattle.coap_message.specs.Message.{Message}
+use Rattle.coap_message.specs.Reading.{read_message, head_at}
+use Rattle.coap_message.proofs.WholeMessages.{head_read}
+use Rattle.coap_target.specs.declared.endpoint.Endpoint.{Endpoint}
+use Rattle.coap_model.specs.Step.{message_in, on_message, on_datagram}
+use Rattle.coap_model.specs.World.{World}
+
+head-of_read : (most : ℕ) (bytes : List ℕ) (m : Message) → message_in most bytes ≡ Some m → head_at bytes ≡ Some (record { kind = m.kind; code = m.code; id = m.id })
+unfolding message_in
+head-of_read most bytes m e = go (leb (length bytes) most) (read_message bytes) refl e
+  where
+    again : (n : Message) → n ≡ m → ◌≡◌ {A = Result Message ReadError} (Ok n) (Ok m)
+    again n same = cc
+
+    go : (short : Bool) (read : Result Message ReadError) → read_message bytes ≡ read → cond short (result_ok read) None ≡ Some m → head_at bytes ≡ Some (record { kind = m.kind; code = m.code; id = m.id })
+    go true (Ok n) is f = head_read bytes m (is ∙ again n (same_Some _ _ f))
+    go true (Err refused) is f = absurd cc
+    go false read is f = absurd cc
+
+-- the step of a message that is read
+pub on_read-message : (w : World) (now : ℕ) (source : Endpoint) (bytes : List ℕ) (m : Message) → message_in w.setting.limits.datagram bytes ≡ Some m → on_datagram w now source bytes ≡ on_message w now source m
+on_read-message w now source bytes m e = rw (head-of_read w.setting.limits.datagram bytes m e, e) refl

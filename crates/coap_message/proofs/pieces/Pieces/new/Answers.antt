@@ -1,0 +1,9 @@
+use Rattle.std.proofs.Common.{[]}
+use Rattle.coap_message.proofs.PieceSpellings.{none_spelled, pieces_of-spelling}
+use Rattle.coap_message.proofs.pieces.Pieces.new.Goals as goal
+
+pub invariant_of-result : goal.invariant_of-result
+invariant_of-result c = rw c.new.ensures none_spelled
+
+pub returns : goal.returns
+returns c = rw c.new.ensures (pieces_of-spelling [])

@@ -1,0 +1,5 @@
+use Rattle.coap_message.proofs.PieceSpellings.{same_bytes}
+use Rattle.coap_message.proofs.pieces.PiecesPartialEq.eq.Goals as goal
+
+pub returns : goal.returns
+returns c = rw (← c.self.view_is, ← c.other.view_is) (same_bytes c.eq.result c.self.inside.bytes c.other.inside.bytes c.self.invariant c.other.invariant c.eq.ensures)

@@ -1,0 +1,44 @@
+-- Pieces of bytes, kept one behind the other, each behind its length.
+use Rattle.std.specs.Prelude.{◌≡◌, ◌==◌, ℕ, zero, suc, ◌+◌, ◌/◌, ◌%◌, if◌then◌else◌, Bool, List, [], ◌∷◌, ◌++◌, length, take, drop, replicate, Option, Some, None, option_map}
+use Rattle.std.specs.Option.{option_map_or}
+use Rattle.std.specs.Bool.{Decides}
+use Rattle.std.specs.Cmp.{unsigned_Decides}
+use Rattle.std.specs.Cmp.Lexicographic.{pointwise, pointwise_decides}
+use Rattle.std.specs.Hash.{Alike, same_Alike, slice, u8}
+
+-- a length: a byte 255 for each 255 in it, and what is left
+abbrev pub length_spelling : ℕ → List ℕ
+length_spelling n = replicate (n / 255) 255 ++ (n % 255) ∷ []
+
+abbrev pub pieces_spelling : List (List ℕ) → List ℕ
+pieces_spelling [] = []
+pieces_spelling (p ∷ ps) = length_spelling (length p) ++ (p ++ pieces_spelling ps)
+
+-- the length that stands here, and what stands behind it
+abbrev pub length_at : List ℕ → Option (ℕ × List ℕ)
+length_at [] = None
+length_at (b ∷ rest) = if b == 255 then option_map (λ found. (255 + found.0, found.1)) (length_at rest) else Some (b, rest)
+
+-- the pieces that bytes spell, at most so many
+unfoldable pub pieces_within : ℕ → List ℕ → List (List ℕ)
+pieces_within zero bytes = []
+pieces_within (suc most) bytes = option_map_or (λ found. take found.0 found.1 ∷ pieces_within most (drop found.0 found.1)) (length_at bytes) []
+
+abbrev pub pieces_of : List ℕ → List (List ℕ)
+pieces_of bytes = pieces_within (length bytes) bytes
+
+-- bytes spell pieces, and nothing else
+pub record SpellPieces (bytes : List ℕ) : Type 0 where
+  pub bytes_are : bytes ≡ pieces_spelling (pieces_of bytes)
+
+abbrev pub same_pieces : List (List ℕ) → List (List ℕ) → Bool
+same_pieces = pointwise (pointwise ◌==◌)
+
+abbrev pub fed_pieces : List (List ℕ) → List (List ℕ)
+fed_pieces ps = slice u8 (pieces_spelling ps)
+
+pub same_pieces-Decides : (a b : List (List ℕ)) → Decides (same_pieces a b) (a ≡ b)
+same_pieces-Decides = pointwise_decides (pointwise_decides unsigned_Decides)
+
+pub same_pieces-Alike : Alike same_pieces fed_pieces
+same_pieces-Alike = same_Alike fed_pieces same_pieces-Decides

@@ -1,0 +1,32 @@
+-- When options are the same.
+use Rattle.std.specs.Prelude.{◌≡◌, ◌==◌, ℕ, Bool, true, List, refl}
+use Rattle.std.specs.Bool.{Decides}
+use Rattle.std.specs.Cmp.{first_so, second_so, unsigned_Decides}
+use Rattle.std.specs.Cmp.Lexicographic.{pointwise, pointwise_decides}
+use Rattle.std.specs.Hash.{Alike, same_Alike, slice, u8}
+use Rattle.std.specs.Ordering.{on, eq_of_both}
+use Rattle.coap_message.specs.declared.options.Opt.{Opt}
+use Rattle.coap_message.specs.Spelling.{options_spelling}
+
+-- two options have one number and one value
+abbrev pub same_option : Opt → Opt → Bool
+same_option = eq_of_both (on (λ o. o.number) ◌==◌) (on (λ o. o.value) (pointwise ◌==◌))
+
+abbrev pub same_options : List Opt → List Opt → Bool
+same_options = pointwise same_option
+
+-- what is hashed of options: their bytes
+abbrev pub fed_options : List Opt → List (List ℕ)
+fed_options os = slice u8 (options_spelling 0 os)
+
+both : {m n : ℕ} {v w : List ℕ} → m ≡ n → v ≡ w → ◌≡◌ {A = Opt} (record { number = m; value = v }) (record { number = n; value = w })
+both p q = cc
+
+same_option-Decides : (a b : Opt) → Decides (same_option a b) (a ≡ b)
+same_option-Decides a b = (λ h. both ((unsigned_Decides a.number b.number).0 (first_so _ _ h)) ((pointwise_decides unsigned_Decides a.value b.value).0 (second_so _ _ h)), λ e. rw e (rw ((unsigned_Decides b.number b.number).1 refl, (pointwise_decides unsigned_Decides b.value b.value).1 refl) refl))
+
+pub same_options-Decides : (a b : List Opt) → Decides (same_options a b) (a ≡ b)
+same_options-Decides = pointwise_decides same_option-Decides
+
+pub same_options-Alike : Alike same_options fed_options
+same_options-Alike = same_Alike fed_options same_options-Decides

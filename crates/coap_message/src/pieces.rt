@@ -1,0 +1,228 @@
+//! Lists of byte strings, such as the segments of a path, in one block of memory.
+ghost use Rattle.std.specs.Prelude.{◌≡◌, ◌<◌, ◌++◌, ◌∷◌, ◌≤◌, ◌^◌, [], ◌↔◌, IsTrue, OnOk, OnErr, IfOk, IfSome, option_map, length, take};
+ghost use Rattle.std.proofs.Common.{rules};
+ghost use Rattle.std.specs.Cmp.Rules.{comparing};
+ghost use Rattle.coap_message.specs.Pieces.{length_at, length_spelling, pieces_spelling, same_pieces, fed_pieces, same_pieces-Alike};
+
+use crate::error::OutOfMemory;
+use crate::seq::Seq;
+use std::alloc::Global;
+use std::hash::{Hash, Hasher};
+use std::marker::Model;
+
+/// The pieces that are left, one after the other. A contract sees the list.
+#[derive(Drop)]
+pub struct PieceRefs<'a> {
+    rest: &'a [u8],
+}
+
+impl<'a> Model for PieceRefs<'a> {
+    ghost use Rattle.std.specs.Prelude.{ℕ, List};
+
+    ghost Value = { List (List ℕ) };
+
+    ghost use Rattle.coap_message.specs.Pieces.{pieces_of, SpellPieces};
+
+    ghost view = { λ s. pieces_of s.rest.now };
+
+    ghost invariant = { λ s. SpellPieces s.rest.now };
+}
+
+impl<'a> PieceRefs<'a> {
+    /// The same ones once more.
+    pub fn again(&self) -> PieceRefs<'a>
+        ensures { result ≡ self.now }
+    {
+        PieceRefs { rest: self.rest }
+    }
+}
+
+impl<'a> Iterator for PieceRefs<'a> {
+    ghost use Rattle.std.specs.Iterator.{YieldsFirstRef, item_count};
+
+    type Item = &'a [u8];
+
+    ghost next_gives = { YieldsFirstRef (λ left. left) };
+
+    ghost remaining = { item_count (λ left. left) };
+
+    fn next(&mut self) -> Option<&'a [u8]> {
+        let (len, behind) = read_length(self.rest)?;
+        let (piece, rest) = behind.split_at(len);
+        self.rest = rest;
+        Some(piece)
+    }
+}
+
+/// A list of byte strings. A contract sees the list.
+#[derive(Debug, Drop)]
+pub struct Pieces {
+    bytes: Seq<u8>,
+}
+
+impl Model for Pieces {
+    ghost use Rattle.std.specs.Prelude.{ℕ, List};
+
+    ghost Value = { List (List ℕ) };
+
+    ghost use Rattle.coap_message.specs.Pieces.{pieces_of, SpellPieces};
+
+    ghost view = { λ a. pieces_of a.bytes };
+
+    ghost invariant = { λ a. SpellPieces a.bytes };
+}
+
+impl Pieces {
+    /// No pieces, which takes no memory yet.
+    pub fn new(alloc: Global) -> Pieces
+        ensures { result ≡ [] }
+    {
+        Pieces {
+            bytes: Seq::new(alloc),
+        }
+    }
+
+    /// No pieces, with room for so many bytes of them, as `size_of` counts them.
+    pub fn with_room(alloc: Global, bytes: usize) -> Result<Pieces, OutOfMemory>
+        ensures { IfOk result (λ pieces. pieces ≡ []) }
+    {
+        Ok(Pieces {
+            bytes: Seq::with_capacity(alloc, bytes)?,
+        })
+    }
+
+    /// The pieces one by one.
+    pub fn iter(&self) -> PieceRefs<'_>
+        ensures list { result ≡ self.now }
+        ensures few { length self.now < 2 ^ 64 }
+    {
+        let _bytes = self.bytes.len();
+        PieceRefs {
+            rest: self.bytes.as_slice(),
+        }
+    }
+
+    /// Whether there is no piece.
+    pub fn is_empty(&self) -> bool
+        ensures { IsTrue result ↔ (self.now ≡ []) }
+    {
+        self.iter().next().is_none()
+    }
+
+    /// How many pieces there are.
+    pub fn len(&self) -> usize
+        ensures { result ≡ length self.now }
+    {
+        self.iter().count()
+    }
+
+    /// How many bytes a piece takes: its own, and its length, which takes a byte for each 255 in it and one
+    /// more.
+    pub fn size_of(piece: &[u8]) -> usize
+        ensures { length piece.now < 2 ^ 62 → result ≡ length (pieces_spelling (piece.now ∷ [])) }
+    {
+        let length = piece.len();
+        length.saturating_add(length / 255).saturating_add(1)
+    }
+
+    /// How many bytes are held: what `size_of` counts of each piece.
+    pub fn size(&self) -> usize
+        ensures { result ≡ length (pieces_spelling self.now) }
+    {
+        self.bytes.len()
+    }
+
+    /// Gives back the room beyond what is held, where the allocator takes it.
+    pub fn shrink_to_fit(&mut self)
+        ensures { self.new ≡ self.old }
+    {
+        self.bytes.shrink_to_fit();
+    }
+
+    /// Adds a piece behind the others.
+    pub fn push(&mut self, piece: &[u8]) -> Result<(), OutOfMemory>
+        ensures ok { OnOk result (self.new ≡ self.old ++ piece.now ∷ []) }
+        ensures err { OnErr result (self.new ≡ self.old) }
+    {
+        let held = self.bytes.len();
+        if let Err(refused) = add_piece(&mut self.bytes, piece) {
+            self.bytes.truncate(held);
+            return Err(refused);
+        }
+        Ok(())
+    }
+}
+
+/// The length that stands here, and the bytes behind it, which are as many at least.
+fn read_length(bytes: &[u8]) -> Option<(usize, &[u8])>
+    requires stands { length_at bytes.now ≡ None → bytes.now ≡ [] }
+    requires fits { IfSome (length_at bytes.now) (λ found. found.0 ≤ length found.1) }
+    ensures { option_map (λ found. (found.0, found.1.now)) result ≡ length_at bytes.now }
+{
+    let _bytes = bytes.len();
+    let mut len = 0;
+    let mut rest = bytes;
+    'lengths: while let Some((byte, behind)) = rest.split_first() {
+        if *byte != 255 {
+            return Some((len + usize::from(*byte), behind));
+        }
+        len += 255;
+        rest = behind;
+    }
+    None
+}
+
+/// Adds a length. Where there is no memory, a part of it may have been added.
+fn add_length(bytes: &mut Seq<u8>, len: usize) -> Result<(), OutOfMemory>
+    ensures ok { OnOk result (bytes.new ≡ bytes.old ++ length_spelling len) }
+    ensures err { OnErr result (take (length bytes.old) bytes.new ≡ bytes.old) }
+{
+    'bytes: for many in 0..len / 255 {
+        let _many = many;
+        bytes.push(255)?;
+    }
+    bytes.push((len % 255) as u8)
+}
+
+/// Adds a piece behind its length. Where there is no memory, a part of it may have been added.
+fn add_piece(bytes: &mut Seq<u8>, piece: &[u8]) -> Result<(), OutOfMemory>
+    ensures ok { OnOk result (bytes.new ≡ bytes.old ++ (length_spelling (length piece.now) ++ piece.now)) }
+    ensures err { OnErr result (take (length bytes.old) bytes.new ≡ bytes.old) }
+{
+    add_length(bytes, piece.len())?;
+    bytes.append(piece)
+}
+
+impl Clone for Pieces {
+    ghost is_clone = { λ x y. x ≡ y };
+
+    fn clone(&self) -> Result<Self, std::alloc::AllocError> {
+        Ok(Pieces {
+            bytes: self.bytes.clone()?,
+        })
+    }
+}
+
+impl PartialEq for Pieces {
+    ghost eq = { same_pieces };
+
+    ghost laws = { Prim.search (comparing, rules) };
+
+    fn eq(&self, other: &Pieces) -> bool {
+        self.bytes == other.bytes
+    }
+}
+
+impl Eq for Pieces {
+    ghost laws = { Prim.search (comparing, rules) };
+}
+
+impl Hash for Pieces {
+    ghost hash_input = { fed_pieces };
+
+    ghost respects_eq = { same_pieces-Alike.fed };
+
+    fn hash<H: Hasher>(&self, state: &mut H) {
+        self.bytes.hash(state);
+    }
+}
