@@ -1,5 +1,5 @@
 -- What a proxy that carries a history can do: it can go on.
-use Rattle.std.proofs.Common.{◌≡◌, ℕ, ◌<◌, ◌≤◌, ◌^◌, Bool, true, false, cond, List, [], ◌∷◌, Result, Ok, Err, refl, sym, subst, arith}
+use Rattle.std.proofs.Common.{◌≡◌, ℕ, ◌<◌, ◌≤◌, ◌^◌, Bool, true, false, cond, List, [], ◌∷◌, length, Result, Ok, Err, refl, sym, ap, subst, arith}
 use Rattle.std.specs.Prelude.{◌&&◌, not, IfOk, OnErr}
 use Rattle.std.proofs.lemmas.Bool.{and_parts}
 use Rattle.coap_message.specs.Message.{Message}
@@ -16,24 +16,19 @@ use Rattle.coap_message.specs.Codes.{is_code}
 use Rattle.coap_model.specs.Messages.{are_understood, is_passed_on, fits, bad_gateway, answer_of}
 use Rattle.coap_model.specs.Setting.{Setting}
 use Rattle.coap_message.specs.declared.error.OutOfMemory.{OutOfMemory}
-use Rattle.coap_message.specs.Datagram.{Datagram}
+use Rattle.coap_message.specs.Datagram.{Datagram, holding}
 use Rattle.coap_model.specs.declared.report.Report.{Report}
-use Rattle.coap_model.specs.World.{World}
+use Rattle.coap_model.specs.World.{World, Step}
 use Rattle.coap_model.specs.Events.{Event, IsEvent}
 use Rattle.coap_model.specs.Step.{step_of}
-use Rattle.coap_model.specs.History.{Entry}
+use Rattle.coap_model.specs.History.{Entry, Deed}
 use Rattle.coap_model.specs.Runs.{entry_of}
 use Rattle.coap_model.specs.Carries.{IsState, IsExchangeOf, ArePaired, Carries}
+use Rattle.coap_model.proofs.Acting.{rising-paired}
 use Rattle.coap_model.proofs.Carrying.{keeps_step}
 use Rattle.coap_model.proofs.Frames.{opened-few}
 use Rattle.coap_model.proofs.Running.{setting_stays}
 use Rattle.coap_core.specs.Steps.{Does, IsUnderstood, CanGoOn}
-
-rising-paired : (least : ℕ) (xs : List (Numbered Exchange)) (vs : List (Numbered Waiter)) → IsRising least xs → ArePaired xs vs → IsRising least vs
-rising-paired least [] [] r p = tt
-rising-paired least [] (v ∷ vs) r p = absurd p
-rising-paired least (x ∷ xs) [] r p = tt
-rising-paired least (x ∷ xs) (v ∷ vs) r p = (omega (arith, r.0, p.0), rising-paired v.0 xs vs (subst (λ (n : ℕ). IsRising n xs) p.0 r.1) p.1)
 
 -- what a response gives can be shown
 answer-shown : (most now : ℕ) (m : Message) → are_understood (answer_of most now m).message.options ≡ true
@@ -44,22 +39,23 @@ answer-shown most now m = go (is_passed_on most m) refl
     go true e = (and_parts (are_understood m.options) (not (is_code m.code VALID) && fits most m) e).0
     go false e = refl
 
-state-shown : (setting : Setting) (history : List Entry) (x : ℕ) (t : Target) (s : ExchangeState) → IsState setting history x t s → IsUnderstood s
+state-shown : (setting : Setting) (history : List Deed) (x : ℕ) (t : Target) (s : ExchangeState) → IsState setting history x t s → IsUnderstood s
 state-shown setting history x t Queued is = tt
 state-shown setting history x t (Sent s) is = tt
-state-shown setting history x t (Done a) is = subst (λ (b : Answer). are_understood b.message.options ≡ true) (sym is.answer_is) (answer-shown setting.limits.datagram is.getting.entry.now is.gets.response)
+state-shown setting history x t (Done a) is = subst (λ (b : Answer). are_understood b.message.options ≡ true) (sym is.answer_is) (answer-shown setting.limits.datagram is.getting.deed.entry.now is.gets.response)
 
 pub can_go_on : (history : List Entry) (w : World) → Carries history w → w.events < 2 ^ 63 → CanGoOn w
 can_go_on history w c few =
-    let opened = opened-few history w c in
+    let b = c.bears in
+    let opened = opened-few c.deeds w b in
     record {
-      exchanges = c.whole.rising;
-      waiters = rising-paired 0 w.exchanges w.waiters c.whole.rising c.whole.paired;
+      exchanges = b.whole.rising;
+      waiters = rising-paired 0 w.exchanges w.waiters b.whole.rising b.whole.paired;
       events = few;
-      opened = omega (arith, opened, c.numbers.opened);
-      admitted = omega (arith, opened, c.numbers.admitted);
-      ids = c.within.ids;
-      answers = All-weaken (IsExchangeOf w.setting history) (λ x. IsUnderstood x.1.state) w.exchanges (λ x f. state-shown w.setting history x.0 x.1.target x.1.state f.state) c.exchanges;
+      opened = omega (arith, opened, b.numbers.opened);
+      admitted = omega (arith, opened, b.numbers.admitted);
+      ids = b.within.ids;
+      answers = All-weaken (IsExchangeOf w.setting c.deeds) (λ x. IsUnderstood x.1.state) w.exchanges (λ x f. state-shown w.setting c.deeds x.0 x.1.target x.1.state f.state) b.exchanges;
     }
 
 -- ---- what the step in code leaves
@@ -80,3 +76,8 @@ is-left w now event history c onward fits (Ok report) old new v does same =
       carries = rw does.2 (keeps_step w history now 0 event c onward fits);
     }
 is-left w now event history c onward fits (Err e) old new v does same = record { setting = rw same refl; history = history; carries = rw same c }
+
+-- what is sent isn't too long, and where memory is missing nothing is sent
+pub is-short : (r : Result Report OutOfMemory) (s : Step) (old new : Datagram) (v : World) (most : ℕ) → length s.bytes ≤ most → IfOk r (λ report. Does s report old new v) → OnErr r (new ≡ holding old []) → length new.bytes ≤ most
+is-short (Ok report) s old new v most short does none = omega (arith, short, ap (λ (d : Datagram). length d.bytes) does.1)
+is-short (Err e) s old new v most short does none = omega (arith, ap (λ (d : Datagram). length d.bytes) none)

@@ -94,8 +94,10 @@ impl Core {
         requires room { self.old.setting.limits.datagram ≤ out.old.room }
         requires events { self.old.events < 2 ^ 63 }
 
-        // The report, the datagram and the core after it are determined.
+        // The report, the datagram and the core after it are determined, and the datagram isn't too long.
         ensures exact { IfOk result (λ report. Does (step_of self.old now draw (seen event.entry)) report out.old out.new self.new) }
+
+        ensures short { length out.new.bytes ≤ self.new.setting.limits.datagram }
 
         // A core that carries a history carries it with the entry of the step in front.
         ensures carries { IfOk result (λ report. (history : List Entry) → Carries history self.old → Carries (record { now = now; draw = draw; event = seen event.entry; report = report; bytes = out.new.bytes } ∷ history) self.new) }

@@ -1,5 +1,5 @@
 -- An answer that is got keeps what is carried.
-use Rattle.std.proofs.Common.{◌≡◌, inl, inr, ⊎_elim, ℕ, ◌^◌, ◌<◌, ◌≤◌, true, List, ◌∷◌, Some, refl, sym, ap, ◌∙◌, subst, arith}
+use Rattle.std.proofs.Common.{◌≡◌, inl, inr, ⊎_elim, ℕ, ◌≤◌, true, List, ◌∷◌, Some, refl, sym, ap, ◌∙◌, subst, arith}
 use Rattle.std.specs.Prelude.{◌&&◌}
 use Rattle.std.specs.Cmp.Lexicographic.{same_text}
 use Rattle.std.proofs.lemmas.Bool.{eqb-true, and_parts}
@@ -8,7 +8,6 @@ use Rattle.coap_message.specs.declared.kind.Kind.TheVariants.{Con, Non, Ack, Rst
 use Rattle.coap_message.specs.Uint.{IsBytes}
 use Rattle.coap_message.specs.Message.{Message}
 use Rattle.coap_message.specs.Spelling.{Spells}
-use Rattle.coap_message.proofs.WholeMessages.{one_message}
 use Rattle.coap_target.specs.declared.endpoint.Endpoint.{Endpoint}
 use Rattle.coap_target.specs.Endpoint.{same_endpoint}
 use Rattle.coap_target.specs.Equality.{same_bytes}
@@ -17,7 +16,7 @@ use Rattle.coap_exchange.specs.declared.exchange.ExchangeState.{ExchangeState}
 use Rattle.coap_exchange.specs.declared.exchange.ExchangeState.TheVariants.{Queued, Sent, Done}
 use Rattle.coap_exchange.specs.declared.exchange.Exchange.{Exchange}
 use Rattle.coap_exchange.specs.declared.exchange.Sending.{Sending}
-use Rattle.coap_exchange.specs.Exchanges.{moved, is_queued, is_done}
+use Rattle.coap_exchange.specs.Exchanges.{moved, is_queued}
 use Rattle.coap_exchange.specs.Table.{Numbered}
 use Rattle.coap_exchange.proofs.Counts.{one_if}
 use Rattle.coap_exchange.proofs.States.{moved-cases, length-with_state, IsRising-with_state}
@@ -27,15 +26,14 @@ use Rattle.coap_model.specs.Messages.{is_ack, token_of, answer_of}
 use Rattle.coap_model.specs.World.{World}
 use Rattle.coap_model.specs.Step.{message_in}
 use Rattle.coap_model.specs.Responses.{has_id, awaits, awaiting, answers}
-use Rattle.coap_model.specs.History.{Entry, Never, Sends, Gets}
-use Rattle.coap_model.specs.Justified.{answered}
+use Rattle.coap_model.specs.History.{moves, Deed, Never, Sends, Gets}
 use Rattle.coap_model.specs.Runs.{entry_of}
-use Rattle.coap_model.specs.Carries.{WasAsked, IsState, IsExchangeOf, Carries}
+use Rattle.coap_model.specs.Carries.{WasAsked, IsState, IsExchangeOf, Bears}
 use Rattle.coap_model.proofs.Lists.{find-holds, All-map, Has, All-there}
-use Rattle.coap_model.proofs.Places.{here, Opens-number, arrival-same}
-use Rattle.coap_model.proofs.Spelled.{token-same, message_in-is}
+use Rattle.coap_model.proofs.Places.{here, doing, same_moves, Opens-number}
+use Rattle.coap_model.proofs.Spelled.{message_in-is}
 use Rattle.coap_model.proofs.Tables.{ArePaired-with_state, HasNumber-with_state, count-moved}
-use Rattle.coap_model.proofs.Frames.{exchange_frame, waiters_frame, fresh_frame, sends-not, number-small}
+use Rattle.coap_model.proofs.Frames.{exchange_frame, waiters_frame, fresh_frame, later_served, sends-not, serves-not}
 use Rattle.coap_model.proofs.Forwarding.{same_target}
 
 -- ---- what was awaited
@@ -53,7 +51,7 @@ sent_with id (Sent s) e = (s, refl, eqb-true s.id id e)
 sent_with id (Done a) e = absurd cc
 
 -- what is known of an exchange that awaits this response
-record IsAwaited (w : World) (history : List Entry) (source : Endpoint) (m : Message) (x : Numbered Exchange) : Type 0 where
+record IsAwaited (w : World) (history : List Deed) (source : Endpoint) (m : Message) (x : Numbered Exchange) : Type 0 where
   pub exchange : IsExchangeOf w.setting history x
   pub there : Has x w.exchanges
   pub sending : Sending
@@ -64,7 +62,7 @@ record IsAwaited (w : World) (history : List Entry) (source : Endpoint) (m : Mes
   pub id_is : sending.id ≡ m.id
   pub token_is : m.token ≡ token_of w.setting.salt x.0
 
-awaited : (w : World) (history : List Entry) → Carries history w → (source : Endpoint) (m : Message) (x : Numbered Exchange) → awaiting w source m ≡ Some x → IsAwaited w history source m x
+awaited : (w : World) (history : List Deed) → Bears history w → (source : Endpoint) (m : Message) (x : Numbered Exchange) → awaiting w source m ≡ Some x → IsAwaited w history source m x
 awaited w history c source m x found =
     let f = find-holds (λ y. IsExchangeOf w.setting history y × Has y w.exchanges) (awaits w.setting.salt source m) w.exchanges x (All-there (IsExchangeOf w.setting history) w.exchanges c.exchanges) found in
     let parts = and_parts (has_id m.id x.1.state) (same_endpoint x.1.target.at source && same_bytes (token_of w.setting.salt x.0) m.token) f.1 in
@@ -75,10 +73,10 @@ awaited w history c source m x found =
 
 -- ---- the rule
 
-pub keeps_answering : (w : World) (history : List Entry) (c : Carries history w) → (now draw : ℕ) (source : Endpoint) (bytes : List ℕ) (m : Message) (x : Numbered Exchange) → w.last ≤ now → IsBytes bytes → message_in w.setting.limits.datagram bytes ≡ Some m → (is_ack m.kind && is_response m.code) ≡ true → awaiting w source m ≡ Some x
-    → Carries (entry_of now draw (arrival source bytes) (answers w now m x) ∷ history) (answers w now m x).world
+pub keeps_answering : (w : World) (history : List Deed) (c : Bears history w) → (now draw : ℕ) (source : Endpoint) (bytes : List ℕ) (m : Message) (x : Numbered Exchange) → w.last ≤ now → IsBytes bytes → message_in w.setting.limits.datagram bytes ≡ Some m → (is_ack m.kind && is_response m.code) ≡ true → awaiting w source m ≡ Some x
+    → Bears (doing (moves x.0) (entry_of now draw (arrival source bytes) (answers w now m x)) ∷ history) (answers w now m x).world
 keeps_answering w history c now draw source bytes m x onward fits read response found =
-    let e = entry_of now draw (arrival source bytes) (answers w now m x) in
+    let e = doing (moves x.0) (entry_of now draw (arrival source bytes) (answers w now m x)) in
     let p = here history e in
     let salt = w.setting.salt in
     let a = awaited w history c source m x found in
@@ -88,6 +86,7 @@ keeps_answering w history c now draw source bytes m x onward fits read response 
     let spells : Spells bytes m = read_in.0 in
     let unsent : (n : ℕ) → Sends salt n p → ⊥ = sends-not w.setting history e (λ o. cc) in
     let gets : Gets salt x.0 p = record {
+      act = refl;
       outcome = refl;
       source = source;
       response = m;
@@ -101,22 +100,16 @@ keeps_answering w history c now draw source bytes m x onward fits read response 
       same_source = sym (a.was.to ∙ a.source_is);
       same_id = sym a.id_is ∙ a.was.id_is;
     } in
-    let number : (n : ℕ) → n < 2 ^ 64 → Gets salt n p → n ≡ x.0 = λ n below g.
-    let came = arrival-same source g.source bytes g.came.bytes g.came.event in
-    let same : m ≡ g.response = one_message g.came.bytes m g.response (subst (λ (b : List ℕ). Spells b m) came.1 spells) g.came.spells in
-    sym (token-same salt x.0 n (number-small history w c x f) below (sym a.token_is ∙ ap (λ (r : Message). r.token) same ∙ g.token)) in
+    let number : (n : ℕ) → Gets salt n p → n ≡ x.0 = λ n g. same_moves n x.0 (sym g.act) in
     let next : ExchangeState = Done (answer_of w.setting.limits.datagram now m) in
     let as_many_queued = count-moved is_queued x 0 next w.exchanges c.whole.rising a.there in
-    let more_done = count-moved is_done x 0 next w.exchanges c.whole.rising a.there in
     let was_sent : one_if (is_queued x.1.state) ≡ 0 = ap (λ (s : ExchangeState). one_if (is_queued s)) a.state_is in
-    let was_not_done : one_if (is_done x.1.state) ≡ 0 = ap (λ (s : ExchangeState). one_if (is_done s)) a.state_is in
     record {
-      served = c.served;
       routes = c.routes;
       clock = record { events = let h = c.clock.events in omega arith; last = refl; in_order = (let h = c.clock.last in omega arith, c.clock.in_order) };
       numbers = record { opened = let h = c.numbers.opened in omega arith; admitted = let h = c.numbers.admitted in omega arith; given = let h = c.numbers.given in omega arith };
       ids = ((λ g. absurd (omega arith)), c.ids);
-      fresh = fresh_frame w.setting history e (λ n above below s. unsent n s) (λ n above below g. let i = number n below g in let j = Opens-number history f.opening x.0 f.was_opened f.opens in omega (arith, j.1)) c.fresh;
+      fresh = fresh_frame w.setting history e (λ n above s. unsent n s) (λ n above g. let i = number n g in let j = Opens-number history f.opening x.0 f.was_opened f.opens in omega (arith, j.1)) c.fresh;
       exchanges =
           All-map (IsExchangeOf w.setting history) (IsExchangeOf w.setting (e ∷ history)) (moved x.0 next) w.exchanges
           (λ y g.
@@ -137,17 +130,16 @@ keeps_answering w history c now draw source bytes m x onward fits read response 
                 record { getting = p; was_got = inl refl; gets = gets; asked_target = a.was.asked_target ∙ same_target w history x y f g (sym same); answer_is = refl }
                 );
           })
-          (λ other. exchange_frame w.setting history e y (unsent y.0) (λ h. other (number y.0 (number-small history w c y g) h)) g))
+          (λ other. exchange_frame w.setting history e y (unsent y.0) (λ h. other (number y.0 h)) g))
           c.exchanges;
-      waiters = waiters_frame w.setting history c.served e w.waiters c.waiters;
+      waiters = waiters_frame w.setting history e w.waiters (serves-not history e (λ o. cc)) c.waiters;
       whole = record {
         rising = IsRising-with_state x.0 0 next w.exchanges c.whole.rising;
         paired = ArePaired-with_state x.0 next w.exchanges w.waiters c.whole.paired;
-        complete = λ n positive le. ⊎_elim (λ there. inl (HasNumber-with_state x.0 n next w.exchanges there)) (λ served. inr served) (c.whole.complete n positive (omega arith));
+        complete = λ n positive le. ⊎_elim (λ there. inl (HasNumber-with_state x.0 n next w.exchanges there)) (λ s. inr s) (later_served history e w.exchanges n (c.whole.complete n positive (omega arith)));
         under_way = let h = c.whole.under_way in let l = length-with_state x.0 next w.exchanges in omega arith;
         unsent = let h = c.whole.unsent in omega arith;
-        unserved = let h = c.whole.unserved in omega arith;
       };
       within = record { exchanges = let h = c.within.exchanges in let l = length-with_state x.0 next w.exchanges in omega arith; waiters = c.within.waiters; ids = let h = c.within.ids in omega arith };
-      past = answered e x.0 c.past refl (record { gets = gets; first = a.ungot; short = read_in.1; silent = record { sent = refl; bytes = refl } });
+      past = (record { exchange = x.0; gets = gets; first = a.ungot; short = read_in.1; silent = record { sent = refl; bytes = refl } }, c.past);
     }

@@ -1,8 +1,8 @@
 -- Serving a client keeps what is carried.
-use Rattle.std.proofs.Common.{◌≡◌, ◌⊎◌, inl, inr, ⊎_elim, ℕ, ◌+◌, ◌<◌, ◌≤◌, Bool, true, false, eqb, List, ◌∷◌, length, Some, refl, sym, ap, ◌∙◌, subst, arith}
+use Rattle.std.proofs.Common.{◌≡◌, ◌≢◌, ◌⊎◌, inl, inr, ⊎_elim, ℕ, ◌+◌, ◌≤◌, Bool, true, false, eqb, List, ◌∷◌, length, Some, refl, sym, ap, ◌∙◌, subst, arith}
 use Rattle.std.specs.Prelude.{not}
 use Rattle.std.specs.List.{AllByRecursion}
-use Rattle.std.proofs.lemmas.Bool.{eqb-true, eqb-false, eq-eqb, cases_lt}
+use Rattle.std.proofs.lemmas.Bool.{eqb-true, eqb-false, eq-eqb}
 use Rattle.coap_message.specs.Spelling.{IsMessage, Spells, spelling}
 use Rattle.coap_message.proofs.Spellings.{spelled}
 use Rattle.coap_target.specs.declared.target.Target.{Target}
@@ -18,35 +18,37 @@ use Rattle.coap_exchange.proofs.Tables.{IsRising-without}
 use Rattle.coap_exchange.specs.Table.{Numbered, without}
 use Rattle.coap_model.specs.Events.{tick}
 use Rattle.coap_model.specs.Messages.{answer_of, shown}
-use Rattle.coap_exchange.specs.Exchanges.{is_queued, is_done, count_where}
+use Rattle.coap_exchange.specs.Exchanges.{is_queued, count_where}
 use Rattle.coap_model.specs.World.{World, next_id, later}
 use Rattle.coap_exchange.specs.Due.{serving, least, answer_in}
 use Rattle.coap_model.specs.Ticks.{items_of, if_due, without_idle, delivers}
-use Rattle.coap_model.specs.History.{Entry, Place, index, Opens}
-use Rattle.coap_model.specs.Justified.{IsRequestOf, IsMember, delivered, IsDelivery}
+use Rattle.coap_model.specs.History.{serves, Deed, Place, Somewhere, IsPlaceOf, Gets, Opens, Serves}
+use Rattle.coap_model.specs.Justified.{IsRequestOf, IsActing, IsDelivery}
+use Rattle.coap_model.specs.declared.report.Outcome.TheVariants.{Delivered}
 use Rattle.coap_model.specs.Runs.{entry_of}
-use Rattle.coap_model.specs.Carries.{WasGot, IsState, IsExchangeOf, IsGotBy, IsWaiterOf, HasNumber, Carries}
+use Rattle.coap_model.specs.Carries.{WasGot, IsState, IsExchangeOf, IsWaiterOf, HasNumber, Bears}
 use Rattle.coap_model.proofs.Lists.{All-filter, Has, All-there}
-use Rattle.coap_model.proofs.Places.{Never-at, Opens-unique, request-unique}
+use Rattle.coap_model.proofs.Places.{in-order, here, doing, same_serves, Never-at, Opens-unique, request-unique}
 use Rattle.coap_model.proofs.Spelled.{shown-is}
 use Rattle.coap_model.proofs.Tables.{due-serving, answer-holds, answer-number, ArePaired-without, length-paired, length-without, HasNumber-without, HasNumber-paired, count-without, not_awaited}
-use Rattle.coap_model.proofs.Frames.{exchange_frame, waiter_frame, fresh_frame, sends-not, gets-not}
+use Rattle.coap_model.proofs.Frames.{exchange_frame, waiter_frame, fresh_frame, later_served, sends-not, gets-not}
+use Rattle.coap_model.proofs.Acting.{acting}
 use Rattle.coap_model.proofs.Replying.{id-same}
 
 -- ---- what is served
 
 -- what is known of a waiter that is served with an answer
-pub record IsServed (w : World) (history : List Entry) (served : List ℕ) (v : Numbered Waiter) (a : Answer) : Type 0 where
-  pub waiter : IsWaiterOf w.setting history served v
+pub record IsServed (w : World) (history : List Deed) (v : Numbered Waiter) (a : Answer) : Type 0 where
+  pub waiter : IsWaiterOf w.setting history v
   pub there : HasNumber v.0 w.exchanges
   pub counted : (t : ExchangeState → Bool) → count_where t (without v.0 w.exchanges) + one_if (t (Done a)) ≡ count_where t w.exchanges
   pub target : Target
   pub target_is : mapped_target w.setting.routes waiter.request ≡ Some target
   pub got : WasGot w.setting history v.0 target a
 
-pub served : (w : World) (history : List Entry) (c : Carries history w) (now : ℕ) (v : Numbered Waiter) (a : Answer) → if_due now (least (items_of w)) ≡ Some (serving v a) → IsServed w history c.served v a
+pub served : (w : World) (history : List Deed) (c : Bears history w) (now : ℕ) (v : Numbered Waiter) (a : Answer) → if_due now (least (items_of w)) ≡ Some (serving v a) → IsServed w history v a
 served w history c now v a due =
-    let item = due-serving (IsExchangeOf w.setting history) (IsWaiterOf w.setting history c.served) w.exchanges w.waiters now v a c.exchanges c.waiters due in
+    let item = due-serving (IsExchangeOf w.setting history) (IsWaiterOf w.setting history) w.exchanges w.waiters now v a c.exchanges c.waiters due in
     let g = item.0 in
     let answer : answer_in v.0 w.exchanges ≡ Some a = subst (λ (n : ℕ). answer_in n w.exchanges ≡ Some a) g.exchange item.1 in
     let found = answer-holds (λ y. IsExchangeOf w.setting history y × Has y w.exchanges) w.exchanges v.0 a (All-there (IsExchangeOf w.setting history) w.exchanges c.exchanges) answer in
@@ -55,7 +57,7 @@ served w history c now v a due =
     let same : x.0 ≡ v.0 = found.2 in
     let state : WasGot w.setting history x.0 x.1.target a = subst (IsState w.setting history x.0 x.1.target) found.3 f.state in
     let place = Opens-unique history f.opening g.admission v.0 f.was_opened g.was_admitted (subst (λ (n : ℕ). Opens n f.opening) same f.opens) g.opens in
-    let request = request-unique w.setting g.admission.entry.event f.client g.client f.request g.request (subst (λ (p : Place). IsRequestOf w.setting f.client f.request p.entry.event) place f.asked) g.asked in
+    let request = request-unique w.setting g.admission.deed.entry.event f.client g.client f.request g.request (subst (λ (p : Place). IsRequestOf w.setting f.client f.request p.deed.entry.event) place f.asked) g.asked in
     record {
       waiter = g;
       there = answer-number w.exchanges v.0 a answer;
@@ -69,19 +71,22 @@ served w history c now v a due =
 
 -- ---- what is told
 
-reply-is : (w : World) (history : List Entry) (served : List ℕ) (now id : ℕ) (v : Numbered Waiter) (a : Answer) → IsServed w history served v a → IsMessage (shown now a id v.1.token)
-reply-is w history served now id v a s =
+reply-is : (w : World) (history : List Deed) (now id : ℕ) (v : Numbered Waiter) (a : Answer) → IsServed w history v a → IsMessage (shown now a id v.1.token)
+reply-is w history now id v a s =
     let got = s.got in
     let short : length v.1.token ≤ 8 = subst (λ (t : List ℕ). length t ≤ 8) (sym s.waiter.token_is) s.waiter.asked.spells.message.token in
-    let is = shown-is w.setting.limits.datagram now got.getting.entry.now got.gets.response id v.1.token got.gets.came.spells.message got.gets.code short in
+    let is = shown-is w.setting.limits.datagram now got.getting.deed.entry.now got.gets.response id v.1.token got.gets.came.spells.message got.gets.code short in
     subst (λ (b : Answer). IsMessage (shown now b id v.1.token)) (sym got.answer_is) is
 
-delivery : (w : World) (history : List Entry) (served : List ℕ) (e : Entry) (id : ℕ) (v : Numbered Waiter) (a : Answer) → IsServed w history served v a → e.event ≡ tick → e.report.send ≡ Some v.1.client → Spells e.bytes (shown e.now a id v.1.token) → IsDelivery w.setting history e v.0
-delivery w history served e id v a s due sent spells =
+delivery : (w : World) (history : List Deed) (e : Deed) (id : ℕ) (v : Numbered Waiter) (a : Answer) → IsServed w history v a → e.act ≡ serves v.0 → IsActing w.setting history e → e.entry.report.send ≡ Some v.1.client → Spells e.entry.bytes (shown e.entry.now a id v.1.token) → IsDelivery w.setting history e
+delivery w history e id v a s act acts sent spells =
     let g = s.waiter in
     let got = s.got in
     let salt = w.setting.salt in
     record {
+      waiter = v.0;
+      act = act;
+      first = g.unserved;
       admission = g.admission;
       client = g.client;
       request = g.request;
@@ -96,46 +101,50 @@ delivery w history served e id v a s due sent spells =
       gets = got.gets;
       got_later =
           ⊎_elim
-          (λ (lt : index g.admission < index got.getting). lt)
-          (λ (ge : index got.getting ≤ index g.admission). absurd (Never-at (IsGotBy salt v.0 g.admission) history got.getting g.not_got_by got.was_got (got.gets, ge)))
-          (cases_lt (index g.admission) (index got.getting));
+          (λ (same : got.getting ≡ g.admission). absurd (let o = sym got.gets.outcome ∙ ap (λ (p : Place). p.deed.entry.report.outcome) same ∙ g.opens.0 in cc))
+          (λ (other : IsPlaceOf got.getting.before g.admission ⊎ IsPlaceOf g.admission.before got.getting).
+          ⊎_elim
+          (λ (later : IsPlaceOf got.getting.before g.admission). later)
+          (λ (earlier : IsPlaceOf g.admission.before got.getting). absurd (Never-at (Gets salt v.0) g.admission.before got.getting g.ungot earlier got.gets))
+          other)
+          (in-order history got.getting g.admission got.was_got g.was_admitted);
       asked_target = got.asked_target;
-      due = due;
+      acting = acts;
       tells = record {
         sent = sent ∙ ap Some g.client_is;
         spells =
-            subst (λ (t : List ℕ). Spells e.bytes (shown e.now (answer_of w.setting.limits.datagram got.getting.entry.now got.gets.response) id t)) g.token_is
-            (subst (λ (b : Answer). Spells e.bytes (shown e.now b id v.1.token)) got.answer_is spells);
+            subst (λ (t : List ℕ). Spells e.entry.bytes (shown e.entry.now (answer_of w.setting.limits.datagram got.getting.deed.entry.now got.gets.response) id t)) g.token_is
+            (subst (λ (b : Answer). Spells e.entry.bytes (shown e.entry.now b id v.1.token)) got.answer_is spells);
       };
     }
 
 -- ---- what is left
 
 -- the exchange goes with its waiter
-exchanges_left : (w : World) (history : List Entry) (c : Carries history w) (v : Numbered Waiter) → v.1.exchange ≡ v.0 → without_idle v.1.exchange (without v.0 w.waiters) w.exchanges ≡ without v.0 w.exchanges
+exchanges_left : (w : World) (history : List Deed) (c : Bears history w) (v : Numbered Waiter) → v.1.exchange ≡ v.0 → without_idle v.1.exchange (without v.0 w.waiters) w.exchanges ≡ without v.0 w.exchanges
 exchanges_left w history c v own =
-    let idle = not_awaited v.0 w.waiters (All-weaken (IsWaiterOf w.setting history c.served) (λ u. u.1.exchange ≡ u.0) w.waiters (λ u f. f.exchange) c.waiters) in
+    let idle = not_awaited v.0 w.waiters (All-weaken (IsWaiterOf w.setting history) (λ u. u.1.exchange ≡ u.0) w.waiters (λ u f. f.exchange) c.waiters) in
     rw (own, idle) refl
 
 -- the other waiters are not served
-others_wait : (w : World) (history : List Entry) (c : Carries history w) (e : Entry) (n : ℕ) → AllByRecursion (IsWaiterOf w.setting (e ∷ history) (n ∷ c.served)) (without n w.waiters)
-others_wait w history c e n =
-    All-weaken (λ u. IsWaiterOf w.setting history c.served u × (not (eqb u.0 n) ≡ true)) (IsWaiterOf w.setting (e ∷ history) (n ∷ c.served)) (without n w.waiters)
-    (λ u f. waiter_frame w.setting history c.served (n ∷ c.served) e u (unserved u.0 f.1 f.0.unserved) f.0)
-    (All-filter (IsWaiterOf w.setting history c.served) (λ u. not (eqb u.0 n)) w.waiters c.waiters)
+others_wait : (w : World) (history : List Deed) (c : Bears history w) (e : Deed) (n : ℕ) → e.act ≡ serves n → AllByRecursion (IsWaiterOf w.setting (e ∷ history)) (without n w.waiters)
+others_wait w history c e n act =
+    All-weaken (λ u. IsWaiterOf w.setting history u × (not (eqb u.0 n) ≡ true)) (IsWaiterOf w.setting (e ∷ history)) (without n w.waiters)
+    (λ u f. waiter_frame w.setting history e u (λ s. unserved u.0 f.1 (same_serves u.0 n (sym s.act ∙ act))) f.0)
+    (All-filter (IsWaiterOf w.setting history) (λ u. not (eqb u.0 n)) w.waiters c.waiters)
   where
-    unserved : (m : ℕ) → not (eqb m n) ≡ true → ¬ IsMember m c.served → ¬ IsMember m (n ∷ c.served)
-    unserved m other never member = ⊎_elim (λ (same : m ≡ n). absurd (let f : false ≡ true = subst (λ (b : Bool). not b ≡ true) (eq-eqb m n same) other in cc)) never member
+    unserved : (m : ℕ) → not (eqb m n) ≡ true → m ≢ n
+    unserved m other same = let f : false ≡ true = subst (λ (b : Bool). not b ≡ true) (eq-eqb m n same) other in cc
 
 -- ---- the rule
 
-pub keeps_delivering : (w : World) (history : List Entry) (c : Carries history w) (now draw : ℕ) (v : Numbered Waiter) (a : Answer) → w.last ≤ now → if_due now (least (items_of w)) ≡ Some (serving v a)
-    → Carries (entry_of now draw tick (delivers w now v a) ∷ history) (delivers w now v a).world
+pub keeps_delivering : (w : World) (history : List Deed) (c : Bears history w) (now draw : ℕ) (v : Numbered Waiter) (a : Answer) → w.last ≤ now → if_due now (least (items_of w)) ≡ Some (serving v a)
+    → Bears (doing (serves v.0) (entry_of now draw tick (delivers w now v a)) ∷ history) (delivers w now v a).world
 keeps_delivering w history c now draw v a onward due =
-    let e = entry_of now draw tick (delivers w now v a) in
+    let e = doing (serves v.0) (entry_of now draw tick (delivers w now v a)) in
     let s = served w history c now v a due in
     let reply = shown now a (next_id w) v.1.token in
-    let spells : Spells (spelling reply) reply = spelled reply (reply-is w history c.served now (next_id w) v a s) in
+    let spells : Spells (spelling reply) reply = spelled reply (reply-is w history now (next_id w) v a s) in
     let unsent = sends-not w.setting history e (λ o. cc) in
     let ungot = gets-not w.setting history e (λ o. cc) in
     let waits : HasNumber v.0 w.waiters = HasNumber-paired v.0 w.exchanges w.waiters c.whole.paired s.there in
@@ -144,33 +153,30 @@ keeps_delivering w history c now draw v a onward due =
     let paired_before = length-paired w.exchanges w.waiters c.whole.paired in
     let paired_after = length-paired (without v.0 w.exchanges) (without v.0 w.waiters) left in
     let as_many_queued = s.counted is_queued in
-    let fewer_done = s.counted is_done in
-    subst (λ (xs : List (Numbered Exchange)). Carries (e ∷ history) (record (later w now) { waiters = without v.0 w.waiters; exchanges = xs; given = w.given + 1 })) (sym (exchanges_left w history c v s.waiter.exchange)) (
+    subst (λ (xs : List (Numbered Exchange)). Bears (e ∷ history) (record (later w now) { waiters = without v.0 w.waiters; exchanges = xs; given = w.given + 1 })) (sym (exchanges_left w history c v s.waiter.exchange)) (
     record {
-      served = v.0 ∷ c.served;
       routes = c.routes;
       clock = record { events = let h = c.clock.events in omega arith; last = refl; in_order = (let h = c.clock.last in omega arith, c.clock.in_order) };
       numbers = record { opened = let h = c.numbers.opened in omega arith; admitted = let h = c.numbers.admitted in omega arith; given = let h = c.numbers.given in omega arith };
       ids = ((λ g. record { gives = refl; message = reply; spells = spells; id_is = id-same w history c }), c.ids);
-      fresh = fresh_frame w.setting history e (λ n above below. unsent n) (λ n above below. ungot n) c.fresh;
+      fresh = fresh_frame w.setting history e (λ n above. unsent n) (λ n above. ungot n) c.fresh;
       exchanges =
           All-weaken (λ y. IsExchangeOf w.setting history y × (not (eqb y.0 v.0) ≡ true)) (IsExchangeOf w.setting (e ∷ history)) (without v.0 w.exchanges)
           (λ y g. exchange_frame w.setting history e y (unsent y.0) (ungot y.0) g.0)
           (All-filter (IsExchangeOf w.setting history) (λ y. not (eqb y.0 v.0)) w.exchanges c.exchanges);
-      waiters = others_wait w history c e v.0;
+      waiters = others_wait w history c e v.0 refl;
       whole = record {
         rising = IsRising-without v.0 0 w.exchanges c.whole.rising;
         paired = left;
-        complete = λ n positive le. complete_left (eqb n v.0) n refl (c.whole.complete n positive (omega arith));
+        complete = λ n positive le. complete_left e (eqb n v.0) n refl refl refl (c.whole.complete n positive (omega arith));
         under_way = let h = c.whole.under_way in omega arith;
         unsent = let h = c.whole.unsent in omega arith;
-        unserved = let h = c.whole.unserved in omega arith;
       };
       within = record { exchanges = let h = c.within.exchanges in omega arith; waiters = let h = c.within.waiters in omega arith; ids = let h = c.within.ids in omega arith };
-      past = delivered e v.0 c.past refl (delivery w history c.served e (next_id w) v a s refl refl spells) s.waiter.unserved;
+      past = (delivery w history e (next_id w) v a s refl (acting w history c now (serving v a) due e refl refl refl) refl spells, c.past);
     }
     )
   where
-    complete_left : (b : Bool) (n : ℕ) → eqb n v.0 ≡ b → HasNumber n w.exchanges ⊎ IsMember n c.served → HasNumber n (without v.0 w.exchanges) ⊎ IsMember n (v.0 ∷ c.served)
-    complete_left true n t h = inr (inl (eqb-true n v.0 t))
-    complete_left false n t h = ⊎_elim (λ (there : HasNumber n w.exchanges). inl (HasNumber-without v.0 n w.exchanges (eqb-false n v.0 t) there)) (λ member. inr (inr member)) h
+    complete_left : (e : Deed) (b : Bool) (n : ℕ) → eqb n v.0 ≡ b → e.act ≡ serves v.0 → e.entry.report.outcome ≡ Delivered → HasNumber n w.exchanges ⊎ Somewhere (Serves n) history → HasNumber n (without v.0 w.exchanges) ⊎ Somewhere (Serves n) (e ∷ history)
+    complete_left e true n t act outcome h = inr (record { place = here history e; is_there = inl refl; holds = record { act = act ∙ ap serves (sym (eqb-true n v.0 t)); outcome = outcome } })
+    complete_left e false n t act outcome h = ⊎_elim (λ (there : HasNumber n w.exchanges). inl (HasNumber-without v.0 n w.exchanges (eqb-false n v.0 t) there)) (λ s. inr s) (later_served history e w.exchanges n h)

@@ -20,8 +20,8 @@ use Rattle.coap_model.specs.Messages.{reset, max_age_option, own_reply, busy_rep
 use Rattle.coap_model.specs.World.{World, Step, next_id}
 use Rattle.coap_model.specs.Ticks.{with_id}
 use Rattle.coap_model.specs.Step.{step_of}
-use Rattle.coap_model.specs.History.{Entry}
-use Rattle.coap_model.specs.Carries.{IsExchangeOf, IsWaiterOf, Carries}
+use Rattle.coap_model.specs.History.{Entry, Deed}
+use Rattle.coap_model.specs.Carries.{IsExchangeOf, IsWaiterOf, Bears, Carries}
 use Rattle.coap_model.proofs.Spelled.{length-uint_spelling}
 use Rattle.coap_model.proofs.Rules.{Rule, refusing, lacking, overloading, opening, answering, rejecting, ignoring, forwarding, delivering, idling, rule_of}
 use Rattle.coap_model.proofs.Tables.{due-sending}
@@ -120,7 +120,7 @@ length-with_id id (a ∷ b ∷ c ∷ d ∷ rest) = refl
 
 -- ---- each case
 
-rule_fits : {w : World} {now draw : ℕ} {event : Event} {s : Step} (history : List Entry) → Carries history w → AreLimits w.setting.limits → Rule w now draw event s → length s.bytes ≤ w.setting.limits.datagram
+rule_fits : {w : World} {now draw : ℕ} {event : Event} {s : Step} (history : List Deed) → Bears history w → AreLimits w.setting.limits → Rule w now draw event s → length s.bytes ≤ w.setting.limits.datagram
 rule_fits {w = w} history c are (refusing client bytes m code fit asked verdict free) = let came = request-came w client bytes m fit asked in omega (arith, are.datagram.0, own-short code (next_id w) m.token came.spells.message.token)
 rule_fits {w = w} history c are (lacking client bytes m fit asked full free) = omega arith
 rule_fits {w = w} history c are (overloading client bytes m t fit asked verdict full free) = let came = request-came w client bytes m fit asked in omega (arith, are.datagram.0, busy-short w.setting.limits.retry_s (next_id w) m.token came.spells.message.token)
@@ -129,15 +129,15 @@ rule_fits {w = w} history c are (answering source bytes m x fit read response fo
 rule_fits {w = w} history c are (rejecting source bytes head is con) = omega (arith, are.datagram.0, reset-short head.id)
 rule_fits {w = w} history c are (ignoring source bytes none) = omega arith
 rule_fits {w = w} {now = now} history c are (forwarding x due) =
-    let f = due-sending (IsExchangeOf w.setting history) (IsWaiterOf w.setting history c.served) w.exchanges w.waiters now x c.exchanges c.waiters due in
+    let f = due-sending (IsExchangeOf w.setting history) (IsWaiterOf w.setting history) w.exchanges w.waiters now x c.exchanges c.waiters due in
     omega (arith, length-with_id (next_id w) x.1.form, f.0.form_short)
 rule_fits {w = w} {now = now} history c are (delivering v a due) =
     let s = served w history c now v a due in
     let g = s.got.gets in
     let short : length v.1.token ≤ 8 = subst (λ (t : List ℕ). length t ≤ 8) (sym s.waiter.token_is) s.waiter.asked.spells.message.token in
-    let fit = answer-fits w.setting.limits.datagram now s.got.getting.entry.now (next_id w) g.came.bytes g.response v.1.token are.datagram.0 g.came.fits g.came.spells short in
+    let fit = answer-fits w.setting.limits.datagram now s.got.getting.deed.entry.now (next_id w) g.came.bytes g.response v.1.token are.datagram.0 g.came.fits g.came.spells short in
     subst (λ (b : Answer). length (spelling (shown now b (next_id w) v.1.token)) ≤ w.setting.limits.datagram) (sym s.got.answer_is) fit
 rule_fits {w = w} history c are (idling nothing) = omega arith
 
 pub datagrams_fit : (w : World) (history : List Entry) (now draw : ℕ) (event : Event) → Carries history w → AreLimits w.setting.limits → IsEvent event → length (step_of w now draw event).bytes ≤ w.setting.limits.datagram
-datagrams_fit w history now draw event c are fits = rule_fits history c are (rule_of w now draw event fits)
+datagrams_fit w history now draw event c are fits = rule_fits c.deeds c.bears are (rule_of w now draw event fits)

@@ -1,15 +1,13 @@
 -- Sending a request on keeps what is carried.
-use Rattle.std.proofs.Common.{◌≡◌, inl, inr, ⊎_elim, ℕ, ◌^◌, ◌<◌, ◌≤◌, true, List, ◌∷◌, Some, refl, sym, ap, ◌∙◌, subst, arith}
+use Rattle.std.proofs.Common.{◌≡◌, inl, inr, ⊎_elim, ℕ, ◌≤◌, true, List, ◌∷◌, Some, refl, sym, ap, ◌∙◌, subst, arith}
 use Rattle.std.proofs.lemmas.Option.{same_Some}
-use Rattle.coap_message.specs.Message.{Message}
 use Rattle.coap_message.specs.Spelling.{Spells, spelling}
 use Rattle.coap_message.proofs.Spellings.{spelled}
-use Rattle.coap_message.proofs.WholeMessages.{one_message}
 use Rattle.coap_target.specs.declared.target.Target.{Target}
 use Rattle.coap_exchange.specs.declared.exchange.ExchangeState.{ExchangeState}
 use Rattle.coap_exchange.specs.declared.exchange.ExchangeState.TheVariants.{Queued, Sent, Done}
 use Rattle.coap_exchange.specs.declared.exchange.Exchange.{Exchange}
-use Rattle.coap_exchange.specs.Exchanges.{moved, is_queued, is_done}
+use Rattle.coap_exchange.specs.Exchanges.{moved, is_queued}
 use Rattle.coap_exchange.specs.Table.{Numbered}
 use Rattle.coap_exchange.proofs.Counts.{one_if}
 use Rattle.coap_exchange.proofs.States.{moved-cases, length-with_state, IsRising-with_state}
@@ -19,15 +17,16 @@ use Rattle.coap_model.specs.World.{World, next_id}
 use Rattle.coap_exchange.specs.Due.{sending, least}
 use Rattle.coap_model.specs.Ticks.{items_of, if_due, with_id, sends}
 use Rattle.coap_target.specs.Routes.{mapped_target}
-use Rattle.coap_model.specs.History.{Entry, Place, Opens, Sends, Gets}
-use Rattle.coap_model.specs.Justified.{IsRequestOf, asked}
+use Rattle.coap_model.specs.History.{moves, Deed, Place, Opens, Sends, Gets}
+use Rattle.coap_model.specs.Justified.{IsRequestOf}
 use Rattle.coap_model.specs.Runs.{entry_of}
-use Rattle.coap_model.specs.Carries.{IsState, IsExchangeOf, IsWaiterOf, Carries}
+use Rattle.coap_model.specs.Carries.{IsState, IsExchangeOf, IsWaiterOf, Bears}
 use Rattle.coap_model.proofs.Lists.{All-map, Has, All-there}
-use Rattle.coap_model.proofs.Places.{here, Opens-number, Opens-unique, request-unique}
-use Rattle.coap_model.proofs.Spelled.{forwarded-is, length-token_of, token-same, with_id-forwarded, target_sent-forwarded}
+use Rattle.coap_model.proofs.Places.{here, doing, same_moves, Opens-number, Opens-unique, request-unique}
+use Rattle.coap_model.proofs.Spelled.{forwarded-is, length-token_of, with_id-forwarded, target_sent-forwarded}
 use Rattle.coap_model.proofs.Tables.{due-sending, ArePaired-with_state, HasNumber-with_state, count-moved}
-use Rattle.coap_model.proofs.Frames.{exchange_frame, waiters_frame, fresh_frame, gets-not, number-small}
+use Rattle.coap_model.proofs.Frames.{exchange_frame, waiters_frame, fresh_frame, later_served, gets-not, serves-not}
+use Rattle.coap_model.proofs.Acting.{acting}
 use Rattle.coap_model.proofs.Replying.{id-same}
 
 queued_state : (s : ExchangeState) → is_queued s ≡ true → s ≡ Queued
@@ -36,44 +35,41 @@ queued_state (Sent s) e = absurd cc
 queued_state (Done a) e = absurd cc
 
 -- exchanges of one number have one target
-pub same_target : (w : World) (history : List Entry) (x y : Numbered Exchange) → IsExchangeOf w.setting history x → IsExchangeOf w.setting history y → x.0 ≡ y.0 → x.1.target ≡ y.1.target
+pub same_target : (w : World) (history : List Deed) (x y : Numbered Exchange) → IsExchangeOf w.setting history x → IsExchangeOf w.setting history y → x.0 ≡ y.0 → x.1.target ≡ y.1.target
 same_target w history x y f g same =
     let place = Opens-unique history f.opening g.opening y.0 f.was_opened g.was_opened (subst (λ (n : ℕ). Opens n f.opening) same f.opens) g.opens in
-    let request = request-unique w.setting g.opening.entry.event f.client g.client f.request g.request (subst (λ (p : Place). IsRequestOf w.setting f.client f.request p.entry.event) place f.asked) g.asked in
+    let request = request-unique w.setting g.opening.deed.entry.event f.client g.client f.request g.request (subst (λ (p : Place). IsRequestOf w.setting f.client f.request p.deed.entry.event) place f.asked) g.asked in
     let targets : Some x.1.target ≡ Some y.1.target = sym f.target_is ∙ ap (mapped_target w.setting.routes) request.1 ∙ g.target_is in
     same_Some x.1.target y.1.target targets
 
-pub keeps_forwarding : (w : World) (history : List Entry) (c : Carries history w) → (now draw : ℕ) (x : Numbered Exchange) → w.last ≤ now → if_due now (least (items_of w)) ≡ Some (sending x)
-    → Carries (entry_of now draw tick (sends w now x) ∷ history) (sends w now x).world
+pub keeps_forwarding : (w : World) (history : List Deed) (c : Bears history w) → (now draw : ℕ) (x : Numbered Exchange) → w.last ≤ now → if_due now (least (items_of w)) ≡ Some (sending x)
+    → Bears (doing (moves x.0) (entry_of now draw tick (sends w now x)) ∷ history) (sends w now x).world
 keeps_forwarding w history c now draw x onward due =
-    let e = entry_of now draw tick (sends w now x) in
+    let e = doing (moves x.0) (entry_of now draw tick (sends w now x)) in
     let p = here history e in
     let salt = w.setting.salt in
     let id = next_id w in
-    let found = due-sending (λ y. IsExchangeOf w.setting history y × Has y w.exchanges) (IsWaiterOf w.setting history c.served) w.exchanges w.waiters now x (All-there (IsExchangeOf w.setting history) w.exchanges c.exchanges) c.waiters due in
+    let found = due-sending (λ y. IsExchangeOf w.setting history y × Has y w.exchanges) (IsWaiterOf w.setting history) w.exchanges w.waiters now x (All-there (IsExchangeOf w.setting history) w.exchanges c.exchanges) c.waiters due in
     let f = found.0.0 in
     let there = found.0.1 in
     let queued = queued_state x.1.state found.1 in
     let state : IsState w.setting history x.0 x.1.target Queued = subst (IsState w.setting history x.0 x.1.target) queued f.state in
     let request = forwarded (token_of salt x.0) x.1.target id in
     let is = forwarded-is (token_of salt x.0) x.1.target id f.sound (omega (arith, length-token_of salt x.0)) in
-    let bytes_are : e.bytes ≡ spelling request = ap (with_id id) f.form_is ∙ with_id-forwarded id (token_of salt x.0) x.1.target in
-    let spells : Spells e.bytes request = subst (λ (b : List ℕ). Spells b request) (sym bytes_are) (spelled request is) in
+    let bytes_are : e.entry.bytes ≡ spelling request = ap (with_id id) f.form_is ∙ with_id-forwarded id (token_of salt x.0) x.1.target in
+    let spells : Spells e.entry.bytes request = subst (λ (b : List ℕ). Spells b request) (sym bytes_are) (spelled request is) in
     let ungot : (n : ℕ) → Gets salt n p → ⊥ = gets-not w.setting history e (λ o. cc) in
-    let number : (n : ℕ) → n < 2 ^ 64 → Sends salt n p → n ≡ x.0 = λ n below s. sym (token-same salt x.0 n (number-small history w c x f) below (ap (λ (m : Message). m.token) (one_message e.bytes request s.message spells s.spells) ∙ s.token)) in
+    let number : (n : ℕ) → Sends salt n p → n ≡ x.0 = λ n s. same_moves n x.0 (sym s.act) in
     let next : ExchangeState = Sent (record { asked = w.events; id = id }) in
     let fewer_queued = count-moved is_queued x 0 next w.exchanges c.whole.rising there in
-    let as_many_done = count-moved is_done x 0 next w.exchanges c.whole.rising there in
     let was_queued : one_if (is_queued x.1.state) ≡ 1 = ap one_if found.1 in
-    let was_not_done : one_if (is_done x.1.state) ≡ 0 = ap (λ (s : ExchangeState). one_if (is_done s)) queued in
-    let first_is : Sends salt x.0 p = record { outcome = refl; to = x.1.target.at; sent = refl; message = request; spells = spells; token = refl } in
+    let first_is : Sends salt x.0 p = record { act = refl; outcome = refl; to = x.1.target.at; sent = refl; message = request; spells = spells; token = refl } in
     record {
-      served = c.served;
       routes = c.routes;
       clock = record { events = let h = c.clock.events in omega arith; last = refl; in_order = (let h = c.clock.last in omega arith, c.clock.in_order) };
       numbers = record { opened = let h = c.numbers.opened in omega arith; admitted = let h = c.numbers.admitted in omega arith; given = let h = c.numbers.given in omega arith };
       ids = ((λ g. record { gives = refl; message = request; spells = spells; id_is = id-same w history c }), c.ids);
-      fresh = fresh_frame w.setting history e (λ n above below s. let i = number n below s in let j = Opens-number history f.opening x.0 f.was_opened f.opens in omega (arith, j.1)) (λ n above below g. ungot n g) c.fresh;
+      fresh = fresh_frame w.setting history e (λ n above s. let i = number n s in let j = Opens-number history f.opening x.0 f.was_opened f.opens in omega (arith, j.1)) (λ n above g. ungot n g) c.fresh;
       exchanges =
           All-map (IsExchangeOf w.setting history) (IsExchangeOf w.setting (e ∷ history)) (moved x.0 next) w.exchanges
           (λ y g.
@@ -103,30 +99,34 @@ keeps_forwarding w history c now draw x onward due =
               (ungot x.0, state.1),
             );
           })
-          (λ other. exchange_frame w.setting history e y (λ s. other (number y.0 (number-small history w c y g) s)) (ungot y.0) g))
+          (λ other. exchange_frame w.setting history e y (λ s. other (number y.0 s)) (ungot y.0) g))
           c.exchanges;
-      waiters = waiters_frame w.setting history c.served e w.waiters c.waiters;
+      waiters = waiters_frame w.setting history e w.waiters (serves-not history e (λ o. cc)) c.waiters;
       whole = record {
         rising = IsRising-with_state x.0 0 next w.exchanges c.whole.rising;
         paired = ArePaired-with_state x.0 next w.exchanges w.waiters c.whole.paired;
-        complete = λ n positive le. ⊎_elim (λ here. inl (HasNumber-with_state x.0 n next w.exchanges here)) (λ served. inr served) (c.whole.complete n positive (omega arith));
+        complete = λ n positive le. ⊎_elim (λ here. inl (HasNumber-with_state x.0 n next w.exchanges here)) (λ s. inr s) (later_served history e w.exchanges n (c.whole.complete n positive (omega arith)));
         under_way = let h = c.whole.under_way in let l = length-with_state x.0 next w.exchanges in omega arith;
         unsent = let h = c.whole.unsent in omega arith;
-        unserved = let h = c.whole.unserved in omega arith;
       };
       within = record { exchanges = let h = c.within.exchanges in let l = length-with_state x.0 next w.exchanges in omega arith; waiters = c.within.waiters; ids = let h = c.within.ids in omega arith };
-      past = asked e x.0 c.past refl (record {
-        opening = f.opening;
-        client = f.client;
-        request = f.request;
-        target = x.1.target;
-        id = id;
-        was_opened = f.was_opened;
-        opens = f.opens;
-        asked = f.asked;
-        target_is = f.target_is;
-        first = state.0;
-        due = refl;
-        tells = record { sent = refl; spells = spells };
-      });
+      past = (
+        record {
+          exchange = x.0;
+          act = refl;
+          opening = f.opening;
+          client = f.client;
+          request = f.request;
+          target = x.1.target;
+          id = id;
+          was_opened = f.was_opened;
+          opens = f.opens;
+          asked = f.asked;
+          target_is = f.target_is;
+          first = state.0;
+          acting = acting w history c now (sending x) due e refl refl refl;
+          tells = record { sent = refl; spells = spells };
+        },
+        c.past,
+      );
     }

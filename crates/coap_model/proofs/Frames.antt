@@ -1,5 +1,5 @@
 -- What stays as the history grows by an entry.
-use Rattle.std.proofs.Common.{◌≢◌, inr, ℕ, ◌^◌, ◌<◌, ◌≤◌, List, [], ◌∷◌, length, arith}
+use Rattle.std.proofs.Common.{◌≢◌, ◌⊎◌, ⊎_elim, inl, inr, ℕ, ◌<◌, ◌≤◌, List, [], ◌∷◌, arith}
 use Rattle.std.specs.List.{AllByRecursion}
 use Rattle.coap_target.specs.declared.target.Target.{Target}
 use Rattle.coap_target.proofs.Lists.{All-weaken}
@@ -13,14 +13,13 @@ use Rattle.coap_model.specs.declared.report.Outcome.TheVariants.{Answered, SentR
 use Rattle.coap_model.specs.declared.report.Storing.TheVariants.{NotStored}
 use Rattle.coap_model.specs.Setting.{Setting}
 use Rattle.coap_model.specs.World.{World}
-use Rattle.coap_model.specs.History.{Entry, index, serves_one, gives_id, opened_in, served_in, ids_in, Sends, Gets}
-use Rattle.coap_model.specs.Justified.{IsMember}
-use Rattle.coap_model.specs.Carries.{IsState, IsExchangeOf, IsWaiterOf, IsFresh, Carries}
-use Rattle.coap_model.proofs.Places.{here, index_below, Opens-number}
+use Rattle.coap_model.specs.History.{Deed, Somewhere, serves_one, gives_id, opened_in, served_in, ids_in, Sends, Gets, Serves}
+use Rattle.coap_model.specs.Carries.{IsState, IsExchangeOf, IsWaiterOf, HasNumber, IsFresh, Bears}
+use Rattle.coap_model.proofs.Places.{here}
 use Rattle.coap_model.proofs.Tables.{length-paired}
 
 -- a state stays where nothing is sent or got for the exchange
-state_frame : (setting : Setting) (history : List Entry) (e : Entry) (x : ℕ) (target : Target) (s : ExchangeState) → ¬ Sends setting.salt x (here history e) → ¬ Gets setting.salt x (here history e) → IsState setting history x target s → IsState setting (e ∷ history) x target s
+state_frame : (setting : Setting) (history : List Deed) (e : Deed) (x : ℕ) (target : Target) (s : ExchangeState) → ¬ Sends setting.salt x (here history e) → ¬ Gets setting.salt x (here history e) → IsState setting history x target s → IsState setting (e ∷ history) x target s
 state_frame setting history e x target Queued unsent ungot s = ((unsent, s.0), (ungot, s.1))
 state_frame setting history e x target (Sent sending) unsent ungot s =
     let a = s.0 in
@@ -28,7 +27,7 @@ state_frame setting history e x target (Sent sending) unsent ungot s =
 state_frame setting history e x target (Done answer) unsent ungot s =
     record { getting = s.getting; was_got = inr s.was_got; gets = s.gets; asked_target = s.asked_target; answer_is = s.answer_is }
 
-pub exchange_frame : (setting : Setting) (history : List Entry) (e : Entry) (x : Numbered Exchange) → ¬ Sends setting.salt x.0 (here history e) → ¬ Gets setting.salt x.0 (here history e) → IsExchangeOf setting history x → IsExchangeOf setting (e ∷ history) x
+pub exchange_frame : (setting : Setting) (history : List Deed) (e : Deed) (x : Numbered Exchange) → ¬ Sends setting.salt x.0 (here history e) → ¬ Gets setting.salt x.0 (here history e) → IsExchangeOf setting history x → IsExchangeOf setting (e ∷ history) x
 exchange_frame setting history e x unsent ungot f =
     record {
       opening = f.opening;
@@ -45,14 +44,14 @@ exchange_frame setting history e x unsent ungot f =
       state = state_frame setting history e x.0 x.1.target x.1.state unsent ungot f.state;
     }
 
-pub exchanges_frame : (setting : Setting) (history : List Entry) (e : Entry) (xs : List (Numbered Exchange)) → ((x : ℕ) → ¬ Sends setting.salt x (here history e)) → ((x : ℕ) → ¬ Gets setting.salt x (here history e))
+pub exchanges_frame : (setting : Setting) (history : List Deed) (e : Deed) (xs : List (Numbered Exchange)) → ((x : ℕ) → ¬ Sends setting.salt x (here history e)) → ((x : ℕ) → ¬ Gets setting.salt x (here history e))
     → AllByRecursion (IsExchangeOf setting history) xs → AllByRecursion (IsExchangeOf setting (e ∷ history)) xs
 exchanges_frame setting history e xs unsent ungot all =
     All-weaken (IsExchangeOf setting history) (IsExchangeOf setting (e ∷ history)) xs (λ x f. exchange_frame setting history e x (unsent x.0) (ungot x.0) f) all
 
 -- a waiter stays that isn't served
-pub waiter_frame : (setting : Setting) (history : List Entry) (served after : List ℕ) (e : Entry) (v : Numbered Waiter) → ¬ IsMember v.0 after → IsWaiterOf setting history served v → IsWaiterOf setting (e ∷ history) after v
-waiter_frame setting history served after e v unserved f =
+pub waiter_frame : (setting : Setting) (history : List Deed) (e : Deed) (v : Numbered Waiter) → ¬ Serves v.0 (here history e) → IsWaiterOf setting history v → IsWaiterOf setting (e ∷ history) v
+waiter_frame setting history e v unserved f =
     record {
       admission = f.admission;
       client = f.client;
@@ -63,48 +62,52 @@ waiter_frame setting history served after e v unserved f =
       exchange = f.exchange;
       client_is = f.client_is;
       token_is = f.token_is;
-      not_got_by = ((λ g. let i = index_below history f.admission f.was_admitted in let j : length history ≤ index f.admission = g.1 in omega arith), f.not_got_by);
-      unserved = unserved;
+      ungot = f.ungot;
+      unserved = (unserved, f.unserved);
     }
 
--- all waiters stay where none is served
-pub waiters_frame : (setting : Setting) (history : List Entry) (served : List ℕ) (e : Entry) (vs : List (Numbered Waiter)) → AllByRecursion (IsWaiterOf setting history served) vs → AllByRecursion (IsWaiterOf setting (e ∷ history) served) vs
-waiters_frame setting history served e vs all =
-    All-weaken (IsWaiterOf setting history served) (IsWaiterOf setting (e ∷ history) served) vs (λ v f. waiter_frame setting history served served e v f.unserved f) all
+-- what was served stays served
+pub later_served : (history : List Deed) (e : Deed) (xs : List (Numbered Exchange)) (n : ℕ) → HasNumber n xs ⊎ Somewhere (Serves n) history → HasNumber n xs ⊎ Somewhere (Serves n) (e ∷ history)
+later_served history e xs n h = ⊎_elim (λ (there : HasNumber n xs). inl there) (λ (s : Somewhere (Serves n) history). inr (record { place = s.place; is_there = inr s.is_there; holds = s.holds })) h
 
-pub fresh_frame : (setting : Setting) (history : List Entry) (e : Entry) → ((x : ℕ) → opened_in history < x → x < 2 ^ 64 → ¬ Sends setting.salt x (here history e)) → ((x : ℕ) → opened_in history < x → x < 2 ^ 64 → ¬ Gets setting.salt x (here history e))
+-- all waiters stay where none is served
+pub waiters_frame : (setting : Setting) (history : List Deed) (e : Deed) (vs : List (Numbered Waiter)) → ((v : ℕ) → ¬ Serves v (here history e)) → AllByRecursion (IsWaiterOf setting history) vs → AllByRecursion (IsWaiterOf setting (e ∷ history)) vs
+waiters_frame setting history e vs unserved all =
+    All-weaken (IsWaiterOf setting history) (IsWaiterOf setting (e ∷ history)) vs (λ v f. waiter_frame setting history e v (unserved v.0) f) all
+
+pub fresh_frame : (setting : Setting) (history : List Deed) (e : Deed) → ((x : ℕ) → opened_in history < x → ¬ Sends setting.salt x (here history e)) → ((x : ℕ) → opened_in history < x → ¬ Gets setting.salt x (here history e))
     → IsFresh setting history → IsFresh setting (e ∷ history)
-fresh_frame setting history e unsent ungot fresh x above small =
+fresh_frame setting history e unsent ungot fresh x above =
     let below : opened_in history < x = omega arith in
-    let f = fresh x below small in
-    ((unsent x below small, f.0), (ungot x below small, f.1))
+    let f = fresh x below in
+    ((unsent x below, f.0), (ungot x below, f.1))
 
 -- an entry with another outcome sends no request, and gets no answer
-pub sends-not : (setting : Setting) (history : List Entry) (e : Entry) → e.report.outcome ≢ SentRequest → (x : ℕ) → ¬ Sends setting.salt x (here history e)
+pub sends-not : (setting : Setting) (history : List Deed) (e : Deed) → e.entry.report.outcome ≢ SentRequest → (x : ℕ) → ¬ Sends setting.salt x (here history e)
 sends-not setting history e other x s = other s.outcome
 
-pub gets-not : (setting : Setting) (history : List Entry) (e : Entry) → e.report.outcome ≢ Answered NotStored → (x : ℕ) → ¬ Gets setting.salt x (here history e)
+pub gets-not : (setting : Setting) (history : List Deed) (e : Deed) → e.entry.report.outcome ≢ Answered NotStored → (x : ℕ) → ¬ Gets setting.salt x (here history e)
 gets-not setting history e other x g = other g.outcome
 
--- ---- numbers are small
+pub serves-not : (history : List Deed) (e : Deed) → e.entry.report.outcome ≢ Delivered → (v : ℕ) → ¬ Serves v (here history e)
+serves-not history e other v s = other s.outcome
+
+-- ---- numbers are few
 
 -- what was served was given an id
-served-ids : (history : List Entry) → served_in history ≤ ids_in history
+served-ids : (history : List Deed) → served_in history ≤ ids_in history
 served-ids [] = omega arith
-served-ids (e ∷ past) = let i = served-ids past in let j = one_at_most e.report.outcome in omega arith
+served-ids (e ∷ past) = let i = served-ids past in let j = one_at_most e.entry.report.outcome in omega arith
   where
     one_at_most : (o : Outcome) → serves_one o ≤ gives_id o
     one_at_most Delivered = omega arith
     one_at_most _ = omega arith
 
 -- ids are kept for what is opened, so no more is opened than there are ids
-pub opened-few : (history : List Entry) (w : World) → Carries history w → opened_in history ≤ 32768
+pub opened-few : (history : List Deed) (w : World) → Bears history w → opened_in history ≤ 32768
 opened-few history w c =
     let pairs = length-paired w.exchanges w.waiters c.whole.paired in
     let under_way = c.whole.under_way in
     let given = c.numbers.given in
     let ids = c.within.ids in
     omega (arith, served-ids history)
-
-pub number-small : (history : List Entry) (w : World) → Carries history w → (x : Numbered Exchange) → IsExchangeOf w.setting history x → x.0 < 2 ^ 64
-number-small history w c x f = let i = Opens-number history f.opening x.0 f.was_opened f.opens in let j = opened-few history w c in omega (arith, i.1)

@@ -27,8 +27,8 @@ use Rattle.coap_message.specs.Codes.{is_code}
 use Rattle.coap_message.specs.Options.{option_of}
 use Rattle.coap_model.specs.Messages.{host_options, target_options, forwarded, are_understood, widest, fits, bad_gateway, is_passed_on, answer_of}
 use Rattle.coap_model.specs.World.{World}
-use Rattle.coap_model.specs.History.{Entry}
-use Rattle.coap_model.specs.Carries.{IsState, IsExchangeOf, IsWaiterOf, Carries}
+use Rattle.coap_model.specs.History.{Deed}
+use Rattle.coap_model.specs.Carries.{IsState, IsExchangeOf, IsWaiterOf, Bears}
 use Rattle.coap_model.specs.Held.{host_bytes, target_bytes, response_bytes, state_bytes, exchange_bytes, waiter_bytes, held, most_held}
 
 -- ---- a target is held in hardly more than its form
@@ -102,7 +102,7 @@ answer-short most now m = go (is_passed_on most m) refl
 
 -- ---- each element, and all of them
 
-exchange-held : (setting : Setting) (history : List Entry) (x : Numbered Exchange) → IsExchangeOf setting history x → exchange_bytes x ≤ 4 * setting.limits.datagram + 256
+exchange-held : (setting : Setting) (history : List Deed) (x : Numbered Exchange) → IsExchangeOf setting history x → exchange_bytes x ≤ 4 * setting.limits.datagram + 256
 exchange-held setting history x f = go x.1.state f.state
   where
     target : IsLittleMore (target_bytes x.1.target) (length x.1.form)
@@ -112,17 +112,17 @@ exchange-held setting history x f = go x.1.state f.state
     go Queued state = omega (arith, target.most, f.form_short)
     go (Sent s) state = omega (arith, target.most, f.form_short)
     go (Done a) state =
-        let short = answer-short setting.limits.datagram state.getting.entry.now state.gets.response in
+        let short = answer-short setting.limits.datagram state.getting.deed.entry.now state.gets.response in
         omega (arith, target.most, f.form_short, subst (λ (b : Answer). response_bytes b.message ≤ setting.limits.datagram + 6) (sym state.answer_is) short)
 
-waiter-held : (setting : Setting) (history : List Entry) (served : List ℕ) (v : Numbered Waiter) → IsWaiterOf setting history served v → waiter_bytes v ≤ setting.limits.datagram + 256
-waiter-held setting history served v f = omega (arith, ap length f.token_is, f.asked.spells.message.token)
+waiter-held : (setting : Setting) (history : List Deed) (v : Numbered Waiter) → IsWaiterOf setting history v → waiter_bytes v ≤ setting.limits.datagram + 256
+waiter-held setting history v f = omega (arith, ap length f.token_is, f.asked.spells.message.token)
 
-pub within-bound : (history : List Entry) (w : World) → Carries history w → held w ≤ most_held w.setting.limits
+pub within-bound : (history : List Deed) (w : World) → Bears history w → held w ≤ most_held w.setting.limits
 within-bound history w c =
     let d = w.setting.limits.datagram in
     let xs = sum_by-le exchange_bytes (4 * d + 256) w.exchanges (All-from_recursion (λ x. exchange_bytes x ≤ 4 * d + 256) w.exchanges (All-weaken (IsExchangeOf w.setting history) (λ x. exchange_bytes x ≤ 4 * d + 256) w.exchanges (exchange-held w.setting history) c.exchanges)) in
-    let vs = sum_by-le waiter_bytes (d + 256) w.waiters (All-from_recursion (λ v. waiter_bytes v ≤ d + 256) w.waiters (All-weaken (IsWaiterOf w.setting history c.served) (λ v. waiter_bytes v ≤ d + 256) w.waiters (waiter-held w.setting history c.served) c.waiters)) in
+    let vs = sum_by-le waiter_bytes (d + 256) w.waiters (All-from_recursion (λ v. waiter_bytes v ≤ d + 256) w.waiters (All-weaken (IsWaiterOf w.setting history) (λ v. waiter_bytes v ≤ d + 256) w.waiters (waiter-held w.setting history) c.waiters)) in
     let most_xs = mul-le (length w.exchanges) (4 * d + 256) w.setting.limits.exchanges (4 * d + 256) c.within.exchanges (omega arith) in
     let most_vs = mul-le (length w.waiters) (d + 256) w.setting.limits.waiters (d + 256) c.within.waiters (omega arith) in
     let l = w.setting.limits in

@@ -8,6 +8,8 @@ pub mod Frames
 pub mod Splitting
 pub mod Room
 pub mod Quiet
+pub mod Awaiting
+pub mod Acting
 pub mod Replying
 pub mod Opening
 pub mod Forwarding
@@ -17,7 +19,9 @@ pub mod Carrying
 pub mod Holding
 pub mod Promising
 pub mod Running
-pub mod Awaiting
 pub mod Limiting
 pub mod Idling
 pub mod Fitting
+pub mod Arrivals
+pub mod Owing
+pub mod Forging

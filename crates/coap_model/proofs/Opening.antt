@@ -1,5 +1,5 @@
 -- Opening an exchange keeps what is carried.
-use Rattle.std.proofs.Common.{◌≡◌, inl, inr, ⊎_elim, ℕ, ◌+◌, ◌^◌, ◌<◌, ◌≤◌, true, ltb, List, [], ◌∷◌, ◌++◌, length, length-append, refl, sym, ◌∙◌, subst, arith}
+use Rattle.std.proofs.Common.{◌≡◌, inl, inr, ⊎_elim, ℕ, ◌+◌, ◌<◌, ◌≤◌, true, ltb, List, [], ◌∷◌, ◌++◌, length, length-append, refl, sym, ◌∙◌, subst, arith}
 use Rattle.std.specs.Prelude.{◌&&◌}
 use Rattle.std.specs.List.{AllByRecursion}
 use Rattle.std.proofs.lemmas.Bool.{leb-true, ltb-true, and_parts, cases_lt}
@@ -13,57 +13,49 @@ use Rattle.coap_exchange.proofs.Tables.{IsRising-push}
 use Rattle.coap_model.specs.Setting.{Setting}
 use Rattle.coap_model.specs.Events.{arrival}
 use Rattle.coap_model.specs.Messages.{may_open}
-use Rattle.coap_exchange.specs.Exchanges.{is_queued, is_done, count_where}
+use Rattle.coap_exchange.specs.Exchanges.{is_queued, count_where}
 use Rattle.coap_model.specs.World.{World, has_ids, has_room}
 use Rattle.coap_model.specs.Requests.{opens, new_exchange, new_waiter, next_token}
-use Rattle.coap_model.specs.History.{Entry, Never, opened_in, Gets}
-use Rattle.coap_model.specs.Justified.{IsMember, opened, IsJustified, delivered, refused, overloaded, lacking, asked, answered, rejected, ignored, idle, nothing_yet}
+use Rattle.coap_model.specs.History.{admits, serves, Deed, Place, IsPlaceOf, Never, opened_in, Gets, Serves}
+use Rattle.coap_model.specs.Justified.{AllJustified}
+use Rattle.coap_model.specs.declared.report.Outcome.TheVariants.{Delivered}
 use Rattle.coap_model.specs.Runs.{entry_of}
-use Rattle.coap_model.specs.Carries.{IsExchangeOf, IsGotBy, IsWaiterOf, ArePaired, HasNumber, Carries}
-use Rattle.coap_model.proofs.Places.{here, Never-weaken, Opens-number}
+use Rattle.coap_model.specs.Carries.{IsExchangeOf, IsWaiterOf, ArePaired, HasNumber, Bears}
+use Rattle.coap_model.proofs.Places.{here, doing, never-from, place-before, justified-at, Opens-number}
 use Rattle.coap_model.proofs.Spelled.{length-token_of}
 use Rattle.coap_model.proofs.Verdicts.{openable}
 use Rattle.coap_model.proofs.Rules.{Asked, verdict_in}
 use Rattle.coap_model.proofs.Tables.{ArePaired-push, HasNumber-push, HasNumber-last}
 use Rattle.coap_model.proofs.Room.{room-there}
-use Rattle.coap_model.proofs.Frames.{exchanges_frame, waiters_frame, fresh_frame, sends-not, gets-not, opened-few}
+use Rattle.coap_model.proofs.Frames.{exchanges_frame, waiters_frame, fresh_frame, later_served, sends-not, gets-not, serves-not}
 use Rattle.coap_model.proofs.Replying.{request-came}
 
 -- a waiter that was served has a number that was opened
-served-number : {setting : Setting} {history : List Entry} {served : List ℕ} → IsJustified setting history served → (n : ℕ) → IsMember n served → n ≤ opened_in history
-served-number nothing_yet n m = absurd m
-served-number (refused e code j o r) n m = let i = served-number j n m in omega arith
-served-number (overloaded e j o r) n m = let i = served-number j n m in omega arith
-served-number (lacking e j o r) n m = let i = served-number j n m in omega arith
-served-number (opened e j o r) n m = let i = served-number j n m in omega arith
-served-number (asked e x j o r) n m = let i = served-number j n m in omega arith
-served-number (answered e x j o r) n m = let i = served-number j n m in omega arith
-served-number (delivered {past = past} e waiter j o d fresh) n m =
-    ⊎_elim
-    (λ (same : n ≡ waiter). let i = Opens-number past d.admission waiter d.was_admitted d.opens in omega (arith, i.1))
-    (λ there. let i = served-number j n there in omega arith)
-    m
-served-number (rejected e j o r) n m = let i = served-number j n m in omega arith
-served-number (ignored e j o r) n m = let i = served-number j n m in omega arith
-served-number (idle e j o r) n m = let i = served-number j n m in omega arith
+served-number : (setting : Setting) (history : List Deed) → AllJustified setting history → (n : ℕ) (p : Place) → IsPlaceOf history p → Serves n p → n ≤ opened_in history
+served-number setting history all n p at s =
+    let d = justified-at setting history p Delivered all at s.outcome in
+    let same : serves n ≡ serves d.waiter = sym s.act ∙ d.act in
+    let number : n ≡ d.waiter = cc in
+    let i = Opens-number history d.admission d.waiter (place-before history p d.admission at d.was_admitted) d.opens in
+    omega (arith, i.1)
 
 -- the numbers of exchanges that were opened are at most as many
-exchanges-below : (w : World) (history : List Entry) → Carries history w → AllByRecursion (λ x. x.0 < opened_in history + 1) w.exchanges
+exchanges-below : (w : World) (history : List Deed) → Bears history w → AllByRecursion (λ x. x.0 < opened_in history + 1) w.exchanges
 exchanges-below w history c =
     All-weaken (IsExchangeOf w.setting history) (λ x. x.0 < opened_in history + 1) w.exchanges (λ x f. let i = Opens-number history f.opening x.0 f.was_opened f.opens in omega (arith, i.1)) c.exchanges
 
-pub keeps_opening : (w : World) (history : List Entry) (c : Carries history w) → (now draw : ℕ) (client : Endpoint) (bytes : List ℕ) (m : Message) (t : Target) → w.last ≤ now → IsBytes bytes → Asked w bytes m → verdict_in w m ≡ may_open t → has_room w ≡ true
-    → Carries (entry_of now draw (arrival client bytes) (opens w now client m t) ∷ history) (opens w now client m t).world
+pub keeps_opening : (w : World) (history : List Deed) (c : Bears history w) → (now draw : ℕ) (client : Endpoint) (bytes : List ℕ) (m : Message) (t : Target) → w.last ≤ now → IsBytes bytes → Asked w bytes m → verdict_in w m ≡ may_open t → has_room w ≡ true
+    → Bears (doing (admits (opened_in history + 1) (opened_in history + 1)) (entry_of now draw (arrival client bytes) (opens w now client m t)) ∷ history) (opens w now client m t).world
 keeps_opening w history c now draw client bytes m t onward fits asks verdict room =
-    let e = entry_of now draw (arrival client bytes) (opens w now client m t) in
+    let e = doing (admits (opened_in history + 1) (opened_in history + 1)) (entry_of now draw (arrival client bytes) (opens w now client m t)) in
     let came = request-came w client bytes m fits asks in
     let may = openable w.setting.routes w.setting.limits.datagram m t c.routes verdict in
     let number : w.opened + 1 ≡ opened_in history + 1 = let h = c.numbers.opened in omega arith in
     let same : w.admitted + 1 ≡ w.opened + 1 = let h = c.numbers.opened in let k = c.numbers.admitted in omega arith in
-    let small : w.opened + 1 < 2 ^ 64 = let h = c.numbers.opened in let l = opened-few history w c in omega arith in
-    let new = c.fresh (w.opened + 1) (omega arith) small in
+    let new = c.fresh (w.opened + 1) (omega arith) in
     let unsent = sends-not w.setting history e (λ o. cc) in
     let ungot = gets-not w.setting history e (λ o. cc) in
+    let unserved = serves-not history e (λ o. cc) in
     let parts = and_parts (ltb (length w.exchanges) w.setting.limits.exchanges) (ltb (length w.waiters) w.setting.limits.waiters && has_ids 2 w) room in
     let more = and_parts (ltb (length w.waiters) w.setting.limits.waiters) (has_ids 2 w) parts.1 in
     let exchange_room = ltb-true (length w.exchanges) w.setting.limits.exchanges parts.0 in
@@ -72,15 +64,13 @@ keeps_opening w history c now draw client bytes m t onward fits asks verdict roo
     let longer_exchanges = length-append w.exchanges (new_exchange w now t ∷ []) in
     let longer_waiters = length-append w.waiters (new_waiter w client m ∷ []) in
     let more_queued = count_where-push is_queued w.exchanges (new_exchange w now t) in
-    let as_many_done = count_where-push is_done w.exchanges (new_exchange w now t) in
     let below : AllByRecursion (λ x. x.0 < w.opened + 1) w.exchanges = subst (λ (n : ℕ). AllByRecursion (λ x. x.0 < n) w.exchanges) (sym number) (exchanges-below w history c) in
     record {
-      served = c.served;
       routes = c.routes;
       clock = record { events = let h = c.clock.events in omega arith; last = refl; in_order = (let h = c.clock.last in omega arith, c.clock.in_order) };
       numbers = record { opened = number; admitted = same ∙ number; given = let h = c.numbers.given in omega arith };
       ids = ((λ g. absurd (omega arith)), c.ids);
-      fresh = fresh_frame w.setting history e (λ x above s. unsent x) (λ x above s. ungot x) c.fresh;
+      fresh = fresh_frame w.setting history e (λ x above. unsent x) (λ x above. ungot x) c.fresh;
       exchanges =
           All-append (IsExchangeOf w.setting (e ∷ history)) w.exchanges (new_exchange w now t ∷ []) (exchanges_frame w.setting history e w.exchanges unsent ungot c.exchanges) (
             record {
@@ -100,7 +90,7 @@ keeps_opening w history c now draw client bytes m t onward fits asks verdict roo
             tt,
           );
       waiters =
-          All-append (IsWaiterOf w.setting (e ∷ history) c.served) w.waiters (new_waiter w client m ∷ []) (waiters_frame w.setting history c.served e w.waiters c.waiters) (
+          All-append (IsWaiterOf w.setting (e ∷ history)) w.waiters (new_waiter w client m ∷ []) (waiters_frame w.setting history e w.waiters unserved c.waiters) (
             record {
               admission = here history e;
               client = client;
@@ -111,8 +101,8 @@ keeps_opening w history c now draw client bytes m t onward fits asks verdict roo
               exchange = sym same;
               client_is = refl;
               token_is = refl;
-              not_got_by = subst (λ (n : ℕ). Never (IsGotBy w.setting.salt n (here history e)) (e ∷ history)) (sym same) (Never-weaken (Gets w.setting.salt (w.opened + 1)) (IsGotBy w.setting.salt (w.opened + 1) (here history e)) (e ∷ history) (λ p g. g.0) (ungot (w.opened + 1), new.1));
-              unserved = λ member. let i = served-number c.past (w.admitted + 1) member in omega arith;
+              ungot = subst (λ (n : ℕ). Never (Gets w.setting.salt n) history) (sym same) new.1;
+              unserved = (unserved (w.admitted + 1), never-from (Serves (w.admitted + 1)) history (λ p at s. let i = served-number w.setting history c.past (w.admitted + 1) p at s in omega arith));
             },
             tt,
           );
@@ -121,13 +111,12 @@ keeps_opening w history c now draw client bytes m t onward fits asks verdict roo
         paired = subst (λ (n : ℕ). ArePaired (w.exchanges ++ new_exchange w now t ∷ []) (w.waiters ++ (n, (new_waiter w client m).1) ∷ [])) (sym same) (ArePaired-push (w.opened + 1) w.exchanges w.waiters (new_exchange w now t).1 (new_waiter w client m).1 c.whole.paired);
         complete = λ n positive le.
             ⊎_elim
-            (λ (lt : n < w.opened + 1). ⊎_elim (λ there. inl (HasNumber-push n w.exchanges (new_exchange w now t ∷ []) there)) (λ served. inr served) (c.whole.complete n positive (omega arith)))
+            (λ (lt : n < w.opened + 1). ⊎_elim (λ there. inl (HasNumber-push n w.exchanges (new_exchange w now t ∷ []) there)) (λ s. inr s) (later_served history e w.exchanges n (c.whole.complete n positive (omega arith))))
             (λ (ge : w.opened + 1 ≤ n). let last : n ≡ w.opened + 1 = omega arith in inl (subst (λ (k : ℕ). HasNumber k (w.exchanges ++ new_exchange w now t ∷ [])) (sym last) (HasNumber-last (w.opened + 1) w.exchanges (new_exchange w now t).1)))
             (cases_lt n (w.opened + 1));
         under_way = let h = c.whole.under_way in omega arith;
         unsent = let h = c.whole.unsent in omega arith;
-        unserved = let h = c.whole.unserved in omega arith;
       };
       within = record { exchanges = omega arith; waiters = omega arith; ids = omega arith };
-      past = opened e c.past refl (record { client = client; request = m; target = t; asked = came; verdict = verdict; room = room-there history w c room; silent = record { sent = refl; bytes = refl } });
+      past = (record { act = refl; client = client; request = m; target = t; asked = came; verdict = verdict; room = room-there history w c room; silent = record { sent = refl; bytes = refl } }, c.past);
     }

@@ -1,59 +1,111 @@
 -- Places of histories.
-use Rattle.std.proofs.Common.{◌≡◌, ⊎_elim, ℕ, ◌+◌, ◌<◌, ◌≤◌, List, [], ◌∷◌, length, sym, ap, ◌∙◌, subst, arith}
+use Rattle.std.proofs.Common.{◌≡◌, ◌⊎◌, inl, inr, refl, ⊎_elim, ℕ, ◌+◌, ◌<◌, ◌≤◌, List, [], ◌∷◌, length, sym, ap, ◌∙◌, subst, arith}
 use Rattle.coap_message.specs.Message.{Message}
 use Rattle.coap_message.specs.Spelling.{Spells}
 use Rattle.coap_message.proofs.WholeMessages.{one_message}
 use Rattle.coap_target.specs.declared.endpoint.Endpoint.{Endpoint}
 use Rattle.coap_model.specs.Events.{Event, arrival}
 use Rattle.coap_model.specs.Setting.{Setting}
-use Rattle.coap_model.specs.History.{Entry, Place, index, IsPlaceOf, Never, opens_one, opened_in, Opens}
-use Rattle.coap_model.specs.Justified.{IsRequestOf}
+use Rattle.coap_model.specs.History.{Entry, Act, moves, serves, Deed, Place, index, IsPlaceOf, Never, opens_one, opened_in, Opens}
+use Rattle.coap_model.specs.Justified.{IsRequestOf, JustifiedBy, AllJustified}
+use Rattle.coap_model.specs.declared.report.Outcome.{Outcome}
 
 -- the newest place
-abbrev pub here : List Entry → Entry → Place
-here past e = record { before = past; entry = e }
+abbrev pub here : List Deed → Deed → Place
+here past e = record { before = past; deed = e }
 
-pub index_below : (history : List Entry) (p : Place) → IsPlaceOf history p → index p < length history
+-- an entry that did this
+abbrev pub doing : Act → Entry → Deed
+doing act entry = record { entry = entry; act = act }
+
+pub index_below : (history : List Deed) (p : Place) → IsPlaceOf history p → index p < length history
 index_below [] p h = absurd h
 index_below (e ∷ past) p h =
     ⊎_elim
-    (λ (same : record { before = past; entry = e } ≡ p). let i : length past ≡ index p = ap index same in omega arith)
+    (λ (same : record { before = past; deed = e } ≡ p). let i : length past ≡ index p = ap index same in omega arith)
     (λ (there : IsPlaceOf past p). let i = index_below past p there in omega arith)
     h
 
-pub Never-at : (P : Place → Type 0) (history : List Entry) (p : Place) → Never P history → IsPlaceOf history p → P p → ⊥
+pub Never-at : (P : Place → Type 0) (history : List Deed) (p : Place) → Never P history → IsPlaceOf history p → P p → ⊥
 Never-at P [] p never h at = h
 Never-at P (e ∷ past) p never h at =
     ⊎_elim
-    (λ (same : record { before = past; entry = e } ≡ p). never.0 (subst P (sym same) at))
+    (λ (same : record { before = past; deed = e } ≡ p). never.0 (subst P (sym same) at))
     (λ (there : IsPlaceOf past p). Never-at P past p never.1 there at)
     h
 
-pub Never-weaken : (P Q : Place → Type 0) (history : List Entry) → ((p : Place) → Q p → P p) → Never P history → Never Q history
+-- an act is of one exchange
+pub same_moves : (x y : ℕ) → moves x ≡ moves y → x ≡ y
+same_moves x y e = cc
+
+pub same_serves : (x y : ℕ) → serves x ≡ serves y → x ≡ y
+same_serves x y e = cc
+
+-- what is at no place of the history is never
+pub never-from : (P : Place → Type 0) (history : List Deed) → ((p : Place) → IsPlaceOf history p → ¬ P p) → Never P history
+never-from P [] none = tt
+never-from P (e ∷ past) none = (none (here past e) (inl refl), never-from P past (λ p there. none p (inr there)))
+
+-- what came before a place came before all that came after it
+pub place-before : (history : List Deed) (p q : Place) → IsPlaceOf history p → IsPlaceOf p.before q → IsPlaceOf history q
+place-before [] p q at_p at_q = absurd at_p
+place-before (e ∷ past) p q at_p at_q =
+    ⊎_elim
+    (λ (same : record { before = past; deed = e } ≡ p). inr (subst (λ (r : Place). IsPlaceOf r.before q) (sym same) at_q))
+    (λ (there : IsPlaceOf past p). inr (place-before past p q there at_q))
+    at_p
+
+-- of two places one is the other, or came before it
+pub in-order : (history : List Deed) (p q : Place) → IsPlaceOf history p → IsPlaceOf history q → (p ≡ q) ⊎ (IsPlaceOf p.before q ⊎ IsPlaceOf q.before p)
+in-order [] p q at_p at_q = absurd at_p
+in-order (e ∷ past) p q at_p at_q =
+    ⊎_elim
+    (λ (here_p : record { before = past; deed = e } ≡ p).
+    ⊎_elim
+    (λ (here_q : record { before = past; deed = e } ≡ q). inl (sym here_p ∙ here_q))
+    (λ (there_q : IsPlaceOf past q). inr (inl (subst (λ (r : Place). IsPlaceOf r.before q) here_p there_q)))
+    at_q)
+    (λ (there_p : IsPlaceOf past p).
+    ⊎_elim
+    (λ (here_q : record { before = past; deed = e } ≡ q). inr (inr (subst (λ (r : Place). IsPlaceOf r.before p) here_q there_p)))
+    (λ (there_q : IsPlaceOf past q). in-order past p q there_p there_q)
+    at_q)
+    at_p
+
+-- each place is justified by what came before it
+pub justified-at : (setting : Setting) (history : List Deed) (p : Place) (o : Outcome) → AllJustified setting history → IsPlaceOf history p → p.deed.entry.report.outcome ≡ o → JustifiedBy o setting p.before p.deed
+justified-at setting [] p o all at is = absurd at
+justified-at setting (e ∷ past) p o all at is =
+    ⊎_elim
+    (λ (same : record { before = past; deed = e } ≡ p). subst (λ (u : Outcome). JustifiedBy u setting p.before p.deed) is (subst (λ (q : Place). JustifiedBy q.deed.entry.report.outcome setting q.before q.deed) same all.0))
+    (λ (there : IsPlaceOf past p). justified-at setting past p o all.1 there is)
+    at
+
+pub Never-weaken : (P Q : Place → Type 0) (history : List Deed) → ((p : Place) → Q p → P p) → Never P history → Never Q history
 Never-weaken P Q [] less never = tt
 Never-weaken P Q (e ∷ past) less never = ((λ q. never.0 (less _ q)), Never-weaken P Q past less never.1)
 
 -- numbers count from 1, and none is above the count
-pub Opens-number : (history : List Entry) (p : Place) (x : ℕ) → IsPlaceOf history p → Opens x p → (0 < x) × (x ≤ opened_in history)
+pub Opens-number : (history : List Deed) (p : Place) (x : ℕ) → IsPlaceOf history p → Opens x p → (0 < x) × (x ≤ opened_in history)
 Opens-number [] p x h o = absurd h
 Opens-number (e ∷ past) p x h o =
     ⊎_elim
-    (λ (same : record { before = past; entry = e } ≡ p).
+    (λ (same : record { before = past; deed = e } ≡ p).
     let at = subst (Opens x) (sym same) o in
-    let one : opens_one e.report.outcome ≡ 1 = ap opens_one at.0 in
+    let one : opens_one e.entry.report.outcome ≡ 1 = ap opens_one at.0 in
     let n : x ≡ opened_in past + 1 = at.1 in
     (omega arith, omega arith))
     (λ (there : IsPlaceOf past p). let i = Opens-number past p x there o in (omega (arith, i.0), omega (arith, i.1)))
     h
 
 -- each number is opened at one place
-pub Opens-unique : (history : List Entry) (p q : Place) (x : ℕ) → IsPlaceOf history p → IsPlaceOf history q → Opens x p → Opens x q → p ≡ q
+pub Opens-unique : (history : List Deed) (p q : Place) (x : ℕ) → IsPlaceOf history p → IsPlaceOf history q → Opens x p → Opens x q → p ≡ q
 Opens-unique [] p q x at_p at_q opens_p opens_q = absurd at_p
 Opens-unique (e ∷ past) p q x at_p at_q opens_p opens_q =
     ⊎_elim
-    (λ (same_p : record { before = past; entry = e } ≡ p).
+    (λ (same_p : record { before = past; deed = e } ≡ p).
     ⊎_elim
-    (λ (same_q : record { before = past; entry = e } ≡ q). sym same_p ∙ same_q)
+    (λ (same_q : record { before = past; deed = e } ≡ q). sym same_p ∙ same_q)
     (λ (there : IsPlaceOf past q).
     let at = subst (Opens x) (sym same_p) opens_p in
     let n : x ≡ opened_in past + 1 = at.1 in
@@ -62,12 +114,29 @@ Opens-unique (e ∷ past) p q x at_p at_q opens_p opens_q =
     at_q)
     (λ (there_p : IsPlaceOf past p).
     ⊎_elim
-    (λ (same_q : record { before = past; entry = e } ≡ q).
+    (λ (same_q : record { before = past; deed = e } ≡ q).
     let at = subst (Opens x) (sym same_q) opens_q in
     let n : x ≡ opened_in past + 1 = at.1 in
     let i = Opens-number past p x there_p opens_p in
     absurd (omega (arith, i.1)))
     (λ (there_q : IsPlaceOf past q). Opens-unique past p q x there_p there_q opens_p opens_q)
+    at_q)
+    at_p
+
+-- what never was before is at one place
+pub first-once : (P : Place → Type 0) (history : List Deed) (p q : Place) → IsPlaceOf history p → IsPlaceOf history q → P p → P q → Never P p.before → Never P q.before → p ≡ q
+first-once P [] p q at_p at_q is_p is_q first_p first_q = absurd at_p
+first-once P (e ∷ past) p q at_p at_q is_p is_q first_p first_q =
+    ⊎_elim
+    (λ (here_p : record { before = past; deed = e } ≡ p).
+    ⊎_elim
+    (λ (here_q : record { before = past; deed = e } ≡ q). sym here_p ∙ here_q)
+    (λ (there_q : IsPlaceOf past q). absurd (Never-at P past q (subst (λ (r : Place). Never P r.before) (sym here_p) first_p) there_q is_q))
+    at_q)
+    (λ (there_p : IsPlaceOf past p).
+    ⊎_elim
+    (λ (here_q : record { before = past; deed = e } ≡ q). absurd (Never-at P past p (subst (λ (r : Place). Never P r.before) (sym here_q) first_q) there_p is_p))
+    (λ (there_q : IsPlaceOf past q). first-once P past p q there_p there_q is_p is_q first_p first_q)
     at_q)
     at_p
 

@@ -20,13 +20,15 @@ use Rattle.coap_model.specs.Messages.{is_con, is_non, reset, own_reply, busy_rep
 use Rattle.coap_model.specs.World.{World, reserved, next_id, has_ids, has_room}
 use Rattle.coap_model.specs.Requests.{lacks_id, refuses, overloads}
 use Rattle.coap_model.specs.Step.{ignores, rejects, message_in}
-use Rattle.coap_model.specs.History.{Entry, ids_in}
-use Rattle.coap_model.specs.Justified.{IsRequestOf, refused, overloaded, lacking, rejected, ignored}
+use Rattle.coap_model.specs.History.{no_item, Deed, ids_in}
+use Rattle.coap_model.specs.Setting.{Setting}
+use Rattle.coap_model.specs.Justified.{IsRequestOf, IsAwaited, IsUnprocessable}
 use Rattle.coap_model.specs.Runs.{entry_of}
-use Rattle.coap_model.specs.Carries.{Carries}
+use Rattle.coap_model.specs.Carries.{Bears}
 use Rattle.coap_model.proofs.Spelled.{reset-is, own_reply-is, busy_reply-is, message_in-is, message_in-again}
-use Rattle.coap_model.proofs.Places.{arrival-same}
+use Rattle.coap_model.proofs.Places.{doing, arrival-same}
 use Rattle.coap_model.proofs.Verdicts.{refused-code}
+use Rattle.coap_model.proofs.Arrivals.{head_kind, kinds}
 use Rattle.coap_model.proofs.Rules.{Asked, IsNothing, verdict_in}
 use Rattle.coap_model.proofs.Room.{ids-free, ids-none, room-none}
 use Rattle.coap_model.proofs.Awaiting.{not-ignored}
@@ -53,7 +55,7 @@ request-came w client bytes m fits asked =
     let tests = and_parts (is_non m.kind) (is_request m.code) asked.request in
     record { bytes = bytes; came = refl; spells = read.0; short = read.1; kind = non_is m.kind tests.0; method = tests.1 }
 
-pub id-same : (w : World) (history : List Entry) (c : Carries history w) → next_id w ≡ (w.setting.first_id + ids_in history) % 65536
+pub id-same : (w : World) (history : List Deed) (c : Bears history w) → next_id w ≡ (w.setting.first_id + ids_in history) % 65536
 id-same w history c = ap (λ (n : ℕ). (w.setting.first_id + n) % 65536) c.numbers.given
 
 free-one : (w : World) → has_ids 1 w ≡ true → w.given + 1 + reserved w ≤ 32768
@@ -61,44 +63,51 @@ free-one w e = let le = leb-true (w.given + reserved w + 1) 32768 e in omega ari
 
 -- ---- refusals
 
-pub keeps_refusing : (w : World) (history : List Entry) (c : Carries history w) (now draw : ℕ) (client : Endpoint) (bytes : List ℕ) (m : Message) (code : Code) → w.last ≤ now → IsBytes bytes → Asked w bytes m → verdict_in w m ≡ refused_with code → has_ids 1 w ≡ true
-    → Carries (entry_of now draw (arrival client bytes) (refuses w now client m code) ∷ history) (refuses w now client m code).world
+pub keeps_refusing : (w : World) (history : List Deed) (c : Bears history w) (now draw : ℕ) (client : Endpoint) (bytes : List ℕ) (m : Message) (code : Code) → w.last ≤ now → IsBytes bytes → Asked w bytes m → verdict_in w m ≡ refused_with code → has_ids 1 w ≡ true
+    → Bears (doing no_item (entry_of now draw (arrival client bytes) (refuses w now client m code)) ∷ history) (refuses w now client m code).world
 keeps_refusing w history c now draw client bytes m code onward fits asked verdict free =
-    let e = entry_of now draw (arrival client bytes) (refuses w now client m code) in
+    let e = doing no_item (entry_of now draw (arrival client bytes) (refuses w now client m code)) in
     let came = request-came w client bytes m fits asked in
     let some = refused-code w.setting.routes w.setting.limits.datagram m code c.routes verdict in
     let reply = own_reply code [] (next_id w) m.token in
     let spells : Spells (spelling reply) reply = spelled reply (own_reply-is code [] (next_id w) m.token some tt came.spells.message.token) in
-    keeps_quiet w history c e (w.given + 1) (record { opens = refl; sends = refl; answers = refl; serves = refl; unsent = λ o. cc; ungot = λ o. cc }) onward refl
+    keeps_quiet w history c e (w.given + 1) (record { opens = refl; sends = refl; serves = refl; unsent = λ o. cc; ungot = λ o. cc; unserved = λ o. cc }) onward refl
     (λ g. record { gives = refl; message = reply; spells = spells; id_is = id-same w history c }) (free-one w free)
-    (refused e code c.past refl (record { client = client; request = m; id = next_id w; asked = came; verdict = verdict; ids = ids-free 1 history w c free; tells = record { sent = refl; spells = spells } }))
+    (record { act = refl; client = client; request = m; id = next_id w; asked = came; verdict = verdict; ids = ids-free 1 history w c free; tells = record { sent = refl; spells = spells } }, c.past)
 
-pub keeps_overloading : (w : World) (history : List Entry) (c : Carries history w) (now draw : ℕ) (client : Endpoint) (bytes : List ℕ) (m : Message) (t : Target) → w.last ≤ now → IsBytes bytes → Asked w bytes m → verdict_in w m ≡ may_open t → has_room w ≡ false → has_ids 1 w ≡ true
-    → Carries (entry_of now draw (arrival client bytes) (overloads w now client m) ∷ history) (overloads w now client m).world
+pub keeps_overloading : (w : World) (history : List Deed) (c : Bears history w) (now draw : ℕ) (client : Endpoint) (bytes : List ℕ) (m : Message) (t : Target) → w.last ≤ now → IsBytes bytes → Asked w bytes m → verdict_in w m ≡ may_open t → has_room w ≡ false → has_ids 1 w ≡ true
+    → Bears (doing no_item (entry_of now draw (arrival client bytes) (overloads w now client m)) ∷ history) (overloads w now client m).world
 keeps_overloading w history c now draw client bytes m t onward fits asked verdict full free =
-    let e = entry_of now draw (arrival client bytes) (overloads w now client m) in
+    let e = doing no_item (entry_of now draw (arrival client bytes) (overloads w now client m)) in
     let came = request-came w client bytes m fits asked in
     let reply = busy_reply w.setting.limits.retry_s (next_id w) m.token in
     let spells : Spells (spelling reply) reply = spelled reply (busy_reply-is w.setting.limits.retry_s (next_id w) m.token came.spells.message.token) in
-    keeps_quiet w history c e (w.given + 1) (record { opens = refl; sends = refl; answers = refl; serves = refl; unsent = λ o. cc; ungot = λ o. cc }) onward refl
+    keeps_quiet w history c e (w.given + 1) (record { opens = refl; sends = refl; serves = refl; unsent = λ o. cc; ungot = λ o. cc; unserved = λ o. cc }) onward refl
     (λ g. record { gives = refl; message = reply; spells = spells; id_is = id-same w history c }) (free-one w free)
-    (overloaded e c.past refl (record { client = client; request = m; target = t; id = next_id w; asked = came; verdict = verdict; no_room = room-none history w c full; ids = ids-free 1 history w c free; tells = record { sent = refl; spells = spells } }))
+    (record { act = refl; client = client; request = m; target = t; id = next_id w; asked = came; verdict = verdict; no_room = room-none history w c full; ids = ids-free 1 history w c free; tells = record { sent = refl; spells = spells } }, c.past)
 
-pub keeps_lacking : (w : World) (history : List Entry) (c : Carries history w) (now draw : ℕ) (client : Endpoint) (bytes : List ℕ) (m : Message) → w.last ≤ now → IsBytes bytes → Asked w bytes m → ((t : Target) → verdict_in w m ≡ may_open t → has_room w ≡ false) → has_ids 1 w ≡ false
-    → Carries (entry_of now draw (arrival client bytes) (lacks_id w now) ∷ history) (lacks_id w now).world
+pub keeps_lacking : (w : World) (history : List Deed) (c : Bears history w) (now draw : ℕ) (client : Endpoint) (bytes : List ℕ) (m : Message) → w.last ≤ now → IsBytes bytes → Asked w bytes m → ((t : Target) → verdict_in w m ≡ may_open t → has_room w ≡ false) → has_ids 1 w ≡ false
+    → Bears (doing no_item (entry_of now draw (arrival client bytes) (lacks_id w now)) ∷ history) (lacks_id w now).world
 keeps_lacking w history c now draw client bytes m onward fits asked full free =
-    let e = entry_of now draw (arrival client bytes) (lacks_id w now) in
-    keeps_quiet w history c e w.given (record { opens = refl; sends = refl; answers = refl; serves = refl; unsent = λ o. cc; ungot = λ o. cc }) onward (omega arith) (λ g. absurd (omega arith)) c.within.ids
-    (lacking e c.past refl (record { client = client; request = m; asked = request-came w client bytes m fits asked; no_ids = ids-none 1 history w c free; silent = record { sent = refl; bytes = refl } }))
+    let e = doing no_item (entry_of now draw (arrival client bytes) (lacks_id w now)) in
+    keeps_quiet w history c e w.given (record { opens = refl; sends = refl; serves = refl; unsent = λ o. cc; ungot = λ o. cc; unserved = λ o. cc }) onward (omega arith) (λ g. absurd (omega arith)) c.within.ids
+    (record { act = refl; client = client; request = m; asked = request-came w client bytes m fits asked; no_ids = ids-none 1 history w c free; silent = record { sent = refl; bytes = refl } }, c.past)
 
 -- ---- what isn't processed
 
-pub keeps_rejecting : (w : World) (history : List Entry) (c : Carries history w) (now draw : ℕ) (source : Endpoint) (bytes : List ℕ) (head : Head) → w.last ≤ now → head_at bytes ≡ Some head → is_con head.kind ≡ true
-    → Carries (entry_of now draw (arrival source bytes) (rejects w now source head.id) ∷ history) (rejects w now source head.id).world
+-- what is confirmable isn't processed so far
+confirmable : (history : List Deed) (setting : Setting) (source : Endpoint) (bytes : List ℕ) (head : Head) → head_at bytes ≡ Some head → head.kind ≡ Con → IsUnprocessable setting history (arrival source bytes)
+confirmable history setting source bytes head is con = record {
+  no_request = λ client m r. kinds (head_kind (arrival source bytes) client source r.bytes bytes m head r.came refl r.spells is) r.kind con (λ e. cc);
+  no_answer = λ x a. kinds (head_kind (arrival source bytes) a.source source a.bytes bytes a.response head a.came refl a.spells is) a.kind con (λ e. cc);
+}
+
+pub keeps_rejecting : (w : World) (history : List Deed) (c : Bears history w) (now draw : ℕ) (source : Endpoint) (bytes : List ℕ) (head : Head) → w.last ≤ now → head_at bytes ≡ Some head → is_con head.kind ≡ true
+    → Bears (doing no_item (entry_of now draw (arrival source bytes) (rejects w now source head.id)) ∷ history) (rejects w now source head.id).world
 keeps_rejecting w history c now draw source bytes head onward is con =
-    let e = entry_of now draw (arrival source bytes) (rejects w now source head.id) in
-    keeps_quiet w history c e w.given (record { opens = refl; sends = refl; answers = refl; serves = refl; unsent = λ o. cc; ungot = λ o. cc }) onward (omega arith) (λ g. absurd (omega arith)) c.within.ids
-    (rejected e c.past refl (record { source = source; bytes = bytes; head = head; came = refl; head_is = is; con = con_is head.kind con; tells = record { sent = refl; spells = spelled (reset head.id) (reset-is head.id) } }))
+    let e = doing no_item (entry_of now draw (arrival source bytes) (rejects w now source head.id)) in
+    keeps_quiet w history c e w.given (record { opens = refl; sends = refl; serves = refl; unsent = λ o. cc; ungot = λ o. cc; unserved = λ o. cc }) onward (omega arith) (λ g. absurd (omega arith)) c.within.ids
+    (record { act = refl; source = source; bytes = bytes; head = head; came = refl; head_is = is; con = con_is head.kind con; unprocessable = confirmable history w.setting source bytes head is (con_is head.kind con); tells = record { sent = refl; spells = spelled (reset head.id) (reset-is head.id) } }, c.past)
 
 -- a request that would be processed was read
 request-read : (w : World) (source client : Endpoint) (bytes : List ℕ) (m : Message) → IsRequestOf w.setting client m (arrival source bytes) → (message_in w.setting.limits.datagram bytes ≡ Some m) × ((is_non m.kind && is_request m.code) ≡ true)
@@ -108,9 +117,9 @@ request-read w source client bytes m r =
     let short : length bytes ≤ w.setting.limits.datagram = rw same.1 r.short in
     (message_in-again w.setting.limits.datagram bytes m read short, and_from (is_non m.kind) (is_request m.code) (ap is_non r.kind) r.method)
 
-pub keeps_ignoring : (w : World) (history : List Entry) (c : Carries history w) (now draw : ℕ) (source : Endpoint) (bytes : List ℕ) → w.last ≤ now → IsNothing w source bytes
-    → Carries (entry_of now draw (arrival source bytes) (ignores w now) ∷ history) (ignores w now).world
+pub keeps_ignoring : (w : World) (history : List Deed) (c : Bears history w) (now draw : ℕ) (source : Endpoint) (bytes : List ℕ) → w.last ≤ now → IsNothing w source bytes
+    → Bears (doing no_item (entry_of now draw (arrival source bytes) (ignores w now)) ∷ history) (ignores w now).world
 keeps_ignoring w history c now draw source bytes onward none =
-    let e = entry_of now draw (arrival source bytes) (ignores w now) in
-    keeps_quiet w history c e w.given (record { opens = refl; sends = refl; answers = refl; serves = refl; unsent = λ o. cc; ungot = λ o. cc }) onward (omega arith) (λ g. absurd (omega arith)) c.within.ids
-    (ignored e c.past refl (record { source = source; bytes = bytes; came = refl; no_con = λ head is con. absurd (let f = none.quiet head is in let g = sym f ∙ ap is_con con in cc); no_request = λ client m r. let read = request-read w source client bytes m r in let test = none.request m read.0 in absurd (let both = sym test ∙ read.1 in cc); no_answer = λ x a. not-ignored w history c x source bytes a none; silent = record { sent = refl; bytes = refl } }))
+    let e = doing no_item (entry_of now draw (arrival source bytes) (ignores w now)) in
+    keeps_quiet w history c e w.given (record { opens = refl; sends = refl; serves = refl; unsent = λ o. cc; ungot = λ o. cc; unserved = λ o. cc }) onward (omega arith) (λ g. absurd (omega arith)) c.within.ids
+    (record { act = refl; source = source; bytes = bytes; came = refl; no_con = λ head is con. absurd (let f = none.quiet head is in let g = sym f ∙ ap is_con con in cc); unprocessable = record { no_request = λ client m r. let read = request-read w source client bytes m r in let test = none.request m read.0 in absurd (let both = sym test ∙ read.1 in cc); no_answer = λ x a. not-ignored w history c x source bytes a none }; silent = record { sent = refl; bytes = refl } }, c.past)

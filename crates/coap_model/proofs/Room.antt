@@ -4,30 +4,30 @@ use Rattle.std.specs.Prelude.{◌&&◌}
 use Rattle.std.proofs.lemmas.Bool.{leb-true, leb-false, ltb-true, ltb-false, and_parts}
 use Rattle.coap_exchange.specs.Exchanges.{is_queued, count_where}
 use Rattle.coap_model.specs.World.{World, reserved, has_ids, has_room}
-use Rattle.coap_model.specs.History.{Entry, opened_in, sent_in, ids_in, under_way, HasIds, HasRoom}
-use Rattle.coap_model.specs.Carries.{Carries}
+use Rattle.coap_model.specs.History.{Deed, opened_in, sent_in, ids_in, under_way, HasIds, HasRoom}
+use Rattle.coap_model.specs.Carries.{Bears}
 use Rattle.coap_model.proofs.Tables.{length-paired}
 use Rattle.coap_model.proofs.Splitting.{one_false}
 
-waiters-length : (history : List Entry) (w : World) → Carries history w → length w.waiters ≡ under_way history
+waiters-length : (history : List Deed) (w : World) → Bears history w → length w.waiters ≡ under_way history
 waiters-length history w c = let p = length-paired w.exchanges w.waiters c.whole.paired in let u = c.whole.under_way in omega arith
 
-exchanges-length : (history : List Entry) (w : World) → Carries history w → length w.exchanges ≡ under_way history
+exchanges-length : (history : List Deed) (w : World) → Bears history w → length w.exchanges ≡ under_way history
 exchanges-length history w c = let u = c.whole.under_way in omega arith
 
-queued-unsent : (history : List Entry) (w : World) → Carries history w → count_where is_queued w.exchanges ≡ opened_in history - sent_in history
+queued-unsent : (history : List Deed) (w : World) → Bears history w → count_where is_queued w.exchanges ≡ opened_in history - sent_in history
 queued-unsent history w c = let u = c.whole.unsent in omega arith
 
-ids-sum : (k : ℕ) (history : List Entry) (w : World) → Carries history w → w.given + reserved w + k ≡ ids_in history + under_way history + (opened_in history - sent_in history) + k
+ids-sum : (k : ℕ) (history : List Deed) (w : World) → Bears history w → w.given + reserved w + k ≡ ids_in history + under_way history + (opened_in history - sent_in history) + k
 ids-sum k history w c = let g = c.numbers.given in let v = waiters-length history w c in let q = queued-unsent history w c in omega arith
 
-pub ids-free : (k : ℕ) (history : List Entry) (w : World) → Carries history w → has_ids k w ≡ true → HasIds k history
+pub ids-free : (k : ℕ) (history : List Deed) (w : World) → Bears history w → has_ids k w ≡ true → HasIds k history
 ids-free k history w c e = record { free = let sum = ids-sum k history w c in let le = leb-true (w.given + reserved w + k) 32768 e in omega arith }
 
-pub ids-none : (k : ℕ) (history : List Entry) (w : World) → Carries history w → has_ids k w ≡ false → HasIds k history → ⊥
+pub ids-none : (k : ℕ) (history : List Deed) (w : World) → Bears history w → has_ids k w ≡ false → HasIds k history → ⊥
 ids-none k history w c e h = let sum = ids-sum k history w c in let lt = leb-false (w.given + reserved w + k) 32768 e in let free = h.free in omega arith
 
-pub room-there : (history : List Entry) (w : World) → Carries history w → has_room w ≡ true → HasRoom w.setting.limits history
+pub room-there : (history : List Deed) (w : World) → Bears history w → has_room w ≡ true → HasRoom w.setting.limits history
 room-there history w c e =
     let a = and_parts (ltb (length w.exchanges) w.setting.limits.exchanges) (ltb (length w.waiters) w.setting.limits.waiters && has_ids 2 w) e in
     let b = and_parts (ltb (length w.waiters) w.setting.limits.waiters) (has_ids 2 w) a.1 in
@@ -37,7 +37,7 @@ room-there history w c e =
       ids = ids-free 2 history w c b.1;
     }
 
-pub room-none : (history : List Entry) (w : World) → Carries history w → has_room w ≡ false → HasRoom w.setting.limits history → ⊥
+pub room-none : (history : List Deed) (w : World) → Bears history w → has_room w ≡ false → HasRoom w.setting.limits history → ⊥
 room-none history w c e h =
     one_false (ltb (length w.exchanges) w.setting.limits.exchanges) (ltb (length w.waiters) w.setting.limits.waiters && has_ids 2 w) e
     (λ f. let le = ltb-false _ _ f in let n = exchanges-length history w c in let lt = h.exchange in omega arith)

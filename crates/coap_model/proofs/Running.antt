@@ -50,13 +50,13 @@ pub runs_carry : (r : Run) (turns : List Turn) → Carries r.history r.world →
 runs_carry r [] c are = c
 runs_carry r (t ∷ turns) c are =
     let next = keeps_step r.world r.history t.now t.draw t.event c are.0 are.1 in
-    runs_carry (one_turn r t) turns next (subst (λ (last : ℕ). AreTurns last turns) (sym next.clock.last) are.2)
+    runs_carry (one_turn r t) turns next (subst (λ (last : ℕ). AreTurns last turns) (sym (clock_after r.world t.now t.draw t.event are.1).0) are.2)
 
 setting_after : (r : Run) (turns : List Turn) → AreTurns r.world.last turns → Carries r.history r.world → (run_of r turns).world.setting ≡ r.world.setting
 setting_after r [] are c = refl
 setting_after r (t ∷ turns) are c =
     let next = keeps_step r.world r.history t.now t.draw t.event c are.0 are.1 in
-    setting_after (one_turn r t) turns (subst (λ (last : ℕ). AreTurns last turns) (sym next.clock.last) are.2) next ∙ setting_stays r.world t.now t.draw t.event are.1
+    setting_after (one_turn r t) turns (subst (λ (last : ℕ). AreTurns last turns) (sym (clock_after r.world t.now t.draw t.event are.1).0) are.2) next ∙ setting_stays r.world t.now t.draw t.event are.1
 
 pub runs_keep_setting : (setting : Setting) (turns : List Turn) → AreRoutes setting.routes → AreTurns 0 turns → (run_of (new_run setting) turns).world.setting ≡ setting
 runs_keep_setting setting turns routes are = setting_after (new_run setting) turns are (starts setting routes)

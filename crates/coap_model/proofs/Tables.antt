@@ -36,7 +36,7 @@ least-holds P (j ∷ items) i all e = go (least items) (λ k f. least-holds P it
         test true g = subst P (same_Some j i g) all.0
         test false g = subst P (same_Some k i g) (rest k is)
 
-if_due-is : (now : ℕ) (o : Option Item) (i : Item) → if_due now o ≡ Some i → (o ≡ Some i) × (due_of i ≤ now)
+pub if_due-is : (now : ℕ) (o : Option Item) (i : Item) → if_due now o ≡ Some i → (o ≡ Some i) × (due_of i ≤ now)
 if_due-is now None i e = absurd cc
 if_due-is now (Some j) i e = go (leb (due_of j) now) refl e
   where

@@ -1,5 +1,5 @@
 -- A proxy carries a history: each part of its tables is what the history says.
-use Rattle.std.specs.Prelude.{◌≡◌, ◌⊎◌, ℕ, ◌+◌, ◌^◌, ◌<◌, ◌≤◌, List, [], ◌∷◌, length, Some}
+use Rattle.std.specs.Prelude.{◌≡◌, ◌⊎◌, ℕ, ◌+◌, ◌<◌, ◌≤◌, List, [], ◌∷◌, length, Some}
 use Rattle.std.specs.List.{AllByRecursion}
 use Rattle.coap_message.specs.Message.{Message}
 use Rattle.coap_message.specs.Spelling.{spelling}
@@ -15,19 +15,19 @@ use Rattle.coap_exchange.specs.declared.waiter.Waiter.{Waiter}
 use Rattle.coap_exchange.specs.Table.{Numbered, IsRising}
 use Rattle.coap_model.specs.Setting.{Setting}
 use Rattle.coap_model.specs.Messages.{token_of, forwarded, target_sent, answer_of}
-use Rattle.coap_exchange.specs.Exchanges.{is_queued, is_done, count_where}
+use Rattle.coap_exchange.specs.Exchanges.{is_queued, count_where}
 use Rattle.coap_model.specs.World.{World, reserved}
-use Rattle.coap_model.specs.History.{Entry, Place, index, IsPlaceOf, Never, opened_in, sent_in, answered_in, served_in, ids_in, Opens, Sends, Asks, Gets, last_of, IsInOrder, AreIds}
-use Rattle.coap_model.specs.Justified.{IsRequestOf, IsMember, IsJustified}
+use Rattle.coap_model.specs.History.{Entry, Deed, told_by, Place, index, IsPlaceOf, Never, Somewhere, opened_in, sent_in, served_in, ids_in, Opens, Sends, Asks, Gets, Serves, last_of, IsInOrder, AreIds}
+use Rattle.coap_model.specs.Justified.{IsRequestOf, AllJustified}
 
 -- ---- the clock, the numbers and the ids
 
-pub record Clock (history : List Entry) (w : World) : Type 0 where
+pub record Clock (history : List Deed) (w : World) : Type 0 where
   pub events : w.events ≡ length history
   pub last : w.last ≡ last_of history
   pub in_order : IsInOrder history
 
-pub record Numbers (history : List Entry) (w : World) : Type 0 where
+pub record Numbers (history : List Deed) (w : World) : Type 0 where
   pub opened : w.opened ≡ opened_in history
   pub admitted : w.admitted ≡ opened_in history
   pub given : w.given ≡ ids_in history
@@ -35,7 +35,7 @@ pub record Numbers (history : List Entry) (w : World) : Type 0 where
 -- ---- exchanges
 
 -- the exchange was asked in the history, for this target, with this id
-pub record WasAsked (setting : Setting) (history : List Entry) (x : ℕ) (target : Target) (id asked : ℕ) : Type 0 where
+pub record WasAsked (setting : Setting) (history : List Deed) (x : ℕ) (target : Target) (id asked : ℕ) : Type 0 where
   pub asking : Place
   pub was_asked : IsPlaceOf history asking
   pub asks : Asks setting.salt x asking
@@ -45,28 +45,28 @@ pub record WasAsked (setting : Setting) (history : List Entry) (x : ℕ) (target
   pub number : asked ≡ index asking
 
 -- the exchange was got in the history, with this answer
-pub record WasGot (setting : Setting) (history : List Entry) (x : ℕ) (target : Target) (answer : Answer) : Type 0 where
+pub record WasGot (setting : Setting) (history : List Deed) (x : ℕ) (target : Target) (answer : Answer) : Type 0 where
   pub getting : Place
   pub was_got : IsPlaceOf history getting
   pub gets : Gets setting.salt x getting
   pub asked_target : target_sent gets.asks.sends.to gets.asks.sends.message ≡ target
-  pub answer_is : answer ≡ answer_of setting.limits.datagram getting.entry.now gets.response
+  pub answer_is : answer ≡ answer_of setting.limits.datagram getting.deed.entry.now gets.response
 
 -- the state is how far the history brought the exchange
-abbrev pub IsState : Setting → List Entry → ℕ → Target → ExchangeState → Type 0
+abbrev pub IsState : Setting → List Deed → ℕ → Target → ExchangeState → Type 0
 IsState setting history x target Queued = Never (Sends setting.salt x) history × Never (Gets setting.salt x) history
 IsState setting history x target (Sent s) = WasAsked setting history x target s.id s.asked × Never (Gets setting.salt x) history
 IsState setting history x target (Done a) = WasGot setting history x target a
 
 -- the exchange is the one that the history opened under its number
-pub record IsExchangeOf (setting : Setting) (history : List Entry) (x : Numbered Exchange) : Type 0 where
+pub record IsExchangeOf (setting : Setting) (history : List Deed) (x : Numbered Exchange) : Type 0 where
   pub opening : Place
   pub client : Endpoint
   pub request : Message
   pub was_opened : IsPlaceOf history opening
   pub opens : Opens x.0 opening
-  pub admitted : x.1.admitted ≡ opening.entry.now
-  pub asked : IsRequestOf setting client request opening.entry.event
+  pub admitted : x.1.admitted ≡ opening.deed.entry.now
+  pub asked : IsRequestOf setting client request opening.deed.entry.event
   pub target_is : mapped_target setting.routes request ≡ Some x.1.target
   pub sound : IsTarget x.1.target
   pub form_is : x.1.form ≡ spelling (forwarded (token_of setting.salt x.0) x.1.target 0)
@@ -75,24 +75,20 @@ pub record IsExchangeOf (setting : Setting) (history : List Entry) (x : Numbered
 
 -- ---- waiters
 
--- the answer was got no later than the place
-abbrev pub IsGotBy : ℕ → ℕ → Place → Place → Type 0
-IsGotBy salt x p q = Gets salt x q × (index q ≤ index p)
-
 -- the waiter is the one that the history admitted under its number, with an exchange of its own, and
 -- wasn't served
-pub record IsWaiterOf (setting : Setting) (history : List Entry) (served : List ℕ) (v : Numbered Waiter) : Type 0 where
+pub record IsWaiterOf (setting : Setting) (history : List Deed) (v : Numbered Waiter) : Type 0 where
   pub admission : Place
   pub client : Endpoint
   pub request : Message
   pub was_admitted : IsPlaceOf history admission
   pub opens : Opens v.0 admission
-  pub asked : IsRequestOf setting client request admission.entry.event
+  pub asked : IsRequestOf setting client request admission.deed.entry.event
   pub exchange : v.1.exchange ≡ v.0
   pub client_is : v.1.client ≡ client
   pub token_is : v.1.token ≡ request.token
-  pub not_got_by : Never (IsGotBy setting.salt v.0 admission) history
-  pub unserved : ¬ IsMember v.0 served
+  pub ungot : Never (Gets setting.salt v.0) admission.before
+  pub unserved : Never (Serves v.0) history
 
 -- ---- the tables as wholes
 
@@ -109,17 +105,16 @@ HasNumber n (x ∷ xs) = (n ≡ x.0) ⊎ HasNumber n xs
 
 -- Nothing is missing and nothing is there twice: what was opened waits or was served, and the lengths
 -- are what the history counts.
-pub record AreWhole (history : List Entry) (served : List ℕ) (w : World) : Type 0 where
+pub record AreWhole (history : List Deed) (w : World) : Type 0 where
   pub rising : IsRising 0 w.exchanges
   pub paired : ArePaired w.exchanges w.waiters
-  pub complete : (n : ℕ) → 0 < n → n ≤ opened_in history → HasNumber n w.exchanges ⊎ IsMember n served
+  pub complete : (n : ℕ) → 0 < n → n ≤ opened_in history → HasNumber n w.exchanges ⊎ Somewhere (Serves n) history
   pub under_way : length w.exchanges + served_in history ≡ opened_in history
   pub unsent : count_where is_queued w.exchanges + sent_in history ≡ opened_in history
-  pub unserved : count_where is_done w.exchanges + served_in history ≡ answered_in history
 
 -- no exchange that isn't opened was sent or got
-abbrev pub IsFresh : Setting → List Entry → Type 0
-IsFresh setting history = (x : ℕ) → opened_in history < x → x < 2 ^ 64 → Never (Sends setting.salt x) history × Never (Gets setting.salt x) history
+abbrev pub IsFresh : Setting → List Deed → Type 0
+IsFresh setting history = (x : ℕ) → opened_in history < x → Never (Sends setting.salt x) history × Never (Gets setting.salt x) history
 
 -- ---- limits
 
@@ -130,15 +125,21 @@ pub record IsWithin (w : World) : Type 0 where
 
 -- ---- all of it
 
-pub record Carries (history : List Entry) (w : World) : Type 0 where
-  pub served : List ℕ
+-- the tables are what these deeds made
+pub record Bears (deeds : List Deed) (w : World) : Type 0 where
   pub routes : AreRoutes w.setting.routes
-  pub clock : Clock history w
-  pub numbers : Numbers history w
-  pub ids : AreIds w.setting.first_id history
-  pub fresh : IsFresh w.setting history
-  pub exchanges : AllByRecursion (IsExchangeOf w.setting history) w.exchanges
-  pub waiters : AllByRecursion (IsWaiterOf w.setting history served) w.waiters
-  pub whole : AreWhole history served w
+  pub clock : Clock deeds w
+  pub numbers : Numbers deeds w
+  pub ids : AreIds w.setting.first_id deeds
+  pub fresh : IsFresh w.setting deeds
+  pub exchanges : AllByRecursion (IsExchangeOf w.setting deeds) w.exchanges
+  pub waiters : AllByRecursion (IsWaiterOf w.setting deeds) w.waiters
+  pub whole : AreWhole deeds w
   pub within : IsWithin w
-  pub past : IsJustified w.setting history served
+  pub past : AllJustified w.setting deeds
+
+-- so they are what some deeds made of which the history tells
+pub record Carries (history : List Entry) (w : World) : Type 0 where
+  pub deeds : List Deed
+  pub told : told_by deeds ≡ history
+  pub bears : Bears deeds w

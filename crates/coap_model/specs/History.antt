@@ -1,6 +1,6 @@
 -- What the traffic alone says: which entry of a history opened, asked, got and admitted what. This file
 -- names no table. A history has its newest entry first.
-use Rattle.std.specs.Prelude.{◌≡◌, ◌⊎◌, ℕ, ◌+◌, ◌-◌, ◌%◌, ◌<◌, ◌≤◌, List, [], ◌∷◌, length, true, Some}
+use Rattle.std.specs.Prelude.{◌≡◌, ◌⊎◌, ℕ, ◌+◌, ◌-◌, ◌%◌, ◌<◌, ◌≤◌, List, [], ◌∷◌, length, map, true, Some}
 use Rattle.coap_message.specs.declared.kind.Kind.TheVariants.{Ack}
 use Rattle.coap_message.specs.Uint.{IsBytes}
 use Rattle.coap_message.specs.Message.{Message}
@@ -23,30 +23,55 @@ pub record Entry : Type 0 where
   pub report : Report
   pub bytes : List ℕ
 
--- an entry, and all that came before it
-pub record Place : Type 0 where
-  pub before : List Entry
+-- what an entry acted on: no item of the tables, an exchange or a waiter by its number
+pub data Act : Type 0 where
+  no_item : Act
+  -- a waiter was admitted to an exchange
+  admits : ℕ → ℕ → Act
+  -- an exchange came to another state
+  moves : ℕ → Act
+  -- a waiter was served
+  serves : ℕ → Act
+
+-- an entry, and what it acted on
+pub record Deed : Type 0 where
   pub entry : Entry
+  pub act : Act
+
+-- the entries of deeds
+abbrev pub told_by : List Deed → List Entry
+told_by deeds = map (λ d. d.entry) deeds
+
+-- a deed, and all that came before it
+pub record Place : Type 0 where
+  pub before : List Deed
+  pub deed : Deed
 
 -- how many entries came before this one
 abbrev pub index : Place → ℕ
 index p = length p.before
 
 -- the place is one of the history
-abbrev pub IsPlaceOf : List Entry → Place → Type 0
+abbrev pub IsPlaceOf : List Deed → Place → Type 0
 IsPlaceOf [] p = ⊥
-IsPlaceOf (e ∷ past) p = (record { before = past; entry = e } ≡ p) ⊎ IsPlaceOf past p
+IsPlaceOf (d ∷ past) p = (record { before = past; deed = d } ≡ p) ⊎ IsPlaceOf past p
 
 -- at no place of the history
-abbrev pub Never : (Place → Type 0) → List Entry → Type 0
+abbrev pub Never : (Place → Type 0) → List Deed → Type 0
 Never P [] = Unit {0}
-Never P (e ∷ past) = ¬ P (record { before = past; entry = e }) × Never P past
+Never P (d ∷ past) = ¬ P (record { before = past; deed = d }) × Never P past
+
+-- at some place of the history
+pub record Somewhere (P : Place → Type 0) (history : List Deed) : Type 0 where
+  pub place : Place
+  pub is_there : IsPlaceOf history place
+  pub holds : P place
 
 -- ---- counting
 
-abbrev pub count_in : (Outcome → ℕ) → List Entry → ℕ
+abbrev pub count_in : (Outcome → ℕ) → List Deed → ℕ
 count_in counts [] = 0
-count_in counts (e ∷ past) = count_in counts past + counts e.report.outcome
+count_in counts (d ∷ past) = count_in counts past + counts d.entry.report.outcome
 
 abbrev pub opens_one : Outcome → ℕ
 opens_one Opened = 1
@@ -55,10 +80,6 @@ opens_one _ = 0
 abbrev pub sends_one : Outcome → ℕ
 sends_one SentRequest = 1
 sends_one _ = 0
-
-abbrev pub answers_one : Outcome → ℕ
-answers_one (Answered storing) = 1
-answers_one _ = 0
 
 abbrev pub serves_one : Outcome → ℕ
 serves_one Delivered = 1
@@ -72,34 +93,30 @@ gives_id SentRequest = 1
 gives_id Delivered = 1
 gives_id _ = 0
 
--- exchanges that were opened, requests that were sent on, answers that were got, waiters that were served,
--- ids that were given
-abbrev pub opened_in : List Entry → ℕ
+-- exchanges that were opened, requests that were sent on, waiters that were served, ids that were given
+abbrev pub opened_in : List Deed → ℕ
 opened_in history = count_in opens_one history
 
-abbrev pub sent_in : List Entry → ℕ
+abbrev pub sent_in : List Deed → ℕ
 sent_in history = count_in sends_one history
 
-abbrev pub answered_in : List Entry → ℕ
-answered_in history = count_in answers_one history
-
-abbrev pub served_in : List Entry → ℕ
+abbrev pub served_in : List Deed → ℕ
 served_in history = count_in serves_one history
 
-abbrev pub ids_in : List Entry → ℕ
+abbrev pub ids_in : List Deed → ℕ
 ids_in history = count_in gives_id history
 
 -- Each exchange is opened for one client, and closed when that client is served.
-abbrev pub under_way : List Entry → ℕ
+abbrev pub under_way : List Deed → ℕ
 under_way history = opened_in history - served_in history
 
 -- so many ids are free beside those that were given, and one for each client that waits and each request
 -- that is still to be sent
-pub record HasIds (k : ℕ) (history : List Entry) : Type 0 where
+pub record HasIds (k : ℕ) (history : List Deed) : Type 0 where
   pub free : ids_in history + under_way history + (opened_in history - sent_in history) + k ≤ 32768
 
 -- there is room for an exchange and for its client
-pub record HasRoom (limits : Limits) (history : List Entry) : Type 0 where
+pub record HasRoom (limits : Limits) (history : List Deed) : Type 0 where
   pub exchange : under_way history < limits.exchanges
   pub waiter : under_way history < limits.waiters
   pub ids : HasIds 2 history
@@ -109,22 +126,23 @@ pub record HasRoom (limits : Limits) (history : List Entry) : Type 0 where
 -- the entry opened the exchange of this number, and admitted the waiter of that number: the x-th that
 -- opened one
 abbrev pub Opens : ℕ → Place → Type 0
-Opens x p = (p.entry.report.outcome ≡ Opened) × (x ≡ opened_in p.before + 1)
+Opens x p = (p.deed.entry.report.outcome ≡ Opened) × (x ≡ opened_in p.before + 1)
 
 -- a message came there from a source, in a datagram of bytes
 pub record Receives (source : Endpoint) (m : Message) (p : Place) : Type 0 where
   pub bytes : List ℕ
-  pub event : p.entry.event ≡ arrival source bytes
+  pub event : p.deed.entry.event ≡ arrival source bytes
   pub fits : IsBytes bytes
   pub spells : Spells bytes m
 
 -- the request of this exchange was sent there: by its token, read off the datagram
 pub record Sends (salt x : ℕ) (p : Place) : Type 0 where
-  pub outcome : p.entry.report.outcome ≡ SentRequest
+  pub act : p.deed.act ≡ moves x
+  pub outcome : p.deed.entry.report.outcome ≡ SentRequest
   pub to : Endpoint
-  pub sent : p.entry.report.send ≡ Some to
+  pub sent : p.deed.entry.report.send ≡ Some to
   pub message : Message
-  pub spells : Spells p.entry.bytes message
+  pub spells : Spells p.deed.entry.bytes message
   pub token : message.token ≡ token_of salt x
 
 -- the exchange was asked there: its request was sent, and never before
@@ -135,7 +153,8 @@ pub record Asks (salt x : ℕ) (p : Place) : Type 0 where
 -- the answer of this exchange was got there: a response in an acknowledgement, from the endpoint that
 -- was asked, with the token and the id of the request (RFC 7252, 5.3.2)
 pub record Gets (salt x : ℕ) (p : Place) : Type 0 where
-  pub outcome : p.entry.report.outcome ≡ Answered NotStored
+  pub act : p.deed.act ≡ moves x
+  pub outcome : p.deed.entry.report.outcome ≡ Answered NotStored
   pub source : Endpoint
   pub response : Message
   pub came : Receives source response p
@@ -148,16 +167,21 @@ pub record Gets (salt x : ℕ) (p : Place) : Type 0 where
   pub same_source : source ≡ asks.sends.to
   pub same_id : response.id ≡ asks.sends.message.id
 
+-- the waiter was served there
+pub record Serves (v : ℕ) (p : Place) : Type 0 where
+  pub act : p.deed.act ≡ serves v
+  pub outcome : p.deed.entry.report.outcome ≡ Delivered
+
 -- ---- moments and ids
 
-abbrev pub last_of : List Entry → ℕ
+abbrev pub last_of : List Deed → ℕ
 last_of [] = 0
-last_of (e ∷ past) = e.now
+last_of (d ∷ past) = d.entry.now
 
 -- moments don't go back
-abbrev pub IsInOrder : List Entry → Type 0
+abbrev pub IsInOrder : List Deed → Type 0
 IsInOrder [] = Unit {0}
-IsInOrder (e ∷ past) = (last_of past ≤ e.now) × IsInOrder past
+IsInOrder (d ∷ past) = (last_of past ≤ d.entry.now) × IsInOrder past
 
 -- an id that an entry gave
 pub record Gives (id : ℕ) (e : Entry) : Type 0 where
@@ -167,6 +191,6 @@ pub record Gives (id : ℕ) (e : Entry) : Type 0 where
   pub id_is : message.id ≡ id
 
 -- ids count up from the first, and begin anew at 0 behind 65,535 (RFC 7252, 4.4)
-abbrev pub AreIds : ℕ → List Entry → Type 0
+abbrev pub AreIds : ℕ → List Deed → Type 0
 AreIds first [] = Unit {0}
-AreIds first (e ∷ past) = (gives_id e.report.outcome ≡ 1 → Gives ((first + ids_in past) % 65536) e) × AreIds first past
+AreIds first (d ∷ past) = (gives_id d.entry.report.outcome ≡ 1 → Gives ((first + ids_in past) % 65536) d.entry) × AreIds first past

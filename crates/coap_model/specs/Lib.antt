@@ -11,10 +11,13 @@ pub mod Ticks
 pub mod Step
 pub mod Examples
 pub mod LimitExamples
+pub mod EdgeExamples
 pub mod History
+pub mod Due
 pub mod Justified
 pub mod Carries
 pub mod Held
 pub mod Memory
 pub mod Promised
 pub mod Runs
+pub mod Forged

@@ -1,17 +1,35 @@
 //! Laws of the step: public functions that do nothing, whose contracts are the laws.
-ghost use Rattle.std.specs.Prelude.{◌≡◌, ℕ, ◌≤◌, List, [], ◌∷◌, length};
+ghost use Rattle.std.specs.Prelude.{◌≡◌, ◌≢◌, ℕ, ◌+◌, ◌-◌, ◌*◌, ◌<◌, ◌≤◌, List, [], ◌∷◌, length, Some, None};
+ghost use Rattle.coap_message.specs.declared.kind.Kind.TheVariants.{Con};
+ghost use Rattle.coap_message.specs.declared.message.Head.{Head};
+ghost use Rattle.coap_message.specs.Message.{Message};
+ghost use Rattle.coap_message.specs.Reading.{head_at};
+ghost use Rattle.coap_message.specs.Spelling.{spelling};
+ghost use Rattle.coap_target.specs.declared.endpoint.Endpoint.{Endpoint};
+ghost use Rattle.coap_target.specs.declared.target.Target.{Target};
 ghost use Rattle.coap_target.specs.Routes.{AreRoutes};
-ghost use Rattle.coap_model.specs.Limits.{AreLimits};
+ghost use Rattle.coap_exchange.specs.declared.exchange.Answer.{Answer};
+ghost use Rattle.coap_model.specs.Limits.{AreLimits, default_limits};
 ghost use Rattle.coap_model.specs.Setting.{Setting};
-ghost use Rattle.coap_model.specs.Events.{Event, IsEvent};
-ghost use Rattle.coap_model.specs.World.{World, new_world};
+ghost use Rattle.coap_model.specs.declared.report.Outcome.TheVariants.{Rejected, Opened, Answered, Idle};
+ghost use Rattle.coap_model.specs.declared.report.Storing.TheVariants.{NotStored};
+ghost use Rattle.coap_model.specs.Messages.{eight_zeros, forwarded, may_open, max_age_of, left_of};
+ghost use Rattle.coap_model.specs.Events.{Event, arrival, tick, IsEvent};
+ghost use Rattle.coap_model.specs.World.{World, new_world, counts};
 ghost use Rattle.coap_model.specs.Step.{step_of};
-ghost use Rattle.coap_model.specs.History.{Entry};
+ghost use Rattle.coap_model.specs.Ticks.{next_due};
+ghost use Rattle.coap_model.specs.History.{Entry, Act, no_item, serves, Deed, HasRoom};
+ghost use Rattle.coap_model.specs.Due.{IsDueAt, IsNextDue};
+ghost use Rattle.coap_model.specs.Justified.{IsRequestOf, verdict_on, IsAwaited, IsActing, IsDelivery, JustifiedBy};
+ghost use Rattle.coap_model.specs.Forged as forged;
+ghost use Rattle.coap_model.specs.Forged.{asked, delivery, right, at_an_arrival};
 ghost use Rattle.coap_model.specs.Carries.{Carries};
 ghost use Rattle.coap_model.specs.Promised.{Promised};
 ghost use Rattle.coap_model.specs.Runs.{Turn, AreTurns, new_run, run_of, entry_of};
-ghost use Rattle.coap_model.specs.Examples.{play, proxy, small_proxy, narrow_proxy, first_answer, first_answer_sent, late_answer, late_answer_sent, error, error_sent, fault, fault_sent, changed, changed_sent, valid, replaced_sent, block_in_response, long_max_age, impostor, impostor_sent, refusals, refusals_sent, long_paths, long_paths_sent, long_segments, long_segments_sent, payload_in_get, payload_in_get_sent, full, full_sent, unprocessed_messages, unprocessed_messages_sent, too_long, too_long_sent, payload_of, payload_of_109_sent, spent_proxy, last_id, last_id_sent, wrapping_proxy, wrapping, wrapping_sent};
-ghost use Rattle.coap_model.specs.LimitExamples.{one_exchange, one_waiter, until_served, until_served_sent, retries_after, two_requests, second_is_told, narrow, long_datagrams, long_datagrams_sent, later_proxy, counted_on, counted_on_sent, after_ids, last_refusal, last_refusal_sent, kept_ids, kept_ids_sent};
+ghost use Rattle.coap_model.specs.Examples.{origin, from, tick_at, client, content_for_client, play, proxy, small_proxy, narrow_proxy, first_answer, first_answer_sent, late_answer, late_answer_sent, error, error_sent, fault, fault_sent, changed, changed_sent, valid, replaced_sent, block_in_response, long_max_age, impostor, impostor_sent, refusals, refusals_sent, long_paths, long_paths_sent, long_segments, long_segments_sent, payload_in_get, payload_in_get_sent, full, full_sent, unprocessed_messages, unprocessed_messages_sent, too_long, too_long_sent, payload_of, payload_of_109_sent, spent_proxy, last_id, last_id_sent, wrapping_proxy, wrapping, wrapping_sent};
+ghost use Rattle.coap_model.specs.EdgeExamples.{after, asks_at, tokens, tokens_sent, two_faults, two_faults_sent, of_class_3, of_class_3_sent, changed_with_age, changed_with_age_sent, two_ages, greatest_age, greatest_age_sent, shorter_age, shorter_age_sent, ten_seconds_after, one_left, none_left, of_one_moment, of_one_moment_sent, request_first, request_first_sent, client_first, client_first_sent, named, named_form, target_in};
+ghost use Rattle.coap_model.specs.Held.{held, most_held};
+ghost use Rattle.coap_model.specs.LimitExamples.{got, one_exchange, one_waiter, until_served, until_served_sent, retries_after, two_requests, second_is_told, narrow, long_datagrams, long_datagrams_sent, later_proxy, counted_on, counted_on_sent, after_ids, last_refusal, last_refusal_sent, kept_ids, kept_ids_sent};
 
 /// Runs of the step, computed on the definitions.
 pub fn examples()
@@ -50,6 +68,58 @@ pub fn examples_at_limits()
     ensures kept_ids { play (after_ids 32766) kept_ids ≡ kept_ids_sent }
 {}
 
+/// Words that the step and the history share, computed at their edges: a client's token, two faults in one request,
+/// what a response gives at some age, what is due first, the form of a target with a host and a query, which is read
+/// back off it, and what is held.
+pub fn examples_at_edges()
+    ensures tokens { play one_exchange tokens ≡ tokens_sent }
+    ensures two_faults { play proxy two_faults ≡ two_faults_sent }
+    ensures of_class_3 { play proxy of_class_3 ≡ of_class_3_sent }
+    ensures changed_with_age { play proxy changed_with_age ≡ changed_with_age_sent }
+    ensures two_ages { play proxy two_ages ≡ replaced_sent }
+    ensures greatest_age { play proxy greatest_age ≡ greatest_age_sent }
+    ensures shorter_age { play proxy shorter_age ≡ shorter_age_sent }
+    ensures last_second { play proxy (ten_seconds_after 9000) ≡ one_left }
+    ensures second_that_began { play proxy (ten_seconds_after 9001) ≡ none_left }
+    ensures none_left { play proxy (ten_seconds_after 20000) ≡ none_left }
+    ensures of_one_moment { play proxy of_one_moment ≡ of_one_moment_sent }
+    ensures request_first { play proxy request_first ≡ request_first_sent }
+    ensures client_first { play proxy client_first ≡ client_first_sent }
+    ensures form { spelling (forwarded eight_zeros named 7) ≡ named_form }
+    ensures read_back { target_in origin named_form ≡ Some named }
+    ensures held_when_opened { held (after proxy (asks_at 0 1 ∷ [])) ≡ 22 }
+    ensures held_when_answered { held (after proxy (asks_at 0 1 ∷ tick_at 0 ∷ from 0 origin (got 1 1) ∷ [])) ≡ 27 }
+    ensures bound { most_held default_limits ≡ 16998400 }
+    ensures counted { counts (after proxy (asks_at 0 1 ∷ asks_at 0 2 ∷ [])) ≡ record { cached_bytes = 0; entries = 0; con_records = 0; non_records = 0; exchanges = 2; waiters = 2 } }
+    ensures none_due { next_due proxy ≡ None }
+    ensures due_at_opening { next_due (after proxy (asks_at 5 1 ∷ [])) ≡ Some 5 }
+{}
+
+/// What is left of a Max-Age and the age add up to it: no more than it, and more than it with one second more.
+pub fn left_and_age_add_up()
+    ensures within { (now : ℕ) (a : Answer) → 0 < left_of now a → 1000 * left_of now a + (now - a.got) ≤ 1000 * max_age_of a.message.options }
+    ensures no_more { (now : ℕ) (a : Answer) → 1000 * max_age_of a.message.options < 1000 * (left_of now a + 1) + (now - a.got) }
+{}
+
+/// A tick does nothing exactly where nothing is due, or only later.
+pub fn ticks_are_idle_where_nothing_is_due()
+    ensures none { (w : World) (now draw : ℕ) → next_due w ≡ None → (step_of w now draw tick).report.outcome ≡ Idle }
+    ensures later { (w : World) (now draw at : ℕ) → next_due w ≡ Some at → now < at → (step_of w now draw tick).report.outcome ≡ Idle }
+    ensures due { (w : World) (now draw at : ℕ) → next_due w ≡ Some at → at ≤ now → (step_of w now draw tick).report.outcome ≢ Idle }
+{}
+
+/// Deliveries that are right but for one thing are not justified.
+pub fn forged_deliveries_are_refused()
+    ensures for_nobody { ¬ IsDelivery forged.setting forged.past (delivery (client 1) (content_for_client 7) no_item) }
+    ensures for_another { ¬ IsDelivery forged.setting forged.past (delivery (client 1) (content_for_client 7) (serves 2)) }
+    ensures again { ¬ IsDelivery forged.setting (right ∷ forged.past) right }
+    ensures nothing_got { ¬ IsDelivery forged.setting (asked ∷ forged.opened ∷ []) right }
+    ensures to_another { ¬ IsDelivery forged.setting forged.past (delivery (client 2) (content_for_client 7) (serves 1)) }
+    ensures untimely { ¬ IsDelivery forged.setting forged.past (at_an_arrival right) }
+    ensures out_of_turn { ¬ IsDelivery forged.setting (forged.opened ∷ forged.past) right }
+    ensures another_age { ¬ IsDelivery forged.setting forged.past (delivery (client 1) (content_for_client 10) (serves 1)) }
+{}
+
 /// Each step of a proxy that carries a history leaves a proxy that carries the history with the step's
 /// entry in front, where moments don't go back and datagrams are bytes.
 pub fn steps_are_carried()
@@ -71,6 +141,23 @@ pub fn settings_stay()
 /// held are within their limits.
 pub fn what_is_carried_is_promised()
     ensures promised { (history : List Entry) (w : World) → Carries history w → Promised history w }
+{}
+
+/// What is owed is given, where an entry is justified by what was done before it: a request that may be opened,
+/// with room, is opened; a response that an exchange awaits is its answer; a confirmable datagram is rejected
+/// where it isn't processed, which is always so far; and a tick at which something is due does what is due first.
+pub fn what_is_owed_is_given()
+    ensures opened { (setting : Setting) (past : List Deed) (d : Deed) (client : Endpoint) (request : Message) (target : Target) → JustifiedBy d.entry.report.outcome setting past d → IsRequestOf setting client request d.entry.event → verdict_on setting request ≡ may_open target → HasRoom setting.limits past → d.entry.report.outcome ≡ Opened }
+    ensures answered { (setting : Setting) (past : List Deed) (d : Deed) (exchange : ℕ) → JustifiedBy d.entry.report.outcome setting past d → IsAwaited setting past exchange d.entry.event → d.entry.report.outcome ≡ Answered NotStored }
+    ensures rejected { (setting : Setting) (past : List Deed) (d : Deed) (source : Endpoint) (bytes : List ℕ) (head : Head) → JustifiedBy d.entry.report.outcome setting past d → d.entry.event ≡ arrival source bytes → head_at bytes ≡ Some head → head.kind ≡ Con → d.entry.report.outcome ≡ Rejected }
+    ensures done { (setting : Setting) (past : List Deed) (d : Deed) (act : Act) (at : ℕ) → JustifiedBy d.entry.report.outcome setting past d → d.entry.event ≡ tick → IsDueAt setting past act at → at ≤ d.entry.now → IsActing setting past d }
+{}
+
+/// The moment at which a tick is wanted is the least at which anything is due by the history, and none is wanted
+/// where nothing is.
+pub fn next_due_is_least()
+    ensures next { (w : World) (history : List Entry) (c : Carries history w) (at : ℕ) → next_due w ≡ Some at → IsNextDue w.setting c.deeds at }
+    ensures none { (w : World) (history : List Entry) (c : Carries history w) → next_due w ≡ None → (act : Act) (at : ℕ) → ¬ IsDueAt w.setting c.deeds act at }
 {}
 
 /// No datagram that a step sends is longer than the limit `datagram`, where the limits are within their

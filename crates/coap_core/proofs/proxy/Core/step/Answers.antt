@@ -1,8 +1,9 @@
 use Rattle.std.proofs.Common.{subst, sym, arith}
 use Rattle.coap_model.specs.Setting.{Setting}
 use Rattle.coap_model.specs.Limits.{AreLimits}
+use Rattle.coap_model.specs.Step.{step_of}
 use Rattle.coap_core.specs.Events.{seen}
-use Rattle.coap_core.proofs.Carried.{IsLeft, can_go_on, is-left}
+use Rattle.coap_core.proofs.Carried.{IsLeft, can_go_on, is-left, is-short}
 use Rattle.coap_core.proofs.proxy.Core.step.Goals.{After-step}
 use Rattle.coap_core.proofs.proxy.Core.step.Goals as goal
 
@@ -47,3 +48,11 @@ pub returns-clause-held : goal.returns-clause-held
 returns-clause-held c =
     let left = leaves (goal.at.returns-clause-held c).After-step in
     (c.what_is_carried_is_promised.ensures.promised left.history c.step.new.self left.carries).bytes
+
+pub returns-clause-short : goal.returns-clause-short
+returns-clause-short c =
+    let i = c.self.invariant in
+    let w = c.self.inside.tables in
+    let left = leaves (goal.at.returns-clause-short c).After-step in
+    let short = c.datagrams_fit.ensures.fits w i.1.0 c.args.now 0 (seen c.args.event) i.1.1 i.0 c.holds_bytes.ensures in
+    rw left.setting (is-short c.step.result (step_of w c.args.now 0 (seen c.args.event)) c.args.out.now c.step.new.out c.step.new.self w.setting.limits.datagram short c.step.ensures.exact c.step.ensures.none)

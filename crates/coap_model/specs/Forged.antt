@@ -1,0 +1,36 @@
+-- Deliveries that nothing justifies: histories that are right but for one thing.
+use Rattle.std.specs.Prelude.{ℕ, List, [], ◌∷◌, Some, None}
+use Rattle.coap_target.specs.declared.endpoint.Endpoint.{Endpoint}
+use Rattle.coap_model.specs.declared.report.Outcome.TheVariants.{Opened, Answered, SentRequest, Delivered}
+use Rattle.coap_model.specs.declared.report.Storing.TheVariants.{NotStored}
+use Rattle.coap_model.specs.Setting.{Setting}
+use Rattle.coap_model.specs.Events.{arrival, tick}
+use Rattle.coap_model.specs.Examples.{proxy, origin, client, get_t, get_temp, content, content_for_client}
+use Rattle.coap_model.specs.History.{Act, admits, moves, serves, Deed}
+
+abbrev pub setting : Setting
+setting = proxy.setting
+
+-- a request comes and is sent on, and its answer comes
+abbrev pub opened : Deed
+opened = record { entry = record { now = 0; draw = 0; event = arrival (client 1) (get_t []); report = record { send = None; outcome = Opened }; bytes = [] }; act = admits 1 1 }
+
+abbrev pub asked : Deed
+asked = record { entry = record { now = 0; draw = 0; event = tick; report = record { send = Some origin; outcome = SentRequest }; bytes = get_temp [] }; act = moves 1 }
+
+abbrev pub answered : Deed
+answered = record { entry = record { now = 0; draw = 0; event = arrival origin content; report = record { send = None; outcome = Answered NotStored }; bytes = [] }; act = moves 1 }
+
+abbrev pub past : List Deed
+past = answered ∷ asked ∷ opened ∷ []
+
+-- a delivery after 2,500 milliseconds
+abbrev pub delivery : Endpoint → List ℕ → Act → Deed
+delivery to bytes act = record { entry = record { now = 2500; draw = 0; event = tick; report = record { send = Some to; outcome = Delivered }; bytes = bytes }; act = act }
+
+abbrev pub right : Deed
+right = delivery (client 1) (content_for_client 7) (serves 1)
+
+-- the same at a datagram in place of a tick
+abbrev pub at_an_arrival : Deed → Deed
+at_an_arrival d = record d { entry = record d.entry { event = arrival (client 1) (get_t []) } }
