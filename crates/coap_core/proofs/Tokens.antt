@@ -12,6 +12,9 @@ use Rattle.coap_target.specs.Endpoint.{same_endpoint}
 use Rattle.coap_target.specs.Equality.{same_bytes}
 use Rattle.coap_target.proofs.Same.{Tells-bytes}
 use Rattle.coap_exchange.specs.declared.exchange.Exchange.{Exchange}
+use Rattle.coap_exchange.specs.declared.exchange.ExchangeState.{ExchangeState}
+use Rattle.coap_exchange.specs.declared.exchange.ExchangeState.TheVariants.{Queued, Sent, Done}
+use Rattle.coap_exchange.specs.Exchanges.{is_sent}
 use Rattle.coap_exchange.specs.Table.{Numbered, Table, IsRising, IsTable, item_at}
 use Rattle.coap_model.specs.Messages.{token_of}
 use Rattle.coap_model.specs.World.{World, Step}
@@ -123,6 +126,12 @@ pub awaits-one : (salt : ℕ) (source : Endpoint) (m : Message) (number : ℕ) (
     → (b : Bool) → b ≡ (has_id m.id x.state && same_endpoint x.target.at source) → awaiting_in salt source m t ≡ (if b then Some number else None)
 awaits-one salt source m number t small token is few x e b f =
     found-by-number salt source m number small token 0 t.items is.rising (all-small t.admitted t.items few is.below) ∙ rw (e, f) refl
+
+-- an exchange that was sent with an id was sent
+pub sent-with : (id : ℕ) (s : ExchangeState) (b : Bool) → (has_id id s && b) ≡ true → is_sent s ≡ true
+sent-with id Queued b e = absurd cc
+sent-with id (Sent sending) b e = refl
+sent-with id (Done a) b e = absurd cc
 
 -- what is done for the exchange that awaits a response depends on its number alone
 pub answered : (w : World) (now : ℕ) (m : Message) (o : Option (Numbered Exchange)) (number : ℕ) (P : Step → Type 0) → Some number ≡ option_map (λ x. x.0) o → ((x : Exchange) → P (answers w now m (number, x))) → P (on_response w now m o)

@@ -1,12 +1,14 @@
 -- What the calls of a core answer and leave.
-use Rattle.std.specs.Prelude.{◌≡◌, ℕ, ◌+◌, ◌<◌, ◌≤◌, ◌^◌, true, List, Option, Some, None, option_map}
+use Rattle.std.specs.Prelude.{◌≡◌, ℕ, ◌+◌, ◌<◌, ◌≤◌, ◌^◌, true, List, Option, Some, None, IfSome, option_map}
 use Rattle.std.specs.List.{AllByRecursion}
 use Rattle.coap_message.specs.Datagram.{Datagram, holding}
 use Rattle.coap_message.specs.Spelling.{spelling}
 use Rattle.coap_target.specs.MappedTarget.{seen}
 use Rattle.coap_exchange.specs.declared.exchange.ExchangeState.{ExchangeState}
 use Rattle.coap_exchange.specs.declared.exchange.ExchangeState.TheVariants.{Queued, Sent, Done}
-use Rattle.coap_exchange.specs.Table.{IsRising, item_at}
+use Rattle.coap_exchange.specs.declared.exchange.Exchange.{Exchange}
+use Rattle.coap_exchange.specs.Exchanges.{is_sent}
+use Rattle.coap_exchange.specs.Table.{Numbered, IsRising, item_at}
 use Rattle.coap_exchange.specs.declared.waiter.Waiter.{Waiter}
 use Rattle.coap_exchange.specs.Due.{Item, sending, serving, due_as, answer_in}
 use Rattle.coap_model.specs.declared.report.Report.{Report}
@@ -38,6 +40,10 @@ pub record CanGoOn (w : World) : Type 0 where
   pub admitted : w.admitted < 2 ^ 63
   pub ids : w.given + reserved w ≤ 32768
   pub answers : AllByRecursion (λ x. IsUnderstood x.1.state) w.exchanges
+
+-- the request of the exchange of this number, if there is one, was sent, and no answer has come
+abbrev pub IsSentAt : ℕ → List (Numbered Exchange) → Type 0
+IsSentAt number exchanges = IfSome (item_at number exchanges) (λ x. is_sent x.state ≡ true)
 
 -- ---- values of the program as the model sees them
 

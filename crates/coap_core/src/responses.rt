@@ -1,10 +1,10 @@
 //! The step of a response that comes in an acknowledgement (RFC 7252, 5.2.1 and 5.3.2).
-ghost use Rattle.std.specs.Prelude.{◌≡◌, ◌&&◌, true, option_map, IfOk, OnErr};
+ghost use Rattle.std.specs.Prelude.{◌≡◌, ◌&&◌, true, option_map, IfOk, IfSome, OnErr};
 ghost use Rattle.coap_target.specs.Endpoint.{same_endpoint};
 ghost use Rattle.coap_exchange.specs.declared.exchange.Exchange.{Exchange};
 ghost use Rattle.coap_model.specs.Memory.{takes_memory};
 ghost use Rattle.coap_model.specs.Responses.{has_id, awaiting, answers, on_response};
-ghost use Rattle.coap_core.specs.Steps.{Does, CanGoOn};
+ghost use Rattle.coap_core.specs.Steps.{Does, CanGoOn, IsSentAt};
 
 use crate::messages::{answer_of, number_of};
 use crate::tables::{Tables, silent};
@@ -53,7 +53,8 @@ impl Tables {
     /// The number of the exchange that awaits this response of this endpoint: by endpoint, id and token.
     fn awaiting(&self, source: Endpoint, response: &MessageRef<'_>) -> Option<u64>
         requires { CanGoOn self.now }
-        ensures { result ≡ option_map (λ x. x.0) (awaiting self.now source response.now) }
+        ensures exact { result ≡ option_map (λ x. x.0) (awaiting self.now source response.now) }
+        ensures sent { IfSome result (λ number. IsSentAt number self.now.exchanges) }
     {
         let number = number_of(self.salt, response.token.as_slice())?;
         let exchange = self.exchanges.get(number)?;
@@ -72,7 +73,8 @@ impl Tables {
         response: &MessageRef<'_>,
         out: &mut Datagram,
     ) -> Result<Report, OutOfMemory>
-        requires { CanGoOn self.old }
+        requires can { CanGoOn self.old }
+        requires sent { IsSentAt number self.old.exchanges }
         ensures exact { (x : Exchange) → IfOk result (λ report. Does (answers self.old now response.now (number, x)) report out.old out.new self.new) }
         ensures err { OnErr result (self.new ≡ self.old) }
         ensures kept { out.new.room ≡ out.old.room }

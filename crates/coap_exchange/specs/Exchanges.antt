@@ -19,6 +19,11 @@ is_queued Queued = true
 is_queued (Sent s) = false
 is_queued (Done a) = false
 
+abbrev pub is_sent : ExchangeState → Bool
+is_sent Queued = false
+is_sent (Sent s) = true
+is_sent (Done a) = false
+
 abbrev pub is_done : ExchangeState → Bool
 is_done Queued = false
 is_done (Sent s) = false

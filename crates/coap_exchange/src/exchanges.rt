@@ -1,12 +1,12 @@
 //! Tables of exchanges: what is admitted, sent, answered and closed, and what is due.
-ghost use Rattle.std.specs.Prelude.{◌≡◌, ◌+◌, ◌-◌, ◌<◌, ◌^◌, ◌↔◌, length, option_map, nat_eq, if◌then◌else◌, false, OnOk, OnErr, IfOk, IfErr, IfSome, IfNone};
+ghost use Rattle.std.specs.Prelude.{◌≡◌, ◌+◌, ◌-◌, ◌<◌, ◌^◌, ◌↔◌, length, option_map, nat_eq, if◌then◌else◌, true, false, OnOk, OnErr, IfOk, IfErr, IfSome, IfNone};
 ghost use Rattle.std.specs.Map.{set_value};
 ghost use Rattle.std.specs.Option.{option_copied};
 ghost use Rattle.indexmap.specs.IndexMap.{get};
 ghost use Rattle.coap_exchange.specs.declared.exchange.ExchangeState.TheVariants.{Queued, Sent, Done};
 ghost use Rattle.coap_exchange.specs.declared.table.AdmitError.TheVariants.{Full};
 ghost use Rattle.coap_exchange.specs.Due.{due_as, exchange_items, least, answer_in};
-ghost use Rattle.coap_exchange.specs.Exchanges.{with_state, is_queued, queued_at, count_where};
+ghost use Rattle.coap_exchange.specs.Exchanges.{with_state, is_queued, is_sent, queued_at, count_where};
 ghost use Rattle.coap_exchange.specs.Table.{empty_table, item_at, admitted_to, without, withdrawn, IsTable};
 
 use crate::due::Due;
@@ -129,15 +129,17 @@ impl Exchanges {
         self.table.close(number);
     }
 
-    /// The request of the exchange of this number was sent.
+    /// The request of the exchange of this number, which waited for its turn, was sent.
     pub fn send(&mut self, number: u64, sending: Sending)
+        requires queued { IfSome (item_at number self.old.items) (λ x. is_queued x.state ≡ true) }
         ensures sent { self.new ≡ record self.old { items = with_state number (Sent sending) self.old.items } }
     {
         self.move_to(number, ExchangeState::Sent(sending));
     }
 
-    /// The answer of the exchange of this number came.
+    /// The answer of the exchange of this number came, whose request was sent.
     pub fn answer(&mut self, number: u64, answer: Answer)
+        requires sent { IfSome (item_at number self.old.items) (λ x. is_sent x.state ≡ true) }
         ensures answered { self.new ≡ record self.old { items = with_state number (Done answer) self.old.items } }
     {
         self.move_to(number, ExchangeState::Done(answer));

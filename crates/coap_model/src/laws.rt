@@ -27,8 +27,8 @@ ghost use Rattle.coap_model.specs.Carries.{Carries};
 ghost use Rattle.coap_model.specs.Promised.{Promised};
 ghost use Rattle.coap_model.specs.Runs.{Turn, AreTurns, new_run, run_of, entry_of};
 ghost use Rattle.coap_model.specs.Examples.{origin, from, tick_at, client, content_for_client, play, proxy, small_proxy, narrow_proxy, first_answer, first_answer_sent, late_answer, late_answer_sent, error, error_sent, fault, fault_sent, changed, changed_sent, valid, replaced_sent, block_in_response, long_max_age, impostor, impostor_sent, refusals, refusals_sent, long_paths, long_paths_sent, long_segments, long_segments_sent, payload_in_get, payload_in_get_sent, full, full_sent, unprocessed_messages, unprocessed_messages_sent, too_long, too_long_sent, payload_of, payload_of_109_sent, spent_proxy, last_id, last_id_sent, wrapping_proxy, wrapping, wrapping_sent};
-ghost use Rattle.coap_model.specs.EdgeExamples.{after, asks_at, tokens, tokens_sent, two_faults, two_faults_sent, of_class_3, of_class_3_sent, changed_with_age, changed_with_age_sent, two_ages, greatest_age, greatest_age_sent, shorter_age, shorter_age_sent, ten_seconds_after, one_left, none_left, of_one_moment, of_one_moment_sent, request_first, request_first_sent, client_first, client_first_sent, named, named_form, target_in};
-ghost use Rattle.coap_model.specs.Held.{held, most_held};
+ghost use Rattle.coap_model.specs.EdgeExamples.{after, asks_at, with_token, tokens, tokens_sent, two_faults, two_faults_sent, of_class_3, of_class_3_sent, changed_with_age, changed_with_age_sent, two_ages, greatest_age, greatest_age_sent, shorter_age, shorter_age_sent, ten_seconds_after, one_left, none_left, of_one_moment, of_one_moment_sent, request_first, request_first_sent, client_first, client_first_sent, named, named_form, target_in};
+ghost use Rattle.coap_model.specs.Held.{target_bytes, held, most_held};
 ghost use Rattle.coap_model.specs.LimitExamples.{got, one_exchange, one_waiter, until_served, until_served_sent, retries_after, two_requests, second_is_told, narrow, long_datagrams, long_datagrams_sent, later_proxy, counted_on, counted_on_sent, after_ids, last_refusal, last_refusal_sent, kept_ids, kept_ids_sent};
 
 /// Runs of the step, computed on the definitions.
@@ -88,6 +88,8 @@ pub fn examples_at_edges()
     ensures form { spelling (forwarded eight_zeros named 7) ≡ named_form }
     ensures read_back { target_in origin named_form ≡ Some named }
     ensures held_when_opened { held (after proxy (asks_at 0 1 ∷ [])) ≡ 22 }
+    ensures held_with_token { held (after proxy (from 0 (client 1) (with_token 0x74) ∷ [])) ≡ 24 }
+    ensures held_with_host { target_bytes named ≡ 11 }
     ensures held_when_answered { held (after proxy (asks_at 0 1 ∷ tick_at 0 ∷ from 0 origin (got 1 1) ∷ [])) ≡ 27 }
     ensures bound { most_held default_limits ≡ 16998400 }
     ensures counted { counts (after proxy (asks_at 0 1 ∷ asks_at 0 2 ∷ [])) ≡ record { cached_bytes = 0; entries = 0; con_records = 0; non_records = 0; exchanges = 2; waiters = 2 } }

@@ -10,9 +10,9 @@ use Rattle.coap_core.proofs.tables.Tables.on_response.Goals as goal
 pub returns-in-Some-clause-exact : goal.returns-in-Some-clause-exact
 returns-in-Some-clause-exact c =
     let m = c.args.response.now in
-    answered c.args.self.now c.args.now m (awaiting c.args.self.now c.args.source m) c.in-Some.number (λ s. IfOk c.answer.result (λ report. Does s report c.args.out.now c.answer.new.out c.answer.new.self)) c.in-Some.ensures c.answer.ensures.exact
+    answered c.args.self.now c.args.now m (awaiting c.args.self.now c.args.source m) c.in-Some.number (λ s. IfOk c.answer.result (λ report. Does s report c.args.out.now c.answer.new.out c.answer.new.self)) c.in-Some.ensures.exact c.answer.ensures.exact
 
 pub returns-in-Some-clause-memory : goal.returns-in-Some-clause-memory
 returns-in-Some-clause-memory c =
     let m = c.args.response.now in
-    answered c.args.self.now c.args.now m (awaiting c.args.self.now c.args.source m) c.in-Some.number (λ s. OnErr c.answer.result (takes_memory s.report.outcome ≡ true)) c.in-Some.ensures (λ x. on_err c.answer.result refl)
+    answered c.args.self.now c.args.now m (awaiting c.args.self.now c.args.source m) c.in-Some.number (λ s. OnErr c.answer.result (takes_memory s.report.outcome ≡ true)) c.in-Some.ensures.exact (λ x. on_err c.answer.result refl)
