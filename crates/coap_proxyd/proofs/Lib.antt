@@ -1,14 +1,2 @@
-pub mod Again
-pub mod Cuts
-pub mod Eights
-pub mod Steps
-pub mod Ticking
-pub mod Written
-pub mod Following
-pub mod Groups
-pub mod HexTexts
-pub mod Numerals
-pub mod Pieces
-pub mod Parts
 pub mod Asking
 pub mod Replaying

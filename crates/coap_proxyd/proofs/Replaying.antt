@@ -10,10 +10,10 @@ use Rattle.coap_model.specs.Events.{IsEvent}
 use Rattle.coap_model.specs.Carries.{Carries}
 use Rattle.coap_model.specs.Runs.{Turn, AreTurns, Run, one_turn, run_of}
 use Rattle.coap_model.proofs.Running.{clock_after, runs_carry}
-use Rattle.coap_proxyd.specs.declared.turn.Turn.{Turn as TurnRead}
-use Rattle.coap_proxyd.specs.Turns.{turn_seen}
-use Rattle.coap_proxyd.specs.Lines.{lines_of}
-use Rattle.coap_proxyd.specs.Scripts.{script_from, with_turn}
+use Rattle.coap_lines.specs.declared.turn.Turn.{Turn as TurnRead}
+use Rattle.coap_lines.specs.Turns.{turn_seen}
+use Rattle.coap_lines.specs.Lines.{lines_of}
+use Rattle.coap_lines.specs.Scripts.{script_from, with_turn}
 use Rattle.coap_proxyd.specs.declared.error.ReplayError.{ReplayError}
 use Rattle.coap_proxyd.specs.declared.error.ReplayError.TheVariants.{BadEvent, OutOfMemory, Read, Write}
 use Rattle.coap_proxyd.specs.declared.replays.Asked.{Asked}

@@ -1,12 +1,3 @@
-pub mod Answers
-pub mod Texts
-pub mod Numbers
-pub mod Endpoints
-pub mod Datagrams
-pub mod Turns
-pub mod Lines
-pub mod Scripts
-pub mod Examples
 pub mod Replays
 pub mod Faults
 pub mod Words

@@ -12,9 +12,9 @@ use Rattle.coap_proxyd.specs.declared.error.ReplayError.{ReplayError}
 use Rattle.coap_proxyd.specs.declared.error.ReplayError.TheVariants.{BadEvent, OutOfMemory, Read, Write}
 use Rattle.coap_proxyd.specs.declared.replays.Asked.{Asked}
 use Rattle.coap_proxyd.specs.declared.replays.Asked.TheVariants.{End, Skip, Do}
-use Rattle.coap_proxyd.specs.Lines.{line_of, lines_of}
-use Rattle.coap_proxyd.specs.Scripts.{Script, all_done, bad_at, script_from, with_turn}
-use Rattle.coap_proxyd.specs.Turns.{turn_seen, greatest}
+use Rattle.coap_lines.specs.Lines.{line_of, lines_of}
+use Rattle.coap_lines.specs.Scripts.{Script, all_done, bad_at, script_from, with_turn}
+use Rattle.coap_lines.specs.Turns.{turn_seen, greatest}
 
 -- ---- what is written
 

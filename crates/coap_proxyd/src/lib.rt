@@ -1,27 +1,13 @@
-//! The replay of events: lines that say what happens, and lines that say what is sent.
+//! What the program is made of: the replay of events, its words, and how it ends.
 #![tactic(auto)]
 
-mod cutting;
-mod datagram;
-mod endpoint;
 mod error;
-pub mod examples;
 mod fault;
-mod input;
-pub mod laws;
-mod line;
-mod number;
-mod output;
 mod replays;
 mod serving;
-mod turn;
 mod words;
 
-pub use error::{LineError, ReplayError};
+pub use error::ReplayError;
 pub use fault::Fault;
-pub use input::{Next, is_skipped, next_line};
-pub use line::put_line;
-pub use output::write_bytes;
 pub use replays::replay;
 pub use serving::serve;
-pub use turn::{Input, Turn, read_turn};

@@ -2,14 +2,13 @@
 ghost use Rattle.std.specs.Prelude.{◌≡◌, ◌≤◌, IfSome, OnOk};
 ghost use Rattle.coap_core.specs.Events.{seen};
 ghost use Rattle.coap_proxyd.specs.Replays.{AsksNext, DoesTurn, IfDo, IsReplayed, MayBeDone, line_for};
-ghost use Rattle.coap_proxyd.specs.Turns.{turn_seen, event_seen};
+ghost use Rattle.coap_lines.specs.Turns.{turn_seen, event_seen};
 
-use crate::error::{LineError, ReplayError};
-use crate::input::{LONGEST, Next, is_skipped, next_line};
-use crate::line::put_line;
-use crate::output::write_bytes;
-use crate::turn::{Input, Turn, read_turn};
+use crate::error::ReplayError;
 use coap_core::{Core, Event, Report};
+use coap_lines::{
+    Input, LONGEST, LineError, Next, Turn, is_skipped, next_line, put_line, read_turn, write_bytes,
+};
 use coap_message::{Datagram, OutOfMemory};
 use std::alloc::Global;
 use std::io::{BufRead, Write};

@@ -1,6 +1,6 @@
 use Rattle.std.proofs.Common.{◌≡◌, true, false, Some, None, sym}
-use Rattle.coap_proxyd.specs.Lines.{is_skipped}
-use Rattle.coap_proxyd.specs.Turns.{turn_of, turn_seen}
+use Rattle.coap_lines.specs.Lines.{is_skipped}
+use Rattle.coap_lines.specs.Turns.{turn_of, turn_seen}
 use Rattle.coap_proxyd.proofs.Asking.{asks-end, asks-long, asks-many, asks-skip, asks-bad, asks-full, asks-turn, may-be-done}
 use Rattle.coap_proxyd.proofs.replays.next_asked.Goals as goal
 

@@ -1,0 +1,12 @@
+pub mod Again
+pub mod Cuts
+pub mod Eights
+pub mod Steps
+pub mod Ticking
+pub mod Written
+pub mod Following
+pub mod Groups
+pub mod HexTexts
+pub mod Numerals
+pub mod Pieces
+pub mod Parts

@@ -1,0 +1,14 @@
+use Rattle.std.proofs.Common.{refl}
+use Rattle.std.specs.Fmt.{digits}
+use Rattle.coap_lines.specs.Numbers.{number_of, group_of}
+use Rattle.coap_target.specs.Address.{ipv4_of}
+use Rattle.std.specs.Net.Reader.{read_ipv4, read_octet, read_number}
+use Rattle.coap_lines.specs.Endpoints.{v4_endpoint, segments_read, v6_endpoint}
+use Rattle.coap_lines.specs.Datagrams.{bytes_read}
+use Rattle.hex.specs.Hex.{decode_pairs}
+use Rattle.coap_lines.specs.Turns.{arrival_of, event_of, turn_of}
+use Rattle.coap_lines.proofs.examples.endpoints.Goals as goal
+
+pub returns : goal.returns
+unfolding digits number_of group_of ipv4_of read_ipv4 read_octet read_number v4_endpoint segments_read v6_endpoint bytes_read decode_pairs arrival_of event_of turn_of
+returns c = record { four = refl; groups = refl; leading_zeros = refl; either_case = refl; long_group = refl; seven = refl; nine = refl; elided = refl; port = refl; port_zeros = refl; no_port = refl; great_number = refl; number_zeros = refl; host_name = refl; no_brackets = refl }

@@ -1,0 +1,85 @@
+-- Endpoints as texts: `a.b.c.d:port`, and `[g:g:g:g:g:g:g:g]:port`.
+use Rattle.std.specs.Prelude.{◌≡◌, ◌==◌, ◌<◌, ℕ, false, List, [], ◌∷◌, ◌++◌, length, map, codes, Option, Some, None, if◌then◌else◌}
+use Rattle.std.specs.Fmt.{decimal, digits}
+use Rattle.std.specs.List.{AllByRecursion, AllZip, join_with_byte, slice_split}
+use Rattle.std.specs.Net.Addr.{octets_of, segments_of}
+use Rattle.std.specs.Net.Grammar.{IsDotted, IsGroup}
+use Rattle.std.specs.Net.Reader.{read_byte}
+use Rattle.std.specs.Net.Text.{ipv4_text}
+use Rattle.coap_target.specs.declared.endpoint.Endpoint.{Endpoint}
+use Rattle.coap_target.specs.declared.endpoint.Ip.{Ip}
+use Rattle.coap_target.specs.declared.endpoint.Ip.TheVariants.{V4, V6}
+use Rattle.coap_target.specs.Address.{ipv4_of}
+use Rattle.coap_target.specs.RouteTexts.{all_of}
+use Rattle.coap_lines.specs.Texts.{◌>>=◌, colon, cut, left_bracket, right_bracket}
+use Rattle.coap_lines.specs.Numbers.{IsNumber, group_of, number_of}
+
+-- eight groups of one to four hexadecimal digits each, with colons between them
+abbrev pub AreGroups : List ℕ → List ℕ → Type 0
+AreGroups text segments = (groups : List (List ℕ)) × (text ≡ join_with_byte colon groups) × AllZip IsGroup groups segments × (length segments ≡ 8)
+
+-- a text writes an address: four numbers of 0 to 255 without leading zeros, with dots between them, or
+-- eight groups in brackets
+abbrev pub IsAddress : List ℕ → Ip → Type 0
+IsAddress text (V4 octets) = IsDotted text octets
+IsAddress text (V6 octets) = (inner segments : List ℕ) × (text ≡ left_bracket ∷ inner ++ right_bracket ∷ []) × AreGroups inner segments × (octets ≡ octets_of segments)
+
+-- a text writes an endpoint: an address, a colon, and a port of 0 to 65,535 without leading zeros
+abbrev pub IsEndpoint : List ℕ → Endpoint → Type 0
+IsEndpoint text endpoint = (address port : List ℕ) × (text ≡ address ++ colon ∷ port) × IsAddress address endpoint.ip × IsNumber 65535 port endpoint.port
+
+abbrev pub endpoint_at : Ip → ℕ → Endpoint
+endpoint_at ip port = record { ip = ip; port = port }
+
+-- the endpoint of an IPv4 address and a port
+unfoldable pub v4_endpoint : List ℕ → Option Endpoint
+v4_endpoint text = do
+  parts ← cut colon text
+  octets ← ipv4_of parts.0
+  port ← number_of 65535 parts.1
+  Some (endpoint_at (V4 octets) port)
+
+-- the numbers, where there are eight
+abbrev pub if_eight : List ℕ → Option (List ℕ)
+if_eight segments = if length segments == 8 then Some segments else None
+
+-- the eight numbers of the groups of an IPv6 address
+unfoldable pub segments_read : List ℕ → Option (List ℕ)
+segments_read text = all_of (map group_of (slice_split (λ b. b == colon) text)) >>= if_eight
+
+-- the groups of what is left behind a colon, if there is one
+abbrev pub parts_left : Option (List ℕ) → List (List ℕ)
+parts_left None = []
+parts_left (Some text) = slice_split (λ b. b == colon) text
+
+-- the endpoint of an IPv6 address and a port, behind the opening bracket
+unfoldable pub v6_endpoint : List ℕ → Option Endpoint
+v6_endpoint text = do
+  parts ← cut right_bracket text
+  segments ← segments_read parts.0
+  behind ← read_byte colon parts.1
+  port ← number_of 65535 behind
+  Some (endpoint_at (V6 (octets_of segments)) port)
+
+-- the endpoint that a text writes
+abbrev pub endpoint_of : List ℕ → Option Endpoint
+endpoint_of [] = None
+endpoint_of (b ∷ text) = if b == left_bracket then v6_endpoint text else v4_endpoint (b ∷ text)
+
+-- an address has four bytes, or sixteen
+abbrev pub IsIp : Ip → Type 0
+IsIp (V4 octets) = (length octets ≡ 4) × AllByRecursion (λ b. b < 256) octets
+IsIp (V6 octets) = (length octets ≡ 16) × AllByRecursion (λ b. b < 256) octets
+
+-- the groups in brackets
+abbrev pub groups_text : List ℕ → List ℕ
+groups_text segments = codes "[" ++ join_with_byte colon (map (digits 16 false) segments) ++ codes "]"
+
+-- the text of an address: groups in lower case without leading zeros
+abbrev pub address_text : Ip → List ℕ
+address_text (V4 octets) = ipv4_text octets
+address_text (V6 octets) = groups_text (segments_of octets)
+
+-- the text of an endpoint
+abbrev pub endpoint_text : Endpoint → List ℕ
+endpoint_text endpoint = address_text endpoint.ip ++ codes ":" ++ decimal endpoint.port

@@ -1,0 +1,9 @@
+pub mod Answers
+pub mod Texts
+pub mod Numbers
+pub mod Endpoints
+pub mod Datagrams
+pub mod Turns
+pub mod Lines
+pub mod Scripts
+pub mod Examples

@@ -1,0 +1,59 @@
+-- Lines of an input, and lines of an output.
+use Rattle.std.specs.Prelude.{◌≡◌, ◌≢◌, ℕ, ◌==◌, ◌⊎◌, nat_lt, Bool, false, true, List, [], ◌∷◌, ◌++◌, length, codes, Option, Some, None}
+use Rattle.std.specs.Fmt.{decimal}
+use Rattle.std.specs.List.{AllByRecursion, flat_map, slice_split}
+use Rattle.coap_target.specs.declared.endpoint.Endpoint.{Endpoint}
+use Rattle.coap_lines.specs.declared.input.Next.{Next}
+use Rattle.coap_lines.specs.declared.input.Next.TheVariants.{Line, TooLong, End}
+use Rattle.coap_lines.specs.declared.input.Piece.{Piece}
+use Rattle.coap_lines.specs.declared.input.Piece.TheVariants.{Feed, Full, Last}
+use Rattle.coap_lines.specs.Texts.{has, line_feed, number_sign}
+use Rattle.coap_lines.specs.Endpoints.{endpoint_text}
+use Rattle.coap_lines.specs.Datagrams.{hex_text}
+
+-- lines, each with a line feed behind it
+abbrev pub ended : List (List ℕ) → List ℕ
+ended lines = flat_map (λ line. line ++ line_feed ∷ []) lines
+
+-- An input has these lines: no line feed stands in one, and one stands behind each, but it may lack behind
+-- the last, if that isn't empty.
+abbrev pub AreLines : List ℕ → List (List ℕ) → Type 0
+AreLines input lines = AllByRecursion (λ line. has line_feed line ≡ false) lines
+    × ((input ≡ ended lines) ⊎ ((front : List (List ℕ)) × (last : List ℕ) × (lines ≡ front ++ last ∷ []) × (last ≢ []) × (input ≡ ended front ++ last)))
+
+-- the parts without the last one, if that is empty
+abbrev pub without_empty_end : List (List ℕ) → List (List ℕ)
+without_empty_end [] = []
+without_empty_end ([] ∷ []) = []
+without_empty_end (part ∷ parts) = part ∷ without_empty_end parts
+
+-- the lines of an input: what stands between line feeds, and behind the last of them, if that isn't empty
+abbrev pub lines_of : List ℕ → List (List ℕ)
+lines_of input = without_empty_end (slice_split (λ b. b == line_feed) input)
+
+-- a line that is too long has more than 16,384 bytes, its line feed not counted
+abbrev pub is_too_long : List ℕ → Bool
+is_too_long line = nat_lt 16384 (length line)
+
+-- a line that is skipped is empty, or a comment
+abbrev pub is_skipped : List ℕ → Bool
+is_skipped [] = true
+is_skipped (b ∷ line) = b == number_sign
+
+-- What comes next of an input, and what is left of it: its first line, which isn't too long; or a line that is,
+-- of which no more was taken than is held; or nothing.
+abbrev pub IsNext : List ℕ → Option (List ℕ) → List ℕ → Next → Type 0
+IsNext input None line next = ⊥
+IsNext input (Some rest) line Line = (lines_of input ≡ line ∷ lines_of rest) × (is_too_long line ≡ false)
+IsNext input (Some rest) line TooLong = (long : List ℕ) × (more : List (List ℕ)) × (lines_of input ≡ long ∷ more) × (is_too_long long ≡ true) × (input ≡ line ++ rest)
+IsNext input (Some rest) line End = lines_of input ≡ []
+
+-- the bytes of a line that were taken: its line feed isn't kept
+abbrev pub taken : Piece → List ℕ → List ℕ
+taken Feed line = line ++ line_feed ∷ []
+taken Full line = line
+taken Last line = line
+
+-- the line of a datagram that is sent
+unfoldable pub line_of : ℕ → Endpoint → List ℕ → List ℕ
+line_of now to bytes = decimal now ++ codes " " ++ endpoint_text to ++ codes " " ++ hex_text bytes ++ line_feed ∷ []

@@ -1,0 +1,65 @@
+-- Lines that are events: `MOMENT DRAW FROM HEX`, and `MOMENT DRAW tick`.
+use Rattle.std.specs.Prelude.{◌≡◌, ℕ, ◌^◌, ◌≤◌, nat_le, List, ◌∷◌, ◌++◌, codes, Option, Some, None, if◌then◌else◌}
+use Rattle.std.specs.Str.{bytes_eq}
+use Rattle.coap_model.specs.Events.{Event}
+use Rattle.coap_model.specs.Events.Event.{arrival, tick}
+use Rattle.coap_model.specs.Runs.{Turn}
+use Rattle.coap_lines.specs.declared.turn.Input.{Input}
+use Rattle.coap_lines.specs.declared.turn.Input.TheVariants.{Datagram, Tick}
+use Rattle.coap_lines.specs.declared.turn.Turn.{Turn as TurnRead}
+use Rattle.coap_lines.specs.Texts.{◌>>=◌, cut, space}
+use Rattle.coap_lines.specs.Numbers.{IsNumber, number_of}
+use Rattle.coap_lines.specs.Endpoints.{IsEndpoint, endpoint_of}
+use Rattle.coap_lines.specs.Datagrams.{IsHex, bytes_read}
+
+-- the greatest moment, and the greatest number of a line
+abbrev pub greatest : ℕ
+greatest = 2 ^ 62
+
+-- a text says what happened: a tick, or a datagram with its source
+abbrev pub IsHappening : List ℕ → Event → Type 0
+IsHappening text tick = text ≡ codes "tick"
+IsHappening text (arrival from bytes) = (source hex : List ℕ) × (text ≡ source ++ space ∷ hex) × IsEndpoint source from × IsHex hex bytes
+
+-- A line says a turn behind the last moment: a moment, a draw and what happened, with one space between
+-- two of them.
+abbrev pub IsTurnLine : ℕ → List ℕ → Turn → Type 0
+IsTurnLine last line turn = (moment draw what : List ℕ) × (line ≡ moment ++ space ∷ draw ++ space ∷ what)
+    × IsNumber greatest moment turn.now × (last ≤ turn.now) × IsNumber 1000 draw turn.draw × IsHappening what turn.event
+
+-- the datagram that a text says
+unfoldable pub arrival_of : List ℕ → Option Event
+arrival_of text = do
+  parts ← cut space text
+  from ← endpoint_of parts.0
+  bytes ← bytes_read parts.1
+  Some (arrival from bytes)
+
+-- what a text says that happened
+unfoldable pub event_of : List ℕ → Option Event
+event_of text = if bytes_eq text (codes "tick") then Some tick else arrival_of text
+
+abbrev pub turn_at : ℕ → ℕ → Event → Turn
+turn_at now draw event = record { now = now; draw = draw; event = event }
+
+-- a turn whose moment isn't below the last one
+abbrev pub not_before : ℕ → Turn → Option Turn
+not_before last turn = if nat_le last turn.now then Some turn else None
+
+-- the turn that a line says behind the last moment
+unfoldable pub turn_of : ℕ → List ℕ → Option Turn
+turn_of last line = do
+  first ← cut space line
+  second ← cut space first.1
+  now ← number_of greatest first.0
+  draw ← number_of 1000 second.0
+  event ← event_of second.1
+  not_before last (turn_at now draw event)
+
+-- what was read, as the model sees it
+abbrev pub event_seen : Input → Event
+event_seen (Datagram from bytes) = arrival from bytes
+event_seen Tick = tick
+
+abbrev pub turn_seen : TurnRead → Turn
+turn_seen turn = turn_at turn.now turn.draw (event_seen turn.input)

@@ -1,0 +1,62 @@
+//! Numbers as texts.
+ghost use Rattle.std.specs.Prelude.{◌≡◌, ◌==◌, ◌&&◌, ◌||◌, ◌≤◌, ◌<◌, length, nat_lt, nat_le, slice_index, IfSome};
+ghost use Rattle.std.specs.Char.{is_digit};
+ghost use Rattle.std.specs.List.{list_all};
+ghost use Rattle.coap_lines.specs.Numbers.{group_of, number_of};
+
+/// Whether a text begins with a plus, or with a zero before another byte.
+fn has_needless_start(text: &[u8]) -> bool
+    ensures { result ≡ ((slice_index text.now 0 == 43) || ((slice_index text.now 0 == 48) && nat_lt 1 (length text.now))) }
+{
+    match text {
+        [b'+', ..] | [b'0', _, ..] => true,
+        _ => false,
+    }
+}
+
+/// The number of at most `most` that a text writes in decimal digits, without leading zeros.
+pub(crate) fn read_number(text: &[u8], most: u64) -> Option<u64>
+    ensures read { result ≡ number_of most text.now }
+    ensures within { IfSome result (λ number. number ≤ most) }
+{
+    if has_needless_start(text) {
+        return None;
+    }
+    let Ok(digits) = str::from_utf8(text) else {
+        return None;
+    };
+    match digits.parse::<u64>() {
+        Ok(number) if number <= most => Some(number),
+        _ => None,
+    }
+}
+
+/// Whether all bytes are hexadecimal digits, in either case.
+fn are_digits(text: &[u8]) -> bool
+    ensures { result ≡ list_all (λ b. is_digit b 16) text.now }
+{
+    text.iter().all(|byte| byte.is_ascii_hexdigit())
+}
+
+/// Whether a text has at most four bytes, all of them hexadecimal digits.
+fn are_few_digits(text: &[u8]) -> bool
+    ensures { result ≡ (nat_le (length text.now) 4 && list_all (λ b. is_digit b 16) text.now) }
+{
+    text.len() <= 4 && are_digits(text)
+}
+
+/// The number of a group of an IPv6 address, which has one to four hexadecimal digits in either case.
+pub(crate) fn read_group(text: &[u8]) -> Option<u16>
+    ensures { result ≡ group_of text.now }
+{
+    if !are_few_digits(text) {
+        return None;
+    }
+    let Ok(digits) = str::from_utf8(text) else {
+        return None;
+    };
+    match u16::from_str_radix(digits, 16) {
+        Ok(number) => Some(number),
+        Err(_) => None,
+    }
+}

@@ -1,5 +1,0 @@
-use Rattle.coap_proxyd.proofs.Written.{endpoint_of-is, endpoint_of-written}
-use Rattle.coap_proxyd.proofs.laws.endpoints_are_read.Goals as goal
-
-pub returns : goal.returns
-returns c = record { read = endpoint_of-written; only = endpoint_of-is }

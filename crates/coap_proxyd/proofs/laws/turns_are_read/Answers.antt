@@ -1,5 +1,0 @@
-use Rattle.coap_proxyd.proofs.Written.{turn_of-is, turn_of-written}
-use Rattle.coap_proxyd.proofs.laws.turns_are_read.Goals as goal
-
-pub returns : goal.returns
-returns c = record { read = turn_of-written; only = turn_of-is }

@@ -1,5 +1,0 @@
-use Rattle.coap_proxyd.proofs.Again.{bytes_again, endpoint_again}
-use Rattle.coap_proxyd.proofs.laws.written_is_read.Goals as goal
-
-pub returns : goal.returns
-returns c = record { datagrams = bytes_again; endpoints = endpoint_again }
