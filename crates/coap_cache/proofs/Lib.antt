@@ -1,0 +1,12 @@
+pub mod Keys
+pub mod Cuts
+pub mod Found
+pub mod Distinct
+pub mod Held
+pub mod Marking
+pub mod ListStores
+pub mod Tags
+pub mod Picked
+pub mod Renewals
+pub mod Parts
+pub mod Updates

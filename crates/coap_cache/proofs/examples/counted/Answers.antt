@@ -1,0 +1,13 @@
+use Rattle.std.proofs.Common.{refl}
+use Rattle.coap_cache.proofs.examples.counted.Goals as goal
+
+pub returns : goal.returns
+returns c = record {
+  plain = refl;
+  tagged = refl;
+  tagged_again = refl;
+  host = refl;
+  empty = refl;
+  key_options = refl;
+  empty_options = refl;
+}

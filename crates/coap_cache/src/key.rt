@@ -1,0 +1,24 @@
+//! Cache keys (RFC 7252, 5.6).
+ghost use Rattle.std.specs.Prelude.{◌≡◌};
+
+use coap_message::OptionList;
+use coap_target::Target;
+
+/// What a request and one whose response was stored have in common where that response answers both: the target, and
+/// the options that take part in the cache key (RFC 7252, 5.4.2 and 5.6).
+#[derive(Clone, Debug, Drop, PartialEq, Eq, Hash)]
+pub struct CacheKey {
+    pub target: Target,
+    pub options: OptionList,
+}
+
+impl CacheKey {
+    ghost use Rattle.coap_cache.specs.Keys.{same_key};
+
+    /// Whether both are one key.
+    pub fn is(&self, other: &CacheKey) -> bool
+        ensures { result ≡ same_key self.now other.now }
+    {
+        self == other
+    }
+}
