@@ -186,9 +186,9 @@ item-due w history c (serving v a) d =
       opens = g.opens;
       getting = state.getting;
       was_got = state.was_got;
-      gets = subst (λ (n : ℕ). Gets w.setting.salt n state.getting) (found.2 ∙ g.exchange) state.gets;
+      gets = subst (λ (n : ℕ). Gets w.setting n state.getting) (found.2 ∙ g.exchange) state.gets;
       unserved = g.unserved;
-      at_is = ap (λ (b : Answer). b.got) state.answer_is ∙ got-is w.setting.limits.datagram state.getting.deed.entry.now state.gets.response;
+      at_is = ap (λ (b : Answer). b.got) state.answer_is ∙ got-is w.setting.limits.datagram state.getting.deed.entry.now state.gets.meets.response;
     }
 
 -- ---- what is due by the history is due by the tables
@@ -229,7 +229,7 @@ serving-there v a all (u ∷ us) h e = go (answer_in u.1.exchange all) refl h (�
 unsent-queued : (setting : Setting) (history : List Deed) (x : ℕ) (t : Target) (s : ExchangeState) → IsState setting history x t s → Never (Sends setting.salt x) history → is_queued s ≡ true
 unsent-queued setting history x t Queued state unsent = refl
 unsent-queued setting history x t (Sent s) state unsent = absurd (Never-at (Sends setting.salt x) history state.0.asking unsent state.0.was_asked state.0.asks.sends)
-unsent-queued setting history x t (Done a) state unsent = absurd (Never-at (Sends setting.salt x) history state.gets.asking unsent (place-before history state.getting state.gets.asking state.was_got state.gets.asked) state.gets.asks.sends)
+unsent-queued setting history x t (Done a) state unsent = absurd (Never-at (Sends setting.salt x) history state.gets.meets.asking unsent (place-before history state.getting state.gets.meets.asking state.was_got state.gets.meets.was_asked) state.gets.meets.asks.sends)
 
 send-item : (w : World) (history : List Deed) (c : Bears history w) (x at : ℕ) → IsToSend w.setting history x at → IsItem (items_of w) (moves x) at
 send-item w history c x at d = ⊎_elim in_table was_served (c.whole.complete x number.0 number.1)
@@ -240,7 +240,7 @@ send-item w history c x at d = ⊎_elim in_table was_served (c.whole.complete x 
     was_served : Somewhere (Serves x) history → IsItem (items_of w) (moves x) at
     was_served s =
         let g = served-got w.setting history c.past x s in
-        absurd (Never-at (Sends w.setting.salt x) history g.holds.asking d.unsent (place-before history g.place g.holds.asking g.is_there g.holds.asked) g.holds.asks.sends)
+        absurd (Never-at (Sends w.setting.salt x) history g.holds.meets.asking d.unsent (place-before history g.place g.holds.meets.asking g.is_there g.holds.meets.was_asked) g.holds.meets.asks.sends)
 
     in_table : HasNumber x w.exchanges → IsItem (items_of w) (moves x) at
     in_table there =
@@ -252,10 +252,10 @@ send-item w history c x at d = ⊎_elim in_table was_served (c.whole.complete x 
         record { item = sending y; there = Has-left (sending y) (exchange_items w.exchanges) (waiter_items w.exchanges w.waiters) (sending-there y w.exchanges f.3 queued); act = ap moves (sym f.1); due = f.2.admitted ∙ ap (λ (p : Place). p.deed.entry.now) place ∙ sym d.at_is }
 
 -- an exchange is got at one place
-got-first : (setting : Setting) (history : List Deed) (x : ℕ) (p : Place) → AllJustified setting history → IsPlaceOf history p → Gets setting.salt x p → Never (Gets setting.salt x) p.before
+pub got-first : (setting : Setting) (history : List Deed) (x : ℕ) (p : Place) → AllJustified setting history → IsPlaceOf history p → Gets setting x p → Never (Gets setting x) p.before
 got-first setting history x p all at g =
     let j = justified-at setting history p (Answered NotStored) all at g.outcome in
-    subst (λ (n : ℕ). Never (Gets setting.salt n) p.before) (same_moves j.exchange x (sym j.gets.act ∙ g.act)) j.first
+    subst (λ (n : ℕ). Never (Gets setting n) p.before) (same_moves j.exchange x (sym j.gets.act ∙ g.act)) j.first
 
 all-above : (low : ℕ) (xs : List (Numbered Exchange)) → IsRising low xs → AllByRecursion (λ x. low < x.0) xs
 all-above low [] r = tt
@@ -280,16 +280,16 @@ serve-item w history c v at d = ⊎_elim in_table was_served (c.whole.complete v
     was_served s = absurd (Never-at (Serves v) history s.place d.unserved s.is_there s.holds)
 
     with_answer : (u : Numbered Waiter) → v ≡ u.0 → IsWaiterOf w.setting history u → Has u w.waiters → (target : Target) (s : ExchangeState) → IsState w.setting history v target s → answer_in v w.exchanges ≡ answer_at s → IsItem (items_of w) (serves v) at
-    with_answer u same g there target Queued state own = absurd (Never-at (Gets w.setting.salt v) history d.getting state.1 d.was_got d.gets)
-    with_answer u same g there target (Sent s) state own = absurd (Never-at (Gets w.setting.salt v) history d.getting state.1 d.was_got d.gets)
+    with_answer u same g there target Queued state own = absurd (Never-at (Gets w.setting v) history d.getting state.1 d.was_got d.gets)
+    with_answer u same g there target (Sent s) state own = absurd (Never-at (Gets w.setting v) history d.getting state.1 d.was_got d.gets)
     with_answer u same g there target (Done a) state own =
         let answer : answer_in u.1.exchange w.exchanges ≡ Some a = ap (λ (n : ℕ). answer_in n w.exchanges) (g.exchange ∙ sym same) ∙ own in
-        let place = first-once (Gets w.setting.salt v) history state.getting d.getting state.was_got d.was_got state.gets d.gets (got-first w.setting history v state.getting c.past state.was_got state.gets) (got-first w.setting history v d.getting c.past d.was_got d.gets) in
+        let place = first-once (Gets w.setting v) history state.getting d.getting state.was_got d.was_got state.gets d.gets (got-first w.setting history v state.getting c.past state.was_got state.gets) (got-first w.setting history v d.getting c.past d.was_got d.gets) in
         record {
           item = serving u a;
           there = Has-right (serving u a) (exchange_items w.exchanges) (waiter_items w.exchanges w.waiters) (serving-there u a w.exchanges w.waiters there answer);
           act = ap serves (sym same);
-          due = ap (λ (b : Answer). b.got) state.answer_is ∙ got-is w.setting.limits.datagram state.getting.deed.entry.now state.gets.response ∙ ap (λ (p : Place). p.deed.entry.now) place ∙ sym d.at_is;
+          due = ap (λ (b : Answer). b.got) state.answer_is ∙ got-is w.setting.limits.datagram state.getting.deed.entry.now state.gets.meets.response ∙ ap (λ (p : Place). p.deed.entry.now) place ∙ sym d.at_is;
         }
 
     in_table : HasNumber v w.exchanges → IsItem (items_of w) (serves v) at

@@ -7,7 +7,6 @@ use Rattle.coap_message.specs.declared.kind.Kind.{Kind}
 use Rattle.coap_message.specs.declared.kind.Kind.TheVariants.{Con, Non, Ack, Rst}
 use Rattle.coap_message.specs.Uint.{IsBytes}
 use Rattle.coap_message.specs.Message.{Message}
-use Rattle.coap_message.specs.Spelling.{Spells}
 use Rattle.coap_target.specs.declared.endpoint.Endpoint.{Endpoint}
 use Rattle.coap_target.specs.Endpoint.{same_endpoint}
 use Rattle.coap_target.specs.Equality.{same_bytes}
@@ -57,7 +56,7 @@ record IsAwaited (w : World) (history : List Deed) (source : Endpoint) (m : Mess
   pub sending : Sending
   pub state_is : x.1.state ≡ Sent sending
   pub was : WasAsked w.setting history x.0 x.1.target sending.id sending.asked
-  pub ungot : Never (Gets w.setting.salt x.0) history
+  pub ungot : Never (Gets w.setting x.0) history
   pub source_is : x.1.target.at ≡ source
   pub id_is : sending.id ≡ m.id
   pub token_is : m.token ≡ token_of w.setting.salt x.0
@@ -83,24 +82,23 @@ keeps_answering w history c now draw source bytes m x onward fits read response 
     let f = a.exchange in
     let tests = and_parts (is_ack m.kind) (is_response m.code) response in
     let read_in = message_in-is w.setting.limits.datagram bytes m fits read in
-    let spells : Spells bytes m = read_in.0 in
     let unsent : (n : ℕ) → Sends salt n p → ⊥ = sends-not w.setting history e (λ o. cc) in
-    let gets : Gets salt x.0 p = record {
+    let asked = a.was.asks in
+    let from : source ≡ asked.sends.to = sym (a.was.to ∙ a.source_is) in
+    let gets : Gets w.setting x.0 p = record {
       act = refl;
       outcome = refl;
-      source = source;
-      response = m;
-      came = record { bytes = bytes; event = refl; fits = fits; spells = spells };
-      kind = ack_is m.kind tests.0;
-      code = tests.1;
-      token = a.token_is;
-      asking = a.was.asking;
-      asked = a.was.was_asked;
-      asks = a.was.asks;
-      same_source = sym (a.was.to ∙ a.source_is);
-      same_id = sym a.id_is ∙ a.was.id_is;
+      meets = record {
+        asking = a.was.asking;
+        was_asked = a.was.was_asked;
+        asks = asked;
+        response = m;
+        brings = record { bytes = bytes; came = ap (λ (to : Endpoint). arrival to bytes) from; spells = read_in.0; short = read_in.1 };
+        matches = record { kind = ack_is m.kind tests.0; code = tests.1; same_token = a.token_is; same_id = sym a.id_is ∙ a.was.id_is };
+      };
+      fits = fits;
     } in
-    let number : (n : ℕ) → Gets salt n p → n ≡ x.0 = λ n g. same_moves n x.0 (sym g.act) in
+    let number : (n : ℕ) → Gets w.setting n p → n ≡ x.0 = λ n g. same_moves n x.0 (sym g.act) in
     let next : ExchangeState = Done (answer_of w.setting.limits.datagram now m) in
     let as_many_queued = count-moved is_queued x 0 next w.exchanges c.whole.rising a.there in
     let was_sent : one_if (is_queued x.1.state) ≡ 0 = ap (λ (s : ExchangeState). one_if (is_queued s)) a.state_is in
@@ -141,5 +139,5 @@ keeps_answering w history c now draw source bytes m x onward fits read response 
         unsent = let h = c.whole.unsent in omega arith;
       };
       within = record { exchanges = let h = c.within.exchanges in let l = length-with_state x.0 next w.exchanges in omega arith; waiters = c.within.waiters; ids = let h = c.within.ids in omega arith };
-      past = (record { exchange = x.0; gets = gets; first = a.ungot; short = read_in.1; silent = record { sent = refl; bytes = refl } }, c.past);
+      past = (record { exchange = x.0; gets = gets; first = a.ungot; silent = record { sent = refl; bytes = refl } }, c.past);
     }

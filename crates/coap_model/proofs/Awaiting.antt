@@ -17,28 +17,35 @@ use Rattle.coap_exchange.specs.declared.exchange.ExchangeState.{ExchangeState}
 use Rattle.coap_exchange.specs.declared.exchange.ExchangeState.TheVariants.{Queued, Sent, Done}
 use Rattle.coap_exchange.specs.Table.{Numbered}
 use Rattle.coap_model.specs.Setting.{Setting}
-use Rattle.coap_model.specs.Events.{arrival}
+use Rattle.coap_model.specs.Events.{Event, arrival}
 use Rattle.coap_message.specs.Codes.{is_response}
 use Rattle.coap_model.specs.Messages.{is_ack, token_of}
 use Rattle.coap_model.specs.World.{World}
 use Rattle.coap_model.specs.Responses.{has_id, awaits, awaiting}
-use Rattle.coap_model.specs.History.{Deed, Place, Somewhere, opened_in, Sends, Gets, Serves}
+use Rattle.coap_model.specs.History.{Deed, Place, IsPlaceOf, Somewhere, opened_in, Opens, Sends, Meets, Gets, Serves}
 use Rattle.coap_model.specs.Justified.{IsAwaited, AllJustified}
-use Rattle.coap_model.specs.declared.report.Outcome.TheVariants.{Delivered}
+use Rattle.coap_model.specs.declared.report.Outcome.TheVariants.{SentRequest, Delivered}
 use Rattle.coap_model.specs.Carries.{IsState, IsExchangeOf, HasNumber, Bears}
 use Rattle.coap_model.proofs.Lists.{none-found}
 use Rattle.coap_model.proofs.Spelled.{message_in-again}
-use Rattle.coap_model.proofs.Places.{first-once, same_serves, place-before, justified-at, Never-at, Opens-number, arrival-same}
+use Rattle.coap_model.proofs.Places.{first-once, same_moves, same_serves, place-before, justified-at, Never-at, Opens-number, arrival-same}
 use Rattle.coap_model.proofs.Rules.{IsNothing}
 
 -- ---- places of the history
 
 -- a waiter was served after its exchange was got
-pub served-got : (setting : Setting) (history : List Deed) → AllJustified setting history → (n : ℕ) → Somewhere (Serves n) history → Somewhere (Gets setting.salt n) history
+pub served-got : (setting : Setting) (history : List Deed) → AllJustified setting history → (n : ℕ) → Somewhere (Serves n) history → Somewhere (Gets setting n) history
 served-got setting history all n s =
     let d = justified-at setting history s.place Delivered all s.is_there s.holds.outcome in
     let same = same_serves d.waiter n (sym d.act ∙ s.holds.act) in
-    record { place = d.getting; is_there = place-before history s.place d.getting s.is_there d.was_got; holds = subst (λ (k : ℕ). Gets setting.salt k d.getting) same d.gets }
+    record { place = d.getting; is_there = place-before history s.place d.getting s.is_there d.was_got; holds = subst (λ (k : ℕ). Gets setting k d.getting) same d.gets }
+
+-- what was asked was opened before, so its number is one of those that were given
+asked-number : (setting : Setting) (history : List Deed) → AllJustified setting history → (x : ℕ) (p : Place) → IsPlaceOf history p → Sends setting.salt x p → (0 < x) × (x ≤ opened_in history)
+asked-number setting history all x p at s =
+    let f = justified-at setting history p SentRequest all at s.outcome in
+    let same = same_moves f.exchange x (sym f.act ∙ s.act) in
+    Opens-number history f.opening x (place-before history p f.opening at f.was_opened) (subst (λ (n : ℕ). Opens n f.opening) same f.opens)
 
 -- ---- the table
 
@@ -50,14 +57,15 @@ at-number P Q n (x ∷ xs) h p q = ⊎_elim (λ (same : n ≡ x.0). (x, same, p.
 -- ---- what is awaited is found
 
 -- an exchange that the history asked and didn't get passes the test
-passes : (setting : Setting) (history : List Deed) (x : ℕ) (source : Endpoint) (bytes : List ℕ) (a : IsAwaited setting history x (arrival source bytes)) (target : Target) (s : ExchangeState) → IsState setting history x target s → a.source ≡ source → (has_id a.response.id s ≡ true) × (target.at ≡ source)
-passes setting history x source bytes a target Queued state same = absurd (Never-at (Sends setting.salt x) history a.asking state.0 a.was_asked a.asks.sends)
-passes setting history x source bytes a target (Done answer) state same = absurd (Never-at (Gets setting.salt x) history state.getting a.ungot state.was_got state.gets)
-passes setting history x source bytes a target (Sent s) state same =
+passes : (setting : Setting) (history : List Deed) (x : ℕ) (event : Event) (a : IsAwaited setting history x event) (target : Target) (s : ExchangeState) → IsState setting history x target s → (has_id a.meets.response.id s ≡ true) × (target.at ≡ a.meets.asks.sends.to)
+passes setting history x event a target Queued state = absurd (Never-at (Sends setting.salt x) history a.meets.asking state.0 a.meets.was_asked a.meets.asks.sends)
+passes setting history x event a target (Done answer) state = absurd (Never-at (Gets setting x) history state.getting a.ungot state.was_got state.gets)
+passes setting history x event a target (Sent s) state =
     let was = state.0 in
-    let place = first-once (Sends setting.salt x) history was.asking a.asking was.was_asked a.was_asked was.asks.sends a.asks.sends was.asks.first a.asks.first in
-    let there = one-sending setting.salt x was.asking a.asking place was.asks.sends a.asks.sends in
-    (eq-eqb s.id a.response.id (was.id_is ∙ there.1 ∙ sym a.same_id), sym was.to ∙ there.0 ∙ sym a.same_source ∙ same)
+    let m = a.meets in
+    let place = first-once (Sends setting.salt x) history was.asking m.asking was.was_asked m.was_asked was.asks.sends m.asks.sends was.asks.first m.asks.first in
+    let there = one-sending setting.salt x was.asking m.asking place was.asks.sends m.asks.sends in
+    (eq-eqb s.id m.response.id (was.id_is ∙ there.1 ∙ sym m.matches.same_id), sym was.to ∙ there.0)
   where
     one-sending : (salt y : ℕ) (p q : Place) → p ≡ q → (f : Sends salt y p) (g : Sends salt y q) → (f.to ≡ g.to) × (f.message.id ≡ g.message.id)
     one-sending salt y p q e f g =
@@ -69,30 +77,33 @@ passes setting history x source bytes a target (Sent s) state same =
 pub not-ignored : (w : World) (history : List Deed) (c : Bears history w) (x : ℕ) (source : Endpoint) (bytes : List ℕ) → IsAwaited w.setting history x (arrival source bytes) → IsNothing w source bytes → ⊥
 not-ignored w history c x source bytes a none = ⊎_elim in_table was_served (c.whole.complete x number.0 number.1)
   where
+    m : Meets w.setting x history (arrival source bytes)
+    m = a.meets
+
     number : (0 < x) × (x ≤ opened_in history)
-    number = Opens-number history a.opening x a.was_opened a.opens
+    number = asked-number w.setting history c.past x m.asking m.was_asked m.asks.sends
 
-    came : (source ≡ a.source) × (bytes ≡ a.bytes)
-    came = arrival-same source a.source bytes a.bytes a.came
+    came : (source ≡ m.asks.sends.to) × (bytes ≡ m.brings.bytes)
+    came = arrival-same source m.asks.sends.to bytes m.brings.bytes m.brings.came
 
-    unfound : awaiting w source a.response ≡ None
+    unfound : awaiting w source m.response ≡ None
     unfound =
-        none.response a.response
-        (message_in-again w.setting.limits.datagram bytes a.response (ap read_message came.1 ∙ read_again a.bytes a.response a.spells) (rw came.1 a.short))
-        (and_from (is_ack a.response.kind) (is_response a.response.code) (ap is_ack a.kind) a.code)
+        none.response m.response
+        (message_in-again w.setting.limits.datagram bytes m.response (ap read_message came.1 ∙ read_again m.brings.bytes m.response m.brings.spells) (rw came.1 m.brings.short))
+        (and_from (is_ack m.response.kind) (is_response m.response.code) (ap is_ack m.matches.kind) m.matches.code)
 
     was_served : Somewhere (Serves x) history → ⊥
-    was_served h = let s = served-got w.setting history c.past x h in Never-at (Gets w.setting.salt x) history s.place a.ungot s.is_there s.holds
+    was_served h = let s = served-got w.setting history c.past x h in Never-at (Gets w.setting x) history s.place a.ungot s.is_there s.holds
 
     in_table : HasNumber x w.exchanges → ⊥
     in_table there =
         let salt = w.setting.salt in
-        let f = at-number (IsExchangeOf w.setting history) (λ y. awaits salt source a.response y ≡ false) x w.exchanges there c.exchanges (none-found (awaits salt source a.response) w.exchanges unfound) in
+        let f = at-number (IsExchangeOf w.setting history) (λ y. awaits salt source m.response y ≡ false) x w.exchanges there c.exchanges (none-found (awaits salt source m.response) w.exchanges unfound) in
         let y = f.0 in
         let state = subst (λ (n : ℕ). IsState w.setting history n y.1.target y.1.state) (sym f.1) f.2.state in
-        let test = passes w.setting history x source bytes a y.1.target y.1.state state (sym came.0) in
-        let token : token_of salt y.0 ≡ a.response.token = ap (token_of salt) (sym f.1) ∙ sym a.token in
-        let right = and_from (same_endpoint y.1.target.at source) (same_bytes (token_of salt y.0) a.response.token) ((Tells-both same_endpoint Tells-endpoint y.1.target.at source).1 test.1) (rw token (nat_list_eq_equiv.refl a.response.token)) in
-        let found = and_from (has_id a.response.id y.1.state) (same_endpoint y.1.target.at source && same_bytes (token_of salt y.0) a.response.token) test.0 right in
+        let test = passes w.setting history x (arrival source bytes) a y.1.target y.1.state state in
+        let token : token_of salt y.0 ≡ m.response.token = ap (token_of salt) (sym f.1) ∙ sym m.matches.same_token in
+        let right = and_from (same_endpoint y.1.target.at source) (same_bytes (token_of salt y.0) m.response.token) ((Tells-both same_endpoint Tells-endpoint y.1.target.at source).1 (test.1 ∙ sym came.0)) (rw token (nat_list_eq_equiv.refl m.response.token)) in
+        let found = and_from (has_id m.response.id y.1.state) (same_endpoint y.1.target.at source && same_bytes (token_of salt y.0) m.response.token) test.0 right in
         let both : true ≡ false = sym found ∙ f.3 in
         cc

@@ -18,7 +18,7 @@ use Rattle.coap_model.proofs.Answering.{keeps_answering}
 use Rattle.coap_model.proofs.Delivering.{keeps_delivering}
 
 -- the tables after an entry are what it did, in front of what was done before
-record IsKept (history : List Deed) (e : Entry) (w : World) : Type 0 where
+pub record IsKept (history : List Deed) (e : Entry) (w : World) : Type 0 where
   pub act : Act
   pub bears : Bears (doing act e ∷ history) w
 
@@ -34,10 +34,14 @@ keeps_rule {w = w} {now = now} {draw = draw} history c onward (forwarding x due)
 keeps_rule {w = w} {now = now} {draw = draw} history c onward (delivering v a due) = record { act = serves v.0; bears = keeps_delivering w history c now draw v a onward due }
 keeps_rule {w = w} {now = now} {draw = draw} history c onward (idling nothing) = record { act = no_item; bears = keeps_idling w history c now draw onward nothing }
 
+-- a step goes on from what was done before
+pub keeps_deeds : (w : World) (history : List Deed) (now draw : ℕ) (event : Event) → Bears history w → w.last ≤ now → IsEvent event → IsKept history (entry_of now draw event (step_of w now draw event)) (step_of w now draw event).world
+keeps_deeds w history now draw event c onward fits = keeps_rule history c onward (rule_of w now draw event fits)
+
 pub keeps_step : (w : World) (history : List Entry) (now draw : ℕ) (event : Event) → Carries history w → w.last ≤ now → IsEvent event → Carries (entry_of now draw event (step_of w now draw event) ∷ history) (step_of w now draw event).world
 keeps_step w history now draw event c onward fits =
     let e = entry_of now draw event (step_of w now draw event) in
-    let k = keeps_rule c.deeds c.bears onward (rule_of w now draw event fits) in
+    let k = keeps_deeds w c.deeds now draw event c.bears onward fits in
     record { deeds = doing k.act e ∷ c.deeds; told = ap (λ (past : List Entry). e ∷ past) c.told; bears = k.bears }
 
 pub starts : (setting : Setting) → AreRoutes setting.routes → Carries [] (new_world setting)

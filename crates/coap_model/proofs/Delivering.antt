@@ -74,15 +74,14 @@ served w history c now v a due =
 reply-is : (w : World) (history : List Deed) (now id : ℕ) (v : Numbered Waiter) (a : Answer) → IsServed w history v a → IsMessage (shown now a id v.1.token)
 reply-is w history now id v a s =
     let got = s.got in
-    let short : length v.1.token ≤ 8 = subst (λ (t : List ℕ). length t ≤ 8) (sym s.waiter.token_is) s.waiter.asked.spells.message.token in
-    let is = shown-is w.setting.limits.datagram now got.getting.deed.entry.now got.gets.response id v.1.token got.gets.came.spells.message got.gets.code short in
+    let short : length v.1.token ≤ 8 = subst (λ (t : List ℕ). length t ≤ 8) (sym s.waiter.token_is) s.waiter.asked.brings.spells.message.token in
+    let is = shown-is w.setting.limits.datagram now got.getting.deed.entry.now got.gets.meets.response id v.1.token got.gets.meets.brings.spells.message got.gets.meets.matches.code short in
     subst (λ (b : Answer). IsMessage (shown now b id v.1.token)) (sym got.answer_is) is
 
 delivery : (w : World) (history : List Deed) (e : Deed) (id : ℕ) (v : Numbered Waiter) (a : Answer) → IsServed w history v a → e.act ≡ serves v.0 → IsActing w.setting history e → e.entry.report.send ≡ Some v.1.client → Spells e.entry.bytes (shown e.entry.now a id v.1.token) → IsDelivery w.setting history e
 delivery w history e id v a s act acts sent spells =
     let g = s.waiter in
     let got = s.got in
-    let salt = w.setting.salt in
     record {
       waiter = v.0;
       act = act;
@@ -105,7 +104,7 @@ delivery w history e id v a s act acts sent spells =
           (λ (other : IsPlaceOf got.getting.before g.admission ⊎ IsPlaceOf g.admission.before got.getting).
           ⊎_elim
           (λ (later : IsPlaceOf got.getting.before g.admission). later)
-          (λ (earlier : IsPlaceOf g.admission.before got.getting). absurd (Never-at (Gets salt v.0) g.admission.before got.getting g.ungot earlier got.gets))
+          (λ (earlier : IsPlaceOf g.admission.before got.getting). absurd (Never-at (Gets w.setting v.0) g.admission.before got.getting g.ungot earlier got.gets))
           other)
           (in-order history got.getting g.admission got.was_got g.was_admitted);
       asked_target = got.asked_target;
@@ -113,7 +112,7 @@ delivery w history e id v a s act acts sent spells =
       tells = record {
         sent = sent ∙ ap Some g.client_is;
         spells =
-            subst (λ (t : List ℕ). Spells e.entry.bytes (shown e.entry.now (answer_of w.setting.limits.datagram got.getting.deed.entry.now got.gets.response) id t)) g.token_is
+            subst (λ (t : List ℕ). Spells e.entry.bytes (shown e.entry.now (answer_of w.setting.limits.datagram got.getting.deed.entry.now got.gets.meets.response) id t)) g.token_is
             (subst (λ (b : Answer). Spells e.entry.bytes (shown e.entry.now b id v.1.token)) got.answer_is spells);
       };
     }

@@ -51,7 +51,7 @@ one_opening p x at o =
     t)
     at
 
-one_getting : (p : Place) (x : ℕ) → IsPlaceOf past p → Gets 0 x p → p ≡ here (asked ∷ opened ∷ []) answered
+one_getting : (p : Place) (x : ℕ) → IsPlaceOf past p → Gets setting x p → p ≡ here (asked ∷ opened ∷ []) answered
 one_getting p x at g =
     ⊎_elim
     (λ (e : here (asked ∷ opened ∷ []) answered ≡ p). sym e)
@@ -65,7 +65,7 @@ one_getting p x at g =
 pub to_another : ¬ IsDelivery setting past (delivery (client 2) (content_for_client 7) (serves 1))
 to_another s =
     let place = one_opening s.admission s.waiter s.was_admitted s.opens in
-    let same = arrival-same s.client (client 1) s.asked.bytes _ (sym s.asked.came ∙ ap (λ (p : Place). p.deed.entry.event) place) in
+    let same = arrival-same s.client (client 1) s.asked.brings.bytes _ (sym s.asked.brings.came ∙ ap (λ (p : Place). p.deed.entry.event) place) in
     let to = same_Some (client 2) (client 1) (s.tells.sent ∙ ap Some same.0) in
     let port = ap (λ (e : Endpoint). e.port) to in
     omega (arith, port)
@@ -84,7 +84,7 @@ out_of_turn s = s.acting.first (moves 2) 0 (record { opening = here past opened;
     other : ¬ Sends 0 2 (here (opened ∷ []) asked)
     other s = let e = same_moves 1 2 s.act in omega (arith, e)
 
-    moment : (p : Place) → IsPlaceOf (opened ∷ past) p → Gets 0 1 p → s.acting.at ≡ p.deed.entry.now → s.acting.at ≡ 0
+    moment : (p : Place) → IsPlaceOf (opened ∷ past) p → Gets setting 1 p → s.acting.at ≡ p.deed.entry.now → s.acting.at ≡ 0
     moment p at g is =
         ⊎_elim (λ (e : here past opened ≡ p). is ∙ sym (ap (λ (q : Place). q.deed.entry.now) e)) (λ (t : IsPlaceOf past p). is ∙ ap (λ (q : Place). q.deed.entry.now) (one_getting p 1 t g)) at
 
@@ -106,9 +106,10 @@ pub another_age : ¬ IsDelivery setting past (delivery (client 1) (content_for_c
 unfolding read_message body_at options_within option_at extended uint_spelling answer_of spelling option_spelling
 another_age s =
     let place = one_getting s.getting s.waiter s.was_got s.gets in
-    let same = arrival-same s.gets.source _ s.gets.came.bytes content (sym s.gets.came.event ∙ ap (λ (p : Place). p.deed.entry.event) place) in
-    let read = ap read_message (sym same.1) ∙ read_again s.gets.came.bytes s.gets.response s.gets.came.spells in
-    let told = read_again (content_for_client 10) (shown 2500 (answer_of 1500 s.getting.deed.entry.now s.gets.response) s.id s.request.token) s.tells.spells in
-    let moment = ap (λ (p : Place). max_age_of (shown_options 2500 (answer_of 1500 p.deed.entry.now s.gets.response))) place in
+    let m = s.gets.meets in
+    let same = arrival-same m.asks.sends.to _ m.brings.bytes content (sym m.brings.came ∙ ap (λ (p : Place). p.deed.entry.event) place) in
+    let read = ap read_message (sym same.1) ∙ read_again m.brings.bytes m.response m.brings.spells in
+    let told = read_again (content_for_client 10) (shown 2500 (answer_of 1500 s.getting.deed.entry.now m.response) s.id s.request.token) s.tells.spells in
+    let moment = ap (λ (p : Place). max_age_of (shown_options 2500 (answer_of 1500 p.deed.entry.now m.response))) place in
     let ten : 10 ≡ 7 = ap told_by told ∙ moment ∙ sym (ap owed_by read) in
     omega (arith, ten)

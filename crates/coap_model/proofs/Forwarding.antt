@@ -58,7 +58,7 @@ keeps_forwarding w history c now draw x onward due =
     let is = forwarded-is (token_of salt x.0) x.1.target id f.sound (omega (arith, length-token_of salt x.0)) in
     let bytes_are : e.entry.bytes ≡ spelling request = ap (with_id id) f.form_is ∙ with_id-forwarded id (token_of salt x.0) x.1.target in
     let spells : Spells e.entry.bytes request = subst (λ (b : List ℕ). Spells b request) (sym bytes_are) (spelled request is) in
-    let ungot : (n : ℕ) → Gets salt n p → ⊥ = gets-not w.setting history e (λ o. cc) in
+    let ungot : (n : ℕ) → Gets w.setting n p → ⊥ = gets-not w.setting history e (λ o. cc) in
     let number : (n : ℕ) → Sends salt n p → n ≡ x.0 = λ n s. same_moves n x.0 (sym s.act) in
     let next : ExchangeState = Sent (record { asked = w.events; id = id }) in
     let fewer_queued = count-moved is_queued x 0 next w.exchanges c.whole.rising there in

@@ -19,7 +19,7 @@ use Rattle.coap_model.proofs.Places.{here}
 use Rattle.coap_model.proofs.Tables.{length-paired}
 
 -- a state stays where nothing is sent or got for the exchange
-state_frame : (setting : Setting) (history : List Deed) (e : Deed) (x : ℕ) (target : Target) (s : ExchangeState) → ¬ Sends setting.salt x (here history e) → ¬ Gets setting.salt x (here history e) → IsState setting history x target s → IsState setting (e ∷ history) x target s
+state_frame : (setting : Setting) (history : List Deed) (e : Deed) (x : ℕ) (target : Target) (s : ExchangeState) → ¬ Sends setting.salt x (here history e) → ¬ Gets setting x (here history e) → IsState setting history x target s → IsState setting (e ∷ history) x target s
 state_frame setting history e x target Queued unsent ungot s = ((unsent, s.0), (ungot, s.1))
 state_frame setting history e x target (Sent sending) unsent ungot s =
     let a = s.0 in
@@ -27,7 +27,7 @@ state_frame setting history e x target (Sent sending) unsent ungot s =
 state_frame setting history e x target (Done answer) unsent ungot s =
     record { getting = s.getting; was_got = inr s.was_got; gets = s.gets; asked_target = s.asked_target; answer_is = s.answer_is }
 
-pub exchange_frame : (setting : Setting) (history : List Deed) (e : Deed) (x : Numbered Exchange) → ¬ Sends setting.salt x.0 (here history e) → ¬ Gets setting.salt x.0 (here history e) → IsExchangeOf setting history x → IsExchangeOf setting (e ∷ history) x
+pub exchange_frame : (setting : Setting) (history : List Deed) (e : Deed) (x : Numbered Exchange) → ¬ Sends setting.salt x.0 (here history e) → ¬ Gets setting x.0 (here history e) → IsExchangeOf setting history x → IsExchangeOf setting (e ∷ history) x
 exchange_frame setting history e x unsent ungot f =
     record {
       opening = f.opening;
@@ -44,7 +44,7 @@ exchange_frame setting history e x unsent ungot f =
       state = state_frame setting history e x.0 x.1.target x.1.state unsent ungot f.state;
     }
 
-pub exchanges_frame : (setting : Setting) (history : List Deed) (e : Deed) (xs : List (Numbered Exchange)) → ((x : ℕ) → ¬ Sends setting.salt x (here history e)) → ((x : ℕ) → ¬ Gets setting.salt x (here history e))
+pub exchanges_frame : (setting : Setting) (history : List Deed) (e : Deed) (xs : List (Numbered Exchange)) → ((x : ℕ) → ¬ Sends setting.salt x (here history e)) → ((x : ℕ) → ¬ Gets setting x (here history e))
     → AllByRecursion (IsExchangeOf setting history) xs → AllByRecursion (IsExchangeOf setting (e ∷ history)) xs
 exchanges_frame setting history e xs unsent ungot all =
     All-weaken (IsExchangeOf setting history) (IsExchangeOf setting (e ∷ history)) xs (λ x f. exchange_frame setting history e x (unsent x.0) (ungot x.0) f) all
@@ -75,7 +75,7 @@ pub waiters_frame : (setting : Setting) (history : List Deed) (e : Deed) (vs : L
 waiters_frame setting history e vs unserved all =
     All-weaken (IsWaiterOf setting history) (IsWaiterOf setting (e ∷ history)) vs (λ v f. waiter_frame setting history e v (unserved v.0) f) all
 
-pub fresh_frame : (setting : Setting) (history : List Deed) (e : Deed) → ((x : ℕ) → opened_in history < x → ¬ Sends setting.salt x (here history e)) → ((x : ℕ) → opened_in history < x → ¬ Gets setting.salt x (here history e))
+pub fresh_frame : (setting : Setting) (history : List Deed) (e : Deed) → ((x : ℕ) → opened_in history < x → ¬ Sends setting.salt x (here history e)) → ((x : ℕ) → opened_in history < x → ¬ Gets setting x (here history e))
     → IsFresh setting history → IsFresh setting (e ∷ history)
 fresh_frame setting history e unsent ungot fresh x above =
     let below : opened_in history < x = omega arith in
@@ -86,7 +86,7 @@ fresh_frame setting history e unsent ungot fresh x above =
 pub sends-not : (setting : Setting) (history : List Deed) (e : Deed) → e.entry.report.outcome ≢ SentRequest → (x : ℕ) → ¬ Sends setting.salt x (here history e)
 sends-not setting history e other x s = other s.outcome
 
-pub gets-not : (setting : Setting) (history : List Deed) (e : Deed) → e.entry.report.outcome ≢ Answered NotStored → (x : ℕ) → ¬ Gets setting.salt x (here history e)
+pub gets-not : (setting : Setting) (history : List Deed) (e : Deed) → e.entry.report.outcome ≢ Answered NotStored → (x : ℕ) → ¬ Gets setting x (here history e)
 gets-not setting history e other x g = other g.outcome
 
 pub serves-not : (history : List Deed) (e : Deed) → e.entry.report.outcome ≢ Delivered → (v : ℕ) → ¬ Serves v (here history e)

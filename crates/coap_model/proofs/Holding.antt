@@ -112,11 +112,11 @@ exchange-held setting history x f = go x.1.state f.state
     go Queued state = omega (arith, target.most, f.form_short)
     go (Sent s) state = omega (arith, target.most, f.form_short)
     go (Done a) state =
-        let short = answer-short setting.limits.datagram state.getting.deed.entry.now state.gets.response in
+        let short = answer-short setting.limits.datagram state.getting.deed.entry.now state.gets.meets.response in
         omega (arith, target.most, f.form_short, subst (λ (b : Answer). response_bytes b.message ≤ setting.limits.datagram + 6) (sym state.answer_is) short)
 
 waiter-held : (setting : Setting) (history : List Deed) (v : Numbered Waiter) → IsWaiterOf setting history v → waiter_bytes v ≤ setting.limits.datagram + 256
-waiter-held setting history v f = omega (arith, ap length f.token_is, f.asked.spells.message.token)
+waiter-held setting history v f = omega (arith, ap length f.token_is, f.asked.brings.spells.message.token)
 
 pub within-bound : (history : List Deed) (w : World) → Bears history w → held w ≤ most_held w.setting.limits
 within-bound history w c =

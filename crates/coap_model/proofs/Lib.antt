@@ -24,4 +24,5 @@ pub mod Idling
 pub mod Fitting
 pub mod Arrivals
 pub mod Owing
+pub mod OneAnswer
 pub mod Forging

@@ -1,57 +1,107 @@
 -- What is owed is given: by exclusion, since each deed is justified by its outcome.
-use Rattle.std.proofs.Common.{◌≡◌, ◌≢◌, ℕ, ◌≤◌, List, Some, refl, sym, ap, ◌∙◌, subst, arith}
-use Rattle.std.proofs.lemmas.Option.{same_Some}
-use Rattle.coap_message.specs.declared.kind.Kind.{Kind}
+use Rattle.std.proofs.Common.{◌≡◌, ◌≢◌, ℕ, ◌≤◌, List, Some, refl, sym, ap, ◌∙◌, arith}
+use Rattle.coap_message.specs.declared.code.Code.{Code}
 use Rattle.coap_message.specs.declared.kind.Kind.TheVariants.{Con}
 use Rattle.coap_message.specs.declared.message.Head.{Head}
 use Rattle.coap_message.specs.Message.{Message}
 use Rattle.coap_message.specs.Reading.{head_at}
-use Rattle.coap_message.specs.Spelling.{Spells}
-use Rattle.coap_message.proofs.WholeMessages.{one_message, read_again, head_read}
 use Rattle.coap_target.specs.declared.endpoint.Endpoint.{Endpoint}
 use Rattle.coap_target.specs.declared.target.Target.{Target}
 use Rattle.coap_model.specs.declared.report.Outcome.{Outcome}
 use Rattle.coap_model.specs.declared.report.Outcome.TheVariants.{Ignored, Rejected, Refused, Opened, Overloaded, NoId, Answered, SentRequest, Delivered, Idle}
 use Rattle.coap_model.specs.declared.report.Storing.TheVariants.{NotStored}
 use Rattle.coap_model.specs.Setting.{Setting}
-use Rattle.coap_model.specs.Events.{Event, arrival, tick}
-use Rattle.coap_model.specs.Messages.{may_open}
-use Rattle.coap_model.specs.History.{Act, Deed, HasRoom}
+use Rattle.coap_model.specs.Events.{arrival, tick}
+use Rattle.coap_model.specs.Messages.{refused_with, may_open}
+use Rattle.coap_model.specs.History.{Act, Deed, HasIds, HasRoom}
 use Rattle.coap_model.specs.Due.{IsDueAt}
-use Rattle.coap_model.specs.Justified.{IsRequestOf, verdict_on, IsAwaited, IsActing, JustifiedBy}
+use Rattle.coap_model.specs.Justified.{IsRequestOf, verdict_on, IsRefusal, IsOverload, IsLack, IsOpening, IsAwaited, IsForwarding, IsDelivery, IsIdle, IsUnprocessable, IsActing, JustifiedBy}
 use Rattle.coap_model.proofs.Arrivals.{no_tick, one_kind, head_kind, kinds}
 use Rattle.coap_model.proofs.Places.{arrival-same, request-unique}
 
 -- ---- requests
 
+-- what becomes of a request
+data OnRequest (setting : Setting) (past : List Deed) (d : Deed) : Outcome → Type 0 where
+  refused : (code : Code) → IsRefusal setting past d code → OnRequest setting past d (Refused code)
+  overloaded : IsOverload setting past d → OnRequest setting past d Overloaded
+  lacking : IsLack setting past d → OnRequest setting past d NoId
+  opened : IsOpening setting past d → OnRequest setting past d Opened
+
+on-request : (o : Outcome) (setting : Setting) (past : List Deed) (d : Deed) (client : Endpoint) (request : Message) → JustifiedBy o setting past d → IsRequestOf setting client request d.entry.event → OnRequest setting past d o
+on-request Ignored setting past d client request j r = absurd (j.unprocessable.no_request client request r)
+on-request Rejected setting past d client request j r = absurd (j.unprocessable.no_request client request r)
+on-request (Refused code) setting past d client request j r = refused code j
+on-request Opened setting past d client request j r = opened j
+on-request Overloaded setting past d client request j r = overloaded j
+on-request NoId setting past d client request j r = lacking j
+on-request (Answered NotStored) setting past d client request j r = let m = j.gets.meets in kinds (one_kind r.brings m.brings) r.kind m.matches.kind (λ e. cc)
+on-request SentRequest setting past d client request j r = no_tick r.brings.came j.acting.ticked
+on-request Delivered setting past d client request j r = no_tick r.brings.came j.acting.ticked
+on-request Idle setting past d client request j r = no_tick r.brings.came j.ticked
+on-request _ setting past d client request j r = absurd j
+
+-- a request has one verdict
+other_verdict : {A : Type 0} (setting : Setting) (d : Deed) (a b : Endpoint) (r s : Message) (code : Code) (target : Target) → IsRequestOf setting a r d.entry.event → IsRequestOf setting b s d.entry.event → verdict_on setting r ≡ refused_with code → verdict_on setting s ≡ may_open target → A
+other_verdict setting d a b r s code target asked again refusal opening =
+    absurd (let one = request-unique setting d.entry.event a b r s asked again in let e = sym refusal ∙ ap (verdict_on setting) one.1 ∙ opening in cc)
+
+fewer_ids : (past : List Deed) → HasIds 2 past → HasIds 1 past
+fewer_ids past h = record { free = let f = h.free in omega arith }
+
+pub given_refused : (o : Outcome) (setting : Setting) (past : List Deed) (d : Deed) (client : Endpoint) (request : Message) (code : Code) → JustifiedBy o setting past d → IsRequestOf setting client request d.entry.event → verdict_on setting request ≡ refused_with code → HasIds 1 past → o ≡ Refused code
+given_refused o setting past d client request code j r verdict ids = go (on-request o setting past d client request j r)
+  where
+    go : {p : Outcome} → OnRequest setting past d p → p ≡ Refused code
+    go (refused other k) =
+        let one = request-unique setting d.entry.event k.client client k.request request k.asked r in
+        let e = sym k.verdict ∙ ap (verdict_on setting) one.1 ∙ verdict in
+        let same : other ≡ code = cc in
+        ap Refused same
+    go (overloaded k) = other_verdict setting d client k.client request k.request code k.target r k.asked verdict k.verdict
+    go (lacking k) = absurd (k.no_ids ids)
+    go (opened k) = other_verdict setting d client k.client request k.request code k.target r k.asked verdict k.verdict
+
+pub given_overloaded : (o : Outcome) (setting : Setting) (past : List Deed) (d : Deed) (client : Endpoint) (request : Message) (target : Target) → JustifiedBy o setting past d → IsRequestOf setting client request d.entry.event → verdict_on setting request ≡ may_open target → ¬ HasRoom setting.limits past → HasIds 1 past → o ≡ Overloaded
+given_overloaded o setting past d client request target j r verdict full ids = go (on-request o setting past d client request j r)
+  where
+    go : {p : Outcome} → OnRequest setting past d p → p ≡ Overloaded
+    go (refused code k) = other_verdict setting d k.client client k.request request code target k.asked r k.verdict verdict
+    go (overloaded k) = refl
+    go (lacking k) = absurd (k.no_ids ids)
+    go (opened k) = absurd (full k.room)
+
+pub given_no_id : (o : Outcome) (setting : Setting) (past : List Deed) (d : Deed) (client : Endpoint) (request : Message) → JustifiedBy o setting past d → IsRequestOf setting client request d.entry.event → ¬ HasIds 1 past → o ≡ NoId
+given_no_id o setting past d client request j r none = go (on-request o setting past d client request j r)
+  where
+    go : {p : Outcome} → OnRequest setting past d p → p ≡ NoId
+    go (refused code k) = absurd (none k.ids)
+    go (overloaded k) = absurd (none k.ids)
+    go (lacking k) = refl
+    go (opened k) = absurd (none (fewer_ids past k.room.ids))
+
 pub given_opened : (o : Outcome) (setting : Setting) (past : List Deed) (d : Deed) (client : Endpoint) (request : Message) (target : Target) → JustifiedBy o setting past d → IsRequestOf setting client request d.entry.event → verdict_on setting request ≡ may_open target → HasRoom setting.limits past → o ≡ Opened
-given_opened Ignored setting past d client request target j r verdict room = absurd (j.unprocessable.no_request client request r)
-given_opened Rejected setting past d client request target j r verdict room = kinds (head_kind d.entry.event client j.source r.bytes j.bytes request j.head r.came j.came r.spells j.head_is) r.kind j.con (λ e. cc)
-given_opened (Refused code) setting past d client request target j r verdict room =
-    let one = request-unique setting d.entry.event client j.client request j.request r j.asked in
-    absurd (let e = sym verdict ∙ ap (verdict_on setting) one.1 ∙ j.verdict in cc)
-given_opened Opened setting past d client request target j r verdict room = refl
-given_opened Overloaded setting past d client request target j r verdict room = absurd (j.no_room room)
-given_opened NoId setting past d client request target j r verdict room = absurd (j.no_ids (record { free = let f = room.ids.free in omega arith }))
-given_opened (Answered NotStored) setting past d client request target j r verdict room = let g = j.gets in kinds (one_kind d.entry.event client g.source r.bytes g.came.bytes request g.response r.came g.came.event r.spells g.came.spells) r.kind g.kind (λ e. cc)
-given_opened SentRequest setting past d client request target j r verdict room = no_tick d.entry.event client r.bytes r.came j.acting.ticked
-given_opened Delivered setting past d client request target j r verdict room = no_tick d.entry.event client r.bytes r.came j.acting.ticked
-given_opened Idle setting past d client request target j r verdict room = no_tick d.entry.event client r.bytes r.came j.ticked
-given_opened _ setting past d client request target j r verdict room = absurd j
+given_opened o setting past d client request target j r verdict room = go (on-request o setting past d client request j r)
+  where
+    go : {p : Outcome} → OnRequest setting past d p → p ≡ Opened
+    go (refused code k) = other_verdict setting d k.client client k.request request code target k.asked r k.verdict verdict
+    go (overloaded k) = absurd (k.no_room room)
+    go (lacking k) = absurd (k.no_ids (fewer_ids past room.ids))
+    go (opened k) = refl
 
 -- ---- responses
 
 pub given_answered : (o : Outcome) (setting : Setting) (past : List Deed) (d : Deed) (x : ℕ) → JustifiedBy o setting past d → IsAwaited setting past x d.entry.event → o ≡ Answered NotStored
 given_answered Ignored setting past d x j a = absurd (j.unprocessable.no_answer x a)
-given_answered Rejected setting past d x j a = kinds (head_kind d.entry.event a.source j.source a.bytes j.bytes a.response j.head a.came j.came a.spells j.head_is) a.kind j.con (λ e. cc)
-given_answered (Refused code) setting past d x j a = let r = j.asked in kinds (one_kind d.entry.event a.source j.client a.bytes r.bytes a.response j.request a.came r.came a.spells r.spells) a.kind r.kind (λ e. cc)
-given_answered Opened setting past d x j a = let r = j.asked in kinds (one_kind d.entry.event a.source j.client a.bytes r.bytes a.response j.request a.came r.came a.spells r.spells) a.kind r.kind (λ e. cc)
-given_answered Overloaded setting past d x j a = let r = j.asked in kinds (one_kind d.entry.event a.source j.client a.bytes r.bytes a.response j.request a.came r.came a.spells r.spells) a.kind r.kind (λ e. cc)
-given_answered NoId setting past d x j a = let r = j.asked in kinds (one_kind d.entry.event a.source j.client a.bytes r.bytes a.response j.request a.came r.came a.spells r.spells) a.kind r.kind (λ e. cc)
+given_answered Rejected setting past d x j a = absurd (j.unprocessable.no_answer x a)
+given_answered (Refused code) setting past d x j a = kinds (one_kind a.meets.brings j.asked.brings) a.meets.matches.kind j.asked.kind (λ e. cc)
+given_answered Opened setting past d x j a = kinds (one_kind a.meets.brings j.asked.brings) a.meets.matches.kind j.asked.kind (λ e. cc)
+given_answered Overloaded setting past d x j a = kinds (one_kind a.meets.brings j.asked.brings) a.meets.matches.kind j.asked.kind (λ e. cc)
+given_answered NoId setting past d x j a = kinds (one_kind a.meets.brings j.asked.brings) a.meets.matches.kind j.asked.kind (λ e. cc)
 given_answered (Answered NotStored) setting past d x j a = refl
-given_answered SentRequest setting past d x j a = no_tick d.entry.event a.source a.bytes a.came j.acting.ticked
-given_answered Delivered setting past d x j a = no_tick d.entry.event a.source a.bytes a.came j.acting.ticked
-given_answered Idle setting past d x j a = no_tick d.entry.event a.source a.bytes a.came j.ticked
+given_answered SentRequest setting past d x j a = no_tick a.meets.brings.came j.acting.ticked
+given_answered Delivered setting past d x j a = no_tick a.meets.brings.came j.acting.ticked
+given_answered Idle setting past d x j a = no_tick a.meets.brings.came j.ticked
 given_answered _ setting past d x j a = absurd j
 
 -- ---- what isn't processed
@@ -59,27 +109,55 @@ given_answered _ setting past d x j a = absurd j
 pub given_rejected : (o : Outcome) (setting : Setting) (past : List Deed) (d : Deed) (source : Endpoint) (bytes : List ℕ) (head : Head) → JustifiedBy o setting past d → d.entry.event ≡ arrival source bytes → head_at bytes ≡ Some head → head.kind ≡ Con → o ≡ Rejected
 given_rejected Ignored setting past d source bytes head j came is con = let same = arrival-same source j.source bytes j.bytes (sym came ∙ j.came) in absurd (j.no_con head (sym (ap head_at same.1) ∙ is) con)
 given_rejected Rejected setting past d source bytes head j came is con = refl
-given_rejected (Refused code) setting past d source bytes head j came is con = let r = j.asked in kinds (head_kind d.entry.event j.client source r.bytes bytes j.request head r.came came r.spells is) r.kind con (λ e. cc)
-given_rejected Opened setting past d source bytes head j came is con = let r = j.asked in kinds (head_kind d.entry.event j.client source r.bytes bytes j.request head r.came came r.spells is) r.kind con (λ e. cc)
-given_rejected Overloaded setting past d source bytes head j came is con = let r = j.asked in kinds (head_kind d.entry.event j.client source r.bytes bytes j.request head r.came came r.spells is) r.kind con (λ e. cc)
-given_rejected NoId setting past d source bytes head j came is con = let r = j.asked in kinds (head_kind d.entry.event j.client source r.bytes bytes j.request head r.came came r.spells is) r.kind con (λ e. cc)
-given_rejected (Answered NotStored) setting past d source bytes head j came is con = let g = j.gets in kinds (head_kind d.entry.event g.source source g.came.bytes bytes g.response head g.came.event came g.came.spells is) g.kind con (λ e. cc)
-given_rejected SentRequest setting past d source bytes head j came is con = no_tick d.entry.event source bytes came j.acting.ticked
-given_rejected Delivered setting past d source bytes head j came is con = no_tick d.entry.event source bytes came j.acting.ticked
-given_rejected Idle setting past d source bytes head j came is con = no_tick d.entry.event source bytes came j.ticked
+given_rejected (Refused code) setting past d source bytes head j came is con = kinds (head_kind j.asked.brings came is) j.asked.kind con (λ e. cc)
+given_rejected Opened setting past d source bytes head j came is con = kinds (head_kind j.asked.brings came is) j.asked.kind con (λ e. cc)
+given_rejected Overloaded setting past d source bytes head j came is con = kinds (head_kind j.asked.brings came is) j.asked.kind con (λ e. cc)
+given_rejected NoId setting past d source bytes head j came is con = kinds (head_kind j.asked.brings came is) j.asked.kind con (λ e. cc)
+given_rejected (Answered NotStored) setting past d source bytes head j came is con = let m = j.gets.meets in kinds (head_kind m.brings came is) m.matches.kind con (λ e. cc)
+given_rejected SentRequest setting past d source bytes head j came is con = no_tick came j.acting.ticked
+given_rejected Delivered setting past d source bytes head j came is con = no_tick came j.acting.ticked
+given_rejected Idle setting past d source bytes head j came is con = no_tick came j.ticked
 given_rejected _ setting past d source bytes head j came is con = absurd j
 
+pub given_ignored : (o : Outcome) (setting : Setting) (past : List Deed) (d : Deed) (source : Endpoint) (bytes : List ℕ) → JustifiedBy o setting past d → d.entry.event ≡ arrival source bytes → ((head : Head) → head_at bytes ≡ Some head → head.kind ≢ Con) → IsUnprocessable setting past d.entry.event → o ≡ Ignored
+given_ignored Ignored setting past d source bytes j came no_con not = refl
+given_ignored Rejected setting past d source bytes j came no_con not = let same = arrival-same source j.source bytes j.bytes (sym came ∙ j.came) in absurd (no_con j.head (ap head_at same.1 ∙ j.head_is) j.con)
+given_ignored (Refused code) setting past d source bytes j came no_con not = absurd (not.no_request j.client j.request j.asked)
+given_ignored Opened setting past d source bytes j came no_con not = absurd (not.no_request j.client j.request j.asked)
+given_ignored Overloaded setting past d source bytes j came no_con not = absurd (not.no_request j.client j.request j.asked)
+given_ignored NoId setting past d source bytes j came no_con not = absurd (not.no_request j.client j.request j.asked)
+given_ignored (Answered NotStored) setting past d source bytes j came no_con not = absurd (not.no_answer j.exchange (record { meets = j.gets.meets; ungot = j.first }))
+given_ignored SentRequest setting past d source bytes j came no_con not = no_tick came j.acting.ticked
+given_ignored Delivered setting past d source bytes j came no_con not = no_tick came j.acting.ticked
+given_ignored Idle setting past d source bytes j came no_con not = no_tick came j.ticked
+given_ignored _ setting past d source bytes j came no_con not = absurd j
+
 -- ---- ticks
+
+-- what becomes of a tick
+pub data OnTick (setting : Setting) (past : List Deed) (d : Deed) : Outcome → Type 0 where
+  sent : IsForwarding setting past d → OnTick setting past d SentRequest
+  delivered : IsDelivery setting past d → OnTick setting past d Delivered
+  idle : IsIdle setting past d → OnTick setting past d Idle
+
+pub on-tick : (o : Outcome) (setting : Setting) (past : List Deed) (d : Deed) → JustifiedBy o setting past d → d.entry.event ≡ tick → OnTick setting past d o
+on-tick Ignored setting past d j ticked = no_tick j.came ticked
+on-tick Rejected setting past d j ticked = no_tick j.came ticked
+on-tick (Refused code) setting past d j ticked = no_tick j.asked.brings.came ticked
+on-tick Opened setting past d j ticked = no_tick j.asked.brings.came ticked
+on-tick Overloaded setting past d j ticked = no_tick j.asked.brings.came ticked
+on-tick NoId setting past d j ticked = no_tick j.asked.brings.came ticked
+on-tick (Answered NotStored) setting past d j ticked = no_tick j.gets.meets.brings.came ticked
+on-tick SentRequest setting past d j ticked = sent j
+on-tick Delivered setting past d j ticked = delivered j
+on-tick Idle setting past d j ticked = idle j
+on-tick _ setting past d j ticked = absurd j
+
 -- a tick at which something is due does what is due first
 pub given_done : (o : Outcome) (setting : Setting) (past : List Deed) (d : Deed) (a : Act) (at : ℕ) → JustifiedBy o setting past d → d.entry.event ≡ tick → IsDueAt setting past a at → at ≤ d.entry.now → IsActing setting past d
-given_done Ignored setting past d a at j ticked due come = no_tick d.entry.event j.source j.bytes j.came ticked
-given_done Rejected setting past d a at j ticked due come = no_tick d.entry.event j.source j.bytes j.came ticked
-given_done (Refused code) setting past d a at j ticked due come = no_tick d.entry.event j.client j.asked.bytes j.asked.came ticked
-given_done Opened setting past d a at j ticked due come = no_tick d.entry.event j.client j.asked.bytes j.asked.came ticked
-given_done Overloaded setting past d a at j ticked due come = no_tick d.entry.event j.client j.asked.bytes j.asked.came ticked
-given_done NoId setting past d a at j ticked due come = no_tick d.entry.event j.client j.asked.bytes j.asked.came ticked
-given_done (Answered NotStored) setting past d a at j ticked due come = no_tick d.entry.event j.gets.source j.gets.came.bytes j.gets.came.event ticked
-given_done SentRequest setting past d a at j ticked due come = j.acting
-given_done Delivered setting past d a at j ticked due come = j.acting
-given_done Idle setting past d a at j ticked due come = let later = j.nothing a at due in absurd (omega (arith, later, come))
-given_done _ setting past d a at j ticked due come = absurd j
+given_done o setting past d a at j ticked due come = go (on-tick o setting past d j ticked)
+  where
+    go : {p : Outcome} → OnTick setting past d p → IsActing setting past d
+    go (sent k) = k.acting
+    go (delivered k) = k.acting
+    go (idle k) = let later = k.nothing a at due in absurd (omega (arith, later, come))

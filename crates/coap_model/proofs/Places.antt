@@ -6,7 +6,7 @@ use Rattle.coap_message.proofs.WholeMessages.{one_message}
 use Rattle.coap_target.specs.declared.endpoint.Endpoint.{Endpoint}
 use Rattle.coap_model.specs.Events.{Event, arrival}
 use Rattle.coap_model.specs.Setting.{Setting}
-use Rattle.coap_model.specs.History.{Entry, Act, moves, serves, Deed, Place, index, IsPlaceOf, Never, opens_one, opened_in, Opens}
+use Rattle.coap_model.specs.History.{Entry, Act, moves, serves, Deed, Place, index, IsPlaceOf, Never, opens_one, opened_in, Opens, Brings}
 use Rattle.coap_model.specs.Justified.{IsRequestOf, JustifiedBy, AllJustified}
 use Rattle.coap_model.specs.declared.report.Outcome.{Outcome}
 
@@ -144,8 +144,12 @@ first-once P (e ∷ past) p q at_p at_q is_p is_q first_p first_q =
 pub arrival-same : (a b : Endpoint) (xs ys : List ℕ) → arrival a xs ≡ arrival b ys → (a ≡ b) × (xs ≡ ys)
 arrival-same a b xs ys e = (cc, cc)
 
+-- an event brings one message of one source
+pub one-brought : {event : Event} {most : ℕ} {a b : Endpoint} {m n : Message} → Brings most a m event → Brings most b n event → (a ≡ b) × (m ≡ n)
+one-brought {a = a} {b = b} {m = m} {n = n} p q =
+    let same = arrival-same a b p.bytes q.bytes (sym p.came ∙ q.came) in
+    (same.0, one_message q.bytes m n (subst (λ (bytes : List ℕ). Spells bytes m) same.1 p.spells) q.spells)
+
 -- a request of an event is one request of one client
 pub request-unique : (setting : Setting) (event : Event) (a b : Endpoint) (r s : Message) → IsRequestOf setting a r event → IsRequestOf setting b s event → (a ≡ b) × (r ≡ s)
-request-unique setting event a b r s p q =
-    let same = arrival-same a b p.bytes q.bytes (sym p.came ∙ q.came) in
-    (same.0, one_message q.bytes r s (subst (λ (bytes : List ℕ). Spells bytes r) same.1 p.spells) q.spells)
+request-unique setting event a b r s p q = one-brought p.brings q.brings

@@ -53,7 +53,7 @@ pub request-came : (w : World) (client : Endpoint) (bytes : List ℕ) (m : Messa
 request-came w client bytes m fits asked =
     let read = message_in-is w.setting.limits.datagram bytes m fits asked.read in
     let tests = and_parts (is_non m.kind) (is_request m.code) asked.request in
-    record { bytes = bytes; came = refl; spells = read.0; short = read.1; kind = non_is m.kind tests.0; method = tests.1 }
+    record { brings = record { bytes = bytes; came = refl; spells = read.0; short = read.1 }; kind = non_is m.kind tests.0; method = tests.1 }
 
 pub id-same : (w : World) (history : List Deed) (c : Bears history w) → next_id w ≡ (w.setting.first_id + ids_in history) % 65536
 id-same w history c = ap (λ (n : ℕ). (w.setting.first_id + n) % 65536) c.numbers.given
@@ -70,7 +70,7 @@ keeps_refusing w history c now draw client bytes m code onward fits asked verdic
     let came = request-came w client bytes m fits asked in
     let some = refused-code w.setting.routes w.setting.limits.datagram m code c.routes verdict in
     let reply = own_reply code [] (next_id w) m.token in
-    let spells : Spells (spelling reply) reply = spelled reply (own_reply-is code [] (next_id w) m.token some tt came.spells.message.token) in
+    let spells : Spells (spelling reply) reply = spelled reply (own_reply-is code [] (next_id w) m.token some tt came.brings.spells.message.token) in
     keeps_quiet w history c e (w.given + 1) (record { opens = refl; sends = refl; serves = refl; unsent = λ o. cc; ungot = λ o. cc; unserved = λ o. cc }) onward refl
     (λ g. record { gives = refl; message = reply; spells = spells; id_is = id-same w history c }) (free-one w free)
     (record { act = refl; client = client; request = m; id = next_id w; asked = came; verdict = verdict; ids = ids-free 1 history w c free; tells = record { sent = refl; spells = spells } }, c.past)
@@ -81,7 +81,7 @@ keeps_overloading w history c now draw client bytes m t onward fits asked verdic
     let e = doing no_item (entry_of now draw (arrival client bytes) (overloads w now client m)) in
     let came = request-came w client bytes m fits asked in
     let reply = busy_reply w.setting.limits.retry_s (next_id w) m.token in
-    let spells : Spells (spelling reply) reply = spelled reply (busy_reply-is w.setting.limits.retry_s (next_id w) m.token came.spells.message.token) in
+    let spells : Spells (spelling reply) reply = spelled reply (busy_reply-is w.setting.limits.retry_s (next_id w) m.token came.brings.spells.message.token) in
     keeps_quiet w history c e (w.given + 1) (record { opens = refl; sends = refl; serves = refl; unsent = λ o. cc; ungot = λ o. cc; unserved = λ o. cc }) onward refl
     (λ g. record { gives = refl; message = reply; spells = spells; id_is = id-same w history c }) (free-one w free)
     (record { act = refl; client = client; request = m; target = t; id = next_id w; asked = came; verdict = verdict; no_room = room-none history w c full; ids = ids-free 1 history w c free; tells = record { sent = refl; spells = spells } }, c.past)
@@ -98,8 +98,8 @@ keeps_lacking w history c now draw client bytes m onward fits asked full free =
 -- what is confirmable isn't processed so far
 confirmable : (history : List Deed) (setting : Setting) (source : Endpoint) (bytes : List ℕ) (head : Head) → head_at bytes ≡ Some head → head.kind ≡ Con → IsUnprocessable setting history (arrival source bytes)
 confirmable history setting source bytes head is con = record {
-  no_request = λ client m r. kinds (head_kind (arrival source bytes) client source r.bytes bytes m head r.came refl r.spells is) r.kind con (λ e. cc);
-  no_answer = λ x a. kinds (head_kind (arrival source bytes) a.source source a.bytes bytes a.response head a.came refl a.spells is) a.kind con (λ e. cc);
+  no_request = λ client m r. kinds (head_kind r.brings refl is) r.kind con (λ e. cc);
+  no_answer = λ x a. kinds (head_kind a.meets.brings refl is) a.meets.matches.kind con (λ e. cc);
 }
 
 pub keeps_rejecting : (w : World) (history : List Deed) (c : Bears history w) (now draw : ℕ) (source : Endpoint) (bytes : List ℕ) (head : Head) → w.last ≤ now → head_at bytes ≡ Some head → is_con head.kind ≡ true
@@ -112,9 +112,10 @@ keeps_rejecting w history c now draw source bytes head onward is con =
 -- a request that would be processed was read
 request-read : (w : World) (source client : Endpoint) (bytes : List ℕ) (m : Message) → IsRequestOf w.setting client m (arrival source bytes) → (message_in w.setting.limits.datagram bytes ≡ Some m) × ((is_non m.kind && is_request m.code) ≡ true)
 request-read w source client bytes m r =
-    let same = arrival-same source client bytes r.bytes r.came in
-    let read : read_message bytes ≡ Ok m = ap read_message same.1 ∙ read_again r.bytes m r.spells in
-    let short : length bytes ≤ w.setting.limits.datagram = rw same.1 r.short in
+    let b = r.brings in
+    let same = arrival-same source client bytes b.bytes b.came in
+    let read : read_message bytes ≡ Ok m = ap read_message same.1 ∙ read_again b.bytes m b.spells in
+    let short : length bytes ≤ w.setting.limits.datagram = rw same.1 b.short in
     (message_in-again w.setting.limits.datagram bytes m read short, and_from (is_non m.kind) (is_request m.code) (ap is_non r.kind) r.method)
 
 pub keeps_ignoring : (w : World) (history : List Deed) (c : Bears history w) (now draw : ℕ) (source : Endpoint) (bytes : List ℕ) → w.last ≤ now → IsNothing w source bytes

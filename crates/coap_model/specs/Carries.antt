@@ -48,14 +48,14 @@ pub record WasAsked (setting : Setting) (history : List Deed) (x : ℕ) (target 
 pub record WasGot (setting : Setting) (history : List Deed) (x : ℕ) (target : Target) (answer : Answer) : Type 0 where
   pub getting : Place
   pub was_got : IsPlaceOf history getting
-  pub gets : Gets setting.salt x getting
-  pub asked_target : target_sent gets.asks.sends.to gets.asks.sends.message ≡ target
-  pub answer_is : answer ≡ answer_of setting.limits.datagram getting.deed.entry.now gets.response
+  pub gets : Gets setting x getting
+  pub asked_target : target_sent gets.meets.asks.sends.to gets.meets.asks.sends.message ≡ target
+  pub answer_is : answer ≡ answer_of setting.limits.datagram getting.deed.entry.now gets.meets.response
 
 -- the state is how far the history brought the exchange
 abbrev pub IsState : Setting → List Deed → ℕ → Target → ExchangeState → Type 0
-IsState setting history x target Queued = Never (Sends setting.salt x) history × Never (Gets setting.salt x) history
-IsState setting history x target (Sent s) = WasAsked setting history x target s.id s.asked × Never (Gets setting.salt x) history
+IsState setting history x target Queued = Never (Sends setting.salt x) history × Never (Gets setting x) history
+IsState setting history x target (Sent s) = WasAsked setting history x target s.id s.asked × Never (Gets setting x) history
 IsState setting history x target (Done a) = WasGot setting history x target a
 
 -- the exchange is the one that the history opened under its number
@@ -87,7 +87,7 @@ pub record IsWaiterOf (setting : Setting) (history : List Deed) (v : Numbered Wa
   pub exchange : v.1.exchange ≡ v.0
   pub client_is : v.1.client ≡ client
   pub token_is : v.1.token ≡ request.token
-  pub ungot : Never (Gets setting.salt v.0) admission.before
+  pub ungot : Never (Gets setting v.0) admission.before
   pub unserved : Never (Serves v.0) history
 
 -- ---- the tables as wholes
@@ -114,7 +114,7 @@ pub record AreWhole (history : List Deed) (w : World) : Type 0 where
 
 -- no exchange that isn't opened was sent or got
 abbrev pub IsFresh : Setting → List Deed → Type 0
-IsFresh setting history = (x : ℕ) → opened_in history < x → Never (Sends setting.salt x) history × Never (Gets setting.salt x) history
+IsFresh setting history = (x : ℕ) → opened_in history < x → Never (Sends setting.salt x) history × Never (Gets setting x) history
 
 -- ---- limits
 

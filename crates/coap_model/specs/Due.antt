@@ -18,7 +18,7 @@ pub record IsToServe (setting : Setting) (past : List Deed) (v at : ℕ) : Type 
   pub opens : Opens v admission
   pub getting : Place
   pub was_got : IsPlaceOf past getting
-  pub gets : Gets setting.salt v getting
+  pub gets : Gets setting v getting
   pub unserved : Never (Serves v) past
   pub at_is : at ≡ getting.deed.entry.now
 

@@ -11,6 +11,7 @@ use Rattle.coap_model.specs.declared.report.Outcome.TheVariants.{Refused, Opened
 use Rattle.coap_model.specs.declared.report.Storing.TheVariants.{NotStored}
 use Rattle.coap_model.specs.declared.report.Report.{Report}
 use Rattle.coap_model.specs.Limits.{Limits}
+use Rattle.coap_model.specs.Setting.{Setting}
 use Rattle.coap_model.specs.Events.{Event, arrival}
 use Rattle.coap_message.specs.Codes.{is_response}
 use Rattle.coap_model.specs.Messages.{token_of}
@@ -128,12 +129,12 @@ pub record HasRoom (limits : Limits) (history : List Deed) : Type 0 where
 abbrev pub Opens : ℕ → Place → Type 0
 Opens x p = (p.deed.entry.report.outcome ≡ Opened) × (x ≡ opened_in p.before + 1)
 
--- a message came there from a source, in a datagram of bytes
-pub record Receives (source : Endpoint) (m : Message) (p : Place) : Type 0 where
+-- an event brings a message of a source, in a datagram that isn't too long
+pub record Brings (most : ℕ) (source : Endpoint) (m : Message) (event : Event) : Type 0 where
   pub bytes : List ℕ
-  pub event : p.deed.entry.event ≡ arrival source bytes
-  pub fits : IsBytes bytes
+  pub came : event ≡ arrival source bytes
   pub spells : Spells bytes m
+  pub short : length bytes ≤ most
 
 -- the request of this exchange was sent there: by its token, read off the datagram
 pub record Sends (salt x : ℕ) (p : Place) : Type 0 where
@@ -150,22 +151,28 @@ pub record Asks (salt x : ℕ) (p : Place) : Type 0 where
   pub sends : Sends salt x p
   pub first : Never (Sends salt x) p.before
 
--- the answer of this exchange was got there: a response in an acknowledgement, from the endpoint that
--- was asked, with the token and the id of the request (RFC 7252, 5.3.2)
-pub record Gets (salt x : ℕ) (p : Place) : Type 0 where
-  pub act : p.deed.act ≡ moves x
-  pub outcome : p.deed.entry.report.outcome ≡ Answered NotStored
-  pub source : Endpoint
-  pub response : Message
-  pub came : Receives source response p
+-- a response in an acknowledgement, with the token and the id of a request (RFC 7252, 5.3.2)
+pub record Matches (token : List ℕ) (id : ℕ) (response : Message) : Type 0 where
   pub kind : response.kind ≡ Ack
   pub code : is_response response.code ≡ true
-  pub token : response.token ≡ token_of salt x
+  pub same_token : response.token ≡ token
+  pub same_id : response.id ≡ id
+
+-- an event brings a response to the request of this exchange, from the endpoint that was asked before
+pub record Meets (setting : Setting) (x : ℕ) (past : List Deed) (event : Event) : Type 0 where
   pub asking : Place
-  pub asked : IsPlaceOf p.before asking
-  pub asks : Asks salt x asking
-  pub same_source : source ≡ asks.sends.to
-  pub same_id : response.id ≡ asks.sends.message.id
+  pub was_asked : IsPlaceOf past asking
+  pub asks : Asks setting.salt x asking
+  pub response : Message
+  pub brings : Brings setting.limits.datagram asks.sends.to response event
+  pub matches : Matches (token_of setting.salt x) asks.sends.message.id response
+
+-- the answer of this exchange was got there
+pub record Gets (setting : Setting) (x : ℕ) (p : Place) : Type 0 where
+  pub act : p.deed.act ≡ moves x
+  pub outcome : p.deed.entry.report.outcome ≡ Answered NotStored
+  pub meets : Meets setting x p.before p.deed.entry.event
+  pub fits : IsBytes meets.brings.bytes
 
 -- the waiter was served there
 pub record Serves (v : ℕ) (p : Place) : Type 0 where

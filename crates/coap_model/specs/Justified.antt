@@ -1,6 +1,6 @@
 -- What justifies each entry of a history: the entries before it alone. No table is named.
-use Rattle.std.specs.Prelude.{◌≡◌, ◌≢◌, ℕ, ◌+◌, ◌<◌, ◌≤◌, true, List, [], ◌∷◌, length, Some, None}
-use Rattle.coap_message.specs.declared.kind.Kind.TheVariants.{Con, Non, Ack}
+use Rattle.std.specs.Prelude.{◌≡◌, ◌≢◌, ℕ, ◌+◌, ◌%◌, ◌<◌, ◌≤◌, true, List, [], ◌∷◌, Some, None}
+use Rattle.coap_message.specs.declared.kind.Kind.TheVariants.{Con, Non}
 use Rattle.coap_message.specs.declared.code.Code.{Code}
 use Rattle.coap_message.specs.declared.message.Head.{Head}
 use Rattle.coap_message.specs.Message.{Message}
@@ -14,19 +14,16 @@ use Rattle.coap_model.specs.declared.report.Outcome.TheVariants.{Ignored, Reject
 use Rattle.coap_model.specs.declared.report.Storing.TheVariants.{NotStored}
 use Rattle.coap_model.specs.Setting.{Setting}
 use Rattle.coap_model.specs.Events.{Event, arrival, tick}
-use Rattle.coap_message.specs.Codes.{is_request, is_response}
+use Rattle.coap_message.specs.Codes.{is_request}
 use Rattle.coap_model.specs.Messages.{reset, own_reply, busy_reply, token_of, forwarded, target_sent, Verdict, refused_with, may_open, verdict_of, answer_of, shown}
 use Rattle.coap_model.specs.Due.{IsDueAt, IsSooner}
-use Rattle.coap_model.specs.History.{Entry, Act, no_item, admits, moves, serves, Deed, Place, IsPlaceOf, Never, opened_in, HasIds, HasRoom, Opens, Sends, Asks, Gets, Serves}
+use Rattle.coap_model.specs.History.{Entry, Act, no_item, admits, moves, serves, Deed, Place, IsPlaceOf, Never, gives_id, opened_in, ids_in, HasIds, HasRoom, Opens, Brings, Sends, Meets, Gets, Serves, Gives}
 
 -- ---- requests
 
 -- a Non-confirmable request of a client that is not too long for a datagram
 pub record IsRequestOf (setting : Setting) (client : Endpoint) (request : Message) (event : Event) : Type 0 where
-  pub bytes : List ℕ
-  pub came : event ≡ arrival client bytes
-  pub spells : Spells bytes request
-  pub short : length bytes ≤ setting.limits.datagram
+  pub brings : Brings setting.limits.datagram client request event
   pub kind : request.kind ≡ Non
   pub method : is_request request.code ≡ true
 
@@ -119,9 +116,8 @@ pub record IsForwarding (setting : Setting) (past : List Deed) (d : Deed) : Type
 -- an answer is got for an exchange that had none
 pub record IsAnswer (setting : Setting) (past : List Deed) (d : Deed) : Type 0 where
   pub exchange : ℕ
-  pub gets : Gets setting.salt exchange (record { before = past; deed = d })
-  pub first : Never (Gets setting.salt exchange) past
-  pub short : length gets.came.bytes ≤ setting.limits.datagram
+  pub gets : Gets setting exchange (record { before = past; deed = d })
+  pub first : Never (Gets setting exchange) past
   pub silent : IsSilent d.entry
 
 -- A delivery: the exchange that was opened for this client's request was got after that, its request
@@ -142,35 +138,18 @@ pub record IsDelivery (setting : Setting) (past : List Deed) (d : Deed) : Type 0
   pub asked : IsRequestOf setting client request admission.deed.entry.event
   pub target_is : mapped_target setting.routes request ≡ Some target
   pub was_got : IsPlaceOf past getting
-  pub gets : Gets setting.salt waiter getting
+  pub gets : Gets setting waiter getting
   pub got_later : IsPlaceOf getting.before admission
-  pub asked_target : target_sent gets.asks.sends.to gets.asks.sends.message ≡ target
+  pub asked_target : target_sent gets.meets.asks.sends.to gets.meets.asks.sends.message ≡ target
   pub acting : IsActing setting past d
-  pub tells : Tells client (shown d.entry.now (answer_of setting.limits.datagram getting.deed.entry.now gets.response) id request.token) d.entry
+  pub tells : Tells client (shown d.entry.now (answer_of setting.limits.datagram getting.deed.entry.now gets.meets.response) id request.token) d.entry
 
 -- ---- what isn't processed
 
--- An exchange awaits the response of an event: it was opened and asked, and wasn't got, and the response
--- comes in an acknowledgement from the endpoint that was asked, with the token and the id of the request.
+-- An exchange awaits the response that an event brings: it was asked, and wasn't got.
 pub record IsAwaited (setting : Setting) (past : List Deed) (exchange : ℕ) (event : Event) : Type 0 where
-  pub opening : Place
-  pub asking : Place
-  pub source : Endpoint
-  pub bytes : List ℕ
-  pub response : Message
-  pub was_opened : IsPlaceOf past opening
-  pub opens : Opens exchange opening
-  pub was_asked : IsPlaceOf past asking
-  pub asks : Asks setting.salt exchange asking
-  pub ungot : Never (Gets setting.salt exchange) past
-  pub came : event ≡ arrival source bytes
-  pub spells : Spells bytes response
-  pub short : length bytes ≤ setting.limits.datagram
-  pub kind : response.kind ≡ Ack
-  pub code : is_response response.code ≡ true
-  pub token : response.token ≡ token_of setting.salt exchange
-  pub same_source : source ≡ asks.sends.to
-  pub same_id : response.id ≡ asks.sends.message.id
+  pub meets : Meets setting exchange past event
+  pub ungot : Never (Gets setting exchange) past
 
 -- What came can't be processed: it is neither a request that would be nor a response that an exchange awaits.
 pub record IsUnprocessable (setting : Setting) (past : List Deed) (event : Event) : Type 0 where
@@ -226,3 +205,16 @@ JustifiedBy _ setting past d = ⊥
 abbrev pub AllJustified : Setting → List Deed → Type 0
 AllJustified setting [] = Unit {0}
 AllJustified setting (d ∷ past) = JustifiedBy d.entry.report.outcome setting past d × AllJustified setting past
+
+-- ---- one answer
+
+-- A deed may follow: the deeds before it justify it, and where it gives an id, it gives the one that is due.
+pub record MayFollow (setting : Setting) (past : List Deed) (d : Deed) : Type 0 where
+  pub justified : JustifiedBy d.entry.report.outcome setting past d
+  pub id : gives_id d.entry.report.outcome ≡ 1 → Gives ((setting.first_id + ids_in past) % 65536) d.entry
+
+-- two entries of one event, at one moment and with one draw
+pub record AreOfOneTurn (d e : Entry) : Type 0 where
+  pub now : d.now ≡ e.now
+  pub draw : d.draw ≡ e.draw
+  pub event : d.event ≡ e.event

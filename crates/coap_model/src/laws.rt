@@ -20,7 +20,7 @@ ghost use Rattle.coap_model.specs.Step.{step_of};
 ghost use Rattle.coap_model.specs.Ticks.{next_due};
 ghost use Rattle.coap_model.specs.History.{Entry, Act, no_item, serves, Deed, HasRoom};
 ghost use Rattle.coap_model.specs.Due.{IsDueAt, IsNextDue};
-ghost use Rattle.coap_model.specs.Justified.{IsRequestOf, verdict_on, IsAwaited, IsActing, IsDelivery, JustifiedBy};
+ghost use Rattle.coap_model.specs.Justified.{IsRequestOf, verdict_on, IsAwaited, IsActing, IsDelivery, JustifiedBy, AllJustified, MayFollow, AreOfOneTurn};
 ghost use Rattle.coap_model.specs.Forged as forged;
 ghost use Rattle.coap_model.specs.Forged.{asked, delivery, right, at_an_arrival};
 ghost use Rattle.coap_model.specs.Carries.{Carries};
@@ -153,6 +153,20 @@ pub fn what_is_owed_is_given()
     ensures answered { (setting : Setting) (past : List Deed) (d : Deed) (exchange : ℕ) → JustifiedBy d.entry.report.outcome setting past d → IsAwaited setting past exchange d.entry.event → d.entry.report.outcome ≡ Answered NotStored }
     ensures rejected { (setting : Setting) (past : List Deed) (d : Deed) (source : Endpoint) (bytes : List ℕ) (head : Head) → JustifiedBy d.entry.report.outcome setting past d → d.entry.event ≡ arrival source bytes → head_at bytes ≡ Some head → head.kind ≡ Con → d.entry.report.outcome ≡ Rejected }
     ensures done { (setting : Setting) (past : List Deed) (d : Deed) (act : Act) (at : ℕ) → JustifiedBy d.entry.report.outcome setting past d → d.entry.event ≡ tick → IsDueAt setting past act at → at ≤ d.entry.now → IsActing setting past d }
+{}
+
+/// The histories allow one answer: two deeds that may follow the same deeds, of one event at one moment with one
+/// draw, are one entry; and what may follow what a proxy carries is what its step answers. So the traffic alone
+/// says all that a proxy does.
+pub fn one_answer_is_justified()
+    ensures one {
+        (setting : Setting) (past : List Deed) → AllJustified setting past
+        → (d e : Deed) → MayFollow setting past d → MayFollow setting past e → AreOfOneTurn d.entry e.entry → d.entry ≡ e.entry
+    }
+    ensures of_the_step {
+        (w : World) (history : List Entry) (c : Carries history w) (d : Deed) → w.last ≤ d.entry.now → IsEvent d.entry.event → MayFollow w.setting c.deeds d
+        → d.entry ≡ entry_of d.entry.now d.entry.draw d.entry.event (step_of w d.entry.now d.entry.draw d.entry.event)
+    }
 {}
 
 /// The moment at which a tick is wanted is the least at which anything is due by the history, and none is wanted

@@ -1,0 +1,242 @@
+-- What may follow deeds at a turn is one answer, and it is that of the step.
+use Rattle.std.proofs.Common.{◌≡◌, ◌⊎◌, inl, inr, ⊎_elim, ℕ, ◌+◌, ◌%◌, ◌<◌, ◌≤◌, List, [], ◌∷◌, Some, None, refl, sym, ap, ◌∙◌, subst, arith}
+use Rattle.std.proofs.lemmas.Option.{same_Some}
+use Rattle.std.proofs.lemmas.Bool.{cases_lt}
+use Rattle.coap_message.specs.declared.code.Code.{Code}
+use Rattle.coap_message.specs.declared.message.Head.{Head}
+use Rattle.coap_message.specs.Message.{Message}
+use Rattle.coap_message.specs.Reading.{head_at}
+use Rattle.coap_message.specs.Spelling.{spelling}
+use Rattle.coap_message.proofs.Spellings.{spelled_once}
+use Rattle.coap_message.proofs.WholeMessages.{one_message}
+use Rattle.coap_target.specs.declared.endpoint.Endpoint.{Endpoint}
+use Rattle.coap_target.specs.declared.target.Target.{Target}
+use Rattle.coap_target.specs.Routes.{mapped_target}
+use Rattle.coap_model.specs.declared.report.Outcome.{Outcome}
+use Rattle.coap_model.specs.declared.report.Outcome.TheVariants.{Ignored, Rejected, Refused, Opened, Overloaded, NoId, Answered, SentRequest, Delivered, Idle}
+use Rattle.coap_model.specs.declared.report.Storing.TheVariants.{NotStored}
+use Rattle.coap_model.specs.Setting.{Setting}
+use Rattle.coap_model.specs.Events.{Event, IsEvent, arrival, tick}
+use Rattle.coap_model.specs.Messages.{reset, own_reply, busy_reply, token_of, forwarded, answer_of, shown}
+use Rattle.coap_model.specs.World.{World}
+use Rattle.coap_model.specs.Step.{step_of}
+use Rattle.coap_model.specs.History.{Entry, Act, no_item, admits, moves, serves, Deed, Place, IsPlaceOf, ids_in, gives_id, Opens, Brings, Gets, Gives, AreIds}
+use Rattle.coap_model.specs.Due.{IsDueAt, ComesBefore, IsSooner}
+use Rattle.coap_model.specs.Justified.{IsRequestOf, Tells, IsSilent, IsRefusal, IsOverload, IsRejection, IsAwaited, IsActing, IsForwarding, IsDelivery, IsUnprocessable, JustifiedBy, AllJustified, MayFollow, AreOfOneTurn}
+use Rattle.coap_model.specs.Runs.{entry_of}
+use Rattle.coap_model.specs.Carries.{Carries}
+use Rattle.coap_model.proofs.Places.{doing, same_moves, same_serves, arrival-same, one-brought, request-unique, first-once, Opens-unique}
+use Rattle.coap_model.proofs.Acting.{got-first}
+use Rattle.coap_model.proofs.Carrying.{keeps_deeds}
+use Rattle.coap_model.proofs.Running.{setting_stays}
+use Rattle.coap_model.proofs.Owing.{given_refused, given_overloaded, given_no_id, given_opened, given_answered, given_rejected, given_ignored, OnTick, sent, delivered, idle, on-tick}
+
+-- ---- what is said
+
+-- two entries send the same to the same endpoint, or both nothing
+record SayTheSame (d e : Entry) : Type 0 where
+  pub send : d.report.send ≡ e.report.send
+  pub bytes : d.bytes ≡ e.bytes
+
+silent-same : (d e : Entry) → IsSilent d → IsSilent e → SayTheSame d e
+silent-same d e s t = record { send = s.sent ∙ sym t.sent; bytes = s.bytes ∙ sym t.bytes }
+
+told-same : (d e : Entry) (a b : Endpoint) (m n : Message) → Tells a m d → Tells b n e → a ≡ b → m ≡ n → SayTheSame d e
+told-same d e a b m n s t to same =
+    record {
+      send = s.sent ∙ ap Some to ∙ sym t.sent;
+      bytes = spelled_once d.bytes m s.spells ∙ ap spelling same ∙ sym (spelled_once e.bytes n t.spells);
+    }
+
+-- replies of one code, one id and one token are one
+own_reply-same : (code : Code) (i k : ℕ) (t u : List ℕ) → i ≡ k → t ≡ u → own_reply code [] i t ≡ own_reply code [] k u
+own_reply-same code i k t u id token = rw (id, token) refl
+
+busy_reply-same : (seconds i k : ℕ) (t u : List ℕ) → i ≡ k → t ≡ u → busy_reply seconds i t ≡ busy_reply seconds k u
+busy_reply-same seconds i k t u id token = rw (id, token) refl
+
+forwarded-same : (salt x y : ℕ) (a b : Target) (i k : ℕ) → x ≡ y → a ≡ b → i ≡ k → forwarded (token_of salt x) a i ≡ forwarded (token_of salt y) b k
+forwarded-same salt x y a b i k number target id = rw (number, target, id) refl
+
+-- and so is what is shown at one moment of one response, got at one moment
+shown-same : (most now later got again : ℕ) (m n : Message) (i k : ℕ) (t u : List ℕ) → now ≡ later → got ≡ again → m ≡ n → i ≡ k → t ≡ u → shown now (answer_of most got m) i t ≡ shown later (answer_of most again n) k u
+shown-same most now later got again m n i k t u moment getting response id token = rw (moment, getting, response, id, token) refl
+
+-- what is told has the id that is given
+id-told : (e : Entry) (id : ℕ) (to : Endpoint) (m : Message) → Gives id e → Tells to m e → m.id ≡ id
+id-told e id to m g t = ap (λ (k : Message). k.id) (one_message e.bytes m g.message t.spells g.spells) ∙ g.id_is
+
+same-entry : (d e : Entry) → AreOfOneTurn d e → d.report.outcome ≡ e.report.outcome → SayTheSame d e → d ≡ e
+same-entry d e turn outcome say = same
+  where
+    same : record { now = d.now; draw = d.draw; event = d.event; report = record { send = d.report.send; outcome = d.report.outcome }; bytes = d.bytes } ≡ e
+    same = rw (turn.now, turn.draw, turn.event, say.send, outcome, say.bytes) refl
+
+-- ---- which item is served
+
+-- of two numbers one is less, or they are equal
+numbers : (m n : ℕ) → (m ≡ n) ⊎ ((m < n) ⊎ (n < m))
+numbers m n =
+    ⊎_elim
+    (λ (less : m < n). inr (inl less))
+    (λ (no_less : n ≤ m). ⊎_elim (λ (less : n < m). inr (inr less)) (λ (other : m ≤ n). inl (omega (arith, no_less, other))) (cases_lt n m))
+    (cases_lt m n)
+
+-- of two acts that are due one comes before the other, or they are one
+due-acts : (setting : Setting) (past : List Deed) (a b : Act) (m n : ℕ) → IsDueAt setting past a m → IsDueAt setting past b n → (a ≡ b) ⊎ (ComesBefore a b ⊎ ComesBefore b a)
+due-acts setting past no_item b m n p q = absurd p
+due-acts setting past (admits v x) b m n p q = absurd p
+due-acts setting past (moves x) no_item m n p q = absurd q
+due-acts setting past (moves x) (admits v y) m n p q = absurd q
+due-acts setting past (moves x) (moves y) m n p q = ⊎_elim (λ (e : x ≡ y). inl (ap moves e)) (λ (o : (x < y) ⊎ (y < x)). inr o) (numbers x y)
+due-acts setting past (moves x) (serves v) m n p q = inr (inl tt)
+due-acts setting past (serves v) no_item m n p q = absurd q
+due-acts setting past (serves v) (admits u y) m n p q = absurd q
+due-acts setting past (serves v) (moves y) m n p q = inr (inr tt)
+due-acts setting past (serves v) (serves u) m n p q = ⊎_elim (λ (e : v ≡ u). inl (ap serves e)) (λ (o : (v < u) ⊎ (u < v)). inr o) (numbers v u)
+
+-- what is done at one moment after the same deeds is one act
+one-act : (setting : Setting) (past : List Deed) (d e : Deed) → IsActing setting past d → IsActing setting past e → d.act ≡ e.act
+one-act setting past d e p q = ⊎_elim (λ (same : d.act ≡ e.act). same) (λ (o : ComesBefore d.act e.act ⊎ ComesBefore e.act d.act). absurd (⊎_elim (λ b. q.first d.act p.at p.due (inr (moments, b))) (λ b. p.first e.act q.at q.due (inr (sym moments, b))) o)) (due-acts setting past d.act e.act p.at q.at p.due q.due)
+  where
+    moments : p.at ≡ q.at
+    moments = ⊎_elim (λ (same : p.at ≡ q.at). same) (λ (o : (p.at < q.at) ⊎ (q.at < p.at)). absurd (⊎_elim (λ less. q.first d.act p.at p.due (inl less)) (λ less. p.first e.act q.at q.due (inl less)) o)) (numbers p.at q.at)
+
+-- ---- one answer of each kind
+
+-- a response at a place is the one that its event brings
+one-response : (setting : Setting) (x y : ℕ) (p q : Place) → p ≡ q → (g : Gets setting x p) (h : Gets setting y q) → g.meets.response ≡ h.meets.response
+one-response setting x y p q e g h =
+    let m = g.meets in
+    (one-brought (subst (λ (r : Place). Brings setting.limits.datagram m.asks.sends.to m.response r.deed.entry.event) e m.brings) h.meets.brings).1
+
+-- a request of an event is that of the same event at another place
+at-same : (setting : Setting) (p q : Place) (client : Endpoint) (request : Message) → p ≡ q → IsRequestOf setting client request p.deed.entry.event → IsRequestOf setting client request q.deed.entry.event
+at-same setting p q client request e r = subst (λ (s : Place). IsRequestOf setting client request s.deed.entry.event) e r
+
+one-forwarding : (setting : Setting) (past : List Deed) (d e : Deed) (id : ℕ) → Gives id d.entry → Gives id e.entry → IsForwarding setting past d → IsForwarding setting past e → d.act ≡ e.act → SayTheSame d.entry e.entry
+one-forwarding setting past d e id g h j k act =
+    let number = same_moves j.exchange k.exchange (sym j.act ∙ act ∙ k.act) in
+    let place = Opens-unique past j.opening k.opening k.exchange j.was_opened k.was_opened (subst (λ (n : ℕ). Opens n j.opening) number j.opens) k.opens in
+    let request = (request-unique setting k.opening.deed.entry.event j.client k.client j.request k.request (at-same setting j.opening k.opening j.client j.request place j.asked) k.asked).1 in
+    let target = same_Some j.target k.target (sym j.target_is ∙ ap (mapped_target setting.routes) request ∙ k.target_is) in
+    let sent_id = id-told d.entry id j.target.at (forwarded (token_of setting.salt j.exchange) j.target j.id) g j.tells in
+    let other_id = id-told e.entry id k.target.at (forwarded (token_of setting.salt k.exchange) k.target k.id) h k.tells in
+    let same = forwarded-same setting.salt j.exchange k.exchange j.target k.target j.id k.id number target (sent_id ∙ sym other_id) in
+    told-same d.entry e.entry j.target.at k.target.at _ _ j.tells k.tells (ap (λ (t : Target). t.at) target) same
+
+one-delivery : (setting : Setting) (past : List Deed) → AllJustified setting past → (d e : Deed) (id : ℕ) → Gives id d.entry → Gives id e.entry → IsDelivery setting past d → IsDelivery setting past e → d.act ≡ e.act → d.entry.now ≡ e.entry.now → SayTheSame d.entry e.entry
+one-delivery setting past all d e id g h j k act now =
+    let most = setting.limits.datagram in
+    let number = same_serves j.waiter k.waiter (sym j.act ∙ act ∙ k.act) in
+    let place = Opens-unique past j.admission k.admission k.waiter j.was_admitted k.was_admitted (subst (λ (n : ℕ). Opens n j.admission) number j.opens) k.opens in
+    let one = request-unique setting k.admission.deed.entry.event j.client k.client j.request k.request (at-same setting j.admission k.admission j.client j.request place j.asked) k.asked in
+    let gets = subst (λ (n : ℕ). Gets setting n j.getting) number j.gets in
+    let getting = first-once (Gets setting k.waiter) past j.getting k.getting j.was_got k.was_got gets k.gets (got-first setting past k.waiter j.getting all j.was_got gets) (got-first setting past k.waiter k.getting all k.was_got k.gets) in
+    let response = one-response setting j.waiter k.waiter j.getting k.getting getting j.gets k.gets in
+    let moment : j.getting.deed.entry.now ≡ k.getting.deed.entry.now = ap (λ (p : Place). p.deed.entry.now) getting in
+    let token : j.request.token ≡ k.request.token = ap (λ (m : Message). m.token) one.1 in
+    let said_id = id-told d.entry id j.client (shown d.entry.now (answer_of most j.getting.deed.entry.now j.gets.meets.response) j.id j.request.token) g j.tells in
+    let other_id = id-told e.entry id k.client (shown e.entry.now (answer_of most k.getting.deed.entry.now k.gets.meets.response) k.id k.request.token) h k.tells in
+    let same = shown-same most d.entry.now e.entry.now j.getting.deed.entry.now k.getting.deed.entry.now j.gets.meets.response k.gets.meets.response j.id k.id j.request.token k.request.token now moment response (said_id ∙ sym other_id) token in
+    told-same d.entry e.entry j.client k.client _ _ j.tells k.tells one.0 same
+
+-- ---- one answer
+
+-- an answer of a kind: the outcome, and what is said
+abbrev AnswersAlike : Entry → Entry → Type 0
+AnswersAlike d e = (d.report.outcome ≡ e.report.outcome) × SayTheSame d e
+
+pub one-answer : (setting : Setting) (past : List Deed) → AllJustified setting past → (d e : Deed) → MayFollow setting past d → MayFollow setting past e → AreOfOneTurn d.entry e.entry → d.entry ≡ e.entry
+one-answer setting past all d e f g turn = let alike = by_outcome d.entry.report.outcome refl f.justified in same-entry d.entry e.entry turn alike.0 alike.1
+  where
+    due : ℕ
+    due = (setting.first_id + ids_in past) % 65536
+
+    holds : (o : Outcome) → e.entry.report.outcome ≡ o → JustifiedBy o setting past e
+    holds o is = subst (λ (u : Outcome). JustifiedBy u setting past e) is g.justified
+
+    same_request : (client : Endpoint) (request : Message) → IsRequestOf setting client request d.entry.event → IsRequestOf setting client request e.entry.event
+    same_request client request r = subst (IsRequestOf setting client request) turn.event r
+
+    acting : {o : Outcome} → OnTick setting past e o → IsActing setting past d → d.act ≡ e.act
+    acting (sent k) a = one-act setting past d e a k.acting
+    acting (delivered k) a = one-act setting past d e a k.acting
+    acting (idle k) a = let now = turn.now in let later = k.nothing d.act a.at a.due in let come = a.come in absurd (omega (arith, now, later, come))
+
+    by_outcome : (o : Outcome) → d.entry.report.outcome ≡ o → JustifiedBy o setting past d → AnswersAlike d.entry e.entry
+    by_outcome Ignored is j =
+        let o = given_ignored e.entry.report.outcome setting past e j.source j.bytes g.justified (sym turn.event ∙ j.came) j.no_con (subst (IsUnprocessable setting past) turn.event j.unprocessable) in
+        (is ∙ sym o, silent-same d.entry e.entry j.silent (holds Ignored o).silent)
+    by_outcome Rejected is j =
+        let o = given_rejected e.entry.report.outcome setting past e j.source j.bytes j.head g.justified (sym turn.event ∙ j.came) j.head_is j.con in
+        let k = holds Rejected o in
+        let came = arrival-same j.source k.source j.bytes k.bytes (sym j.came ∙ turn.event ∙ k.came) in
+        let head = same_Some j.head k.head (sym j.head_is ∙ ap head_at came.1 ∙ k.head_is) in
+        (is ∙ sym o, told-same d.entry e.entry j.source k.source (reset j.head.id) (reset k.head.id) j.tells k.tells came.0 (ap (λ (h : Head). reset h.id) head))
+    by_outcome (Refused code) is j =
+        let o = given_refused e.entry.report.outcome setting past e j.client j.request code g.justified (same_request j.client j.request j.asked) j.verdict j.ids in
+        let k = holds (Refused code) o in
+        let one = request-unique setting e.entry.event j.client k.client j.request k.request (same_request j.client j.request j.asked) k.asked in
+        let token : j.request.token ≡ k.request.token = ap (λ (m : Message). m.token) one.1 in
+        let id = id-told d.entry due j.client (own_reply code [] j.id j.request.token) (f.id (ap gives_id is)) j.tells in
+        let other = id-told e.entry due k.client (own_reply code [] k.id k.request.token) (g.id (ap gives_id o)) k.tells in
+        let same = own_reply-same code j.id k.id j.request.token k.request.token (id ∙ sym other) token in
+        (is ∙ sym o, told-same d.entry e.entry j.client k.client _ _ j.tells k.tells one.0 same)
+    by_outcome Overloaded is j =
+        let o = given_overloaded e.entry.report.outcome setting past e j.client j.request j.target g.justified (same_request j.client j.request j.asked) j.verdict j.no_room j.ids in
+        let k = holds Overloaded o in
+        let one = request-unique setting e.entry.event j.client k.client j.request k.request (same_request j.client j.request j.asked) k.asked in
+        let token : j.request.token ≡ k.request.token = ap (λ (m : Message). m.token) one.1 in
+        let retry = setting.limits.retry_s in
+        let id = id-told d.entry due j.client (busy_reply retry j.id j.request.token) (f.id (ap gives_id is)) j.tells in
+        let other = id-told e.entry due k.client (busy_reply retry k.id k.request.token) (g.id (ap gives_id o)) k.tells in
+        let same = busy_reply-same retry j.id k.id j.request.token k.request.token (id ∙ sym other) token in
+        (is ∙ sym o, told-same d.entry e.entry j.client k.client _ _ j.tells k.tells one.0 same)
+    by_outcome NoId is j =
+        let o = given_no_id e.entry.report.outcome setting past e j.client j.request g.justified (same_request j.client j.request j.asked) j.no_ids in
+        (is ∙ sym o, silent-same d.entry e.entry j.silent (holds NoId o).silent)
+    by_outcome Opened is j =
+        let o = given_opened e.entry.report.outcome setting past e j.client j.request j.target g.justified (same_request j.client j.request j.asked) j.verdict j.room in
+        (is ∙ sym o, silent-same d.entry e.entry j.silent (holds Opened o).silent)
+    by_outcome (Answered NotStored) is j =
+        let awaited : IsAwaited setting past j.exchange d.entry.event = record { meets = j.gets.meets; ungot = j.first } in
+        let o = given_answered e.entry.report.outcome setting past e j.exchange g.justified (subst (IsAwaited setting past j.exchange) turn.event awaited) in
+        (is ∙ sym o, silent-same d.entry e.entry j.silent (holds (Answered NotStored) o).silent)
+    by_outcome SentRequest is j = go refl (on-tick e.entry.report.outcome setting past e g.justified (sym turn.event ∙ j.acting.ticked))
+      where
+        go : {o : Outcome} → e.entry.report.outcome ≡ o → OnTick setting past e o → AnswersAlike d.entry e.entry
+        go o (sent k) = (is ∙ sym o, one-forwarding setting past d e due (f.id (ap gives_id is)) (g.id (ap gives_id o)) j k (acting (sent k) j.acting))
+        go o (delivered k) = absurd (let act = sym j.act ∙ acting (delivered k) j.acting ∙ k.act in cc)
+        go o (idle k) = absurd (let act = sym j.act ∙ acting (idle k) j.acting ∙ k.act in cc)
+    by_outcome Delivered is j = go refl (on-tick e.entry.report.outcome setting past e g.justified (sym turn.event ∙ j.acting.ticked))
+      where
+        go : {o : Outcome} → e.entry.report.outcome ≡ o → OnTick setting past e o → AnswersAlike d.entry e.entry
+        go o (sent k) = absurd (let act = sym j.act ∙ acting (sent k) j.acting ∙ k.act in cc)
+        go o (delivered k) = (is ∙ sym o, one-delivery setting past all d e due (f.id (ap gives_id is)) (g.id (ap gives_id o)) j k (acting (delivered k) j.acting) turn.now)
+        go o (idle k) = absurd (let act = sym j.act ∙ acting (idle k) j.acting ∙ k.act in cc)
+    by_outcome Idle is j = go refl (on-tick e.entry.report.outcome setting past e g.justified (sym turn.event ∙ j.ticked))
+      where
+        later : IsActing setting past e → ⊥
+        later a = let now = turn.now in let not_yet = j.nothing e.act a.at a.due in let come = a.come in omega (arith, now, not_yet, come)
+
+        go : {o : Outcome} → e.entry.report.outcome ≡ o → OnTick setting past e o → AnswersAlike d.entry e.entry
+        go o (sent k) = absurd (later k.acting)
+        go o (delivered k) = absurd (later k.acting)
+        go o (idle k) = (is ∙ sym o, silent-same d.entry e.entry j.silent k.silent)
+    by_outcome _ is j = absurd j
+
+-- ---- the step's answer
+
+-- what may follow is what the step answers
+pub step-answer : (w : World) (history : List Entry) (c : Carries history w) (d : Deed) → w.last ≤ d.entry.now → IsEvent d.entry.event → MayFollow w.setting c.deeds d → d.entry ≡ entry_of d.entry.now d.entry.draw d.entry.event (step_of w d.entry.now d.entry.draw d.entry.event)
+step-answer w history c d onward fits f =
+    let now = d.entry.now in
+    let draw = d.entry.draw in
+    let event = d.entry.event in
+    let s = step_of w now draw event in
+    let k = keeps_deeds w c.deeds now draw event c.bears onward fits in
+    let kept = setting_stays w now draw event fits in
+    let ids = subst (λ (t : Setting). AreIds t.first_id (doing k.act (entry_of now draw event s) ∷ c.deeds)) kept k.bears.ids in
+    let past = subst (λ (t : Setting). AllJustified t (doing k.act (entry_of now draw event s) ∷ c.deeds)) kept k.bears.past in
+    one-answer w.setting c.deeds c.bears.past d (doing k.act (entry_of now draw event s)) f (record { justified = past.0; id = ids.0 }) (record { now = refl; draw = refl; event = refl })

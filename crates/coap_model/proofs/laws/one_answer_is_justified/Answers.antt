@@ -1,0 +1,5 @@
+use Rattle.coap_model.proofs.OneAnswer.{one-answer, step-answer}
+use Rattle.coap_model.proofs.laws.one_answer_is_justified.Goals as goal
+
+pub returns : goal.returns
+returns c = record { one = one-answer; of_the_step = step-answer }
