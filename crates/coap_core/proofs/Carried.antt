@@ -42,7 +42,7 @@ answer-shown most now m = go (is_passed_on most m) refl
 state-shown : (setting : Setting) (history : List Deed) (x : ℕ) (t : Target) (s : ExchangeState) → IsState setting history x t s → IsUnderstood s
 state-shown setting history x t Queued is = tt
 state-shown setting history x t (Sent s) is = tt
-state-shown setting history x t (Done a) is = subst (λ (b : Answer). are_understood b.message.options ≡ true) (sym is.answer_is) (answer-shown setting.limits.datagram is.getting.deed.entry.now is.gets.response)
+state-shown setting history x t (Done a) is = subst (λ (b : Answer). are_understood b.message.options ≡ true) (sym is.answer_is) (answer-shown setting.limits.datagram is.getting.deed.entry.now is.gets.meets.response)
 
 pub can_go_on : (history : List Entry) (w : World) → Carries history w → w.events < 2 ^ 63 → CanGoOn w
 can_go_on history w c few =

@@ -10,14 +10,14 @@ use Rattle.coap_option.specs.Classes.{is_unsafe}
 use Rattle.coap_option.specs.Places.{count_of, places_behind}
 use Rattle.coap_option.specs.Recognition.{is_recognised}
 use Rattle.coap_option.specs.Screening.{is_refused, first_refused}
-use Rattle.coap_target.specs.declared.error.TargetError.{TargetError}
-use Rattle.coap_target.specs.declared.error.TargetError.TheVariants.{NotFound}
-use Rattle.coap_target.specs.declared.routes.Routes.{Routes}
-use Rattle.coap_target.specs.declared.target.MappedTarget.{MappedTarget}
+use Rattle.coap_routes.specs.declared.error.TargetError.{TargetError}
+use Rattle.coap_routes.specs.declared.error.TargetError.TheVariants.{NotFound}
+use Rattle.coap_routes.specs.declared.routes.Routes.{Routes}
+use Rattle.coap_routes.specs.declared.mapped.MappedTarget.{MappedTarget}
 use Rattle.coap_target.specs.declared.target.Target.{Target}
-use Rattle.coap_target.specs.MappedTarget.{seen}
-use Rattle.coap_target.specs.Request.{value_of, first_value, request_target}
-use Rattle.coap_target.specs.Routes.{values_of, mapped_target}
+use Rattle.coap_routes.specs.MappedTarget.{seen}
+use Rattle.coap_routes.specs.Request.{value_of, first_value, request_target}
+use Rattle.coap_routes.specs.Routes.{values_of, mapped_target}
 use Rattle.coap_target.specs.Target.{IsTarget}
 use Rattle.coap_model.specs.Messages.{is_path_option}
 

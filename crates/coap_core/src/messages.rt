@@ -5,7 +5,7 @@ ghost use Rattle.coap_message.specs.Datagram.{Datagram, Appends, holding};
 ghost use Rattle.coap_message.specs.Message.{Message};
 ghost use Rattle.coap_message.specs.Options.{last_number};
 ghost use Rattle.coap_message.specs.Spelling.{spelling, options_spelling};
-ghost use Rattle.coap_target.specs.MappedTarget.{seen};
+ghost use Rattle.coap_routes.specs.MappedTarget.{seen};
 ghost use Rattle.coap_target.specs.Target.{IsTarget, IsShort};
 ghost use Rattle.coap_message.specs.Options.{option_of};
 ghost use Rattle.coap_model.specs.Messages.{token_of, max_age_option, host_options, target_options, forwarded, are_understood, fits, is_passed_on, answer_of, max_age_of, left_of, carries_max_age, shown, bad_gateway};
@@ -18,7 +18,7 @@ use coap_message::{
     Token, put_head, put_option, put_options, put_payload, uint, without_zeros,
 };
 use coap_option::numbers;
-use coap_target::{MappedTarget, Segments};
+use coap_routes::{MappedTarget, Segments};
 use std::alloc::Global;
 
 // ---- tokens

@@ -21,7 +21,7 @@ use coap_model::laws::{
     what_is_carried_is_promised,
 };
 use coap_model::{Counts, Limits, Report};
-use coap_target::Routes;
+use coap_routes::Routes;
 use std::alloc::Global;
 use std::marker::Model;
 

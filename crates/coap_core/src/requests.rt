@@ -3,8 +3,8 @@ ghost use Rattle.std.specs.Prelude.{◌≡◌, ◌+◌, ◌≤◌, true, length,
 ghost use Rattle.std.specs.List.{list_all};
 ghost use Rattle.coap_message.specs.Spelling.{spelling};
 ghost use Rattle.coap_message.specs.declared.kind.Kind.{Kind};
-ghost use Rattle.coap_target.specs.MappedTarget.{seen};
-ghost use Rattle.coap_target.specs.Routes.{mapped_target};
+ghost use Rattle.coap_routes.specs.MappedTarget.{seen};
+ghost use Rattle.coap_routes.specs.Routes.{mapped_target};
 ghost use Rattle.coap_target.specs.Target.{IsTarget};
 ghost use Rattle.coap_model.specs.Memory.{takes_memory};
 ghost use Rattle.coap_model.specs.Messages.{is_path_option, forwarded, verdict_of, verdict_of_target};
@@ -18,8 +18,9 @@ use coap_exchange::Waiter;
 use coap_message::{Code, Datagram, Head, Kind, MessageRef, Options, OutOfMemory, Seq};
 use coap_model::{Outcome, Report};
 use coap_option::numbers;
-use coap_target::laws::{requests_to_the_proxy_are_mapped, targets_fit_options};
-use coap_target::{Endpoint, MappedTarget, Target};
+use coap_routes::MappedTarget;
+use coap_routes::laws::{requests_to_the_proxy_are_mapped, targets_fit_options};
+use coap_target::{Endpoint, Target};
 
 /// What becomes of a request.
 #[derive(Drop)]

@@ -7,7 +7,7 @@ ghost use Rattle.coap_core.specs.Steps.{CanGoOn};
 use coap_exchange::{Exchanges, Ids, Table, Waiter};
 use coap_message::OutOfMemory;
 use coap_model::{Counts, Limits, Outcome, Report};
-use coap_target::Routes;
+use coap_routes::Routes;
 use std::alloc::Global;
 use std::marker::Model;
 

@@ -19,7 +19,7 @@ use Rattle.std.proofs.lemmas.Str.Ascii.{IsAscii-from_all}
 use Rattle.std.proofs.lemmas.Str.Parse.{without_leading_plus_none}
 use Rattle.std.proofs.Math.Bool.{and-false}
 use Rattle.std.proofs.Math.Nat.{pow-le-pow_right}
-use Rattle.coap_target.specs.RouteTexts.{all_of}
+use Rattle.coap_routes.specs.RouteTexts.{all_of}
 use Rattle.coap_lines.specs.Endpoints.{AreGroups, if_eight, segments_read}
 use Rattle.coap_lines.specs.Numbers.{group_of}
 use Rattle.coap_lines.specs.Texts.{colon, has}

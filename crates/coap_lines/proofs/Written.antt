@@ -12,8 +12,8 @@ use Rattle.std.proofs.lemmas.Slice.Eq.{bytes_eq-Decides}
 use Rattle.coap_target.specs.declared.endpoint.Endpoint.{Endpoint}
 use Rattle.coap_target.specs.declared.endpoint.Ip.{Ip}
 use Rattle.coap_target.specs.declared.endpoint.Ip.TheVariants.{V4, V6}
-use Rattle.coap_target.specs.Address.{ipv4_of}
-use Rattle.coap_target.proofs.Addresses.{ipv4_of-dotted, dotted-ipv4_of}
+use Rattle.coap_routes.specs.Address.{ipv4_of}
+use Rattle.coap_routes.proofs.Addresses.{ipv4_of-dotted, dotted-ipv4_of}
 use Rattle.coap_model.specs.Events.{Event}
 use Rattle.coap_model.specs.Events.Event.{arrival, tick}
 use Rattle.coap_model.specs.Runs.{Turn}

@@ -3,7 +3,7 @@ ghost use Rattle.std.specs.Prelude.{◌≡◌, ◌==◌, ◌∷◌, option_map};
 ghost use Rattle.std.specs.List.{slice_split};
 ghost use Rattle.std.specs.Option.{option_copied};
 ghost use Rattle.std.specs.Net.Reader.{read_byte};
-ghost use Rattle.coap_target.specs.Address.{ipv4_of};
+ghost use Rattle.coap_routes.specs.Address.{ipv4_of};
 ghost use Rattle.coap_lines.specs.Endpoints.{endpoint_of, parts_left, segments_read, v4_endpoint, v6_endpoint};
 ghost use Rattle.coap_lines.specs.Numbers.{number_of};
 

@@ -16,7 +16,7 @@ use Rattle.coap_model.specs.Messages.{token_of, forwarded}
 use Rattle.coap_model.specs.World.{World, next_id}
 use Rattle.coap_exchange.specs.Due.{sending, least}
 use Rattle.coap_model.specs.Ticks.{items_of, if_due, with_id, sends}
-use Rattle.coap_target.specs.Routes.{mapped_target}
+use Rattle.coap_routes.specs.Routes.{mapped_target}
 use Rattle.coap_model.specs.History.{moves, Deed, Place, Opens, Sends, Gets}
 use Rattle.coap_model.specs.Justified.{IsRequestOf}
 use Rattle.coap_model.specs.Runs.{entry_of}

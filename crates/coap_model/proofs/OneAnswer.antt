@@ -11,7 +11,7 @@ use Rattle.coap_message.proofs.Spellings.{spelled_once}
 use Rattle.coap_message.proofs.WholeMessages.{one_message}
 use Rattle.coap_target.specs.declared.endpoint.Endpoint.{Endpoint}
 use Rattle.coap_target.specs.declared.target.Target.{Target}
-use Rattle.coap_target.specs.Routes.{mapped_target}
+use Rattle.coap_routes.specs.Routes.{mapped_target}
 use Rattle.coap_model.specs.declared.report.Outcome.{Outcome}
 use Rattle.coap_model.specs.declared.report.Outcome.TheVariants.{Ignored, Rejected, Refused, Opened, Overloaded, NoId, Answered, SentRequest, Delivered, Idle}
 use Rattle.coap_model.specs.declared.report.Storing.TheVariants.{NotStored}

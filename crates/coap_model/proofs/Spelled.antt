@@ -18,11 +18,11 @@ use Rattle.coap_message.specs.Reading.{read_message}
 use Rattle.coap_message.proofs.WholeMessages.{read_is}
 use Rattle.coap_target.specs.declared.target.Target.{Target}
 use Rattle.coap_target.specs.Target.{IsShort, IsTarget}
-use Rattle.coap_target.specs.Routes.{values_of}
+use Rattle.coap_routes.specs.Routes.{values_of}
 use Rattle.coap_exchange.specs.declared.exchange.Answer.{Answer}
 use Rattle.coap_message.specs.Codes.{is_response}
 use Rattle.coap_message.specs.Options.{option_of}
-use Rattle.coap_target.specs.Request.{first_value}
+use Rattle.coap_routes.specs.Request.{first_value}
 use Rattle.coap_model.specs.Messages.{reset, own_reply, max_age_option, busy_reply, token_of, host_options, target_options, forwarded, target_sent, is_passed_on, bad_gateway, answer_of, carries_max_age, left_of, shown}
 use Rattle.coap_model.specs.Ticks.{with_id}
 use Rattle.coap_model.specs.Step.{message_in}

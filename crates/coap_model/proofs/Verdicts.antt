@@ -9,10 +9,10 @@ use Rattle.coap_message.specs.Message.{Message}
 use Rattle.coap_message.specs.Spelling.{spelling}
 use Rattle.coap_message.proofs.Spellings.{spelling-length}
 use Rattle.coap_target.specs.declared.target.Target.{Target}
-use Rattle.coap_target.specs.declared.routes.Routes.{Routes}
+use Rattle.coap_routes.specs.declared.routes.Routes.{Routes}
 use Rattle.coap_target.specs.Target.{IsShort, IsTarget}
-use Rattle.coap_target.specs.Routes.{values_of, path_of, query_of, mapped_target, AreRoutes}
-use Rattle.coap_target.proofs.Targets.{target-is}
+use Rattle.coap_routes.specs.Routes.{values_of, path_of, query_of, mapped_target, AreRoutes}
+use Rattle.coap_routes.proofs.Targets.{target-is}
 use Rattle.coap_message.specs.Codes.{is_code}
 use Rattle.coap_model.specs.Messages.{is_path_option, eight_zeros, forwarded, Verdict, refused_with, may_open, verdict_of_target, verdict_of}
 

@@ -6,7 +6,7 @@ use Rattle.coap_message.specs.Spelling.{spelling}
 use Rattle.coap_target.specs.declared.endpoint.Endpoint.{Endpoint}
 use Rattle.coap_target.specs.declared.target.Target.{Target}
 use Rattle.coap_target.specs.Target.{IsTarget}
-use Rattle.coap_target.specs.Routes.{mapped_target, AreRoutes}
+use Rattle.coap_routes.specs.Routes.{mapped_target, AreRoutes}
 use Rattle.coap_exchange.specs.declared.exchange.Answer.{Answer}
 use Rattle.coap_exchange.specs.declared.exchange.ExchangeState.{ExchangeState}
 use Rattle.coap_exchange.specs.declared.exchange.ExchangeState.TheVariants.{Queued, Sent, Done}

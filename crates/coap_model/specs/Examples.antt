@@ -2,8 +2,8 @@
 use Rattle.std.specs.Prelude.{ℕ, ◌+◌, ◌-◌, List, [], ◌∷◌, replicate, Some, None}
 use Rattle.coap_message.specs.declared.code.TheConstants.Code.{BAD_OPTION, NOT_FOUND, METHOD_NOT_ALLOWED, REQUEST_ENTITY_TOO_LARGE}
 use Rattle.coap_target.specs.declared.endpoint.Endpoint.{Endpoint}
-use Rattle.coap_target.specs.Examples.{loopback}
-use Rattle.coap_target.specs.Routes.{fixed_routes}
+use Rattle.coap_routes.specs.Examples.{loopback}
+use Rattle.coap_routes.specs.Routes.{fixed_routes}
 use Rattle.coap_model.specs.declared.report.Outcome.{Outcome}
 use Rattle.coap_model.specs.declared.report.Outcome.TheVariants.{Ignored, Rejected, Refused, Opened, Overloaded, NoId, Answered, SentRequest, Delivered, Idle}
 use Rattle.coap_model.specs.declared.report.Storing.TheVariants.{NotStored}

@@ -15,9 +15,9 @@ use Rattle.coap_message.specs.Spelling.{spelling}
 use Rattle.coap_message.specs.Uint.{uint_of, uint_spelling}
 use Rattle.coap_target.specs.declared.endpoint.Endpoint.{Endpoint}
 use Rattle.coap_target.specs.declared.target.Target.{Target}
-use Rattle.coap_target.specs.declared.routes.Routes.{Routes}
-use Rattle.coap_target.specs.Request.{first_value}
-use Rattle.coap_target.specs.Routes.{values_of, mapped_target}
+use Rattle.coap_routes.specs.declared.routes.Routes.{Routes}
+use Rattle.coap_routes.specs.Request.{first_value}
+use Rattle.coap_routes.specs.Routes.{values_of, mapped_target}
 use Rattle.coap_exchange.specs.declared.exchange.Answer.{Answer}
 
 -- ---- types

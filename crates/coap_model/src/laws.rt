@@ -7,7 +7,7 @@ ghost use Rattle.coap_message.specs.Reading.{head_at};
 ghost use Rattle.coap_message.specs.Spelling.{spelling};
 ghost use Rattle.coap_target.specs.declared.endpoint.Endpoint.{Endpoint};
 ghost use Rattle.coap_target.specs.declared.target.Target.{Target};
-ghost use Rattle.coap_target.specs.Routes.{AreRoutes};
+ghost use Rattle.coap_routes.specs.Routes.{AreRoutes};
 ghost use Rattle.coap_exchange.specs.declared.exchange.Answer.{Answer};
 ghost use Rattle.coap_model.specs.Limits.{AreLimits, default_limits};
 ghost use Rattle.coap_model.specs.Setting.{Setting};
@@ -159,14 +159,10 @@ pub fn what_is_owed_is_given()
 /// draw, are one entry; and what may follow what a proxy carries is what its step answers. So the traffic alone
 /// says all that a proxy does.
 pub fn one_answer_is_justified()
-    ensures one {
-        (setting : Setting) (past : List Deed) → AllJustified setting past
-        → (d e : Deed) → MayFollow setting past d → MayFollow setting past e → AreOfOneTurn d.entry e.entry → d.entry ≡ e.entry
-    }
-    ensures of_the_step {
-        (w : World) (history : List Entry) (c : Carries history w) (d : Deed) → w.last ≤ d.entry.now → IsEvent d.entry.event → MayFollow w.setting c.deeds d
-        → d.entry ≡ entry_of d.entry.now d.entry.draw d.entry.event (step_of w d.entry.now d.entry.draw d.entry.event)
-    }
+    ensures one { (setting : Setting) (past : List Deed) → AllJustified setting past
+        → (d e : Deed) → MayFollow setting past d → MayFollow setting past e → AreOfOneTurn d.entry e.entry → d.entry ≡ e.entry }
+    ensures of_the_step { (w : World) (history : List Entry) (c : Carries history w) (d : Deed) → w.last ≤ d.entry.now → IsEvent d.entry.event → MayFollow w.setting c.deeds d
+        → d.entry ≡ entry_of d.entry.now d.entry.draw d.entry.event (step_of w d.entry.now d.entry.draw d.entry.event) }
 {}
 
 /// The moment at which a tick is wanted is the least at which anything is due by the history, and none is wanted

@@ -1,7 +1,7 @@
 -- What the program makes of an input, and what it writes.
 use Rattle.std.specs.Prelude.{◌≡◌, ◌⊎◌, ℕ, List, [], Option, Result, Ok, Err}
 use Rattle.std.specs.Io.KnownBytes.{Appends}
-use Rattle.coap_target.specs.Routes.{fixed_routes}
+use Rattle.coap_routes.specs.Routes.{fixed_routes}
 use Rattle.coap_model.specs.Limits.{default_limits}
 use Rattle.coap_model.specs.World.{World, new_world}
 use Rattle.coap_proxyd.specs.declared.error.ReplayError.{ReplayError}

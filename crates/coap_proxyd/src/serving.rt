@@ -10,7 +10,7 @@ use crate::replays::replay;
 use crate::words::are_known;
 use coap_core::{Core, LimitValues, Limits};
 use coap_message::OutOfMemory;
-use coap_target::Routes;
+use coap_routes::Routes;
 use std::alloc::Global;
 use std::io::{BufReader, Read, Write};
 

@@ -1,14 +1,2 @@
-pub mod Addresses
-pub mod Beginnings
-pub mod Cutting
-pub mod Gathering
 pub mod Lists
-pub mod MapSearch
-pub mod Numbered
-pub mod Origins
-pub mod Requests
 pub mod Same
-pub mod Screened
-pub mod Targets
-pub mod Texts
-pub mod Winners

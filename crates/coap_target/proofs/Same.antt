@@ -6,12 +6,8 @@ use Rattle.coap_target.specs.declared.endpoint.Endpoint.{Endpoint}
 use Rattle.coap_target.specs.declared.endpoint.Ip.{Ip}
 use Rattle.coap_target.specs.declared.endpoint.Ip.TheVariants.{V4, V6}
 use Rattle.coap_target.specs.declared.target.Target.{Target}
-use Rattle.coap_target.specs.declared.uri.HostPart.{HostPart}
-use Rattle.coap_target.specs.declared.uri.HostPart.TheVariants.{Name, Addr}
-use Rattle.coap_target.specs.declared.uri.UriParts.{UriParts}
 use Rattle.coap_target.specs.Endpoint.{same_ip, same_endpoint}
-use Rattle.coap_target.specs.Equality.{same_bytes, same_parts, same_name, same_target, same_uri}
-use Rattle.coap_target.specs.Hosts.{same_host}
+use Rattle.coap_target.specs.Equality.{same_bytes, same_parts, same_name, same_target}
 
 -- a test that holds of equals, and of nothing else
 pub record Tells {A : Type 0} (same : A → A → Bool) : Type 0 where
@@ -46,7 +42,7 @@ Tells-pointwise same tells = record { only = pointwise-only same tells; itself =
 pub Tells-bytes : Tells same_bytes
 Tells-bytes = Tells-pointwise nat_eq Tells-nat
 
-Tells-parts : Tells same_parts
+pub Tells-parts : Tells same_parts
 Tells-parts = Tells-pointwise same_bytes Tells-bytes
 
 ip-only : (a b : Ip) → same_ip a b ≡ true → a ≡ b
@@ -72,19 +68,6 @@ endpoint-only a b e =
 pub Tells-endpoint : Tells same_endpoint
 Tells-endpoint = record { only = endpoint-only; itself = λ a. and_from (same_ip a.ip a.ip) (a.port == a.port) (ip-itself a.ip) (eq-eqb a.port a.port refl) }
 
-host-only : (a b : HostPart) → same_host a b ≡ true → a ≡ b
-host-only (Name a) (Name b) e = ap Name (Tells-bytes.only a b e)
-host-only (Addr a) (Addr b) e = ap Addr (ip-only a b e)
-host-only (Name a) (Addr b) e = absurd cc
-host-only (Addr a) (Name b) e = absurd cc
-
-host-itself : (a : HostPart) → same_host a a ≡ true
-host-itself (Name a) = Tells-bytes.itself a
-host-itself (Addr a) = ip-itself a
-
-pub Tells-host : Tells same_host
-Tells-host = record { only = host-only; itself = host-itself }
-
 name-only : (a b : Option (List ℕ)) → same_name a b ≡ true → a ≡ b
 name-only None None e = refl
 name-only (Some a) (Some b) e = ap Some (Tells-bytes.only a b e)
@@ -96,14 +79,14 @@ name-itself None = refl
 name-itself (Some a) = Tells-bytes.itself a
 
 -- four parts, each told
-four : (p q r s : Bool) → (p && (q && (r && s))) ≡ true → (p ≡ true) × (q ≡ true) × (r ≡ true) × (s ≡ true)
+pub four : (p q r s : Bool) → (p && (q && (r && s))) ≡ true → (p ≡ true) × (q ≡ true) × (r ≡ true) × (s ≡ true)
 four p q r s e =
     let first = and_parts p (q && (r && s)) e in
     let second = and_parts q (r && s) first.1 in
     let third = and_parts r s second.1 in
     (first.0, second.0, third.0, third.1)
 
-of_four : (p q r s : Bool) → p ≡ true → q ≡ true → r ≡ true → s ≡ true → (p && (q && (r && s))) ≡ true
+pub of_four : (p q r s : Bool) → p ≡ true → q ≡ true → r ≡ true → s ≡ true → (p && (q && (r && s))) ≡ true
 of_four p q r s a b c d = and_from p (q && (r && s)) a (and_from q (r && s) b (and_from r s c d))
 
 target-only : (a b : Target) → same_target a b ≡ true → a ≡ b
@@ -117,15 +100,3 @@ target-only a b e =
 
 pub Tells-target : Tells same_target
 Tells-target = record { only = target-only; itself = λ a. of_four (same_name a.host a.host) (same_endpoint a.at a.at) (same_parts a.path a.path) (same_parts a.query a.query) (name-itself a.host) (Tells-endpoint.itself a.at) (Tells-parts.itself a.path) (Tells-parts.itself a.query) }
-
-uri-only : (a b : UriParts) → same_uri a b ≡ true → a ≡ b
-uri-only a b e =
-    let parts = four (same_host a.host b.host) (a.port == b.port) (same_parts a.path b.path) (same_parts a.query b.query) e in
-    let host : a.host ≡ b.host = host-only a.host b.host parts.0 in
-    let port : a.port ≡ b.port = eqb-true a.port b.port parts.1 in
-    let path : a.path ≡ b.path = Tells-parts.only a.path b.path parts.2 in
-    let query : a.query ≡ b.query = Tells-parts.only a.query b.query parts.3 in
-    λ i. record { host = host i; port = port i; path = path i; query = query i }
-
-pub Tells-uri : Tells same_uri
-Tells-uri = record { only = uri-only; itself = λ a. of_four (same_host a.host a.host) (a.port == a.port) (same_parts a.path a.path) (same_parts a.query a.query) (host-itself a.host) (eq-eqb a.port a.port refl) (Tells-parts.itself a.path) (Tells-parts.itself a.query) }

@@ -1,10 +1,8 @@
--- When hosts, targets and URIs are the same, part by part.
-use Rattle.std.specs.Prelude.{ℕ, Bool, true, false, ◌&&◌, ◌==◌, nat_eq, List, Option, Some, None}
+-- When targets are the same, part by part.
+use Rattle.std.specs.Prelude.{ℕ, Bool, true, false, ◌&&◌, nat_eq, List, Option, Some, None}
 use Rattle.std.specs.Cmp.Lexicographic.{pointwise}
 use Rattle.coap_target.specs.declared.target.Target.{Target}
-use Rattle.coap_target.specs.declared.uri.UriParts.{UriParts}
 use Rattle.coap_target.specs.Endpoint.{same_endpoint}
-use Rattle.coap_target.specs.Hosts.{same_host}
 
 abbrev pub same_bytes : List ℕ → List ℕ → Bool
 same_bytes a b = pointwise nat_eq a b
@@ -20,6 +18,3 @@ same_name (Some a) None = false
 
 abbrev pub same_target : Target → Target → Bool
 same_target a b = same_name a.host b.host && (same_endpoint a.at b.at && (same_parts a.path b.path && same_parts a.query b.query))
-
-abbrev pub same_uri : UriParts → UriParts → Bool
-same_uri a b = same_host a.host b.host && ((a.port == b.port) && (same_parts a.path b.path && same_parts a.query b.query))

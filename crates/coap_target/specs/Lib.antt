@@ -1,15 +1,3 @@
 pub mod Endpoint
-pub mod Target
-pub mod Answer
-pub mod Address
-pub mod Uri
-pub mod RouteLists
-pub mod RoutesView
-pub mod Routes
-pub mod Hosts
-pub mod Request
-pub mod RouteTexts
 pub mod Equality
-pub mod Winner
-pub mod Examples
-pub mod MappedTarget
+pub mod Target

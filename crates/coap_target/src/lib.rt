@@ -1,27 +1,9 @@
-//! Where requests go: endpoints, URIs, targets and routes (RFC 7252, 5.7 and 6).
+//! Endpoints, and targets: the resources of origins that requests are for (RFC 7252, 1.2 and 5.7.2).
 #![tactic(auto)]
 
-mod address;
 mod endpoint;
-mod error;
-pub mod examples;
 pub mod laws;
-mod map;
-mod options;
-mod parts;
-mod reading;
-mod request;
-mod routes;
-mod segment;
 mod target;
-mod uri;
 
-pub use address::read_ip;
 pub use endpoint::{Endpoint, Ip};
-pub use error::{RouteError, TargetError, UriError};
-pub use map::{KnownHost, Map};
-pub use options::Values;
-pub use routes::Routes;
-pub use segment::Segments;
-pub use target::{MappedTarget, Target};
-pub use uri::{HostPart, UriParts, split_uri};
+pub use target::Target;

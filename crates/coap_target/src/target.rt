@@ -3,7 +3,6 @@ ghost use Rattle.std.specs.Prelude.{◌≡◌};
 ghost use Rattle.coap_target.specs.Equality.{same_target};
 
 use crate::endpoint::Endpoint;
-use crate::options::Values;
 use coap_message::{Pieces, Seq};
 
 /// A resource of an origin: the host by which it is asked for, none for an address; the endpoint; the
@@ -23,13 +22,4 @@ impl Target {
     {
         self == other
     }
-}
-
-/// The target that a request to the proxy itself is mapped to, none of it copied: the origin's host, endpoint
-/// and path, what is left of the request's path behind the prefix of the map, and the request's query.
-#[derive(Drop)]
-pub struct MappedTarget<'m, 'a> {
-    pub origin: &'m Target,
-    pub rest: Values<'a>,
-    pub query: Values<'a>,
 }

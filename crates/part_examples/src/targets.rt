@@ -1,9 +1,10 @@
 //! The targets of requests, the parts of URIs, and the routes that texts say.
 use coap_message::{MessageRef, OutOfMemory, Pieces};
 use coap_option::screen_request;
-use coap_target::{
-    HostPart, Ip, RouteError, Routes, Target, TargetError, UriError, UriParts, read_ip, split_uri,
+use coap_routes::{
+    HostPart, RouteError, Routes, TargetError, UriError, UriParts, read_ip, split_uri,
 };
+use coap_target::{Ip, Target};
 use std::alloc::{AllocError, Global};
 use std::process::Abort;
 use std::test::*;

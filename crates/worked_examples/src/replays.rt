@@ -2,7 +2,7 @@
 use coap_core::{Core, LimitValues, Limits};
 use coap_message::OutOfMemory;
 use coap_proxyd::{ReplayError, replay};
-use coap_target::Routes;
+use coap_routes::Routes;
 use std::alloc::{AllocError, Global};
 use std::io;
 use std::io::{BufRead, ErrorKind, Read, Write};

@@ -1,7 +1,8 @@
 //! A core that is called by hand: what it answers, what it sends, and what it tells of itself.
 use coap_core::{Core, Counts, Event, LimitValues, Limits, Outcome, Report, Storing};
 use coap_message::{Datagram, OutOfMemory};
-use coap_target::{Endpoint, Ip, Routes};
+use coap_routes::Routes;
+use coap_target::{Endpoint, Ip};
 use std::alloc::Global;
 use std::process::Abort;
 use std::test::*;

@@ -2,7 +2,7 @@ use Rattle.std.proofs.Common.{◌≡◌, Ok, Err, [], refl, arith}
 use Rattle.std.proofs.lemmas.Result.{err_from_is_err_and}
 use Rattle.coap_message.specs.Datagram.{Appends, holding}
 use Rattle.coap_message.specs.Spelling.{head_spelling}
-use Rattle.coap_target.specs.MappedTarget.{seen}
+use Rattle.coap_routes.specs.MappedTarget.{seen}
 use Rattle.coap_core.proofs.Forms.{written, head, hosts, last-values, last-host, after_host, after_path, paths, queries, written-to-query, full-at-host, full-at-path}
 use Rattle.coap_core.proofs.messages.put_forwarded.Goals as goal
 

@@ -1,5 +1,5 @@
 use Rattle.std.proofs.Common.{refl}
-use Rattle.coap_target.proofs.Addresses.{ipv4_of-dotted, ipv4_of-none}
+use Rattle.coap_routes.proofs.Addresses.{ipv4_of-dotted, ipv4_of-none}
 use Rattle.coap_lines.proofs.endpoint.read_octets.Goals as goal
 
 pub returns-in-Ok : goal.returns-in-Ok

@@ -2,7 +2,7 @@ use Rattle.std.proofs.Common.{refl}
 use Rattle.coap_message.specs.Reading.{read_message, body_at, options_within, option_at, extended}
 use Rattle.coap_message.specs.Spelling.{spelling, option_spelling}
 use Rattle.coap_message.specs.Uint.{uint_spelling}
-use Rattle.coap_target.specs.Routes.{mapped_target}
+use Rattle.coap_routes.specs.Routes.{mapped_target}
 use Rattle.coap_model.specs.Messages.{target_sent, token_of, target_options, verdict_of, answer_of}
 use Rattle.coap_model.specs.Ticks.{with_id}
 use Rattle.coap_model.specs.Step.{message_in}

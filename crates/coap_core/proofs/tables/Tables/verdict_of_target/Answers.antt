@@ -1,7 +1,7 @@
 use Rattle.std.proofs.Common.{◌≡◌, ◌+◌, ◌<◌, ◌≤◌, length, refl, ap, ◌∙◌, arith}
 use Rattle.std.proofs.lemmas.Bool.{le-leb, lt-leb}
 use Rattle.coap_message.specs.Spelling.{spelling}
-use Rattle.coap_target.specs.MappedTarget.{seen}
+use Rattle.coap_routes.specs.MappedTarget.{seen}
 use Rattle.coap_model.specs.Messages.{eight_zeros, forwarded}
 use Rattle.coap_model.proofs.Spelled.{length-token_of}
 use Rattle.coap_model.proofs.Verdicts.{form-length}

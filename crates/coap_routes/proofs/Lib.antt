@@ -1,0 +1,14 @@
+pub mod Addresses
+pub mod Beginnings
+pub mod Cutting
+pub mod Dropping
+pub mod Gathering
+pub mod MapSearch
+pub mod Numbered
+pub mod Origins
+pub mod Requests
+pub mod Screened
+pub mod Targets
+pub mod Texts
+pub mod Uris
+pub mod Winners

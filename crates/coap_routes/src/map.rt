@@ -1,0 +1,18 @@
+//! Entries of the routes: maps from paths to origins, and the addresses of hosts.
+use coap_message::{Pieces, Seq};
+use coap_target::{Ip, Target};
+
+/// Where paths lead that begin with the prefix: to the origin, with what is left of the path behind the
+/// origin's own.
+#[derive(Clone, Debug, Drop, PartialEq, Eq, Hash)]
+pub struct Map {
+    pub prefix: Pieces,
+    pub origin: Target,
+}
+
+/// A host's name, in ASCII lower case, and its address.
+#[derive(Clone, Debug, Drop, PartialEq, Eq, Hash)]
+pub struct KnownHost {
+    pub name: Seq<u8>,
+    pub ip: Ip,
+}

@@ -1,6 +1,0 @@
-use Rattle.std.proofs.Common.{arith}
-use Rattle.coap_target.proofs.Lists.{drop-next}
-use Rattle.coap_target.proofs.segment.skip.Goals as goal
-
-pub loop-index-preserved : goal.loop-index-preserved
-loop-index-preserved g c = drop-next c.loop-index.index _ _ _ _ c.loop-index.invariant c.next_segment-passed.ensures
