@@ -1,13 +1,13 @@
 pub mod Addresses
 pub mod Beginnings
 pub mod Cutting
+pub mod Equality
 pub mod Gathering
 pub mod Lists
 pub mod MapSearch
 pub mod Numbered
 pub mod Origins
 pub mod Requests
-pub mod Same
 pub mod Screened
 pub mod Targets
 pub mod Texts

@@ -20,7 +20,7 @@ pub All-weaken : {X : Type 0} (P Q : X → Type 0) (xs : List X) → ((x : X) �
 All-weaken P Q [] less all = tt
 All-weaken P Q (x ∷ xs) less all = (less x all.0, All-weaken P Q xs less all.1)
 
--- the next of what is left behind `k`
+-- the next of what is left after `k`
 pub drop-next : (k : ℕ) (xs left next : List (List ℕ)) (r : Option (Bor (List ℕ))) → left ≡ drop k xs → MatchOption r ((left ≡ []) × (next ≡ [])) (λ s. left ≡ s.now ∷ next) → next ≡ drop (k + 1) xs
 drop-next k xs left next None so_far got = got.1 ∙ sym (ap (drop 1) got.0) ∙ ap (drop 1) so_far ∙ drop-drop 1 k xs
 drop-next k xs left next (Some s) so_far got = sym (ap (drop 1) got) ∙ ap (drop 1) so_far ∙ drop-drop 1 k xs

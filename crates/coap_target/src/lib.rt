@@ -9,14 +9,14 @@ pub mod laws;
 mod map;
 mod options;
 mod parts;
-mod reading;
 mod request;
+mod route_texts;
 mod routes;
 mod segment;
 mod target;
 mod uri;
 
-pub use address::read_ip;
+pub use address::{read_ip, read_ipv4};
 pub use endpoint::{Endpoint, Ip};
 pub use error::{RouteError, TargetError, UriError};
 pub use map::{KnownHost, Map};

@@ -3,7 +3,7 @@ use crate::endpoint::Ip;
 use crate::target::Target;
 use coap_message::{Pieces, Seq};
 
-/// Where paths lead that begin with the prefix: to the origin, with what is left of the path behind the
+/// Where paths lead that begin with the prefix: to the origin, with what is left of the path after the
 /// origin's own.
 #[derive(Clone, Debug, Drop, PartialEq, Eq, Hash)]
 pub struct Map {

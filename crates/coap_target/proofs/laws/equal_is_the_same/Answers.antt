@@ -1,7 +1,7 @@
 use Rattle.coap_target.specs.Endpoint.{same_ip, same_endpoint}
 use Rattle.coap_target.specs.Equality.{same_target, same_uri}
 use Rattle.coap_target.specs.Hosts.{same_host}
-use Rattle.coap_target.proofs.Same.{Tells-both, Tells-ip, Tells-endpoint, Tells-host, Tells-target, Tells-uri}
+use Rattle.coap_target.proofs.Equality.{Tells-both, Tells-ip, Tells-endpoint, Tells-host, Tells-target, Tells-uri}
 use Rattle.coap_target.proofs.laws.equal_is_the_same.Goals as goal
 
 pub returns : goal.returns
