@@ -3,7 +3,7 @@ use Rattle.std.proofs.Common.{◌≡◌, true, refl}
 use Rattle.std.proofs.lemmas.Bool.{and_parts, and_from}
 use Rattle.coap_message.specs.SameOptions.{same_options, same_options-Decides}
 use Rattle.coap_target.specs.Equality.{same_target}
-use Rattle.coap_target.proofs.Same.{Tells, Tells-target, Tells-both}
+use Rattle.coap_target.proofs.Equality.{Tells, Tells-target, Tells-both}
 use Rattle.coap_cache.specs.declared.key.CacheKey.{CacheKey}
 use Rattle.coap_cache.specs.Keys.{same_key}
 

@@ -13,6 +13,7 @@ use Rattle.coap_exchange.proofs.Tables.{none-below}
 abbrev pub one_if : Bool → ℕ
 one_if b = cond b 1 0
 
+-- no more are counted than there are
 pub count_where-length : (test : ExchangeState → Bool) (xs : List (Numbered Exchange)) → count_where test xs ≤ length xs
 count_where-length test [] = omega arith
 count_where-length test (x ∷ xs) = go (test x.1.state) (count_where-length test xs)
@@ -21,6 +22,7 @@ count_where-length test (x ∷ xs) = go (test x.1.state) (count_where-length tes
     go true i = omega arith
     go false i = omega arith
 
+-- one more is counted where it passes the test
 pub count_where-push : (test : ExchangeState → Bool) (xs : List (Numbered Exchange)) (x : Numbered Exchange) → count_where test (xs ++ x ∷ []) ≡ count_where test xs + one_if (test x.1.state)
 count_where-push test [] x = omega arith
 count_where-push test (y ∷ xs) x = let i = count_where-push test xs x in omega arith

@@ -17,6 +17,7 @@ abbrev pub answer_of : Option Exchange → Option Answer
 answer_of None = None
 answer_of (Some x) = answer_at x.state
 
+-- the answer of a number is that of the exchange found under it
 pub answer_in-item_at : (n : ℕ) (xs : List (Numbered Exchange)) → answer_in n xs ≡ answer_of (item_at n xs)
 answer_in-item_at n [] = refl
 answer_in-item_at n (x ∷ xs) = go (eqb x.0 n) refl (answer_in-item_at n xs)

@@ -9,6 +9,7 @@ use Rattle.coap_exchange.specs.declared.exchange.Exchange.{Exchange}
 use Rattle.coap_exchange.specs.Table.{Numbered, Table, IsRising, IsTable}
 use Rattle.coap_exchange.specs.Exchanges.{moved, with_state}
 
+-- what holds in either case holds of an exchange that may come to another state
 pub moved-cases : (P : Numbered Exchange → Type 0) (n : ℕ) (s : ExchangeState) (y : Numbered Exchange) → (y.0 ≡ n → P (y.0, record { target = y.1.target; form = y.1.form; admitted = y.1.admitted; state = s })) → (y.0 ≢ n → P y) → P (moved n s y)
 moved-cases P n s y same other = go (eqb y.0 n) refl
   where
@@ -16,23 +17,28 @@ moved-cases P n s y same other = go (eqb y.0 n) refl
     go true e = same (eqb-true y.0 n e)
     go false e = other (eqb-false y.0 n e)
 
+-- it keeps its number
 pub moved-number : (n : ℕ) (s : ExchangeState) (y : Numbered Exchange) → (moved n s y).0 ≡ y.0
 moved-number n s y = moved-cases (λ z. z.0 ≡ y.0) n s y (λ e. refl) (λ e. refl)
 
+-- there are as many exchanges as before
 pub length-with_state : (n : ℕ) (s : ExchangeState) (xs : List (Numbered Exchange)) → length (with_state n s xs) ≡ length xs
 length-with_state n s [] = refl
 length-with_state n s (x ∷ xs) = let i = length-with_state n s xs in omega arith
 
+-- their numbers rise as before
 pub IsRising-with_state : (n least : ℕ) (s : ExchangeState) (xs : List (Numbered Exchange)) → IsRising least xs → IsRising least (with_state n s xs)
 IsRising-with_state n least s [] r = tt
 IsRising-with_state n least s (x ∷ xs) r =
     let e = moved-number n s x in
     (rw e r.0, rw e (IsRising-with_state n x.0 s xs r.1))
 
+-- and are not above what they were not above before
 below-with_state : (n most : ℕ) (s : ExchangeState) (xs : List (Numbered Exchange)) → AllByRecursion (λ x. x.0 ≤ most) xs → AllByRecursion (λ x. x.0 ≤ most) (with_state n s xs)
 below-with_state n most s [] below = tt
 below-with_state n most s (x ∷ xs) below = (rw (moved-number n s x) below.0, below-with_state n most s xs below.1)
 
+-- a table stays one
 pub with_state-is : (n : ℕ) (s : ExchangeState) (t : Table Exchange) → IsTable t → IsTable (record t { items = with_state n s t.items })
 with_state-is n s t is =
     record {
@@ -66,6 +72,7 @@ written-lookup n least s (y ∷ ys) r x e = go (eqb y.0 n) refl (λ f. written-l
         let found : lookup (nat_eq n) ys ≡ Some x = rw turned at e in
         rw turned (ap (λ (l : List (Numbered Exchange)). y ∷ l) (rest found))
 
+-- where the number has no exchange, none changes
 missing-lookup : (n : ℕ) (s : ExchangeState) (xs : List (Numbered Exchange)) → lookup (nat_eq n) xs ≡ None → xs ≡ with_state n s xs
 missing-lookup n s [] e = refl
 missing-lookup n s (y ∷ ys) e = go (eqb y.0 n) refl (λ f. missing-lookup n s ys f)
@@ -79,6 +86,7 @@ missing-lookup n s (y ∷ ys) e = go (eqb y.0 n) refl (λ f. missing-lookup n s 
         let found : lookup (nat_eq n) ys ≡ None = rw turned at e in
         ap (λ (l : List (Numbered Exchange)). y ∷ l) (rest found)
 
+-- what is written through the key, if it is there, is the table with the exchange in its new state
 pub written-is : (n least : ℕ) (s : ExchangeState) (xs ys : List (Numbered Exchange)) → IsRising least xs → IfSome (lookup (nat_eq n) xs) (λ x. ys ≡ set_value (nat_eq n) xs (record x { state = s })) → IfNone (lookup (nat_eq n) xs) (ys ≡ xs) → ys ≡ with_state n s xs
 written-is n least s xs ys r some none = go (lookup (nat_eq n) xs) refl some none
   where

@@ -10,9 +10,11 @@ use Rattle.coap_exchange.specs.Table.{Numbered, Table, IsRising, IsTable, item_a
 
 -- ---- one is taken in
 
+-- each number is below this one
 abbrev pub AllBelow : {A : Type 0} → ℕ → List (Numbered A) → Type 0
 AllBelow n xs = AllByRecursion (λ x. x.0 < n) xs
 
+-- numbers rise with a greater one at the end
 pub IsRising-push : {A : Type 0} (least n : ℕ) (xs : List (Numbered A)) (a : A) → least < n → AllBelow n xs → IsRising least xs → IsRising least (xs ++ (n, a) ∷ [])
 IsRising-push least n [] a lt below r = (lt, tt)
 IsRising-push least n (x ∷ xs) a lt below r = (r.0, IsRising-push x.0 n xs a below.0 below.1 r.1)
@@ -22,17 +24,21 @@ insert-last most n [] a lt below = refl
 insert-last {A} most n (x ∷ xs) a lt below =
     rw (ne_eqb n x.0 (λ e. let le = below.0 in omega arith)) (ap (λ (l : List (Numbered A)). x ∷ l) (insert-last most n xs a lt below.1))
 
+-- the next number is at most one above the last
 below-push : {A : Type 0} (most : ℕ) (xs : List (Numbered A)) (a : A) → AllByRecursion (λ x. x.0 ≤ most) xs → AllByRecursion (λ x. x.0 ≤ most + 1) (xs ++ (most + 1, a) ∷ [])
 below-push most [] a below = (omega arith, tt)
 below-push most (x ∷ xs) a below = (let le = below.0 in omega arith, below-push most xs a below.1)
 
+-- the next number is above all
 all-below : {A : Type 0} (most : ℕ) (xs : List (Numbered A)) → AllByRecursion (λ x. x.0 ≤ most) xs → AllBelow (most + 1) xs
 all-below most [] below = tt
 all-below most (x ∷ xs) below = (let le = below.0 in omega arith, all-below most xs below.1)
 
+-- an item under the next number is put at the end
 pub inserted : {A : Type 0} (t : Table A) (a : A) → IsTable t → insert_entry nat_eq t.items (t.admitted + 1) a ≡ (admitted_to a t).items
 inserted t a is = insert-last t.admitted (t.admitted + 1) t.items a (omega arith) is.below
 
+-- a table with room stays one
 pub admitted-is : {A : Type 0} (t : Table A) (a : A) → IsTable t → length t.items < t.limit → IsTable (admitted_to a t)
 admitted-is t a is room =
     record {
@@ -47,10 +53,12 @@ room-there t is e = let le = is.within in omega (arith, eqb-false _ _ e)
 
 -- ---- one is taken out
 
+-- what rises from a number on rises from a lower one
 IsRising-lower : {A : Type 0} (low high : ℕ) (xs : List (Numbered A)) → low ≤ high → IsRising high xs → IsRising low xs
 IsRising-lower low high [] le r = tt
 IsRising-lower low high (x ∷ xs) le r = (omega (arith, r.0), r.1)
 
+-- numbers rise without one of them
 pub IsRising-without : {A : Type 0} (n least : ℕ) (xs : List (Numbered A)) → IsRising least xs → IsRising least (without n xs)
 IsRising-without n least [] r = tt
 IsRising-without n least (x ∷ xs) r = go (eqb x.0 n) (IsRising-without n x.0 xs r.1)
@@ -75,6 +83,7 @@ removed {A} n least (x ∷ xs) r = go (eqb x.0 n) refl (removed n x.0 xs r.1)
     go true e rest = let same = eqb-true x.0 n e in rw (eq-eqb n x.0 (sym same)) (sym (none-below n x.0 xs (omega arith) r.1))
     go false e rest = rw (ne_eqb n x.0 (λ f. eqb-false x.0 n e (sym f))) (ap (λ (l : List (Numbered A)). x ∷ l) rest)
 
+-- what is left is no longer
 length-fewer : {A : Type 0} (n : ℕ) (xs : List (Numbered A)) → length (without n xs) ≤ length xs
 length-fewer n [] = omega arith
 length-fewer n (x ∷ xs) = go (eqb x.0 n) (length-fewer n xs)
@@ -83,6 +92,7 @@ length-fewer n (x ∷ xs) = go (eqb x.0 n) (length-fewer n xs)
     go true i = omega arith
     go false i = omega arith
 
+-- and not above what it was not above before
 below-fewer : {A : Type 0} (n most : ℕ) (xs : List (Numbered A)) → AllByRecursion (λ x. x.0 ≤ most) xs → AllByRecursion (λ x. x.0 ≤ most) (without n xs)
 below-fewer n most [] below = tt
 below-fewer n most (x ∷ xs) below = go (eqb x.0 n) (below-fewer n most xs below.1)
@@ -91,6 +101,7 @@ below-fewer n most (x ∷ xs) below = go (eqb x.0 n) (below-fewer n most xs belo
     go true i = i
     go false i = (below.0, i)
 
+-- a table without an item is one
 pub closed-is : {A : Type 0} (n : ℕ) (t : Table A) → IsTable t → IsTable (record t { items = without n t.items })
 closed-is n t is =
     record {
@@ -121,6 +132,7 @@ above-least {A} n least (x ∷ xs) a r e = go (eqb n x.0) refl (λ f. above-leas
         let found : item_at n xs ≡ Some a = rw t at e in
         omega (arith, r.0, rest found)
 
+-- a table stays one where its last number is given back, by what stood there
 withdrawn_at-is : {A : Type 0} (o : Option A) (t : Table A) → IsTable t → IsTable (withdrawn_at o t)
 withdrawn_at-is None t is = is
 withdrawn_at-is (Some a) t is =
@@ -130,6 +142,7 @@ withdrawn_at-is (Some a) t is =
       below = below-last t.admitted t.items is.below;
     }
 
+-- and in any case
 pub withdrawn-is : {A : Type 0} (t : Table A) → IsTable t → IsTable (withdrawn t)
 withdrawn-is t is = withdrawn_at-is (item_at t.admitted t.items) t is
 
@@ -147,6 +160,7 @@ without-none {A} n (x ∷ xs) e = go (eqb n x.0) refl (λ f. without-none n xs f
 
 -- the last number has an item
 module _ {A : Type 0} (t : Table A) (o : Option A) (is : IsTable t) (at : o ≡ item_at t.admitted t.items) where
+  -- so a number was given
   pub last-positive : is_some o ≡ true → 0 < t.admitted
   last-positive there = go o refl there
     where
@@ -154,6 +168,7 @@ module _ {A : Type 0} (t : Table A) (o : Option A) (is : IsTable t) (at : o ≡ 
       go None e there = absurd cc
       go (Some a) e there = above-least t.admitted 0 t.items a is.rising (sym at ∙ e)
 
+  -- and its item goes with it
   pub withdrawn-some : is_some o ≡ true → withdrawn t ≡ record { items = without t.admitted t.items; limit = t.limit; admitted = t.admitted - 1 }
   withdrawn-some there = rw (sym at) (go o there)
     where
@@ -161,6 +176,7 @@ module _ {A : Type 0} (t : Table A) (o : Option A) (is : IsTable t) (at : o ≡ 
       go None there = absurd cc
       go (Some a) there = refl
 
+  -- where it has none, taking it out changes nothing
   pub withdrawn-none : is_some o ≡ false → withdrawn t ≡ record { items = without t.admitted t.items; limit = t.limit; admitted = t.admitted }
   withdrawn-none missing = go o refl missing
     where
@@ -175,6 +191,7 @@ item_at-last : {A : Type 0} (most n : ℕ) (xs : List (Numbered A)) (a : A) → 
 item_at-last most n [] a lt below = rw (eq-eqb n n refl) refl
 item_at-last most n (x ∷ xs) a lt below = rw (ne_eqb n x.0 (λ e. let le = below.0 in omega arith)) (item_at-last most n xs a lt below.1)
 
+-- and what was put there and taken out leaves what was before
 without-last : {A : Type 0} (most n : ℕ) (xs : List (Numbered A)) (a : A) → most < n → AllByRecursion (λ x. x.0 ≤ most) xs → without n (xs ++ (n, a) ∷ []) ≡ xs
 without-last most n [] a lt below = rw (eq-eqb n n refl) refl
 without-last {A} most n (x ∷ xs) a lt below =

@@ -21,7 +21,8 @@ due_of (serving v a) = a.got
 
 abbrev pub exchange_items : List (Numbered Exchange) → List Item
 exchange_items [] = []
-exchange_items (x ∷ xs) = if is_queued x.1.state then sending x ∷ exchange_items xs else exchange_items xs
+exchange_items (x ∷ xs) =
+    if is_queued x.1.state then sending x ∷ exchange_items xs else exchange_items xs
 
 abbrev pub answer_at : ExchangeState → Option Answer
 answer_at Queued = None
@@ -39,7 +40,8 @@ with_item v (Some a) items = serving v a ∷ items
 
 abbrev pub waiter_items : List (Numbered Exchange) → List (Numbered Waiter) → List Item
 waiter_items exchanges [] = []
-waiter_items exchanges (v ∷ vs) = with_item v (answer_in v.1.exchange exchanges) (waiter_items exchanges vs)
+waiter_items exchanges (v ∷ vs) =
+    with_item v (answer_in v.1.exchange exchanges) (waiter_items exchanges vs)
 
 abbrev pub earlier : Item → Option Item → Option Item
 earlier i None = Some i

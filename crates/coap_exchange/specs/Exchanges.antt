@@ -5,9 +5,14 @@ use Rattle.coap_exchange.specs.declared.exchange.ExchangeState.TheVariants.{Queu
 use Rattle.coap_exchange.specs.declared.exchange.Exchange.{Exchange}
 use Rattle.coap_exchange.specs.Table.{Numbered}
 
+-- the exchange in this state
+abbrev pub in_state : ExchangeState → Exchange → Exchange
+in_state state x = record { target = x.target; form = x.form; admitted = x.admitted; state = state }
+
 -- the exchange of this number comes to this state
 abbrev pub moved : ℕ → ExchangeState → Numbered Exchange → Numbered Exchange
-moved number state x = if x.0 == number then (x.0, record { target = x.1.target; form = x.1.form; admitted = x.1.admitted; state = state }) else x
+moved number state x =
+    if x.0 == number then (x.0, in_state state x.1) else x
 
 abbrev pub with_state : ℕ → ExchangeState → List (Numbered Exchange) → List (Numbered Exchange)
 with_state number state exchanges = map (moved number state) exchanges

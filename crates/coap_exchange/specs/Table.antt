@@ -31,7 +31,12 @@ abbrev pub item_at : {A : Type 0} → ℕ → List (Numbered A) → Option A
 item_at number items = lookup (λ n. number == n) items
 
 abbrev pub admitted_to : {A : Type 0} → A → Table A → Table A
-admitted_to item t = record { items = t.items ++ (t.admitted + 1, item) ∷ []; limit = t.limit; admitted = t.admitted + 1 }
+admitted_to item t =
+    record {
+      items = t.items ++ (t.admitted + 1, item) ∷ [];
+      limit = t.limit;
+      admitted = t.admitted + 1;
+    }
 
 -- all but the item of a number
 abbrev pub without : {A : Type 0} → ℕ → List (Numbered A) → List (Numbered A)
@@ -40,7 +45,8 @@ without number items = filter (λ x. not (x.0 == number)) items
 -- the item of the last number that was given goes, if it is there, and its number is given back
 abbrev pub withdrawn_at : {A : Type 0} → Option A → Table A → Table A
 withdrawn_at None t = t
-withdrawn_at (Some item) t = record { items = without t.admitted t.items; limit = t.limit; admitted = t.admitted - 1 }
+withdrawn_at (Some item) t =
+    record { items = without t.admitted t.items; limit = t.limit; admitted = t.admitted - 1 }
 
 abbrev pub withdrawn : {A : Type 0} → Table A → Table A
 withdrawn t = withdrawn_at (item_at t.admitted t.items) t

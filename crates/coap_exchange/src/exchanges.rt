@@ -87,15 +87,20 @@ impl Exchanges {
         }
     }
 
-    /// Opens an exchange behind the others: its request waits for its turn. Answers its number.
+    /// Opens an exchange after the others: its request waits for its turn. Answers its number.
     ///
     /// # Errors
     /// 1. `Full` where the table holds as many as it may. 2. `OutOfMemory`. Nothing is changed then.
     pub fn admit(&mut self, target: Target, form: Seq<u8>, now: u64) -> Result<u64, AdmitError>
         requires { self.old.admitted < 2 ^ 64 - 1 }
         ensures number { IfOk result (λ number. number ≡ self.old.admitted + 1) }
-        ensures ok { OnOk result (self.new ≡ admitted_to (record { target = target; form = form; admitted = now; state = Queued }) self.old) }
-        ensures full { IfErr result (λ error. (error ≡ Full) ↔ (length self.old.items ≡ self.old.limit)) }
+        ensures ok { OnOk result
+            (self.new
+            ≡ admitted_to
+            (record { target = target; form = form; admitted = now; state = Queued })
+            self.old) }
+        ensures full { IfErr result (λ error.
+            (error ≡ Full) ↔ (length self.old.items ≡ self.old.limit)) }
         ensures room { OnOk result (length self.old.items < self.old.limit) }
         ensures err { OnErr result (self.new ≡ self.old) }
         ensures sound { IsTable self.old }
@@ -115,7 +120,10 @@ impl Exchanges {
     /// given, if it is there, and gives that number back.
     pub fn withdraw(&mut self)
         ensures exact { self.new ≡ withdrawn self.old }
-        ensures undone { (before : Table Exchange) (item : Exchange) → IsTable before → self.old ≡ admitted_to item before → self.new ≡ before }
+        ensures undone { (before : Table Exchange) (item : Exchange)
+            → IsTable before
+            → self.old ≡ admitted_to item before
+            → self.new ≡ before }
     {
         self.queued = queued_without(self.queued, &self.table, self.table.admitted());
         self.table.withdraw();
@@ -132,7 +140,8 @@ impl Exchanges {
     /// The request of the exchange of this number, which waited for its turn, was sent.
     pub fn send(&mut self, number: u64, sending: Sending)
         requires queued { IfSome (item_at number self.old.items) (λ x. is_queued x.state ≡ true) }
-        ensures sent { self.new ≡ record self.old { items = with_state number (Sent sending) self.old.items } }
+        ensures sent { self.new
+            ≡ record self.old { items = with_state number (Sent sending) self.old.items } }
     {
         self.move_to(number, ExchangeState::Sent(sending));
     }
@@ -140,7 +149,8 @@ impl Exchanges {
     /// The answer of the exchange of this number came, whose request was sent.
     pub fn answer(&mut self, number: u64, answer: Answer)
         requires sent { IfSome (item_at number self.old.items) (λ x. is_sent x.state ≡ true) }
-        ensures answered { self.new ≡ record self.old { items = with_state number (Done answer) self.old.items } }
+        ensures answered { self.new
+            ≡ record self.old { items = with_state number (Done answer) self.old.items } }
     {
         self.move_to(number, ExchangeState::Done(answer));
     }
@@ -191,8 +201,11 @@ impl Table<Exchange> {
 }
 
 fn set_state(exchanges: &mut IndexMap<u64, Exchange>, number: u64, state: ExchangeState)
-    ensures found { IfSome (get nat_eq exchanges.old number) (λ x. exchanges.new.entries ≡ set_value (nat_eq number) exchanges.old.entries (record x { state = state })) }
-    ensures missing { IfNone (get nat_eq exchanges.old number) (exchanges.new.entries ≡ exchanges.old.entries) }
+    ensures found { IfSome (get nat_eq exchanges.old number) (λ x.
+        exchanges.new.entries
+        ≡ set_value (nat_eq number) exchanges.old.entries (record x { state = state })) }
+    ensures missing { IfNone (get nat_eq exchanges.old number)
+        (exchanges.new.entries ≡ exchanges.old.entries) }
 {
     if let Some(exchange) = exchanges.get_mut(&number) {
         exchange.state = state;
@@ -202,7 +215,8 @@ fn set_state(exchanges: &mut IndexMap<u64, Exchange>, number: u64, state: Exchan
 /// How many are still to be sent, once the exchange of this number no longer is.
 fn queued_without(queued: usize, exchanges: &Table<Exchange>, number: u64) -> usize
     requires { queued ≡ count_where is_queued exchanges.now.items }
-    ensures fewer { result + (if queued_at (item_at number exchanges.now.items) then 1 else 0) ≡ queued }
+    ensures fewer { result + (if queued_at (item_at number exchanges.now.items) then 1 else 0)
+        ≡ queued }
     ensures sound { IsTable exchanges.now }
 {
     match exchanges.get(number) {

@@ -37,7 +37,8 @@ impl<T> Model for Table<T> {
 
     ghost view = { λ t. record { items = t.items.entries; limit = t.limit; admitted = t.admitted } };
 
-    ghost invariant = { λ t. IsTable (record { items = t.items.entries; limit = t.limit; admitted = t.admitted }) };
+    ghost invariant = { λ t.
+        IsTable (record { items = t.items.entries; limit = t.limit; admitted = t.admitted }) };
 }
 
 impl<T: Drop> Table<T> {
@@ -81,7 +82,7 @@ impl<T: Drop> Table<T> {
         self.items.get(&number)
     }
 
-    /// Takes an item in, behind the others, and answers its number.
+    /// Takes an item in, after the others, and answers its number.
     ///
     /// # Errors
     /// 1. `Full` where the table holds as many items as it may. 2. `OutOfMemory`. Nothing is changed then.
@@ -89,7 +90,8 @@ impl<T: Drop> Table<T> {
         requires { self.old.admitted < 2 ^ 64 - 1 }
         ensures number { IfOk result (λ number. number ≡ self.old.admitted + 1) }
         ensures ok { OnOk result (self.new ≡ admitted_to item self.old) }
-        ensures full { IfErr result (λ error. (error ≡ Full) ↔ (length self.old.items ≡ self.old.limit)) }
+        ensures full { IfErr result (λ error.
+            (error ≡ Full) ↔ (length self.old.items ≡ self.old.limit)) }
         ensures room { OnOk result (length self.old.items < self.old.limit) }
         ensures fits { self.old.limit < 2 ^ 64 }
         ensures err { OnErr result (self.new ≡ self.old) }
@@ -119,7 +121,10 @@ impl<T: Drop> Table<T> {
     /// if it is there, and gives that number back.
     pub fn withdraw(&mut self)
         ensures exact { self.new ≡ withdrawn self.old }
-        ensures undone { (before : Table T) (item : T) → IsTable before → self.old ≡ admitted_to item before → self.new ≡ before }
+        ensures undone { (before : Table T) (item : T)
+            → IsTable before
+            → self.old ≡ admitted_to item before
+            → self.new ≡ before }
     {
         if self.items.shift_remove(&self.admitted).is_some() {
             self.admitted -= 1;

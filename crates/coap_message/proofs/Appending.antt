@@ -1,4 +1,4 @@
--- One write behind another.
+-- One write after another.
 use Rattle.std.proofs.Common.{◌≡◌, ℕ, ◌+◌, ◌-◌, ◌*◌, ◌<◌, ◌≤◌, List, ◌∷◌, ◌++◌, length, take, drop, get_or, Result, Ok, Err, refl, sym, ap, ◌∙◌, append_assoc, arith}
 use Rattle.std.proofs.lemmas.List.{length-append, length-take, append-nil, drop_more, drop_all, take-append-le}
 use Rattle.coap_message.specs.declared.error.Full.{Full}
@@ -6,13 +6,13 @@ use Rattle.coap_message.specs.declared.options.Opt.{Opt}
 use Rattle.coap_message.specs.Spelling.{bits_of, more_of, option_spelling, options_spelling}
 use Rattle.coap_message.specs.Datagram.{Datagram, holding, Appends}
 
--- a beginning is one with more behind it
+-- a beginning is one with more after it
 front_of_more : (old new xs ys : List ℕ) → new ≡ take (length new) (old ++ xs) → new ≡ take (length new) (old ++ (xs ++ ys))
 front_of_more old new xs ys is =
     let within : length new ≤ length (old ++ xs) = omega (arith, ap length is, length-take (length new) (old ++ xs)) in
     is ∙ sym (take-append-le (length new) (old ++ xs) ys within) ∙ ap (λ (l : List ℕ). take (length new) l) (append_assoc old xs ys)
 
--- a write that fails fails with more behind it
+-- a write that fails fails with more after it
 pub Appends-full : (old new : Datagram) (room : ℕ) (xs ys : List ℕ) (e f : Full) → Appends old new room xs (Err e) → Appends old new room (xs ++ ys) (Err f)
 Appends-full old new room xs ys e f a = (a.0, omega (arith, a.1, length-append xs ys), (a.2.0, front_of_more old.bytes new.bytes xs ys a.2.1))
 
@@ -34,6 +34,7 @@ Appends-part old out new room part rest whole e f same longer written a =
 
 -- ---- an option, part by part
 
+-- a byte of bits and the four parts after it are the spelling of the option
 pub option_written : (before : ℕ) (o : Opt) (delta len delta_bits length_bits : ℕ) → delta ≡ o.number - before → len ≡ length o.value → delta_bits ≡ bits_of delta → length_bits ≡ bits_of len
     → (16 * delta_bits + length_bits) ∷ (more_of delta ++ (more_of len ++ o.value)) ≡ option_spelling before o
 unfolding option_spelling

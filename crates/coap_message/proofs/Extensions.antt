@@ -7,6 +7,7 @@ use Rattle.coap_message.specs.Uint.{IsBytes}
 use Rattle.coap_message.specs.Spelling.{Extends}
 use Rattle.coap_message.specs.Reading.{one_more, two_more, extended}
 
+-- the first of two lists of bytes are bytes
 pub IsBytes-left : (a b : List ℕ) → IsBytes (a ++ b) → IsBytes a
 IsBytes-left a b h i =
     elim (cases_lt i (length a)) [
@@ -14,6 +15,7 @@ IsBytes-left a b h i =
       | inr le ↦ rw (get_or_past a i 0 le) (omega arith)
     ]
 
+-- and so are the last
 pub IsBytes-right : (a b : List ℕ) → IsBytes (a ++ b) → IsBytes b
 IsBytes-right a b h i = subst (λ (n : ℕ). n < 256) (get_or-append-add a b i 0) (h (length a + i))
 
@@ -28,17 +30,20 @@ pub record Extended (bits : ℕ) (bytes : List ℕ) (n : ℕ) (rest : List ℕ) 
   pub parts : bytes ≡ more ++ rest
   pub extends : IsBytes more → Extends bits more n
 
+-- one byte is read as it is spelled
 one_more_is : (bits : ℕ) (bytes : List ℕ) (x : ℕ × List ℕ) → bits ≡ 13 → one_more bytes ≡ Some x → Extended bits bytes x.0 x.1
 one_more_is bits [] x is e = absurd cc
 one_more_is bits (a ∷ rest) x is e =
     subst (λ (y : ℕ × List ℕ). Extended bits (a ∷ rest) y.0 y.1) (same_Some (a + 13, rest) x e) (record { more = a ∷ []; parts = refl; extends = λ f. (is, f 0, refl) })
 
+-- and two bytes are
 two_more_is : (bits : ℕ) (bytes : List ℕ) (x : ℕ × List ℕ) → bits ≡ 14 → two_more bytes ≡ Some x → Extended bits bytes x.0 x.1
 two_more_is bits [] x is e = absurd cc
 two_more_is bits (a ∷ []) x is e = absurd cc
 two_more_is bits (a ∷ b ∷ rest) x is e =
     subst (λ (y : ℕ × List ℕ). Extended bits (a ∷ b ∷ rest) y.0 y.1) (same_Some (256 * a + b + 269, rest) x e) (record { more = a ∷ b ∷ []; parts = refl; extends = λ f. (is, f 0, f 1, refl) })
 
+-- what is read is spelled so
 pub extended_is : (bits : ℕ) (bytes : List ℕ) (x : ℕ × List ℕ) → extended bits bytes ≡ Some x → Extended bits bytes x.0 x.1
 unfolding extended
 extended_is bits bytes x e =

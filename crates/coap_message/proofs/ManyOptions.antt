@@ -1,4 +1,4 @@
--- Options one behind the other, and the payload behind them.
+-- Options one after the other, and the payload after them.
 use Rattle.std.proofs.Common.{◌≡◌, ℕ, zero, suc, ◌+◌, ◌*◌, ◌<◌, ◌≤◌, Bool, true, false, cond, eqb, List, [], ◌∷◌, ◌++◌, length, Option, Some, None, refl, sym, ap, subst, ◌∙◌, append_assoc, arith}
 use Rattle.std.specs.Prelude.{option_map, not}
 use Rattle.std.proofs.lemmas.Bool.{ne_eqb, eqb-true, not-false}
@@ -20,9 +20,11 @@ option_shortens before bytes o rest e =
 
 -- ---- how many may be read does not matter, where they are enough
 
+-- the rest of the options after one that was read
 abbrev next_options : ℕ → Option (Opt × List ℕ) → Option (List Opt × List ℕ)
 next_options n found = found >>= λ o. option_map (one_option_more o.0) (options_within n o.0.number o.1)
 
+-- two bounds that are both enough read the same
 pub enough : (n m before : ℕ) (bytes : List ℕ) → length bytes ≤ n → length bytes ≤ m → options_within n before bytes ≡ options_within m before bytes
 unfolding options_within
 enough zero zero before bytes h k = refl
@@ -57,7 +59,7 @@ unfolding options_within
 options_fault before [] begins e = absurd cc
 options_fault before (b ∷ bytes) begins e = rw (begins, e) refl
 
--- behind the last option
+-- after the last option
 pub options_end : (before : ℕ) (bytes : List ℕ) → begins_option bytes ≡ false → options_at before bytes ≡ option_map no_options (payload_at bytes)
 unfolding options_within
 options_end before [] ends = refl
@@ -70,9 +72,11 @@ pub mapped_is : {A B : Type 0} (f : A → B) (o : Option A) (y : B) → option_m
 mapped_is f None y e = absurd cc
 mapped_is f (Some x) y e = (x, refl, same_Some (f x) y e)
 
+-- where no option begins, but a byte stands, it is the marker
 not_begins : (b : ℕ) → not (eqb b 255) ≡ false → b ≡ 255
 not_begins b e = eqb-true b 255 (not-false (eqb b 255) e)
 
+-- the payload that is read is spelled so
 payload_is : (bytes payload : List ℕ) → begins_option bytes ≡ false → payload_at bytes ≡ Some payload → SpellsPayload bytes payload
 payload_is [] payload ends e = subst (SpellsPayload []) (same_Some [] payload e) refl
 payload_is (b ∷ []) payload ends e = absurd cc
@@ -87,11 +91,13 @@ pub record TakesOptions (before : ℕ) (bytes : List ℕ) (os : List Opt) (paylo
   pub payload_are : SpellsPayload rest payload
   pub are : IsBytes bytes → AreOptions before os
 
+-- where no option begins, none is taken
 ends_is : (before : ℕ) (bytes : List ℕ) (x : List Opt × List ℕ) → begins_option bytes ≡ false → option_map no_options (payload_at bytes) ≡ Some x → TakesOptions before bytes x.0 x.1
 ends_is before bytes x ends e =
     let p = mapped_is no_options (payload_at bytes) x e in
     subst (λ (y : List Opt × List ℕ). TakesOptions before bytes y.0 y.1) p.2 (record { options = []; rest = bytes; parts = refl; options_are = λ f. refl; payload_are = payload_is bytes p.0 ends p.1; are = λ f. tt })
 
+-- an option and what the others take
 begins_is : (before : ℕ) (bytes : List ℕ) (o : Opt) (rest : List ℕ) (x : List Opt × List ℕ) → option_at before bytes ≡ Some (o, rest) → TakesOptions o.number rest x.0 x.1 → TakesOptions before bytes (o ∷ x.0) x.1
 begins_is before bytes o rest x e t =
     let f = option_is before bytes (o, rest) e in
@@ -106,6 +112,7 @@ begins_is before bytes o rest x e t =
       are = λ h. (f.above, f.number, f.within (front h), t.are (behind h));
     }
 
+-- the options that are read are spelled so
 pub options_is : (n before : ℕ) (bytes : List ℕ) (x : List Opt × List ℕ) → length bytes ≤ n → options_within n before bytes ≡ Some x → TakesOptions before bytes x.0 x.1
 unfolding options_within
 options_is zero before [] x le e = ends_is before [] x refl e
@@ -124,10 +131,12 @@ options_is (suc n) before bytes x le e =
 
 -- ---- and what is spelled so is read
 
+-- a payload that is spelled so is read
 payload_again : (rest payload : List ℕ) → SpellsPayload rest payload → (begins_option rest ≡ false) × (payload_at rest ≡ Some payload)
 payload_again rest [] s = rw s (refl, refl)
 payload_again rest (p ∷ ps) s = rw s (refl, refl)
 
+-- a spelled option is no marker
 option_begins : (before : ℕ) (front : List ℕ) (o : Opt) (rest : List ℕ) → SpellsOption before front o → begins_option (front ++ rest) ≡ true
 option_begins before front o rest s =
     let d = Extends-bits s.delta_bits s.delta_more s.delta s.delta_is in
@@ -135,6 +144,7 @@ option_begins before front o rest s =
     let other : eqb (16 * s.delta_bits + s.length_bits) 255 ≡ false = ne_eqb _ _ (λ e. omega arith) in
     ap (λ (t : List ℕ). begins_option (t ++ rest)) s.bytes_are ∙ ap not other
 
+-- options that are spelled so are read, and the payload after them
 pub options_again : (before : ℕ) (bytes : List ℕ) (os : List Opt) (rest payload : List ℕ) → AreOptions before os → SpellsOptions before bytes os → SpellsPayload rest payload → options_at before (bytes ++ rest) ≡ Some (os, payload)
 options_again before bytes [] rest payload are s p =
     let q = payload_again rest payload p in

@@ -31,6 +31,7 @@ pub record TakesOption (before : ℕ) (bytes : List ℕ) (option : Opt) (rest : 
   pub spelled : IsBytes front → SpellsOption before front option
   pub within : IsBytes front → length option.value ≤ 65804
 
+-- what is read is spelled so
 pub option_is : (before : ℕ) (bytes : List ℕ) (x : Opt × List ℕ) → option_at before bytes ≡ Some x → TakesOption before bytes x.0 x.1
 unfolding option_at
 option_is before [] x e = absurd cc

@@ -3,7 +3,7 @@ use Rattle.std.proofs.Common.{ℕ, ◌≤◌, ◌<◌, List, [], ◌∷◌, ◌+
 use Rattle.coap_message.specs.declared.options.Opt.{Opt}
 use Rattle.coap_message.specs.Options.{AreOptions, last_number}
 
--- one more option behind the others
+-- one more option after the others
 pub AreOptions-push : (before : ℕ) (os : List Opt) (o : Opt) → AreOptions before os → last_number before os ≤ o.number → o.number < 65536 → length o.value ≤ 65804 → AreOptions before (os ++ o ∷ [])
 AreOptions-push before [] o are le fits short = (le, fits, short, tt)
 AreOptions-push before (p ∷ os) o are le fits short = (are.0, are.1, are.2, AreOptions-push p.number os o are.3 le fits short)

@@ -1,4 +1,4 @@
--- Options as the bytes that spell them: what is read from the front of them, and what is added behind.
+-- Options as the bytes that spell them: what is read from their front, and what is added at their end.
 use Rattle.std.proofs.Common.{◌≡◌, ℕ, ◌+◌, ◌<◌, ◌≤◌, ◌==◌, Bool, true, false, List, [], ◌∷◌, ◌++◌, length, Option, Some, None, refl, sym, ap, subst, ◌∙◌, append_assoc, arith}
 use Rattle.std.specs.Option.{option_map_or}
 use Rattle.std.specs.Cmp.Lexicographic.{pointwise}
@@ -60,19 +60,27 @@ next_none before bytes s e = none_is before bytes (options_of before bytes) s.by
 pub next_some : (before : ℕ) (bytes : List ℕ) (o : Opt) (rest : List ℕ) → SpellOptions before bytes → option_at before bytes ≡ Some (o, rest) → (options_of before bytes ≡ o ∷ options_of o.number rest) × SpellOptions o.number rest
 next_some before bytes o rest s e = some_is before bytes (options_of before bytes) o rest s.bytes_are s.in_order e
 
--- ---- behind the last
+-- ---- at the end
+
+-- options in two parts are spelled one part after the other
+pub options_spelling-append : (before : ℕ) (xs ys : List Opt) → options_spelling before (xs ++ ys) ≡ options_spelling before xs ++ options_spelling (last_number before xs) ys
+options_spelling-append before [] ys = refl
+options_spelling-append before (x ∷ xs) ys =
+    ap (λ (l : List ℕ). option_spelling before x ++ l) (options_spelling-append x.number xs ys)
+    ∙ sym (append_assoc (option_spelling before x) (options_spelling x.number xs) (options_spelling (last_number x.number xs) ys))
 
 -- the spelling with one option more
 options_spelling-push : (before : ℕ) (os : List Opt) (o : Opt) → options_spelling before (os ++ o ∷ []) ≡ options_spelling before os ++ option_spelling (last_number before os) o
-options_spelling-push before [] o = append-nil (option_spelling before o)
-options_spelling-push before (p ∷ ps) o = ap (λ (l : List ℕ). option_spelling before p ++ l) (options_spelling-push p.number ps o) ∙ sym (append_assoc (option_spelling before p) (options_spelling p.number ps) (option_spelling (last_number p.number ps) o))
+options_spelling-push before os o =
+    options_spelling-append before os (o ∷ [])
+    ∙ ap (λ (l : List ℕ). options_spelling before os ++ l) (append-nil (option_spelling (last_number before os) o))
 
 -- the bytes with one option more
 pub record Pushed (bytes : List ℕ) (last : ℕ) (o : Opt) : Type 0 where
   pub read : options_of 0 (bytes ++ option_spelling last o) ≡ options_of 0 bytes ++ o ∷ []
   pub spelled : SpellUpTo (bytes ++ option_spelling last o) o.number
 
--- an option that is not below the last is added behind the others
+-- an option that is not below the last is added after the others
 pub pushed : (bytes : List ℕ) (last : ℕ) (o : Opt) → SpellUpTo bytes last → last ≤ o.number → o.number < 65536 → length o.value ≤ 65804 → Pushed bytes last o
 pushed bytes last o s above small within =
     let os = options_of 0 bytes in

@@ -54,13 +54,13 @@ spelling-spells ps = record { bytes_are = ap pieces_spelling (sym (pieces_of-spe
 
 -- ---- from the front
 
--- what stands behind a length
+-- what stands after a length
 pub record First (bytes : List ℕ) (len : ℕ) (rest : List ℕ) : Type 0 where
   pub within : len ≤ length rest
   pub pieces : pieces_of bytes ≡ take len rest ∷ pieces_of (drop len rest)
   pub spelled : SpellPieces (drop len rest)
 
--- the length that is read is that of the first piece, which stands behind it
+-- the length that is read is that of the first piece, which stands after it
 first_of : (bytes : List ℕ) (ps : List (List ℕ)) (len : ℕ) (rest : List ℕ) → ps ≡ pieces_of bytes → bytes ≡ pieces_spelling ps → length_at bytes ≡ Some (len, rest) → First bytes len rest
 first_of bytes [] len rest same b e = let other : ◌≡◌ {A = Option (ℕ × List ℕ)} None (Some (len, rest)) = ap length_at (sym b) ∙ e in absurd cc
 first_of bytes (p ∷ ps) len rest same b e =
@@ -87,7 +87,7 @@ none_within (suc most) bytes e = rw e refl
 pub no_piece : (bytes : List ℕ) → length_at bytes ≡ None → pieces_of bytes ≡ []
 no_piece bytes e = none_within (length bytes) bytes e
 
--- ---- behind the last
+-- ---- at the end
 
 -- the spelling with one piece more
 spelling-push : (ps : List (List ℕ)) (p : List ℕ) → pieces_spelling (ps ++ p ∷ []) ≡ pieces_spelling ps ++ (length_spelling (length p) ++ p)
@@ -102,7 +102,7 @@ pub record Pushed (bytes p : List ℕ) : Type 0 where
   pub read : pieces_of (bytes ++ (length_spelling (length p) ++ p)) ≡ pieces_of bytes ++ p ∷ []
   pub spelled : SpellPieces (bytes ++ (length_spelling (length p) ++ p))
 
--- a piece is added behind the others
+-- a piece is added after the others
 pub pushed : (bytes p : List ℕ) → SpellPieces bytes → Pushed bytes p
 pushed bytes p s =
     let ps = pieces_of bytes in
@@ -128,12 +128,12 @@ few (p ∷ ps) = omega (arith, few ps, length-takes (length p), length-append (l
 pub few_pieces : (bytes : List ℕ) → SpellPieces bytes → length (pieces_of bytes) ≤ length bytes
 few_pieces bytes s = omega (arith, few (pieces_of bytes), ap length s.bytes_are)
 
--- the first length is that of bytes behind it
+-- the first length is that of bytes after it
 fit_of : (bytes : List ℕ) → SpellPieces bytes → (found : Option (ℕ × List ℕ)) → length_at bytes ≡ found → IfSome found (λ f. f.0 ≤ length f.1)
 fit_of bytes s None e = tt
 fit_of bytes s (Some f) e = (first_piece bytes f.0 f.1 s e).within
 
--- a length that stands here is that of bytes behind it
+-- a length that stands here is that of bytes after it
 pub lengths_fit : (bytes : List ℕ) → SpellPieces bytes → IfSome (length_at bytes) (λ f. f.0 ≤ length f.1)
 lengths_fit bytes s = fit_of bytes s (length_at bytes) refl
 
@@ -148,7 +148,7 @@ lengths_stand bytes s e = s.bytes_are ∙ ap pieces_spelling (none_of (pieces_of
 
 -- ---- reading a length, byte by byte
 
--- what stands behind a length is shorter
+-- what stands after a length is shorter
 behind-le : (bytes : List ℕ) (f : ℕ × List ℕ) → length_at bytes ≡ Some f → length f.1 ≤ length bytes
 behind-le [] f e = absurd cc
 behind-le (b ∷ bytes) f e = go (behind-le bytes) (b == 255) (length_at bytes) refl e
@@ -158,7 +158,7 @@ behind-le (b ∷ bytes) f e = go (behind-le bytes) (b == 255) (length_at bytes) 
     go again true (Some g) at h = let rest = again g at in let same : g.1 ≡ f.1 = cc in omega (arith, rest, ap length same)
     go again false found at h = let same : bytes ≡ f.1 = cc in omega (arith, ap length same)
 
--- a length that is read byte by byte fits its number, since as many bytes stand behind it
+-- a length that is read byte by byte fits its number, since as many bytes stand after it
 pub length-fits : (bytes behind : List ℕ) (len : ℕ) → length bytes < 2 ^ 64 → (length_at bytes ≡ None → bytes ≡ []) → IfSome (length_at bytes) (λ f. f.0 ≤ length f.1) → length behind < length bytes
     → option_map (λ (f : ℕ × List ℕ). (len + f.0, f.1)) (length_at (255 ∷ behind)) ≡ length_at bytes → len + 255 < 2 ^ 64
 length-fits bytes behind len few stands fit shorter e = go (length_at behind) refl

@@ -14,18 +14,22 @@ use Rattle.coap_message.proofs.WholeMessages.{read_is, read_again}
 
 -- ---- the refusals of the definition
 
+-- what is read, by whether the version is 1
 abbrev read_of : Bool → Result Message ReadError → Result Message ReadError
 read_of version found = cond version found (Err unread.Version)
 
+-- with a header a message is not too short
 found_is : (version : Bool) (first code id : ℕ) (found : Option Body) → read_of version (with_header first code id found) ≡ Err unread.Short → ⊥
 found_is true first code id None e = cc
 found_is true first code id (Some body) e = cc
 found_is false first code id found e = cc
 
+-- what stands after a header is no fault of the version
 not_version : (first code id : ℕ) (found : Option Body) → with_header first code id found ≡ Err unread.Version → ⊥
 not_version first code id None e = cc
 not_version first code id (Some body) e = cc
 
+-- what is too short has fewer than four bytes
 short_is : (bytes : List ℕ) → read_message bytes ≡ Err unread.Short → length bytes < 4
 unfolding read_message
 short_is [] e = omega arith
@@ -34,6 +38,7 @@ short_is (a ∷ b ∷ []) e = omega arith
 short_is (a ∷ b ∷ c ∷ []) e = omega arith
 short_is (a ∷ b ∷ c ∷ d ∷ rest) e = absurd (found_is (eqb (a / 64) 1) _ _ _ _ e)
 
+-- and fewer than four bytes are too short
 pub is_short : (bytes : List ℕ) → length bytes < 4 → read_message bytes ≡ Err unread.Short
 unfolding read_message
 is_short [] lt = refl
@@ -42,6 +47,7 @@ is_short (a ∷ b ∷ []) lt = refl
 is_short (a ∷ b ∷ c ∷ []) lt = refl
 is_short (a ∷ b ∷ c ∷ d ∷ rest) lt = absurd (omega arith)
 
+-- a fault of the version has a header that says so
 pub version_is : (bytes : List ℕ) → read_message bytes ≡ Err unread.Version → (4 ≤ length bytes) × (IsVersionOne bytes → ⊥)
 unfolding read_message
 version_is [] e = absurd cc
@@ -54,6 +60,7 @@ version_is (a ∷ b ∷ c ∷ d ∷ rest) e = (omega arith, λ one. at_test (eqb
     at_test true is h = not_version a b (256 * c + d) (body_behind b (a % 16) rest) h
     at_test false is h = cc
 
+-- and a header that says so is one
 is_version : (bytes : List ℕ) → 4 ≤ length bytes → (IsVersionOne bytes → ⊥) → read_message bytes ≡ Err unread.Version
 unfolding read_message
 is_version [] le other = absurd (omega arith)
@@ -62,6 +69,7 @@ is_version (a ∷ b ∷ []) le other = absurd (omega arith)
 is_version (a ∷ b ∷ c ∷ []) le other = absurd (omega arith)
 is_version (a ∷ b ∷ c ∷ d ∷ rest) le other = rw (ne_eqb (a / 64) 1 other) refl
 
+-- a fault of the format has a header of version 1
 format_is : (bytes : List ℕ) → read_message bytes ≡ Err unread.Format → (4 ≤ length bytes) × IsVersionOne bytes
 unfolding read_message
 format_is [] e = absurd cc
@@ -84,27 +92,33 @@ format_only bytes fits = (λ e. (let f = format_is bytes e in (f.0, f.1, λ m s.
     at_format (Err unread.Version) k p = absurd ((version_is bytes k).1 p.1)
     at_format (Err unread.Format) k p = refl
 
+-- too short exactly below four bytes
 pub short_only : (bytes : List ℕ) → (read_message bytes ≡ Err unread.Short) ↔ (length bytes < 4)
 short_only bytes = (short_is bytes, is_short bytes)
 
+-- a fault of the version exactly where the header says so
 pub version_only : (bytes : List ℕ) → (read_message bytes ≡ Err unread.Version) ↔ ((4 ≤ length bytes) × (IsVersionOne bytes → ⊥))
 version_only bytes = (version_is bytes, λ p. is_version bytes p.0 p.1)
 
 -- ---- and those of a decoder
 
+-- a decoder that refuses as reading does is right
 pub Decodes-err : (refused : ReadError) (read : Result Message ReadError) → read ≡ Err refused → Decodes (Err (decode_error refused)) read
 Decodes-err unread.Short read e = e
 Decodes-err unread.Version read e = e
 Decodes-err unread.Format read e = e
 
+-- what is read is some message
 is_ok : (r : Result Message ReadError) → IsOk r → (m : Message) × (r ≡ Ok m)
 is_ok (Ok m) h = (m, refl)
 is_ok (Err e) h = absurd (false≢true h)
 
+-- what a decoder gives is spelled so
 pub decodes_spelled : (result : Result Message DecodeError) (bytes : List ℕ) → IsBytes bytes → Decodes result (read_message bytes) → IfOk result (λ m. Spells bytes m)
 decodes_spelled (Ok m) bytes fits h = read_is bytes m fits h
 decodes_spelled (Err e) bytes fits h = tt
 
+-- of what spells a message a decoder gives it, or memory is missing
 pub decodes_all : (result : Result Message DecodeError) (bytes : List ℕ) → Decodes result (read_message bytes) → (m : Message) → Spells bytes m → MatchResult result (λ found. found ≡ m) (λ e. e ≡ errors.OutOfMemory)
 decodes_all (Ok found) bytes h m s = let again = sym h ∙ read_again bytes m s in cc
 decodes_all (Err errors.OutOfMemory) bytes h m s = refl

@@ -18,20 +18,24 @@ uint_step number i b value lt b_is so_far =
     regroup : (p r : ℕ) → (256 * number + b) * p + r ≡ number * (p * 256) + (b * p + r)
     regroup p r = omega arith
 
+-- one byte more is one power of 256 more
 pub uint_below : (number i b : ℕ) → number < 256 ^ i → b < 256 → 256 * number + b < 256 ^ (i + 1)
 uint_below number i b lt small = rw (add-one i, pow-suc 256 i) (omega arith)
 
+-- and up to eight bytes fit 64 bits
 pub uint_fits : (number i b : ℕ) (value : List ℕ) → i < length value → length value ≤ 8 → number < 256 ^ i → b < 256 → 256 * number + b < 2 ^ 64
 uint_fits number i b value lt short below small =
     let one = uint_below number i b below small in
     let most : 256 ^ (i + 1) ≤ 256 ^ 8 = pow-le-pow_right {n = 256} (omega arith) {i = i + 1} {j = 8} (omega arith) in
     omega (arith, one, most)
 
+-- zeros at the head count for nothing
 uint-without_zeros : (bytes : List ℕ) → uint_of (without_zeros bytes) ≡ uint_of bytes
 uint-without_zeros [] = refl
 uint-without_zeros (zero ∷ bytes) = uint-without_zeros bytes ∙ omega arith
 uint-without_zeros (suc b ∷ bytes) = refl
 
+-- eight bytes stand for the number that the standard library reads in them
 uint_of_eight : (n : ℕ) → uint_of (to_be_bytes w64 n) ≡ from_be_bytes w64 (to_be_bytes w64 n)
 uint_of_eight n = omega arith
 
@@ -40,17 +44,20 @@ pub uint-uint_spelling : (n : ℕ) → n < 2 ^ 64 → uint_of (uint_spelling n) 
 unfolding uint_spelling
 uint-uint_spelling n lt = uint-without_zeros (to_be_bytes w64 n) ∙ uint_of_eight n ∙ from_be_bytes-to_be_bytes_8 n lt
 
+-- without zeros at its head a form is the shortest
 shortest : (bytes : List ℕ) → IsShortest (without_zeros bytes)
 shortest [] = tt
 shortest (zero ∷ bytes) = shortest bytes
 shortest (suc b ∷ bytes) = λ e. cc
 
+-- so a spelling is
 pub uint_spelling-shortest : (n : ℕ) → IsShortest (uint_spelling n)
 unfolding uint_spelling
 uint_spelling-shortest n = shortest (to_be_bytes w64 n)
 
 -- ---- one shortest form
 
+-- so many bytes stand for a number below so many powers of 256
 pub uint_bound : (bytes : List ℕ) → IsBytes bytes → uint_of bytes < 256 ^ length bytes
 uint_bound [] fits = omega arith
 uint_bound (b ∷ bytes) fits =
@@ -67,6 +74,7 @@ uint_large b bytes positive =
     let most = mul-le-mul_right {m = 1} {n = b} (256 ^ length bytes) (omega arith) in
     omega (arith, most)
 
+-- bytes of one length that stand for one number are the same
 same_length : (a b : List ℕ) → IsBytes a → IsBytes b → length a ≡ length b → uint_of a ≡ uint_of b → a ≡ b
 same_length [] [] fa fb len e = refl
 same_length [] (y ∷ ys) fa fb len e = absurd (omega arith)
@@ -81,6 +89,7 @@ same_length (x ∷ xs) (y ∷ ys) fa fb len e =
     let head : x ≡ y = same.0 in
     cc
 
+-- a shorter form never stands for as much as one without a zero at its head
 shorter_less : (a bytes : List ℕ) (b : ℕ) → IsBytes a → b ≢ 0 → length a ≤ length bytes → uint_of a ≡ uint_of (b ∷ bytes) → ⊥
 shorter_less a bytes b fits positive le e =
     let bound = uint_bound a fits in

@@ -19,7 +19,7 @@ use Rattle.coap_message.specs.Reading.{Body, options_at, body_at, body_behind, w
 use Rattle.coap_message.proofs.Extensions.{IsBytes-right}
 use Rattle.coap_message.proofs.ManyOptions.{mapped_is, options_is, options_again}
 
--- ---- what stands behind the header
+-- ---- what stands after the header
 
 -- what the body takes: all the bytes
 pub record TakesBody (bytes : List ℕ) (body : Body) : Type 0 where
@@ -31,13 +31,16 @@ pub record TakesBody (bytes : List ℕ) (body : Body) : Type 0 where
   pub payload_is : SpellsPayload payload body.payload
   pub are : AreOptions 0 body.options
 
+-- a body by the length of its token and by what is found after it
 abbrev body_of : ℕ → List ℕ → List Opt × List ℕ → Body
 body_of n bytes found = record { token = take n bytes; options = found.0; payload = found.1 }
 
+-- a test that was passed
 passed : {A : Type 0} (t : Bool) (o : Option A) (y : A) → cond t None o ≡ Some y → (t ≡ false) × (o ≡ Some y)
 passed true o y e = absurd cc
 passed false o y e = (refl, e)
 
+-- the body that is read takes all the bytes
 body_is : (n : ℕ) (bytes : List ℕ) (body : Body) → IsBytes bytes → body_at n bytes ≡ Some body → TakesBody bytes body × (length body.token ≡ n)
 unfolding body_at
 body_is n bytes body fits e =
@@ -62,6 +65,7 @@ body_is n bytes body fits e =
       token,
     )
 
+-- a body that is spelled so is read
 body_again : (token options payload : List ℕ) (os : List Opt) (text : List ℕ) → length token ≤ 8 → AreOptions 0 os → SpellsOptions 0 options os → SpellsPayload payload text
     → body_at (length token) (token ++ (options ++ payload)) ≡ Some (record { token = token; options = os; payload = text })
 unfolding body_at
@@ -77,6 +81,7 @@ pub record Behind (code : ℕ) (bytes : List ℕ) (body : Body) : Type 0 where
   pub options : code ≡ 0 → body.options ≡ []
   pub payload : code ≡ 0 → body.payload ≡ []
 
+-- what is read after a code is spelled so
 behind_is : (code n : ℕ) (bytes : List ℕ) (body : Body) → IsBytes bytes → body_behind code n bytes ≡ Some body → Behind code bytes body × (length body.token ≡ n)
 behind_is zero zero [] body fits e =
     subst (λ (b : Body). Behind 0 [] b × (length b.token ≡ 0)) (same_Some _ body e) (
@@ -94,6 +99,7 @@ behind_is (suc code) n bytes body fits e =
     let b = body_is n bytes body fits e in
     (record { takes = b.0; token = λ z. absurd (omega arith); options = λ z. absurd (omega arith); payload = λ z. absurd (omega arith) }, b.1)
 
+-- and what is spelled so is read
 behind_again : (code : ℕ) (token options payload : List ℕ) (os : List Opt) (text : List ℕ) → length token ≤ 8 → AreOptions 0 os → SpellsOptions 0 options os → SpellsPayload payload text
     → (code ≡ 0 → token ≡ []) → (code ≡ 0 → os ≡ []) → (code ≡ 0 → text ≡ [])
     → body_behind code (length token) (token ++ (options ++ payload)) ≡ Some (record { token = token; options = os; payload = text })
@@ -105,6 +111,7 @@ behind_again (suc code) token options payload os text small are s p bare_token b
 
 -- ---- the header
 
+-- two bits are those of their type
 number-of_kind : (k : ℕ) → k < 4 → kind_number (kind_of k) ≡ k
 number-of_kind zero lt = refl
 number-of_kind (suc zero) lt = refl
@@ -112,25 +119,30 @@ number-of_kind (suc (suc zero)) lt = refl
 number-of_kind (suc (suc (suc zero))) lt = refl
 number-of_kind (suc (suc (suc (suc k)))) lt = absurd (omega arith)
 
+-- a type is that of its bits
 kind-of_number : (k : Kind) → kind_of (kind_number k) ≡ k
 kind-of_number Con = refl
 kind-of_number Non = refl
 kind-of_number Ack = refl
 kind-of_number Rst = refl
 
+-- a type has two bits
 number_below : (k : Kind) → kind_number k < 4
 number_below Con = omega arith
 number_below Non = omega arith
 number_below Ack = omega arith
 number_below Rst = omega arith
 
+-- the message of a header and a body
 abbrev message_of : ℕ → ℕ → ℕ → Body → Message
 message_of first code id body = record { kind = kind_of (first / 16 % 4); code = record { 0 = code }; id = id; token = body.token; options = body.options; payload = body.payload }
 
+-- a message that is read has a body
 with_header_is : (first code id : ℕ) (found : Option Body) (m : Message) → with_header first code id found ≡ Ok m → (body : Body) × (found ≡ Some body) × (message_of first code id body ≡ m)
 with_header_is first code id None m e = absurd cc
 with_header_is first code id (Some body) m e = (body, refl, cc)
 
+-- a message that is read has version 1
 version_is : (b : Bool) (r : Result Message ReadError) (m : Message) → cond b r (Err unread.Version) ≡ Ok m → (b ≡ true) × (r ≡ Ok m)
 version_is true r m e = (refl, e)
 version_is false r m e = absurd cc

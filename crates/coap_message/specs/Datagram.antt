@@ -9,12 +9,21 @@ pub record Datagram : Type 0 where
 abbrev pub holding : Datagram → List ℕ → Datagram
 holding d bytes = record { room = d.room; bytes = bytes }
 
--- behind what was held stands a beginning of the bytes, or nothing
+-- after what was held stands a beginning of the bytes, or nothing
 abbrev pub AddsFront : List ℕ → List ℕ → List ℕ → Type 0
 AddsFront old new bytes = (length old ≤ length new) × (new ≡ take (length new) (old ++ bytes))
 
--- Bytes are written behind what is held. Or else more than `room` bytes would be held, and a beginning of
+-- Bytes are written after what is held. Or else more than `room` bytes would be held, and a beginning of
 -- the bytes may have been written.
 abbrev pub Appends : Datagram → Datagram → ℕ → List ℕ → Result (Unit {0}) Full → Type 0
-Appends old new room bytes (Ok u) = (new ≡ holding old (old.bytes ++ bytes)) × (length old.bytes + length bytes ≤ room)
-Appends old new room bytes (Err e) = (new.room ≡ old.room) × (room < length old.bytes + length bytes) × AddsFront old.bytes new.bytes bytes
+Appends old new room bytes (Ok u) =
+    (new ≡ holding old (old.bytes ++ bytes)) × (length old.bytes + length bytes ≤ room)
+Appends old new room bytes (Err e) =
+    (new.room ≡ old.room)
+    × (room < length old.bytes + length bytes)
+    × AddsFront old.bytes new.bytes bytes
+
+-- whether it went well, without what else it answers
+abbrev pub unit_of : {A E : Type 0} → Result A E → Result (Unit {0}) E
+unit_of (Ok x) = Ok tt
+unit_of (Err e) = Err e

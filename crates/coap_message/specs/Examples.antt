@@ -1,8 +1,10 @@
 -- Datagrams whose reading and spelling are computed on the definitions.
-use Rattle.std.specs.Prelude.{◌≡◌, ℕ, List, [], ◌∷◌, Err}
+use Rattle.std.specs.Prelude.{◌≡◌, ℕ, List, [], ◌∷◌, codes, Err}
 use Rattle.coap_message.specs.declared.error.ReadError.{ReadError}
 use Rattle.coap_message.specs.declared.error.ReadError.TheVariants.{Format}
-use Rattle.coap_message.specs.declared.kind.Kind.TheVariants.{Con, Non}
+use Rattle.coap_message.specs.declared.kind.Kind.{Kind}
+use Rattle.coap_message.specs.declared.kind.Kind.TheVariants.{Con, Non, Ack}
+use Rattle.coap_message.specs.declared.message.Head.{Head}
 use Rattle.coap_message.specs.Message.{Message}
 use Rattle.coap_message.specs.Reading.{read_message}
 use Rattle.coap_message.specs.Spelling.{bits_of, more_of}
@@ -12,14 +14,89 @@ abbrev pub get_bytes : List ℕ
 get_bytes = 0x50 ∷ 1 ∷ 0 ∷ 7 ∷ 0xB1 ∷ 0x74 ∷ []
 
 abbrev pub get_message : Message
-get_message = record { kind = Non; code = record { 0 = 1 }; id = 7; token = []; options = record { number = 11; value = 0x74 ∷ [] } ∷ []; payload = [] }
+get_message =
+    record {
+      kind = Non;
+      code = record { 0 = 1 };
+      id = 7;
+      token = [];
+      options = record { number = 11; value = 0x74 ∷ [] } ∷ [];
+      payload = [];
+    }
 
 -- a Confirmable 2.05 with a token, a Max-Age of ten seconds and a payload
 abbrev pub content_bytes : List ℕ
 content_bytes = 0x41 ∷ 0x45 ∷ 1 ∷ 2 ∷ 0xAA ∷ 0xD1 ∷ 1 ∷ 10 ∷ 0xFF ∷ 0x32 ∷ 0x31 ∷ []
 
 abbrev pub content_message : Message
-content_message = record { kind = Con; code = record { 0 = 0x45 }; id = 258; token = 0xAA ∷ []; options = record { number = 14; value = 10 ∷ [] } ∷ []; payload = 0x32 ∷ 0x31 ∷ [] }
+content_message =
+    record {
+      kind = Con;
+      code = record { 0 = 0x45 };
+      id = 258;
+      token = 0xAA ∷ [];
+      options = record { number = 14; value = 10 ∷ [] } ∷ [];
+      payload = 0x32 ∷ 0x31 ∷ [];
+    }
+
+-- a request for a temperature, without a token and with one, and their piggybacked responses (RFC 7252, Appendix A)
+abbrev pub asking_bytes : List ℕ
+asking_bytes = 0x40 ∷ 0x01 ∷ 0x7D ∷ 0x34 ∷ 0xBB ∷ codes "temperature"
+
+abbrev pub asking_by_token_bytes : List ℕ
+asking_by_token_bytes = 0x41 ∷ 0x01 ∷ 0x7D ∷ 0x35 ∷ 0x20 ∷ 0xBB ∷ codes "temperature"
+
+abbrev pub asking : ℕ → List ℕ → Message
+asking id token =
+    record {
+      kind = Con;
+      code = record { 0 = 0x01 };
+      id = id;
+      token = token;
+      options = record { number = 11; value = codes "temperature" } ∷ [];
+      payload = [];
+    }
+
+abbrev pub told_bytes : List ℕ
+told_bytes = 0x60 ∷ 0x45 ∷ 0x7D ∷ 0x34 ∷ 0xFF ∷ codes "22.3 C"
+
+abbrev pub told_by_token_bytes : List ℕ
+told_by_token_bytes = 0x61 ∷ 0x45 ∷ 0x7D ∷ 0x35 ∷ 0x20 ∷ 0xFF ∷ codes "22.3 C"
+
+abbrev pub told : ℕ → List ℕ → Message
+told id token =
+    record {
+      kind = Ack;
+      code = record { 0 = 0x45 };
+      id = id;
+      token = token;
+      options = [];
+      payload = codes "22.3 C";
+    }
+
+-- an Empty message: an Acknowledgement, or a Reset (RFC 7252, 4.2 and 4.3)
+abbrev pub empty : Kind → ℕ → Message
+empty kind id =
+    record { kind = kind; code = record { 0 = 0 }; id = id; token = []; options = []; payload = [] }
+
+-- a GET with a token of eight bytes, the most that there may be
+abbrev pub longest_token_bytes : List ℕ
+longest_token_bytes = 0x58 ∷ 1 ∷ 0 ∷ 7 ∷ 1 ∷ 2 ∷ 3 ∷ 4 ∷ 5 ∷ 6 ∷ 7 ∷ 8 ∷ []
+
+abbrev pub longest_token_message : Message
+longest_token_message =
+    record {
+      kind = Non;
+      code = record { 0 = 1 };
+      id = 7;
+      token = 1 ∷ 2 ∷ 3 ∷ 4 ∷ 5 ∷ 6 ∷ 7 ∷ 8 ∷ [];
+      options = [];
+      payload = [];
+    }
+
+-- what the first four bytes say
+abbrev pub head : Kind → ℕ → ℕ → Head
+head kind code id = record { kind = kind; code = record { 0 = code }; id = id }
 
 abbrev pub refused : List ℕ → ReadError → Type 0
 refused bytes error = read_message bytes ≡ Err error
@@ -31,7 +108,7 @@ short_bytes = 0x50 ∷ 1 ∷ 0 ∷ []
 abbrev pub old_bytes : List ℕ
 old_bytes = 0x10 ∷ 1 ∷ 0 ∷ 7 ∷ []
 
--- a token of nine bytes; the nibble 15 as a delta; a value past the end; a marker with nothing behind it;
+-- a token of nine bytes; the nibble 15 as a delta; a value past the end; a marker with nothing after it;
 -- an option number of 65,536; and an Empty message with a byte too many
 abbrev pub malformed : List (List ℕ)
 malformed =
@@ -51,10 +128,21 @@ abbrev pub last_option_bytes : List ℕ
 last_option_bytes = 0x50 ∷ 1 ∷ 0 ∷ 7 ∷ 0xE0 ∷ 0xFE ∷ 0xF2 ∷ []
 
 abbrev pub last_option_message : Message
-last_option_message = record { kind = Non; code = record { 0 = 1 }; id = 7; token = []; options = record { number = 65535; value = [] } ∷ []; payload = [] }
+last_option_message =
+    record {
+      kind = Non;
+      code = record { 0 = 1 };
+      id = 7;
+      token = [];
+      options = record { number = 65535; value = [] } ∷ [];
+      payload = [];
+    }
 
 -- the boundaries between the three ways to write a delta or a length
 abbrev pub Boundaries : Type 0
 Boundaries =
-    (bits_of 12 ≡ 12) × (more_of 12 ≡ []) × (bits_of 13 ≡ 13) × (more_of 13 ≡ 0 ∷ []) × (bits_of 268 ≡ 13) × (more_of 268 ≡ 255 ∷ [])
-    × (bits_of 269 ≡ 14) × (more_of 269 ≡ 0 ∷ 0 ∷ []) × (more_of 65535 ≡ 0xFE ∷ 0xF2 ∷ []) × (more_of 65804 ≡ 0xFF ∷ 0xFF ∷ [])
+    (bits_of 12 ≡ 12) × (more_of 12 ≡ [])
+    × (bits_of 13 ≡ 13) × (more_of 13 ≡ 0 ∷ [])
+    × (bits_of 268 ≡ 13) × (more_of 268 ≡ 255 ∷ [])
+    × (bits_of 269 ≡ 14) × (more_of 269 ≡ 0 ∷ 0 ∷ [])
+    × (more_of 65535 ≡ 0xFE ∷ 0xF2 ∷ []) × (more_of 65804 ≡ 0xFF ∷ 0xFF ∷ [])

@@ -3,7 +3,23 @@ use Rattle.coap_message.specs.declared.message.Message.TheInside.{Inside}
 use Rattle.coap_message.specs.Message.{Message}
 
 abbrev pub seen : Inside → Message
-seen m = record { kind = m.kind; code = m.code; id = m.id; token = m.token; options = m.options; payload = m.payload }
+seen m =
+    record {
+      kind = m.kind;
+      code = m.code;
+      id = m.id;
+      token = m.token;
+      options = m.options;
+      payload = m.payload;
+    }
 
 abbrev pub kept : Message → Inside
-kept m = record { kind = m.kind; code = m.code; id = m.id; token = m.token; options = m.options; payload = m.payload }
+kept m =
+    record {
+      kind = m.kind;
+      code = m.code;
+      id = m.id;
+      token = m.token;
+      options = m.options;
+      payload = m.payload;
+    }

@@ -10,7 +10,8 @@ option_of number value = record { number = number; value = value }
 -- value at most 65,804 bytes, the greatest length that can be written.
 abbrev pub AreOptions : ℕ → List Opt → Type 0
 AreOptions before [] = Unit {0}
-AreOptions before (o ∷ os) = (before ≤ o.number) × (o.number < 65536) × (length o.value ≤ 65804) × AreOptions o.number os
+AreOptions before (o ∷ os) =
+    (before ≤ o.number) × (o.number < 65536) × (length o.value ≤ 65804) × AreOptions o.number os
 
 -- the number of the last option, or `before` where there is none
 abbrev pub last_number : ℕ → List Opt → ℕ

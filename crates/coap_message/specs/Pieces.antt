@@ -1,4 +1,4 @@
--- Pieces of bytes, kept one behind the other, each behind its length.
+-- Pieces of bytes, kept one after the other, each after its length.
 use Rattle.std.specs.Prelude.{◌≡◌, ◌==◌, ℕ, zero, suc, ◌+◌, ◌/◌, ◌%◌, if◌then◌else◌, Bool, List, [], ◌∷◌, ◌++◌, length, take, drop, replicate, Option, Some, None, option_map}
 use Rattle.std.specs.Option.{option_map_or}
 use Rattle.std.specs.Bool.{Decides}
@@ -14,15 +14,21 @@ abbrev pub pieces_spelling : List (List ℕ) → List ℕ
 pieces_spelling [] = []
 pieces_spelling (p ∷ ps) = length_spelling (length p) ++ (p ++ pieces_spelling ps)
 
--- the length that stands here, and what stands behind it
+-- the length that stands here, and what stands after it
 abbrev pub length_at : List ℕ → Option (ℕ × List ℕ)
 length_at [] = None
-length_at (b ∷ rest) = if b == 255 then option_map (λ found. (255 + found.0, found.1)) (length_at rest) else Some (b, rest)
+length_at (b ∷ rest) =
+    if b == 255
+    then option_map (λ found. (255 + found.0, found.1)) (length_at rest)
+    else Some (b, rest)
 
 -- the pieces that bytes spell, at most so many
 unfoldable pub pieces_within : ℕ → List ℕ → List (List ℕ)
 pieces_within zero bytes = []
-pieces_within (suc most) bytes = option_map_or (λ found. take found.0 found.1 ∷ pieces_within most (drop found.0 found.1)) (length_at bytes) []
+pieces_within (suc most) bytes =
+    option_map_or
+    (λ found. take found.0 found.1 ∷ pieces_within most (drop found.0 found.1))
+    (length_at bytes) []
 
 abbrev pub pieces_of : List ℕ → List (List ℕ)
 pieces_of bytes = pieces_within (length bytes) bytes

@@ -23,17 +23,22 @@ two_more [] = None
 two_more (a ∷ []) = None
 two_more (a ∷ b ∷ rest) = Some (256 * a + b + 269, rest)
 
--- a delta or a length of these four bits, and what stands behind the bytes that extend them
+-- a delta or a length of these four bits, and what stands after the bytes that extend them
 unfoldable pub extended : ℕ → List ℕ → Option (ℕ × List ℕ)
-extended bits bytes = if nat_lt bits 13 then Some (bits, bytes) else (if bits == 13 then one_more bytes else (if bits == 14 then two_more bytes else None))
+extended bits bytes =
+    if nat_lt bits 13
+    then Some (bits, bytes)
+    else (if bits == 13 then one_more bytes else (if bits == 14 then two_more bytes else None))
 
--- the option behind one of the number `before`, and what stands behind it
+-- the option after one of the number `before`, and what stands after it
 unfoldable pub option_at : ℕ → List ℕ → Option (Opt × List ℕ)
 option_at before [] = None
 option_at before (first ∷ rest) = do
   delta ← extended (first / 16) rest
   len ← extended (first % 16) delta.1
-  if nat_lt 65535 (before + delta.0) || nat_lt (length len.1) len.0 then None else Some (record { number = before + delta.0; value = take len.0 len.1 }, drop len.0 len.1)
+  if nat_lt 65535 (before + delta.0) || nat_lt (length len.1) len.0
+      then None
+      else Some (record { number = before + delta.0; value = take len.0 len.1 }, drop len.0 len.1)
 
 -- whether an option stands here: neither the end nor the payload marker
 abbrev pub begins_option : List ℕ → Bool
@@ -55,13 +60,17 @@ one_option_more o found = (o ∷ found.0, found.1)
 -- the options from here on, at most so many, and the payload
 unfoldable pub options_within : ℕ → ℕ → List ℕ → Option (List Opt × List ℕ)
 options_within zero before bytes = option_map no_options (payload_at bytes)
-options_within (suc most) before bytes = if begins_option bytes then (option_at before bytes >>= λ o. option_map (one_option_more o.0) (options_within most o.0.number o.1)) else option_map no_options (payload_at bytes)
+options_within (suc most) before bytes =
+    if begins_option bytes
+    then (option_at before bytes >>=
+    λ o. option_map (one_option_more o.0) (options_within most o.0.number o.1))
+    else option_map no_options (payload_at bytes)
 
 -- the options from here on, each of which takes a byte at least, and the payload
 abbrev pub options_at : ℕ → List ℕ → Option (List Opt × List ℕ)
 options_at before bytes = options_within (length bytes) before bytes
 
--- what stands behind the header of a message
+-- what stands after the header of a message
 pub record Body : Type 0 where
   pub token : List ℕ
   pub options : List Opt
@@ -69,9 +78,14 @@ pub record Body : Type 0 where
 
 -- a token of so many bytes, options and a payload
 unfoldable pub body_at : ℕ → List ℕ → Option Body
-body_at token_length bytes = if nat_lt 8 token_length || nat_lt (length bytes) token_length then None else option_map (λ found. record { token = take token_length bytes; options = found.0; payload = found.1 }) (options_at 0 (drop token_length bytes))
+body_at token_length bytes =
+    if nat_lt 8 token_length || nat_lt (length bytes) token_length
+    then None
+    else option_map
+    (λ found. record { token = take token_length bytes; options = found.0; payload = found.1 })
+    (options_at 0 (drop token_length bytes))
 
--- behind the code 0.00 stands nothing
+-- after the code 0.00 stands nothing
 abbrev pub body_behind : ℕ → ℕ → List ℕ → Option Body
 body_behind zero zero [] = Some (record { token = []; options = []; payload = [] })
 body_behind zero zero (b ∷ bytes) = None
@@ -80,16 +94,34 @@ body_behind (suc code) token_length bytes = body_at token_length bytes
 
 abbrev pub with_header : ℕ → ℕ → ℕ → Option Body → Result Message ReadError
 with_header first code id None = Err unread.Format
-with_header first code id (Some body) = Ok (record { kind = kind_of (first / 16 % 4); code = record { 0 = code }; id = id; token = body.token; options = body.options; payload = body.payload })
+with_header first code id (Some body) =
+    Ok (record {
+      kind = kind_of (first / 16 % 4);
+      code = record { 0 = code };
+      id = id;
+      token = body.token;
+      options = body.options;
+      payload = body.payload;
+    })
 
 -- the message that the bytes spell, or why there is none
 unfoldable pub read_message : List ℕ → Result Message ReadError
-read_message (first ∷ code ∷ high ∷ low ∷ rest) = if first / 64 == 1 then with_header first code (256 * high + low) (body_behind code (first % 16) rest) else Err unread.Version
+read_message (first ∷ code ∷ high ∷ low ∷ rest) =
+    if first / 64 == 1
+    then with_header first code (256 * high + low) (body_behind code (first % 16) rest)
+    else Err unread.Version
 read_message _ = Err unread.Short
 
 -- what the first four bytes of a datagram of version 1 say
 abbrev pub header_at : ℕ → ℕ → ℕ → ℕ → Option Head
-header_at first code high low = if first / 64 == 1 then Some (record { kind = kind_of (first / 16 % 4); code = record { 0 = code }; id = 256 * high + low }) else None
+header_at first code high low =
+    if first / 64 == 1
+    then Some (record {
+      kind = kind_of (first / 16 % 4);
+      code = record { 0 = code };
+      id = 256 * high + low;
+    })
+    else None
 
 -- the head of a datagram of at least four bytes and version 1
 abbrev pub head_at : List ℕ → Option Head

@@ -6,6 +6,7 @@ use Rattle.std.specs.Cmp.Lexicographic.{pointwise, pointwise_decides}
 use Rattle.std.specs.Hash.{Alike, same_Alike, slice, u8}
 use Rattle.std.specs.Ordering.{on, eq_of_both}
 use Rattle.coap_message.specs.declared.options.Opt.{Opt}
+use Rattle.coap_message.specs.Options.{option_of}
 use Rattle.coap_message.specs.Spelling.{options_spelling}
 
 -- two options have one number and one value
@@ -19,11 +20,18 @@ same_options = pointwise same_option
 abbrev pub fed_options : List Opt → List (List ℕ)
 fed_options os = slice u8 (options_spelling 0 os)
 
-both : {m n : ℕ} {v w : List ℕ} → m ≡ n → v ≡ w → ◌≡◌ {A = Opt} (record { number = m; value = v }) (record { number = n; value = w })
+both : {m n : ℕ} {v w : List ℕ} → m ≡ n → v ≡ w → option_of m v ≡ option_of n w
 both p q = cc
 
 same_option-Decides : (a b : Opt) → Decides (same_option a b) (a ≡ b)
-same_option-Decides a b = (λ h. both ((unsigned_Decides a.number b.number).0 (first_so _ _ h)) ((pointwise_decides unsigned_Decides a.value b.value).0 (second_so _ _ h)), λ e. rw e (rw ((unsigned_Decides b.number b.number).1 refl, (pointwise_decides unsigned_Decides b.value b.value).1 refl) refl))
+same_option-Decides a b =
+    let numbers = unsigned_Decides a.number b.number in
+    let values = pointwise_decides unsigned_Decides a.value b.value in
+    let number_itself = (unsigned_Decides b.number b.number).1 refl in
+    let value_itself = (pointwise_decides unsigned_Decides b.value b.value).1 refl in (
+      λ h. both (numbers.0 (first_so _ _ h)) (values.0 (second_so _ _ h)),
+      λ e. rw e (rw (number_itself, value_itself) refl),
+    )
 
 pub same_options-Decides : (a b : List Opt) → Decides (same_options a b) (a ≡ b)
 same_options-Decides = pointwise_decides same_option-Decides

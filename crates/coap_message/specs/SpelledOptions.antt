@@ -6,7 +6,7 @@ use Rattle.coap_message.specs.Options.{AreOptions, last_number}
 use Rattle.coap_message.specs.Reading.{options_at}
 use Rattle.coap_message.specs.Spelling.{options_spelling}
 
--- the options behind one of the number `before` that bytes spell
+-- the options after one of the number `before` that bytes spell
 unfoldable pub options_of : ℕ → List ℕ → List Opt
 options_of before bytes = option_map_or (λ found. found.0) (options_at before bytes) []
 

@@ -16,7 +16,7 @@ Extends bits (a ∷ []) n = (bits ≡ 13) × (a < 256) × (n ≡ a + 13)
 Extends bits (a ∷ b ∷ []) n = (bits ≡ 14) × (a < 256) × (b < 256) × (n ≡ 256 * a + b + 269)
 Extends bits (a ∷ b ∷ c ∷ more) n = ⊥
 
--- An option is written behind one of the number `before` (0 at the first): a byte with the delta of its
+-- An option is written after one of the number `before` (0 at the first): a byte with the delta of its
 -- number and the length of its value in four bits each, the bytes that extend them, and the value.
 pub record SpellsOption (before : ℕ) (bytes : List ℕ) (option : Opt) : Type 0 where
   pub delta : ℕ
@@ -27,14 +27,19 @@ pub record SpellsOption (before : ℕ) (bytes : List ℕ) (option : Opt) : Type 
   pub number : option.number ≡ before + delta
   pub delta_is : Extends delta_bits delta_more delta
   pub length_is : Extends length_bits length_more (length option.value)
-  pub bytes_are : bytes ≡ (16 * delta_bits + length_bits) ∷ (delta_more ++ (length_more ++ option.value))
+  pub bytes_are :
+      bytes ≡ (16 * delta_bits + length_bits) ∷ (delta_more ++ (length_more ++ option.value))
 
--- options are written one behind the other
+-- options are written one after the other
 abbrev pub SpellsOptions : ℕ → List ℕ → List Opt → Type 0
 SpellsOptions before bytes [] = bytes ≡ []
-SpellsOptions before bytes (o ∷ os) = (first others : List ℕ) × (bytes ≡ first ++ others) × SpellsOption before first o × SpellsOptions o.number others os
+SpellsOptions before bytes (o ∷ os) =
+    (first others : List ℕ)
+    × (bytes ≡ first ++ others)
+    × SpellsOption before first o
+    × SpellsOptions o.number others os
 
--- a payload is written behind the marker, and where there is none there is no marker
+-- a payload is written after the marker, and where there is none there is no marker
 abbrev pub SpellsPayload : List ℕ → List ℕ → Type 0
 SpellsPayload bytes [] = bytes ≡ []
 SpellsPayload bytes (p ∷ ps) = bytes ≡ 255 ∷ p ∷ ps
@@ -47,8 +52,14 @@ pub record IsMessage (m : Message) : Type 0 where
   pub bare : IsBareIfEmpty m
 
 -- version 1, the type and the length of the token; the code; and the id, its high byte first
+abbrev pub header_spelling : Head → ℕ → List ℕ
+header_spelling head token_length =
+    (64 + 16 * kind_number head.kind + token_length) ∷ head.code.0
+    ∷ head.id / 256 ∷ head.id % 256 ∷ []
+
+-- the header of a message
 abbrev pub header : Message → List ℕ
-header m = (64 + 16 * kind_number m.kind + length m.token) ∷ m.code.0 ∷ m.id / 256 ∷ m.id % 256 ∷ []
+header m = header_spelling (record { kind = m.kind; code = m.code; id = m.id }) (length m.token)
 
 -- the bytes spell the message
 pub record Spells (bytes : List ℕ) (m : Message) : Type 0 where
@@ -75,11 +86,15 @@ bits_of n = if nat_lt n 13 then n else (if nat_lt n 269 then 13 else 14)
 
 -- and the bytes that extend them
 abbrev pub more_of : ℕ → List ℕ
-more_of n = if nat_lt n 13 then [] else (if nat_lt n 269 then (n - 13) ∷ [] else (n - 269) / 256 ∷ (n - 269) % 256 ∷ [])
+more_of n =
+    if nat_lt n 13
+    then []
+    else (if nat_lt n 269 then (n - 13) ∷ [] else (n - 269) / 256 ∷ (n - 269) % 256 ∷ [])
 
 unfoldable pub option_spelling : ℕ → Opt → List ℕ
 option_spelling before o =
-    (16 * bits_of (o.number - before) + bits_of (length o.value)) ∷ (more_of (o.number - before) ++ (more_of (length o.value) ++ o.value))
+    (16 * bits_of (o.number - before) + bits_of (length o.value))
+    ∷ (more_of (o.number - before) ++ (more_of (length o.value) ++ o.value))
 
 abbrev pub options_spelling : ℕ → List Opt → List ℕ
 options_spelling before [] = []
@@ -91,7 +106,7 @@ payload_spelling (p ∷ ps) = 255 ∷ p ∷ ps
 
 -- what a message begins with: the header and the token
 abbrev pub head_spelling : Head → List ℕ → List ℕ
-head_spelling head token = (64 + 16 * kind_number head.kind + length token) ∷ head.code.0 ∷ head.id / 256 ∷ head.id % 256 ∷ token
+head_spelling head token = header_spelling head (length token) ++ token
 
 -- the one spelling of a message
 unfoldable pub spelling : Message → List ℕ
@@ -103,7 +118,8 @@ abbrev pub more_length : ℕ → ℕ
 more_length n = if nat_lt n 13 then 0 else (if nat_lt n 269 then 1 else 2)
 
 abbrev pub option_length : ℕ → Opt → ℕ
-option_length before o = 1 + more_length (o.number - before) + more_length (length o.value) + length o.value
+option_length before o =
+    1 + more_length (o.number - before) + more_length (length o.value) + length o.value
 
 abbrev pub options_length : ℕ → List Opt → ℕ
 options_length before [] = 0

@@ -19,7 +19,8 @@ impl Model for Datagram {
 
     ghost Value = { Datagram };
 
-    ghost view = { λ d. record { room = length d.places.items; bytes = take d.held d.places.items } };
+    ghost view = { λ d.
+        record { room = length d.places.items; bytes = take d.held d.places.items } };
 
     ghost invariant = { λ d. d.held ≤ length d.places.items };
 }
@@ -59,7 +60,7 @@ impl Datagram {
         self.held = 0;
     }
 
-    /// Adds bytes behind those that it holds, as many as there is room for.
+    /// Adds bytes after those that it holds, as many as there is room for.
     pub fn put(&mut self, bytes: &[u8])
         ensures { self.new ≡ holding self.old (take self.old.room (self.old.bytes ++ bytes.now)) }
     {

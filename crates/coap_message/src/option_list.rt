@@ -78,7 +78,7 @@ impl OptionList {
         self.bytes.shrink_to_fit();
     }
 
-    /// Adds an option behind the others.
+    /// Adds an option after the others.
     pub fn push(&mut self, number: u16, value: &[u8]) -> Result<(), OutOfMemory>
         requires in_order { last_number 0 self.old ≤ number }
         requires within { length value.now ≤ 65804 }
@@ -108,7 +108,7 @@ fn add_more(bytes: &mut Seq<u8>, n: usize) -> Result<(), OutOfMemory>
     }
 }
 
-/// Adds an option behind one of the number `before`. Where there is no memory, a part of it may have been
+/// Adds an option after one of the number `before`. Where there is no memory, a part of it may have been
 /// added.
 fn add_option(
     bytes: &mut Seq<u8>,
@@ -118,7 +118,8 @@ fn add_option(
 ) -> Result<(), OutOfMemory>
     requires above { before ≤ number }
     requires within { length value.now ≤ 65804 }
-    ensures ok { OnOk result (bytes.new ≡ bytes.old ++ option_spelling before (option_of number value.now)) }
+    ensures ok { OnOk result
+        (bytes.new ≡ bytes.old ++ option_spelling before (option_of number value.now)) }
     ensures err { OnErr result (take (length bytes.old) bytes.new ≡ bytes.old) }
 {
     let delta = usize::from(number - before);

@@ -157,7 +157,7 @@ impl<'a> Options<'a> {
     }
 }
 
-/// The options that stand here, and the payload behind them.
+/// The options that stand here, and the payload after them.
 pub(crate) fn split_options(bytes: &[u8]) -> Option<(Options<'_>, &[u8])>
     ensures { option_map (λ x. (x.0, x.1.now)) result ≡ options_at 0 bytes.now }
 {

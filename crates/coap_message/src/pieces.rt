@@ -139,7 +139,7 @@ impl Pieces {
         self.bytes.shrink_to_fit();
     }
 
-    /// Adds a piece behind the others.
+    /// Adds a piece after the others.
     pub fn push(&mut self, piece: &[u8]) -> Result<(), OutOfMemory>
         ensures ok { OnOk result (self.new ≡ self.old ++ piece.now ∷ []) }
         ensures err { OnErr result (self.new ≡ self.old) }
@@ -153,7 +153,7 @@ impl Pieces {
     }
 }
 
-/// The length that stands here, and the bytes behind it, which are as many at least.
+/// The length that stands here, and the bytes after it, which are as many at least.
 fn read_length(bytes: &[u8]) -> Option<(usize, &[u8])>
     requires stands { length_at bytes.now ≡ None → bytes.now ≡ [] }
     requires fits { IfSome (length_at bytes.now) (λ found. found.0 ≤ length found.1) }
@@ -184,9 +184,10 @@ fn add_length(bytes: &mut Seq<u8>, len: usize) -> Result<(), OutOfMemory>
     bytes.push((len % 255) as u8)
 }
 
-/// Adds a piece behind its length. Where there is no memory, a part of it may have been added.
+/// Adds a piece after its length. Where there is no memory, a part of it may have been added.
 fn add_piece(bytes: &mut Seq<u8>, piece: &[u8]) -> Result<(), OutOfMemory>
-    ensures ok { OnOk result (bytes.new ≡ bytes.old ++ (length_spelling (length piece.now) ++ piece.now)) }
+    ensures ok { OnOk result
+        (bytes.new ≡ bytes.old ++ (length_spelling (length piece.now) ++ piece.now)) }
     ensures err { OnErr result (take (length bytes.old) bytes.new ≡ bytes.old) }
 {
     add_length(bytes, piece.len())?;

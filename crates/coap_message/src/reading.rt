@@ -16,7 +16,7 @@ use std::alloc::Global;
 /// The byte between the options and a payload.
 pub(crate) const PAYLOAD_MARKER: u8 = 0xFF;
 
-/// An option in a datagram, and the bytes behind it.
+/// An option in a datagram, and the bytes after it.
 #[derive(Clone, Copy)]
 pub(crate) struct Parsed<'a> {
     pub(crate) number: u16,
@@ -24,7 +24,7 @@ pub(crate) struct Parsed<'a> {
     pub(crate) rest: &'a [u8],
 }
 
-/// What stands behind the header of a message.
+/// What stands after the header of a message.
 #[derive(Drop)]
 struct BodyRef<'a> {
     token: Token,
@@ -129,8 +129,10 @@ impl<'a> MessageRef<'a> {
 
         // Which refusal it is.
         ensures short { (result ≡ Err ReadError.Short) ↔ (length bytes.now < 4) }
-        ensures version { (result ≡ Err ReadError.Version) ↔ ((4 ≤ length bytes.now) × (IsVersionOne bytes.now → ⊥)) }
-        ensures format { (result ≡ Err ReadError.Format) ↔ ((4 ≤ length bytes.now) × IsVersionOne bytes.now × SpellsNone bytes.now) }
+        ensures version { (result ≡ Err ReadError.Version)
+            ↔ ((4 ≤ length bytes.now) × (IsVersionOne bytes.now → ⊥)) }
+        ensures format { (result ≡ Err ReadError.Format)
+            ↔ ((4 ≤ length bytes.now) × IsVersionOne bytes.now × SpellsNone bytes.now) }
 
         // The same by the function that reads.
         ensures exact { result ≡ read_message bytes.now }
@@ -173,13 +175,17 @@ fn read_copy(alloc: Global, bytes: &[u8]) -> Result<Message, DecodeError>
 pub fn decode(alloc: Global, bytes: &[u8]) -> Result<Message, DecodeError>
     // What is read is spelled so, and what is spelled so is read, unless memory runs out.
     ensures spelled { IfOk result (λ m. Spells bytes.now m) }
-    ensures read { (m : Message) → Spells bytes.now m → MatchResult result (λ found. found ≡ m) (λ e. e ≡ DecodeError.OutOfMemory) }
+    ensures read { (m : Message)
+        → Spells bytes.now m
+        → MatchResult result (λ found. found ≡ m) (λ e. e ≡ DecodeError.OutOfMemory) }
 
     // Which refusal it is. A format error comes only where no message spells the bytes, and want of
     // memory is answered only where one does.
     ensures short { (result ≡ Err DecodeError.Short) ↔ (length bytes.now < 4) }
-    ensures version { (result ≡ Err DecodeError.Version) ↔ ((4 ≤ length bytes.now) × (IsVersionOne bytes.now → ⊥)) }
-    ensures format { (result ≡ Err DecodeError.Format) ↔ ((4 ≤ length bytes.now) × IsVersionOne bytes.now × SpellsNone bytes.now) }
+    ensures version { (result ≡ Err DecodeError.Version)
+        ↔ ((4 ≤ length bytes.now) × (IsVersionOne bytes.now → ⊥)) }
+    ensures format { (result ≡ Err DecodeError.Format)
+        ↔ ((4 ≤ length bytes.now) × IsVersionOne bytes.now × SpellsNone bytes.now) }
     ensures memory { result ≡ Err DecodeError.OutOfMemory → (m : Message) × Spells bytes.now m }
 
     // The same by the function that reads.
@@ -189,7 +195,7 @@ pub fn decode(alloc: Global, bytes: &[u8]) -> Result<Message, DecodeError>
 }
 
 /// What any datagram of four bytes or more and version 1 begins with, whether or not a message is
-/// spelled behind it.
+/// spelled after it.
 pub fn head_of(bytes: &[u8]) -> Option<Head>
     ensures { result ≡ head_at bytes.now }
 {

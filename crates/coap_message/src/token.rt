@@ -25,7 +25,8 @@ impl Model for Token {
 
     ghost invariant = { IsToken };
 
-    ghost inverse = { λ bytes. record { places = bytes ++ replicate (8 - length bytes) 0; len = length bytes } };
+    ghost inverse = { λ bytes.
+        record { places = bytes ++ replicate (8 - length bytes) 0; len = length bytes } };
 
     ghost inverse_ok = { one_form };
 }

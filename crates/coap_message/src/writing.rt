@@ -1,13 +1,11 @@
 //! Writing a message as bytes (RFC 7252, 3).
-ghost use Rattle.std.specs.Prelude.{◌≡◌, ◌<◌, ◌≤◌, ◌↔◌, ◌+◌, ◌*◌, ◌/◌, ◌%◌, [], ◌∷◌, length, OnOk, OnErr, IsErr};
+ghost use Rattle.std.specs.Prelude.{◌≡◌, ◌<◌, ◌≤◌, ◌↔◌, [], length, OnOk, OnErr, IsErr};
 ghost use Rattle.coap_message.specs.Datagram.{Appends, holding};
-ghost use Rattle.coap_message.specs.Kind.{kind_number};
-ghost use Rattle.coap_message.specs.Spelling.{IsMessage, Spells, bits_of, more_of, head_spelling, option_spelling, options_spelling, payload_spelling, spelling};
+ghost use Rattle.coap_message.specs.Options.{option_of};
+ghost use Rattle.coap_message.specs.Spelling.{IsMessage, Spells, bits_of, more_of, header_spelling, head_spelling, option_spelling, options_spelling, payload_spelling, spelling};
 
-use crate::code::Code;
 use crate::datagram::Datagram;
 use crate::error::Full;
-use crate::kind::Kind;
 use crate::message::{Head, Message};
 use crate::options::Options;
 use crate::reading::PAYLOAD_MARKER;
@@ -51,7 +49,7 @@ fn put_more(out: &mut Datagram, room: usize, n: usize) -> Result<(), Full>
     }
 }
 
-/// Adds an option behind one of the number `before` (RFC 7252, 3.1), 0 for the first, if at most `room`
+/// Adds an option after one of the number `before` (RFC 7252, 3.1), 0 for the first, if at most `room`
 /// bytes are held then. It takes no memory. Where it is `Full`, a part of the option may have been added.
 pub fn put_option(
     out: &mut Datagram,
@@ -63,7 +61,8 @@ pub fn put_option(
     requires room { room ≤ out.old.room }
     requires above { before ≤ number }
     requires within { length value.now ≤ 65804 }
-    ensures { Appends out.old out.new room (option_spelling before (record { number = number; value = value.now })) result }
+    ensures { Appends out.old out.new room (option_spelling before (option_of number value.now))
+        result }
 {
     let delta = usize::from(number - before);
     let length = value.len();
@@ -82,7 +81,7 @@ pub fn put_options(out: &mut Datagram, room: usize, options: &Options<'_>) -> Re
     append(out, room, options.bytes())
 }
 
-/// Adds a payload behind its marker, if there is a payload and at most `room` bytes are held then. It
+/// Adds a payload after its marker, if there is a payload and at most `room` bytes are held then. It
 /// takes no memory. Where it is `Full`, the marker may have been added.
 pub fn put_payload(out: &mut Datagram, room: usize, payload: &[u8]) -> Result<(), Full>
     requires { room ≤ out.old.room }
@@ -96,24 +95,26 @@ pub fn put_payload(out: &mut Datagram, room: usize, payload: &[u8]) -> Result<()
 }
 
 /// The four bytes before the token (RFC 7252, 3).
-fn header_of(kind: Kind, token_length: usize, code: Code, id: u16) -> [u8; 4]
+fn header_of(head: Head, token_length: usize) -> [u8; 4]
     requires { token_length ≤ 8 }
-    ensures { result ≡ (64 + 16 * kind_number kind + token_length) ∷ code.0 ∷ id / 256 ∷ id % 256 ∷ [] }
+    ensures { result ≡ header_spelling head token_length }
 {
-    let first = 0x40 + 16 * kind.number() + token_length as u8;
-    [first, code.0, (id / 256) as u8, (id % 256) as u8]
+    let first = 0x40 + 16 * head.kind.number() + token_length as u8;
+    let [high, low] = head.id.to_be_bytes();
+    [first, head.code.0, high, low]
 }
 
 /// Begins a message: clears the datagram, and writes the header and the token (RFC 7252, 3), if they are
-/// at most `room` bytes. Options and a payload are added behind them. It takes no memory.
+/// at most `room` bytes. Options and a payload are added after them. It takes no memory.
 pub fn put_head(out: &mut Datagram, room: usize, head: Head, token: &Token) -> Result<(), Full>
     requires { room ≤ out.old.room }
-    ensures written { Appends (holding out.old []) out.new room (head_spelling head token.now) result }
+    ensures written { Appends (holding out.old []) out.new room (head_spelling head token.now)
+        result }
     ensures within { length token.now ≤ 8 }
 {
     out.clear();
     let token = token.as_slice();
-    let header = header_of(head.kind, token.len(), head.code, head.id);
+    let header = header_of(head, token.len());
     append(out, room, &header)?;
     append(out, room, token)
 }

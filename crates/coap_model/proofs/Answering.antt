@@ -10,7 +10,7 @@ use Rattle.coap_message.specs.Message.{Message}
 use Rattle.coap_target.specs.declared.endpoint.Endpoint.{Endpoint}
 use Rattle.coap_target.specs.Endpoint.{same_endpoint}
 use Rattle.coap_target.specs.Equality.{same_bytes}
-use Rattle.coap_target.proofs.Same.{Tells-endpoint}
+use Rattle.coap_target.proofs.Equality.{Tells-endpoint}
 use Rattle.coap_exchange.specs.declared.exchange.ExchangeState.{ExchangeState}
 use Rattle.coap_exchange.specs.declared.exchange.ExchangeState.TheVariants.{Queued, Sent, Done}
 use Rattle.coap_exchange.specs.declared.exchange.Exchange.{Exchange}

@@ -23,7 +23,7 @@ count_of-above n b (y ∷ ys) are above =
     let rest : count_of n ys ≡ 0 = count_of-above n y.number ys are.3 above in
     rw (sum_by-cons (λ (o : Opt). cond (o.number == n) 1 0) y ys, other, rest) refl
 
--- the run behind the options passed says how many of its number stand before the next option
+-- the run after the options passed says how many of its number stand before the next option
 before_is : (passed : List Opt) (x : Opt) (run : Run) (before : ℕ) → AreOptions 0 passed → run.number ≡ last_number 0 passed → run.count ≡ count_of run.number passed → last_number 0 passed ≤ x.number → before ≡ cond (x.number == run.number) run.count 0 → before ≡ count_of x.number passed
 before_is passed x run before in_order number count le counted =
     ⊎_elim
@@ -32,22 +32,24 @@ before_is passed x run before in_order number count le counted =
     (rw (ne_eqb x.number run.number other) at counted) ∙ sym (count_of-above x.number 0 passed in_order above))
     (cases_eq x.number run.number)
 
--- how many of an option's number stand before it, by the run behind the options passed
+-- how many of an option's number stand before it, by the run after the options passed
 abbrev pub before_of : Run → Opt → ℕ
 before_of run o = cond (o.number == run.number) run.count 0
 
--- the run behind it
+-- the run after it
 abbrev pub run_behind : Run → Opt → Run
 run_behind run o = record { number = o.number; count = before_of run o + 1 }
 
--- the places of options behind a run
+-- the places of options after a run
 abbrev pub places_after : Run → List Opt → List PlacedOption
 places_after run [] = []
 places_after run (o ∷ os) = record { option = o; before = before_of run o } ∷ places_after (run_behind run o) os
 
+-- an option with so many of its number before it
 abbrev placed : Opt → ℕ → PlacedOption
 placed o n = record { option = o; before = n }
 
+-- the places of the options that are left, as they are counted in passing
 places_behind-after : (passed left : List Opt) (run : Run) → AreOptions 0 passed → AreOptions (last_number 0 passed) left → run.number ≡ last_number 0 passed → run.count ≡ count_of run.number passed
     → places_behind passed left ≡ places_after run left
 places_behind-after passed [] run are left number count = refl

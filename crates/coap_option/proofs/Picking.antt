@@ -13,6 +13,7 @@ pub record IsAt (left : List Opt) (run : Run) : Type 0 where
   pub in_order : AreOptions run.number left
   pub within : run.count + length left < 2 ^ 64
 
+-- one option on, they are in order and few enough as before
 IsAt-step : (left rest : List Opt) (x : Opt) (run : Run) (before : ℕ) → left ≡ x ∷ rest → before ≡ before_of run x → IsAt left run → IsAt rest (record { number = x.number; count = before + 1 })
 IsAt-step left rest x run before next counted at =
     let are = subst (AreOptions run.number) next at.in_order in
@@ -38,6 +39,7 @@ pub record Comes (x : Opt) (run : Run) : Type 0 where
   pub short : length x.value ≤ 65804
   pub countable : run.count < 2 ^ 64 - 1
 
+-- so it is, of the first of those left
 pub comes : (left rest : List Opt) (x : Opt) (run : Run) → left ≡ x ∷ rest → IsAt left run → Comes x run
 comes left rest x run next at =
     let are = subst (AreOptions run.number) next at.in_order in

@@ -12,7 +12,15 @@ zeros number length = record { number = number; value = replicate length 0 }
 
 -- a message with this code and these options
 abbrev pub message : ℕ → List Opt → Message
-message code options = record { kind = Con; code = record { 0 = code }; id = 7; token = []; options = options; payload = [] }
+message code options =
+    record {
+      kind = Con;
+      code = record { 0 = code };
+      id = 7;
+      token = [];
+      options = options;
+      payload = [];
+    }
 
 -- GET, PUT and 2.05
 abbrev pub get : List Opt → Message
@@ -29,19 +37,29 @@ content options = message 0x45 options
 -- Max-Age, Uri-Query, Accept, Proxy-Uri, Proxy-Scheme, Size1.
 abbrev pub of_requests : List (ℕ × ℕ × ℕ)
 of_requests =
-    (1, 0, 8) ∷ (3, 1, 255) ∷ (4, 1, 8) ∷ (5, 0, 0) ∷ (6, 0, 3) ∷ (7, 0, 2) ∷ (11, 0, 255) ∷ (12, 0, 2) ∷ (14, 0, 4) ∷ (15, 0, 255) ∷ (17, 0, 2) ∷ (35, 1, 1034)
+    (1, 0, 8) ∷ (3, 1, 255) ∷ (4, 1, 8) ∷ (5, 0, 0) ∷ (6, 0, 3) ∷ (7, 0, 2) ∷ (11, 0, 255)
+    ∷ (12, 0, 2) ∷ (14, 0, 4) ∷ (15, 0, 255) ∷ (17, 0, 2) ∷ (35, 1, 1034)
     ∷ (39, 1, 255) ∷ (60, 0, 4) ∷ []
 
 -- the same of a response: ETag, Observe, Location-Path, Content-Format, Max-Age, Location-Query, Size1
 abbrev pub of_responses : List (ℕ × ℕ × ℕ)
-of_responses = (4, 1, 8) ∷ (6, 0, 3) ∷ (8, 0, 255) ∷ (12, 0, 2) ∷ (14, 0, 4) ∷ (20, 0, 255) ∷ (60, 0, 4) ∷ []
+of_responses =
+    (4, 1, 8) ∷ (6, 0, 3) ∷ (8, 0, 255) ∷ (12, 0, 2) ∷ (14, 0, 4) ∷ (20, 0, 255) ∷ (60, 0, 4) ∷ []
 
 -- on this side, a first option of this number is recognised at these two lengths, and not just beyond them
 abbrev pub has_range : Side → ℕ × ℕ × ℕ → Bool
 has_range side (number, least, greatest) =
     let is_at : ℕ → Bool = λ length. is_recognised side number length 0 in
-    is_at least && is_at greatest && not (is_at (greatest + 1)) && (least == 0 || not (is_at (least - 1)))
+    is_at least
+    && is_at greatest
+    && not (is_at (greatest + 1))
+    && (least == 0 || not (is_at (least - 1)))
 
--- whether some first option of a number is recognised, with a value of no byte or of one
-abbrev pub is_known : Side → ℕ → Bool
-is_known side number = is_recognised side number 0 0 || is_recognised side number 1 0
+-- whether an option after so many of its number is recognised, with a value of no byte or of one
+abbrev pub is_known : Side → ℕ → ℕ → Bool
+is_known side before number =
+    is_recognised side number 0 before || is_recognised side number 1 before
+
+-- If-Match, ETag, If-None-Match, Content-Format, Accept, Size1
+abbrev pub not_used_up : List Opt
+not_used_up = zeros 1 1 ∷ zeros 4 1 ∷ zeros 5 0 ∷ zeros 12 1 ∷ zeros 17 1 ∷ zeros 60 1 ∷ []

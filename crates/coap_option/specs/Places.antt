@@ -13,10 +13,11 @@ pub record PlacedOption : Type 0 where
 abbrev pub count_of : ℕ → List Opt → ℕ
 count_of number options = count_by (λ o. o.number == number) options
 
--- the places of options that stand behind those passed
+-- the places of options that stand after those passed
 abbrev pub places_behind : List Opt → List Opt → List PlacedOption
 places_behind passed [] = []
-places_behind passed (o ∷ os) = record { option = o; before = count_of o.number passed } ∷ places_behind (passed ++ o ∷ []) os
+places_behind passed (o ∷ os) =
+    record { option = o; before = count_of o.number passed } ∷ places_behind (passed ++ o ∷ []) os
 
 -- the places of a message's options
 abbrev pub places : List Opt → List PlacedOption

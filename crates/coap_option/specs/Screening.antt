@@ -12,4 +12,5 @@ is_refused side p = is_unsafe p.option.number && not (is_recognised_at side p)
 
 -- the number of the first option for which the message is refused
 abbrev pub first_refused : Side → List Opt → Option ℕ
-first_refused side options = option_map (λ p. p.option.number) (find (is_refused side) (places options))
+first_refused side options =
+    option_map (λ p. p.option.number) (find (is_refused side) (places options))

@@ -3,28 +3,36 @@ use Rattle.std.specs.Prelude.{ℕ, Bool, ◌==◌, ◌&&◌, ◌||◌, not, List
 use Rattle.std.specs.List.{list_any}
 use Rattle.std.specs.Option.{option_map_or}
 use Rattle.coap_message.specs.declared.code.Code.{Code}
+use Rattle.coap_message.specs.declared.code.TheConstants.Code.{GET}
 use Rattle.coap_message.specs.declared.options.Opt.{Opt}
+use Rattle.coap_message.specs.Codes.{is_code}
 use Rattle.coap_message.specs.Message.{Message}
+use Rattle.coap_message.specs.Uint.{uint_of}
+use Rattle.coap_option.specs.declared.numbers.TheConstants.{URI_HOST, ETAG, OBSERVE, URI_PORT, URI_PATH, MAX_AGE, URI_QUERY, PROXY_URI, PROXY_SCHEME}
 use Rattle.coap_option.specs.declared.side.Side.{Side}
 use Rattle.coap_option.specs.declared.side.Side.TheVariants.{Request, Response}
 use Rattle.coap_option.specs.Classes.{is_no_cache_key}
 use Rattle.coap_option.specs.Places.{PlacedOption, places, is_recognised_at}
 use Rattle.coap_option.specs.Side.{side_of}
-use Rattle.coap_message.specs.Uint.{uint_of}
 
 -- the options in places for which the test holds, in order
 abbrev pub selected : (PlacedOption → Bool) → List Opt → List Opt
 selected test options = map (λ p. p.option) (filter test (places options))
 
--- Uri-Host, Observe, Uri-Port, Uri-Path, Max-Age, Uri-Query, Proxy-Uri, Proxy-Scheme: what they say
--- is used up at the proxy (RFC 7252, 5.7 and 5.10.2; RFC 7641, 2)
+-- what these say is used up at the proxy (RFC 7252, 5.7 and 5.10.2; RFC 7641, 2)
 abbrev pub used_up : List ℕ
-used_up = 3 ∷ 6 ∷ 7 ∷ 11 ∷ 14 ∷ 15 ∷ 35 ∷ 39 ∷ []
+used_up =
+    URI_HOST ∷ OBSERVE ∷ URI_PORT ∷ URI_PATH ∷ MAX_AGE ∷ URI_QUERY ∷ PROXY_URI ∷ PROXY_SCHEME ∷ []
 
--- the option of a request stays at the proxy: it is recognised, and one of those, or an ETag of a GET
--- (code 0.01), which the proxy answers itself (RFC 7252, 5.10.6.2)
+-- an ETag of a GET, which the proxy answers itself (RFC 7252, 5.10.6.2)
+abbrev pub is_tag_of_get : Code → ℕ → Bool
+is_tag_of_get code number = is_code code GET && number == ETAG
+
+-- the option of a request stays at the proxy: it is recognised, and one of those
 abbrev pub stays : Code → PlacedOption → Bool
-stays code p = is_recognised_at Request p && (list_any (λ n. n == p.option.number) used_up || (code.0 == 1 && p.option.number == 4))
+stays code p =
+    is_recognised_at Request p
+    && (list_any (λ n. n == p.option.number) used_up || is_tag_of_get code p.option.number)
 
 -- the options of a request that are sent on
 abbrev pub sent_on : Message → List Opt
@@ -44,8 +52,10 @@ is_of side number p = p.option.number == number && is_recognised_at side p
 
 -- the values of the recognised ETags of a message (RFC 7252, 5.10.6)
 abbrev pub tags_of : Message → List (List ℕ)
-tags_of m = map (λ p. p.option.value) (filter (is_of (side_of m.code) 4) (places m.options))
+tags_of m = map (λ p. p.option.value) (filter (is_of (side_of m.code) ETAG) (places m.options))
 
 -- the recognised Max-Age of a response, in seconds: 60 where it has none (RFC 7252, 5.10.5)
 abbrev pub max_age_of : Message → ℕ
-max_age_of m = option_map_or (λ p. uint_of p.option.value) (find (is_of Response 14) (places m.options)) 60
+max_age_of m =
+    option_map_or (λ p. uint_of p.option.value) (find (is_of Response MAX_AGE) (places m.options))
+    60

@@ -16,7 +16,7 @@ pub(crate) trait Test {
 
     ghost holds: { Self → PlacedOption → Bool };
 
-    /// Whether it holds of an option behind so many of its number.
+    /// Whether it holds of an option after so many of its number.
     fn holds_of(&self, option: OptRef<'_>, before: usize) -> bool
         ensures { result ≡ holds self.now (record { option = seen option.entry; before = before }) };
 }
@@ -55,7 +55,8 @@ impl Run {
 
 /// The first option for which the test holds.
 pub(crate) fn first<'a, T: Test>(options: &Options<'a>, test: &T) -> Option<OptRef<'a>>
-    ensures { option_map seen result ≡ option_map (λ p. p.option) (find (T.holds test.now) (places options.now)) }
+    ensures { option_map seen result
+        ≡ option_map (λ p. p.option) (find (T.holds test.now) (places options.now)) }
 {
     let mut run = Run::new();
     for option in options.iter() {
@@ -94,8 +95,10 @@ pub(crate) fn values<T: Test>(
     options: &Options<'_>,
     test: &T,
 ) -> Result<Pieces, OutOfMemory>
-    ensures ok { IfOk result (λ list. list ≡ map (λ p. p.option.value) (filter (T.holds test.now) (places options.now))) }
-    ensures err { OnErr result (map (λ p. p.option.value) (filter (T.holds test.now) (places options.now)) ≢ []) }
+    ensures ok { IfOk result (λ list.
+        list ≡ map (λ p. p.option.value) (filter (T.holds test.now) (places options.now))) }
+    ensures err { OnErr result
+        (map (λ p. p.option.value) (filter (T.holds test.now) (places options.now)) ≢ []) }
 {
     let mut run = Run::new();
     let mut list = Pieces::new(alloc);

@@ -21,9 +21,10 @@ pub fn recognised(side: Side, number: u16, length: usize, before: usize) -> bool
     }
 }
 
-/// Whether an option is recognised behind so many of its number.
+/// Whether an option is recognised after so many of its number.
 pub(crate) fn option_recognised(side: Side, option: OptRef<'_>, before: usize) -> bool
-    ensures { result ≡ is_recognised_at side (record { option = seen option.entry; before = before }) }
+    ensures { result
+        ≡ is_recognised_at side (record { option = seen option.entry; before = before }) }
 {
     recognised(side, option.number, option.value.len(), before)
 }

@@ -32,7 +32,8 @@ impl Test for Refused {
 /// answers it with 4.02).
 pub fn screen_request(message: &MessageRef<'_>) -> Result<(), BadOption>
     ensures ok { OnOk result (first_refused Side.Request message.now.options ≡ None) }
-    ensures err { IfErr result (λ bad. first_refused Side.Request message.now.options ≡ Some bad.number) }
+    ensures err { IfErr result (λ bad.
+        first_refused Side.Request message.now.options ≡ Some bad.number) }
 {
     screen(Side::Request, message)
 }
@@ -41,7 +42,8 @@ pub fn screen_request(message: &MessageRef<'_>) -> Result<(), BadOption>
 /// answers 5.02 in its place).
 pub fn screen_response(message: &MessageRef<'_>) -> Result<(), BadOption>
     ensures ok { OnOk result (first_refused Side.Response message.now.options ≡ None) }
-    ensures err { IfErr result (λ bad. first_refused Side.Response message.now.options ≡ Some bad.number) }
+    ensures err { IfErr result (λ bad.
+        first_refused Side.Response message.now.options ≡ Some bad.number) }
 {
     screen(Side::Response, message)
 }

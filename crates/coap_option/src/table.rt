@@ -15,7 +15,7 @@ pub(crate) enum Times {
 impl Times {
     ghost use Rattle.coap_option.specs.Recognition.{may_stand};
 
-    /// Whether one more may stand behind so many of them.
+    /// Whether one more may stand after so many of them.
     fn allows(self, before: usize) -> bool
         ensures { result ≡ may_stand self before }
     {
@@ -84,7 +84,7 @@ impl Row {
         }
     }
 
-    /// Whether an option with a value of this length is allowed on this side, behind so many of its
+    /// Whether an option with a value of this length is allowed on this side, after so many of its
     /// number.
     pub(crate) fn recognises(self, side: Side, length: usize, before: usize) -> bool
         ensures { result ≡ recognises self side length before }

@@ -2,12 +2,9 @@
 use Rattle.std.proofs.Common.{◌≡◌, ◌==◌, ℕ, true, false, List, [], ◌∷◌, ◌++◌, length, Option, Some, None, refl, ap, append-nil, ne_eqb, arith, lit≤, ◌<◌, Result, Ok, Err, All, ⊎_elim}
 use Rattle.std.specs.List.{list_all}
 use Rattle.std.specs.Str.{IsUtf8}
-use Rattle.std.proofs.lemmas.Bool.{cases_Bool, and_parts}
+use Rattle.std.proofs.lemmas.Bool.{cases_Bool}
 use Rattle.std.proofs.lemmas.Bool.Decides.{nat_tests}
-use Rattle.std.proofs.lemmas.List.Elements.{All-nil, All-cons}
 use Rattle.std.proofs.lemmas.Option.{none-some}
-use Rattle.std.proofs.lemmas.Str.{IsUtf8-from_ascii}
-use Rattle.std.proofs.lemmas.Str.Ascii.{IsAscii-from_all}
 use Rattle.std.specs.Net.Grammar.{IsDotted}
 use Rattle.std.specs.Net.Reader.{Read, whole_value, read_ipv4}
 use Rattle.std.proofs.NetLemmas.Ipv4.{read_ipv4_sound, read_ipv4_complete}
@@ -16,6 +13,7 @@ use Rattle.url.specs.Parser.{parse_url}
 use Rattle.url.specs.Parts.{Parts}
 use Rattle.coap_routes.specs.Address.{ipv4_of, is_address_byte, ipv6_read, ipv6_between, bracketed_uri}
 use Rattle.coap_routes.specs.Uri.{url_or_bad}
+use Rattle.coap_routes.proofs.Texts.{passing-utf8}
 
 -- what the grammar says is read
 pub ipv4_of-dotted : (text octets : List ℕ) → IsDotted text octets → ipv4_of text ≡ Some octets
@@ -54,19 +52,12 @@ ipv4_of-none text never = go (ipv4_of text) refl
 address_byte-ascii : (b : ℕ) → is_address_byte b ≡ true → b < 128
 address_byte-ascii b is = grind (arith, nat_tests)
 
--- so are all of them
-All-ascii : (bytes : List ℕ) → list_all is_address_byte bytes ≡ true → All (λ b. b < 128) bytes
-All-ascii [] all = All-nil (λ b. b < 128)
-All-ascii (b ∷ bytes) all =
-    let parts = and_parts (is_address_byte b) (list_all is_address_byte bytes) all in
-    All-cons (λ (x : ℕ). x < 128) b bytes (address_byte-ascii b parts.0) (All-ascii bytes parts.1)
-
 -- bytes that aren't text are no address
 pub ipv6_between-not_text : (bytes : List ℕ) → (IsUtf8 bytes → ⊥) → ipv6_between bytes ≡ None
 unfolding ipv6_between
 ipv6_between-not_text bytes never =
     ⊎_elim
-    (λ yes. absurd (never (IsUtf8-from_ascii bytes (IsAscii-from_all bytes (All-ascii bytes yes)))))
+    (λ yes. absurd (never (passing-utf8 is_address_byte address_byte-ascii bytes yes)))
     (λ no. rw no refl)
     (cases_Bool (list_all is_address_byte bytes))
 

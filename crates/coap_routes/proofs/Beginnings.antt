@@ -19,6 +19,7 @@ begins-longer (p ∷ prefix) (s ∷ path) short =
 
 -- a loop over a prefix comes to its segment p at `i`, and finds x at that place of the path
 module _ {A : Type 0} (f : A → List ℕ) (prefix : List (List ℕ)) (path : List A) (i : ℕ) (p : List ℕ) (x : A) (of_prefix : i < length prefix) (of_path : i < length path) (p_is : p ≡ get_or prefix i p) (x_is : x ≡ get_or path i x) where
+  -- so the segment is compared with that of the path
   next : begins (drop i prefix) (map f (drop i path)) ≡ (pointwise nat_eq p (f x) && begins (drop (i + 1) prefix) (map f (drop (i + 1) path)))
   next =
       let e = drop_more prefix i p of_prefix ∙ ap (λ (y : List ℕ). y ∷ drop (i + 1) prefix) (sym p_is) in
@@ -41,6 +42,6 @@ length-begins (p ∷ prefix) (s ∷ path) holds =
     let rest : length prefix ≤ length path = length-begins prefix path (and_parts (pointwise nat_eq p s) (begins prefix path) holds).1 in
     omega arith
 
--- an origin's segments, and those of a path behind a prefix of so many
+-- an origin's segments, and those of a path after a prefix of so many
 pub joined : {A : Type 0} (f : A → List ℕ) (origin : List (List ℕ)) (path : List A) (n : ℕ) → map (λ s. s) origin ++ map f (take (length path - n) (drop n path)) ≡ origin ++ drop n (map f path)
 joined f origin path n = rw (map-id, take_rest, drop-map) refl

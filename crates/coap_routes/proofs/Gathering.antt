@@ -1,7 +1,7 @@
 -- Entries of a list that are read one after the other.
 use Rattle.std.proofs.Common.{◌≡◌, List, [], ◌∷◌, ◌++◌, map, Option, Some, None, option_map, Ok, ok_or, refl, ap}
 
--- what was read, and what is read behind it
+-- what was read, and what is read after it
 abbrev pub with_rest : {T : Type 0} → List T → Option (List T) → Option (List T)
 with_rest parts rest = option_map (λ xs. parts ++ xs) rest
 

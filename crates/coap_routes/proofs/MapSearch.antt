@@ -37,6 +37,7 @@ stays (Some b) m (Some n) is = go (nat_lt (length m.prefix) (length n.prefix)) r
 
 -- the loop comes to the map at `i`
 module _ (maps : List Map) (path : List (List ℕ)) (i : ℕ) (m : Map) (within : i < length maps) (item : m ≡ get_or maps i m) where
+  -- so it is the first of those left
   more : drop i maps ≡ m ∷ drop (i + 1) maps
   more = drop_more maps i m within ∙ ap (λ (x : Map). x ∷ drop (i + 1) maps) (sym item)
 

@@ -8,7 +8,7 @@ use Rattle.std.proofs.lemmas.List.Sums.{take_while-cons}
 use Rattle.coap_message.specs.declared.options.Opt.{Opt}
 use Rattle.coap_message.specs.Options.{AreOptions}
 
--- none is left behind higher numbers
+-- none is left after higher numbers
 filter-above : (n b : ℕ) (options : List Opt) → AreOptions b options → n < b → filter (λ o. o.number == n) options ≡ []
 filter-above n b [] are above = refl
 filter-above n b (o ∷ options) are above =
@@ -29,7 +29,7 @@ filter-head n b (o ∷ options) are from =
         let above : n < o.number = grind (arith, nat_tests, are.0) in
         sym (filter-above n o.number options are.3 above)
 
--- the options of a number are the run of them behind those with lower numbers
+-- the options of a number are the run of them after those with lower numbers
 run-of : (n b : ℕ) (options : List Opt) → AreOptions b options → take_while (λ o. o.number == n) (drop (length (take_while (λ o. nat_lt o.number n) options)) options) ≡ filter (λ o. o.number == n) options
 run-of n b [] are = refl
 run-of n b (o ∷ options) are =
@@ -46,7 +46,7 @@ run-of n b (o ∷ options) are =
 taken : {X : Type 0} (p : X → Bool) (xs : List X) → take (length (take_while p xs)) xs ≡ take_while p xs
 taken p xs = rw (length-prefix_len p xs) refl
 
--- a slice of so many options, behind those with lower numbers
+-- a slice of so many options, after those with lower numbers
 pub take-run : (n below count : ℕ) (options : List Opt) → AreOptions 0 options → below ≡ length (take_while (λ o. nat_lt o.number n) options) → count ≡ length (take_while (λ o. o.number == n) (drop below options)) → take count (take (length options - below) (drop below options)) ≡ filter (λ o. o.number == n) options
 take-run n below count options are is_below is_count =
     rw (take_rest, is_count, taken (λ (o : Opt). o.number == n) (drop below options), is_below) (run-of n 0 options are)

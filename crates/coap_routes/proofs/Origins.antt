@@ -36,6 +36,7 @@ chosen : {T E : Type 0} (b : Bool) (x y : T) (e : E) → cond b (Ok x) (Err e) �
 chosen true x y e is = (refl, cc)
 chosen false x y e is = absurd cc
 
+-- a test that did not refuse
 chosen-next : {T E : Type 0} (b : Bool) (r : Result T E) (y : T) (e : E) → cond b r (Err e) ≡ Ok y → r ≡ Ok y
 chosen-next true r y e is = is
 chosen-next false r y e is = absurd cc
@@ -49,16 +50,19 @@ with_host-short url (Some host) uri is =
     let short = (and_parts (not (made.port == 0)) (are_short made) (and_parts (is_plain url) (not (made.port == 0) && are_short made) pick.0).1).1 in
     subst (λ (u : UriParts). are_short u ≡ true) pick.1 short
 
+-- what is read of a URI is short
 uri_read-short : (r : Result Parts UriError) (uri : UriParts) → uri_read r ≡ Ok uri → are_short uri ≡ true
 uri_read-short (Err e) uri is = absurd cc
 uri_read-short (Ok url) uri is = with_host-short url (nonempty_host url) uri (chosen-next (bytes_eq url.scheme (codes "coap")) (with_host url (nonempty_host url)) uri Scheme is)
 
+-- and so is what is read of a text
 pub uri_of-short : (text : List ℕ) (uri : UriParts) → uri_of text ≡ Ok uri → are_short uri ≡ true
 unfolding uri_of
 uri_of-short text uri is = uri_read-short (url_or_bad (parse_url None text)) uri is
 
 -- the target of a URI with short parts
 module _ (hosts : List KnownHost) (uri : UriParts) (t : Target) (path : AllByRecursion IsShort uri.path) (query : AllByRecursion IsShort uri.query) where
+  -- at the address of a name
   named-is : (ip : Option Ip) (name : List ℕ) → IsShort name → named_target ip name uri ≡ Ok t → IsTarget t
   named-is None name short is = absurd cc
   named-is (Some ip) name short is =
@@ -66,6 +70,7 @@ module _ (hosts : List KnownHost) (uri : UriParts) (t : Target) (path : AllByRec
       let same : made ≡ t = cc in
       subst IsTarget same (record { host = short; path = path; query = query })
 
+  -- at any host
   pub target_at_host-is : (host : HostPart) → is_short_host host ≡ true → target_at_host hosts host uri ≡ Ok t → IsTarget t
   target_at_host-is (Name name) short is = named-is (address_of hosts name) name (leb-true (length name) 255 short) is
   target_at_host-is (Addr ip) short is =
@@ -73,6 +78,7 @@ module _ (hosts : List KnownHost) (uri : UriParts) (t : Target) (path : AllByRec
       let same : made ≡ t = cc in
       subst IsTarget same (record { host = tt; path = path; query = query })
 
+-- the target at an address or a known host is one
 remote-is : (hosts : List KnownHost) (uri : UriParts) (t : Target) → are_short uri ≡ true → remote hosts uri ≡ Ok t → IsTarget t
 remote-is hosts uri t short is =
     let host = and_parts (is_short_host uri.host) (list_all is_short uri.path && list_all is_short uri.query) short in
@@ -84,10 +90,12 @@ target_at-ok : (r : Result Target TargetError) (t : Target) → target_at r ≡ 
 target_at-ok (Ok x) t is = let same : x ≡ t = cc in ap Ok same
 target_at-ok (Err e) t is = absurd cc
 
+-- and without a query it is an origin
 without_query-is : (hosts : List KnownHost) (uri : UriParts) (query : List (List ℕ)) (t : Target) → are_short uri ≡ true → without_query hosts uri query ≡ Some t → IsTarget t
 without_query-is hosts uri [] t short is = remote-is hosts uri t short (target_at-ok (remote hosts uri) t is)
 without_query-is hosts uri (part ∷ query) t short is = absurd cc
 
+-- what is read as an origin is a target
 origin_at-is : (hosts : List KnownHost) (r : Result UriParts UriError) (t : Target) → ((uri : UriParts) → r ≡ Ok uri → are_short uri ≡ true) → origin_at hosts r ≡ Some t → IsTarget t
 origin_at-is hosts (Err e) t short is = absurd cc
 origin_at-is hosts (Ok uri) t short is = without_query-is hosts uri uri.query t (short uri refl) is
@@ -98,6 +106,7 @@ map_with-origin None origin m is = absurd cc
 map_with-origin (Some prefix) None m is = absurd cc
 map_with-origin (Some prefix) (Some origin) m is = let same : origin ≡ m.origin = cc in ap Some same
 
+-- the origin of a map that was read is a target
 map_read-is : (hosts : List KnownHost) (pair : Pair) (m : Map) → map_read hosts pair ≡ Some m → IsTarget m.origin
 map_read-is hosts pair m is = origin_at-is hosts (uri_of pair.1) m.origin (uri_of-short pair.1) (map_with-origin (prefix_of pair.0) (origin_at hosts (uri_of pair.1)) m is)
 
@@ -110,6 +119,7 @@ all_of-parts (Some x) rest all is = go (all_of rest) refl is
     go None e f = absurd cc
     go (Some xs) e f = (x, xs, refl, e, cc)
 
+-- and so is that of each of many
 all-is : (hosts : List KnownHost) (pairs : List Pair) (maps : List Map) → all_of (map (map_read hosts) pairs) ≡ Some maps → HaveTargets maps
 all-is hosts [] maps is = let same : [] ≡ maps = cc in subst HaveTargets same tt
 all-is hosts (pair ∷ pairs) maps is =

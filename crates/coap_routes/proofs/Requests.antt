@@ -30,6 +30,7 @@ use Rattle.coap_routes.proofs.Screened.{path_of-short, uri_host-short, query_of-
 use Rattle.coap_routes.proofs.Targets.{All-map_of, mapped-is}
 
 module _ (routes : Routes) (are : AreRoutes routes) (t : Target) where
+  -- what a request to the proxy itself is mapped to
   local-is : (path query : List (List ℕ)) → AllByRecursion IsShort path → AllByRecursion IsShort query → local routes path query ≡ Ok t → IsTarget t
   local-is path query of_path of_query e = go (map_of routes.maps path) refl e
     where
@@ -39,6 +40,7 @@ module _ (routes : Routes) (are : AreRoutes routes) (t : Target) where
           let same : mapped path query n ≡ t = cc in
           subst IsTarget same (mapped-is path query n (All-map_of (λ k. IsTarget k.origin) routes.maps path n are found) of_path of_query)
 
+  -- what a URI of short parts leads to
   resolved-is : (uri : UriParts) → is_short_host uri.host ≡ true → AllByRecursion IsShort uri.path → AllByRecursion IsShort uri.query → resolved routes uri ≡ Ok t → IsTarget t
   resolved-is uri host path query e = go (is_own routes.names uri.host) e
     where
@@ -46,6 +48,7 @@ module _ (routes : Routes) (are : AreRoutes routes) (t : Target) where
       go true f = local-is uri.path uri.query path query f
       go false f = target_at_host-is routes.hosts uri t path query uri.host host f
 
+  -- what a URI that was read leads to
   of_uri-is : (r : Result UriParts UriError) → ((uri : UriParts) → r ≡ Ok uri → are_short uri ≡ true) → of_uri routes r ≡ Ok t → IsTarget t
   of_uri-is (Ok uri) short e =
       let host = and_parts (is_short_host uri.host) (list_all is_short uri.path && list_all is_short uri.query) (short uri refl) in
@@ -55,6 +58,7 @@ module _ (routes : Routes) (are : AreRoutes routes) (t : Target) where
   of_uri-is (Err uri_error.Scheme) short e = absurd cc
   of_uri-is (Err uri_error.OutOfMemory) short e = absurd cc
 
+  -- what a Proxy-Uri leads to
   by_uri-is : (text : List ℕ) → by_uri routes text ≡ Ok t → IsTarget t
   unfolding by_uri
   by_uri-is text e = go (is_utf8 text) e
@@ -69,6 +73,7 @@ module _ (routes : Routes) (are : AreRoutes routes) (t : Target) where
   host_or-short (Some ip) lower short = refl
 
   module _ (m : Message) (screened : first_refused Request m.options ≡ None) where
+    -- what the Uri options lead to
     composed-is : (host : Option (List ℕ)) → value_of 3 m ≡ host → composed routes m host ≡ Ok t → IsTarget t
     composed-is None at e = local-is (path_of m) (query_of m) (path_of-short m screened) (query_of-short m screened) e
     composed-is (Some host) at e =
@@ -76,6 +81,7 @@ module _ (routes : Routes) (are : AreRoutes routes) (t : Target) where
         let short : length lower ≤ 255 = rw length-map (uri_host-short m host screened (sym at)) in
         resolved-is (record { host = host_of host; port = port_of m; path = path_of m; query = query_of m }) (host_or-short (ip_of lower) lower short) (path_of-short m screened) (query_of-short m screened) e
 
+    -- what a Proxy-Scheme leads to
     by_scheme-is : (scheme : List ℕ) → by_scheme routes m scheme ≡ Ok t → IsTarget t
     unfolding by_scheme
     by_scheme-is scheme e = go (is_coap scheme) (port_of m == 0) e
@@ -85,10 +91,12 @@ module _ (routes : Routes) (are : AreRoutes routes) (t : Target) where
         go true false f = composed-is (value_of 3 m) refl f
         go false z f = absurd cc
 
+    -- a proxy that gives a target has own names
     if_any-ok : (names : List HostPart) (r : Result Target TargetError) → if_any names r ≡ Ok t → r ≡ Ok t
     if_any-ok [] r f = absurd cc
     if_any-ok (name ∷ names) r f = f
 
+    -- in each case
     by_options-is : (uri scheme : Option (List ℕ)) → by_options routes m uri scheme ≡ Ok t → IsTarget t
     by_options-is None None e = local-is (path_of m) (query_of m) (path_of-short m screened) (query_of-short m screened) e
     by_options-is None (Some scheme) e = by_scheme-is scheme (if_any-ok routes.names (by_scheme routes m scheme) e)

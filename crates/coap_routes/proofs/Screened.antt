@@ -20,7 +20,7 @@ not-refused ps none = go (find (is_refused Request) ps) none
     go None is = refl
     go (Some p) is = absurd cc
 
--- the place of an option behind those passed
+-- the place of an option after those passed
 abbrev place_behind : List Opt → Opt → PlacedOption
 place_behind passed o = record { option = o; before = count_of o.number passed }
 

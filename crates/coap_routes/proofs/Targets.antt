@@ -9,7 +9,7 @@ use Rattle.coap_target.specs.Target.{IsShort, IsTarget}
 use Rattle.coap_routes.specs.Routes.{begins, longer, map_of, mapped, path_of, query_of, mapped_target, AreRoutes}
 use Rattle.coap_target.proofs.Lists.{All-append}
 
--- what holds of each holds of those behind some
+-- what holds of each holds of those after some
 All-drop : (P : List ℕ → Type 0) (n : ℕ) (xs : List (List ℕ)) → AllByRecursion P xs → AllByRecursion P (drop n xs)
 All-drop P zero xs all = all
 All-drop P (suc n) [] all = tt

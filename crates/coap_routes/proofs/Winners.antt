@@ -7,6 +7,7 @@ use Rattle.coap_routes.specs.Routes.{begins, longer, map_of}
 use Rattle.coap_routes.specs.Winner.{Wins}
 use Rattle.coap_target.proofs.Lists.{All-append, All-weaken}
 
+-- where none is found, no prefix begins the path
 pub map_of-none : (maps : List Map) (path : List (List ℕ)) → map_of maps path ≡ None → AllByRecursion (λ m. begins m.prefix path ≡ false) maps
 map_of-none [] path e = tt
 map_of-none (m ∷ maps) path e = go (λ f. map_of-none maps path f) (begins m.prefix path) refl (map_of maps path) refl e
@@ -59,6 +60,7 @@ module _ (m : Map) (maps : List Map) (path : List (List ℕ)) where
         (λ yes'. most, All-weaken (λ k. begins k.prefix path ≡ true → length k.prefix ≤ length n.prefix) (λ k. begins k.prefix path ≡ true → length k.prefix ≤ length m.prefix) wins.later (λ k holds yes'. omega (arith, holds yes', most)) wins.as_long_as_later));
   }
 
+-- the map that is found wins
 pub map_of-wins : (maps : List Map) (path : List (List ℕ)) (m : Map) → map_of maps path ≡ Some m → Wins maps path m
 map_of-wins [] path m e = absurd cc
 map_of-wins (n ∷ maps) path m e = go (λ k f. map_of-wins maps path k f) (begins n.prefix path) refl (map_of maps path) refl e

@@ -23,7 +23,10 @@ is_address_byte b = is_digit b 16 || (b == colon || b == dot)
 
 -- what stands between the brackets of a text in brackets
 abbrev pub inner_of : List ℕ → Option (List ℕ)
-inner_of text = if (slice_index text 0 == left_bracket) && (slice_index text (length text - 1) == right_bracket) then Some (slice_range text 1 (length text - 1)) else None
+inner_of text =
+    if (slice_index text 0 == left_bracket) && (slice_index text (length text - 1) == right_bracket)
+    then Some (slice_range text 1 (length text - 1))
+    else None
 
 -- the sixteen bytes of a host that is an IPv6 address
 abbrev pub ipv6_host : Option (Host (List ℕ)) → Option (List ℕ)
@@ -42,7 +45,10 @@ bracketed_uri inner = codes "coap://[" ++ inner ++ codes "]"
 
 -- what stands between brackets is an IPv6 address where `url` reads it as the host of a URI
 unfoldable pub ipv6_between : List ℕ → Option (List ℕ)
-ipv6_between inner = if list_all is_address_byte inner then ipv6_read (parse_url None (bracketed_uri inner)) else None
+ipv6_between inner =
+    if list_all is_address_byte inner
+    then ipv6_read (parse_url None (bracketed_uri inner))
+    else None
 
 -- the sixteen bytes of an IPv6 address in brackets
 abbrev pub ipv6_of : List ℕ → Option (List ℕ)

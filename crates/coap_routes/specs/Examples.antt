@@ -12,7 +12,15 @@ use Rattle.coap_routes.specs.declared.uri.HostPart.TheVariants.{Name}
 
 -- a GET with these options
 abbrev pub get : List Opt → Message
-get options = record { kind = Non; code = record { 0 = 1 }; id = 7; token = []; options = options; payload = [] }
+get options =
+    record {
+      kind = Non;
+      code = record { 0 = 1 };
+      id = 7;
+      token = [];
+      options = options;
+      payload = [];
+    }
 
 abbrev pub loopback : ℕ → Endpoint
 loopback port = record { ip = V4 (127 ∷ 0 ∷ 0 ∷ 1 ∷ []); port = port }
@@ -32,11 +40,22 @@ other = record { prefix = codes "t" ∷ []; origin = at 5692 [] [] }
 
 -- routes with these maps, of a proxy named `proxy.test` that knows one host
 abbrev pub with_maps : List Map → Routes
-with_maps maps = record { names = Name (codes "proxy.test") ∷ []; hosts = record { name = codes "sensor.test"; ip = V4 (192 ∷ 0 ∷ 2 ∷ 7 ∷ []) } ∷ []; maps = maps }
+with_maps maps =
+    record {
+      names = Name (codes "proxy.test") ∷ [];
+      hosts = record { name = codes "sensor.test"; ip = V4 (192 ∷ 0 ∷ 2 ∷ 7 ∷ []) } ∷ [];
+      maps = maps;
+    }
 
 -- and of one without own names
 abbrev pub without_names : List Map → Routes
 without_names maps = record { names = []; hosts = []; maps = maps }
 
 abbrev pub sensor : Target
-sensor = record { host = Some (codes "sensor.test"); at = record { ip = V4 (192 ∷ 0 ∷ 2 ∷ 7 ∷ []); port = 5683 }; path = codes "x" ∷ []; query = [] }
+sensor =
+    record {
+      host = Some (codes "sensor.test");
+      at = record { ip = V4 (192 ∷ 0 ∷ 2 ∷ 7 ∷ []); port = 5683 };
+      path = codes "x" ∷ [];
+      query = [];
+    }

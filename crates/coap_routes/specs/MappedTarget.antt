@@ -5,4 +5,10 @@ use Rattle.coap_target.specs.declared.target.Target.{Target}
 
 -- the target
 abbrev pub seen : MappedTarget → Target
-seen t = record { host = t.origin.now.host; at = t.origin.now.at; path = t.origin.now.path ++ t.rest; query = t.query }
+seen t =
+    record {
+      host = t.origin.now.host;
+      at = t.origin.now.at;
+      path = t.origin.now.path ++ t.rest;
+      query = t.query;
+    }

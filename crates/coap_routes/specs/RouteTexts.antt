@@ -52,13 +52,14 @@ known_of pair = host_with (name_of pair.0) (ip_of pair.1)
 -- no name stands twice
 abbrev pub are_distinct : List KnownHost → Bool
 are_distinct [] = true
-are_distinct (h ∷ hosts) = not (list_any (λ other. pointwise nat_eq other.name h.name) hosts) && are_distinct hosts
+are_distinct (h ∷ hosts) =
+    not (list_any (λ other. pointwise nat_eq other.name h.name) hosts) && are_distinct hosts
 
 -- neither a query nor a fragment begins here
 abbrev pub is_unmarked : ℕ → Bool
 is_unmarked b = not (b == question_mark) && not (b == number_sign)
 
--- A prefix begins with a slash, and holds neither query nor fragment. Behind each slash stands a segment;
+-- A prefix begins with a slash, and holds neither query nor fragment. After each slash stands a segment;
 -- the slash alone has none.
 abbrev pub is_prefix : List ℕ → Bool
 is_prefix text = (slice_index text 0 == slash) && list_all is_unmarked text
@@ -116,7 +117,8 @@ with_names (Some names) hosts maps = with_hosts names (hosts_of hosts) maps
 
 -- there may be 64 names, 256 hosts and 64 maps
 abbrev pub are_few : List (List ℕ) → List Pair → List Pair → Bool
-are_few names hosts maps = nat_le (length names) 64 && (nat_le (length hosts) 256 && nat_le (length maps) 64)
+are_few names hosts maps =
+    nat_le (length names) 64 && (nat_le (length hosts) 256 && nat_le (length maps) 64)
 
 abbrev pub routes_or : Bool → Option RouteLists → Result RouteLists RouteError
 routes_or few None = Err Unreadable
@@ -124,4 +126,5 @@ routes_or few (Some routes) = if few then Ok routes else Err TooMany
 
 -- the routes that the texts say, or why they say none
 unfoldable pub routes_of : List (List ℕ) → List Pair → List Pair → Result RouteLists RouteError
-routes_of names hosts maps = routes_or (are_few names hosts maps) (with_names (all_of (map name_of names)) hosts maps)
+routes_of names hosts maps =
+    routes_or (are_few names hosts maps) (with_names (all_of (map name_of names)) hosts maps)

@@ -3,6 +3,7 @@ use Rattle.std.specs.Prelude.{ℕ, Bool, true, false, ◌==◌, ◌&&◌, nat_eq
 use Rattle.std.specs.Cmp.Lexicographic.{pointwise}
 use Rattle.coap_message.specs.declared.options.Opt.{Opt}
 use Rattle.coap_message.specs.Message.{Message}
+use Rattle.coap_option.specs.declared.numbers.TheConstants.{URI_PATH, URI_QUERY}
 use Rattle.coap_target.specs.declared.endpoint.Ip.TheVariants.{V4}
 use Rattle.coap_target.specs.declared.target.Target.{Target}
 use Rattle.coap_routes.specs.declared.map.Map.{Map}
@@ -15,11 +16,11 @@ values_of number options = map (λ o. o.value) (filter (λ o. o.number == number
 
 -- the segments of a request's path: its Uri-Path options (RFC 7252, 5.10.1)
 abbrev pub path_of : Message → List (List ℕ)
-path_of m = values_of 11 m.options
+path_of m = values_of URI_PATH m.options
 
 -- the parts of a request's query: its Uri-Query options (RFC 7252, 5.10.1)
 abbrev pub query_of : Message → List (List ℕ)
-query_of m = values_of 15 m.options
+query_of m = values_of URI_QUERY m.options
 
 -- the path begins with the segments of the prefix
 abbrev pub begins : List (List ℕ) → List (List ℕ) → Bool
@@ -40,11 +41,18 @@ longer m (Some n) = if nat_lt (length m.prefix) (length n.prefix) then Some n el
 -- the map of a path: among those whose prefix begins it the one with the longest, then the earliest
 abbrev pub map_of : List Map → List (List ℕ) → Option Map
 map_of [] path = None
-map_of (m ∷ maps) path = if begins m.prefix path then longer m (map_of maps path) else map_of maps path
+map_of (m ∷ maps) path =
+    if begins m.prefix path then longer m (map_of maps path) else map_of maps path
 
--- the origin's path followed by what stands behind the prefix, and the request's query
+-- the origin's path followed by what stands after the prefix, and the request's query
 abbrev pub mapped : List (List ℕ) → List (List ℕ) → Map → Target
-mapped path query m = record { host = m.origin.host; at = m.origin.at; path = m.origin.path ++ drop (length m.prefix) path; query = query }
+mapped path query m =
+    record {
+      host = m.origin.host;
+      at = m.origin.at;
+      path = m.origin.path ++ drop (length m.prefix) path;
+      query = query;
+    }
 
 abbrev pub mapped_by : List Map → List (List ℕ) → List (List ℕ) → Option Target
 mapped_by maps path query = option_map (mapped path query) (map_of maps path)
@@ -60,7 +68,12 @@ AreRoutes routes = HaveTargets routes.maps
 abbrev pub fixed_map : Map
 fixed_map = record {
   prefix = (0x74 ∷ []) ∷ [];
-  origin = record { host = None; at = record { ip = V4 (127 ∷ 0 ∷ 0 ∷ 1 ∷ []); port = 5690 }; path = (0x74 ∷ 0x65 ∷ 0x6D ∷ 0x70 ∷ []) ∷ []; query = [] };
+  origin = record {
+    host = None;
+    at = record { ip = V4 (127 ∷ 0 ∷ 0 ∷ 1 ∷ []); port = 5690 };
+    path = (0x74 ∷ 0x65 ∷ 0x6D ∷ 0x70 ∷ []) ∷ [];
+    query = [];
+  };
 }
 
 -- no own names, no hosts, and that one map

@@ -28,7 +28,7 @@ parts_left separator (Some text) = slice_split (λ b. b == separator) text
 abbrev pub decoded_parts : ℕ → List ℕ → List (List ℕ)
 decoded_parts separator text = map percent_decode (slice_split (λ b. b == separator) text)
 
--- the segments of a path: those behind its first slash, and none where nothing stands there
+-- the segments of a path: those after its first slash, and none where nothing stands there
 abbrev pub segments_behind : List ℕ → List (List ℕ)
 segments_behind [] = []
 segments_behind (b ∷ rest) = decoded_parts slash (b ∷ rest)
@@ -69,7 +69,8 @@ is_short_host (Name name) = is_short name
 is_short_host (Addr ip) = true
 
 abbrev pub are_short : UriParts → Bool
-are_short uri = is_short_host uri.host && (list_all is_short uri.path && list_all is_short uri.query)
+are_short uri =
+    is_short_host uri.host && (list_all is_short uri.path && list_all is_short uri.query)
 
 -- the port, 5683 where none is written (RFC 7252, 6.1)
 abbrev pub port_part : Option ℕ → ℕ
@@ -93,7 +94,8 @@ url_or_bad (Err e) = Err Bad
 
 abbrev pub uri_read : Result Parts UriError → Result UriParts UriError
 uri_read (Err e) = Err e
-uri_read (Ok url) = if bytes_eq url.scheme (codes "coap") then with_host url (nonempty_host url) else Err Scheme
+uri_read (Ok url) =
+    if bytes_eq url.scheme (codes "coap") then with_host url (nonempty_host url) else Err Scheme
 
 -- the parts of a `coap` URI, or why the text is none
 unfoldable pub uri_of : List ℕ → Result UriParts UriError

@@ -11,5 +11,7 @@ pub record Wins (maps : List Map) (path : List (List ℕ)) (m : Map) : Type 0 wh
   pub later : List Map
   pub among : maps ≡ earlier ++ m ∷ later
   pub begins_path : begins m.prefix path ≡ true
-  pub longer_than_earlier : AllByRecursion (λ n. begins n.prefix path ≡ true → length n.prefix < length m.prefix) earlier
-  pub as_long_as_later : AllByRecursion (λ n. begins n.prefix path ≡ true → length n.prefix ≤ length m.prefix) later
+  pub longer_than_earlier :
+      AllByRecursion (λ n. begins n.prefix path ≡ true → length n.prefix < length m.prefix) earlier
+  pub as_long_as_later :
+      AllByRecursion (λ n. begins n.prefix path ≡ true → length n.prefix ≤ length m.prefix) later

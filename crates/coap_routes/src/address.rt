@@ -29,12 +29,13 @@ pub(crate) fn read_url(alloc: Global, text: &str) -> Result<Url, UriError>
     }
 }
 
-/// The address that a text is in dotted-decimal form, each number written in one way (RFC 3986, 3.2.2).
-pub(crate) fn read_ipv4(text: &[u8]) -> Option<Ip>
-    ensures { result ≡ option_map V4 (ipv4_of text.now) }
+/// The bytes of the IPv4 address that a text is in dotted-decimal form, each number written in one way
+/// (RFC 3986, 3.2.2).
+pub fn read_ipv4(text: &[u8]) -> Option<[u8; 4]>
+    ensures { result ≡ ipv4_of text.now }
 {
     match Ipv4Addr::parse_ascii(text) {
-        Ok(address) => Some(Ip::V4(address.octets())),
+        Ok(address) => Some(address.octets()),
         Err(_) => None,
     }
 }
@@ -75,7 +76,8 @@ fn ipv6_host(host: Option<Host<&str>>) -> Option<Ip>
 
 /// The IPv6 address that `url` reads between brackets.
 fn read_between(alloc: Global, inner: &str) -> Result<Option<Ip>, OutOfMemory>
-    ensures { IfOk result (λ ip. ip ≡ option_map V6 (ipv6_read (url_or_bad (parse_url None (bracketed_uri inner.now))))) }
+    ensures { IfOk result (λ ip.
+        ip ≡ option_map V6 (ipv6_read (url_or_bad (parse_url None (bracketed_uri inner.now))))) }
 {
     let uri = format!(in alloc; "coap://[{inner}]")?;
     match read_url(alloc, uri.as_str()) {
@@ -102,8 +104,8 @@ fn read_ipv6(alloc: Global, inner: &[u8]) -> Result<Option<Ip>, OutOfMemory>
 pub(crate) fn read_address(alloc: Global, text: &[u8]) -> Result<Option<Ip>, OutOfMemory>
     ensures { IfOk result (λ ip. ip ≡ ip_of text.now) }
 {
-    if let Some(ip) = read_ipv4(text) {
-        return Ok(Some(ip));
+    if let Some(octets) = read_ipv4(text) {
+        return Ok(Some(Ip::V4(octets)));
     }
     match inner(text) {
         Some(inner) => read_ipv6(alloc, inner),

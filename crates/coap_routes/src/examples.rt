@@ -11,22 +11,52 @@ ghost use Rattle.coap_routes.specs.Uri.{path_parts, query_parts};
 /// The targets of requests without proxy options: the longest prefix wins, then the earlier, whatever
 /// Uri-Host and Uri-Port say.
 pub fn mapped()
-    ensures rest { request_target (without_names (everything ∷ temperature ∷ [])) (get (option_of 11 (codes "u") ∷ [])) ≡ Ok (at 5691 (codes "r" ∷ codes "u" ∷ []) []) }
-    ensures longest { request_target (without_names (everything ∷ temperature ∷ [])) (get (option_of 11 (codes "t") ∷ [])) ≡ Ok (at 5690 (codes "temp" ∷ []) []) }
-    ensures earlier { request_target (without_names (temperature ∷ other ∷ everything ∷ [])) (get (option_of 11 (codes "t") ∷ [])) ≡ Ok (at 5690 (codes "temp" ∷ []) []) }
-    ensures query { request_target (without_names (temperature ∷ [])) (get (option_of 3 (codes "a") ∷ option_of 7 (0 ∷ []) ∷ option_of 11 (codes "t") ∷ option_of 15 (codes "x") ∷ option_of 15 [] ∷ [])) ≡ Ok (at 5690 (codes "temp" ∷ []) (codes "x" ∷ [] ∷ [])) }
-    ensures none { request_target (without_names (temperature ∷ [])) (get (option_of 11 (codes "u") ∷ [])) ≡ Err TargetError.NotFound }
+    ensures rest { request_target (without_names (everything ∷ temperature ∷ []))
+        (get (option_of 11 (codes "u") ∷ []))
+        ≡ Ok (at 5691 (codes "r" ∷ codes "u" ∷ []) []) }
+    ensures longest { request_target (without_names (everything ∷ temperature ∷ []))
+        (get (option_of 11 (codes "t") ∷ []))
+        ≡ Ok (at 5690 (codes "temp" ∷ []) []) }
+    ensures earlier { request_target (without_names (temperature ∷ other ∷ everything ∷ []))
+        (get (option_of 11 (codes "t") ∷ []))
+        ≡ Ok (at 5690 (codes "temp" ∷ []) []) }
+    ensures query { request_target (without_names (temperature ∷ []))
+        (get
+        (option_of 3 (codes "a") ∷ option_of 7 (0 ∷ []) ∷ option_of 11 (codes "t")
+        ∷ option_of 15 (codes "x") ∷ option_of 15 [] ∷ []))
+        ≡ Ok (at 5690 (codes "temp" ∷ []) (codes "x" ∷ [] ∷ [])) }
+    ensures none { request_target (without_names (temperature ∷ []))
+        (get (option_of 11 (codes "u") ∷ []))
+        ≡ Err TargetError.NotFound }
 {}
 
 /// The targets of requests with a Proxy-Scheme.
 pub fn proxied()
-    ensures own { request_target (with_maps (temperature ∷ [])) (get (option_of 3 (codes "Proxy.test") ∷ option_of 11 (codes "t") ∷ option_of 39 (codes "coap") ∷ [])) ≡ Ok (at 5690 (codes "temp" ∷ []) []) }
-    ensures host { request_target (with_maps []) (get (option_of 3 (codes "SENSOR.test") ∷ option_of 11 (codes "x") ∷ option_of 39 (codes "coap") ∷ [])) ≡ Ok sensor }
-    ensures without_host { request_target (with_maps (temperature ∷ [])) (get (option_of 11 (codes "t") ∷ option_of 39 (codes "COAP") ∷ [])) ≡ Ok (at 5690 (codes "temp" ∷ []) []) }
-    ensures scheme { request_target (with_maps (temperature ∷ [])) (get (option_of 7 (0 ∷ []) ∷ option_of 11 (codes "t") ∷ option_of 39 (codes "http") ∷ [])) ≡ Err TargetError.NotProxied }
-    ensures port { request_target (with_maps (temperature ∷ [])) (get (option_of 7 [] ∷ option_of 11 (codes "t") ∷ option_of 39 (codes "coap") ∷ [])) ≡ Err TargetError.BadUri }
-    ensures unknown { request_target (with_maps []) (get (option_of 3 (codes "nowhere") ∷ option_of 39 (codes "coap") ∷ [])) ≡ Err TargetError.NotProxied }
-    ensures no_names { request_target (without_names (temperature ∷ [])) (get (option_of 11 (codes "t") ∷ option_of 39 (codes "coap") ∷ [])) ≡ Err TargetError.NotProxied }
+    ensures own { request_target (with_maps (temperature ∷ []))
+        (get
+        (option_of 3 (codes "Proxy.test") ∷ option_of 11 (codes "t")
+        ∷ option_of 39 (codes "coap") ∷ []))
+        ≡ Ok (at 5690 (codes "temp" ∷ []) []) }
+    ensures host { request_target (with_maps [])
+        (get
+        (option_of 3 (codes "SENSOR.test") ∷ option_of 11 (codes "x")
+        ∷ option_of 39 (codes "coap") ∷ []))
+        ≡ Ok sensor }
+    ensures without_host { request_target (with_maps (temperature ∷ []))
+        (get (option_of 11 (codes "t") ∷ option_of 39 (codes "COAP") ∷ []))
+        ≡ Ok (at 5690 (codes "temp" ∷ []) []) }
+    ensures scheme { request_target (with_maps (temperature ∷ []))
+        (get (option_of 7 (0 ∷ []) ∷ option_of 11 (codes "t") ∷ option_of 39 (codes "http") ∷ []))
+        ≡ Err TargetError.NotProxied }
+    ensures port { request_target (with_maps (temperature ∷ []))
+        (get (option_of 7 [] ∷ option_of 11 (codes "t") ∷ option_of 39 (codes "coap") ∷ []))
+        ≡ Err TargetError.BadUri }
+    ensures unknown { request_target (with_maps [])
+        (get (option_of 3 (codes "nowhere") ∷ option_of 39 (codes "coap") ∷ []))
+        ≡ Err TargetError.NotProxied }
+    ensures no_names { request_target (without_names (temperature ∷ []))
+        (get (option_of 11 (codes "t") ∷ option_of 39 (codes "coap") ∷ []))
+        ≡ Err TargetError.NotProxied }
 {}
 
 /// How texts are cut and decoded.

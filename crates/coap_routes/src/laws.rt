@@ -14,6 +14,7 @@ ghost use Rattle.coap_routes.specs.Request.{request_target, value_of};
 ghost use Rattle.coap_target.specs.Target.{IsTarget};
 ghost use Rattle.coap_routes.specs.Winner.{Wins};
 ghost use Rattle.coap_message.specs.Message.{Message};
+ghost use Rattle.coap_option.specs.declared.numbers.TheConstants.{PROXY_SCHEME, PROXY_URI};
 ghost use Rattle.coap_option.specs.Screening.{first_refused};
 ghost use Rattle.coap_option.specs.declared.side.Side.{Side};
 ghost use Rattle.coap_routes.specs.declared.error.TargetError.{TargetError};
@@ -27,8 +28,12 @@ pub fn four_numbers_are_read()
 
 /// The map of a path is the one that wins, and there is none where no prefix begins the path.
 pub fn the_longest_prefix_wins()
-    ensures wins { (maps : List Map) (path : List (List ℕ)) (m : Map) → map_of maps path ≡ Some m → Wins maps path m }
-    ensures none { (maps : List Map) (path : List (List ℕ)) → map_of maps path ≡ None → AllByRecursion (λ m. begins m.prefix path ≡ false) maps }
+    ensures wins { (maps : List Map) (path : List (List ℕ)) (m : Map)
+        → map_of maps path ≡ Some m
+        → Wins maps path m }
+    ensures none { (maps : List Map) (path : List (List ℕ))
+        → map_of maps path ≡ None
+        → AllByRecursion (λ m. begins m.prefix path ≡ false) maps }
 {}
 
 /// What compares as equal is equal in all parts.
@@ -40,10 +45,17 @@ pub fn equal_is_the_same()
 /// The target of a request that passed screening has a host, segments and parts of a query of at most
 /// 255 bytes each, as they fit options (RFC 7252, 5.10).
 pub fn targets_fit_options()
-    ensures { (routes : Routes) (m : Message) (t : Target) → AreRoutes routes → first_refused Side.Request m.options ≡ None → request_target routes m ≡ Ok t → IsTarget t }
+    ensures { (routes : Routes) (m : Message) (t : Target)
+        → AreRoutes routes
+        → first_refused Side.Request m.options ≡ None
+        → request_target routes m ≡ Ok t
+        → IsTarget t }
 {}
 
 /// The target of a request without Proxy-Uri and Proxy-Scheme is the mapped one.
 pub fn requests_to_the_proxy_are_mapped()
-    ensures { (routes : Routes) (m : Message) → value_of 35 m ≡ None → value_of 39 m ≡ None → request_target routes m ≡ ok_or (mapped_target routes m) TargetError.NotFound }
+    ensures { (routes : Routes) (m : Message)
+        → value_of PROXY_URI m ≡ None
+        → value_of PROXY_SCHEME m ≡ None
+        → request_target routes m ≡ ok_or (mapped_target routes m) TargetError.NotFound }
 {}

@@ -9,13 +9,13 @@ mod map;
 mod mapped;
 mod options;
 mod parts;
-mod reading;
 mod request;
+mod route_texts;
 mod routes;
 mod segment;
 mod uri;
 
-pub use address::read_ip;
+pub use address::{read_ip, read_ipv4};
 pub use error::{RouteError, TargetError, UriError};
 pub use map::{KnownHost, Map};
 pub use mapped::MappedTarget;

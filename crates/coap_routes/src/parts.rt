@@ -41,9 +41,10 @@ pub(crate) fn split_decoded(
     Ok(parts)
 }
 
-/// What stands before the first separator, and what stands behind it, if there is one.
+/// What stands before the first separator, and what stands after it, if there is one.
 fn cut(text: &[u8], separator: u8) -> (&[u8], Option<&[u8]>)
-    ensures parts { slice_split (λ b. b == separator) text.now ≡ result.0.now ∷ parts_left separator (option_copied result.1) }
+    ensures parts { slice_split (λ b. b == separator) text.now
+        ≡ result.0.now ∷ parts_left separator (option_copied result.1) }
     ensures shorter { IfSome result.1 (λ behind. length behind.now < length text.now) }
 {
     match place_of(text, separator) {

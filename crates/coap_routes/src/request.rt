@@ -41,14 +41,21 @@ fn copy_of(alloc: Global, host: &Option<Seq<u8>>) -> Result<Option<Seq<u8>>, Out
     }
 }
 
-/// A resource of an origin: its own path with these segments behind it, and this query.
+/// A resource of an origin: its own path with these segments after it, and this query.
 fn resource<'a, P: Segments<'a>>(
     alloc: Global,
     origin: &Target,
     rest: P,
     query: P,
 ) -> Result<Target, OutOfMemory>
-    ensures { IfOk result (λ target. target ≡ record { host = origin.now.host; at = origin.now.at; path = origin.now.path ++ P.left rest; query = P.left query }) }
+    ensures { IfOk result (λ target.
+        target
+        ≡ record {
+          host = origin.now.host;
+          at = origin.now.at;
+          path = origin.now.path ++ P.left rest;
+          query = P.left query;
+        }) }
 {
     Ok(Target {
         host: copy_of(alloc, &origin.host)?,
@@ -58,7 +65,7 @@ fn resource<'a, P: Segments<'a>>(
     })
 }
 
-/// The origin's path followed by what stands behind the map's prefix, and the query.
+/// The origin's path followed by what stands after the map's prefix, and the query.
 fn mapped<'a, P: Segments<'a>>(
     alloc: Global,
     map: &Map,
@@ -172,7 +179,8 @@ impl Routes {
         path: P,
         query: P,
     ) -> Result<Target, TargetError>
-        ensures { Answers errors.OutOfMemory result (spec.local self.now (P.left path) (P.left query)) }
+        ensures { Answers errors.OutOfMemory result
+            (spec.local self.now (P.left path) (P.left query)) }
     {
         match map_of(self.maps.as_slice(), &path) {
             Some(map) => Ok(mapped(alloc, map, path, query)?),

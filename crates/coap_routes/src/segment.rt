@@ -14,7 +14,8 @@ pub trait Segments<'a>: Drop {
 
     /// The next one.
     fn next_segment(&mut self) -> Option<&'a [u8]>
-        ensures { MatchOption result ((left self.old ≡ []) × (left self.new ≡ [])) (λ s. left self.old ≡ s.now ∷ left self.new) };
+        ensures { MatchOption result ((left self.old ≡ []) × (left self.new ≡ [])) (λ s.
+            left self.old ≡ s.now ∷ left self.new) };
 
     /// The same ones once more.
     fn again(&self) -> Self
@@ -102,7 +103,7 @@ pub(crate) fn copies<'a, P: Segments<'a>>(alloc: Global, segments: P) -> Result<
     Ok(copies)
 }
 
-/// Pieces and copies of segments behind them, in no more room than they need.
+/// Pieces and copies of segments after them, in no more room than they need.
 pub(crate) fn joined<'a, P: Segments<'a>>(
     alloc: Global,
     front: &Pieces,

@@ -117,14 +117,14 @@ fn host_part(alloc: Global, host: Host<&str>) -> Result<HostPart, OutOfMemory>
 fn named(alloc: Global, text: &str) -> Result<HostPart, OutOfMemory>
     ensures { IfOk result (λ part. part ≡ spec.name_or (ipv4_of text.now) text.now) }
 {
-    if let Some(ip) = read_ipv4(text.as_bytes()) {
-        return Ok(HostPart::Addr(ip));
+    if let Some(octets) = read_ipv4(text.as_bytes()) {
+        return Ok(HostPart::Addr(Ip::V4(octets)));
     }
     let lower = text.to_ascii_lowercase(alloc)?;
     Ok(HostPart::Name(decoded(alloc, lower.as_bytes())?))
 }
 
-/// The segments behind the first slash of a path; none where nothing stands there.
+/// The segments after the first slash of a path; none where nothing stands there.
 pub(crate) fn path_parts(alloc: Global, path: &[u8]) -> Result<Pieces, OutOfMemory>
     ensures { IfOk result (λ segments. segments ≡ spec.path_parts path.now) }
 {

@@ -1,2 +1,2 @@
+pub mod Equality
 pub mod Lists
-pub mod Same

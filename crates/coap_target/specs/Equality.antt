@@ -17,4 +17,6 @@ same_name None (Some b) = false
 same_name (Some a) None = false
 
 abbrev pub same_target : Target → Target → Bool
-same_target a b = same_name a.host b.host && (same_endpoint a.at b.at && (same_parts a.path b.path && same_parts a.query b.query))
+same_target a b =
+    same_name a.host b.host
+    && (same_endpoint a.at b.at && (same_parts a.path b.path && same_parts a.query b.query))

@@ -5,7 +5,7 @@ use std::alloc::Global;
 use std::process::Abort;
 use std::test::*;
 
-/// Requests with the options that are sent on, those that are part of the key, and the tags. Behind `= ` stand
+/// Requests with the options that are sent on, those that are part of the key, and the tags. After `= ` stand
 /// numbers with the bytes that spell them (RFC 7252, 3.2). Lines that begin with `#` say what follows.
 const CASES: &str = "\
 # a GET with an ETag, an empty Accept and an empty Size1
@@ -22,7 +22,7 @@ const CASES: &str = "\
 = 65536 > [010000]
 = 18446744073709551615 > [ffffffffffffffff]";
 
-/// Adds bytes as digits, and a bracket behind them.
+/// Adds bytes as digits, and a bracket after them.
 fn show_bytes(alloc: Global, out: &mut String, bytes: &[u8]) -> Result<(), OutOfMemory> {
     let digits = hex::encode(alloc, bytes)?;
     Ok(write!(out, "{digits}]")?)

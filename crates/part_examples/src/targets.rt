@@ -98,7 +98,7 @@ fn show_target(alloc: Global, out: &mut String, target: &Target) -> Result<(), A
     show_parts(out, target.at.port, &target.path, &target.query)
 }
 
-/// Adds the parts of a URI: the host first, behind `@` an address.
+/// Adds the parts of a URI: the host first, after `@` an address.
 fn show_uri(alloc: Global, out: &mut String, uri: &UriParts) -> Result<(), AllocError> {
     match &uri.host {
         HostPart::Name(name) => show_bytes(out, name.as_slice())?,
@@ -206,7 +206,7 @@ fn check_known(
     check_targets(rt, alloc, out, &routes, lines)
 }
 
-/// Checks a line of routes and the lines behind it: of readable ones the targets, of others how they are refused.
+/// Checks a line of routes and the lines after it: of readable ones the targets, of others how they are refused.
 fn check_block(rt: &impl Abort, alloc: Global, out: &mut String, block: &str) -> Result<(), Fail> {
     let (known, lines) = block.split_once('\n').unwrap_or((block, ""));
     match known.split_once(" > ") {

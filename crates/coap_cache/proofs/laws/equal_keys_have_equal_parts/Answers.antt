@@ -1,5 +1,5 @@
 use Rattle.coap_cache.specs.Keys.{same_key}
-use Rattle.coap_target.proofs.Same.{Tells-both}
+use Rattle.coap_target.proofs.Equality.{Tells-both}
 use Rattle.coap_cache.proofs.Keys.{parts-same_key, same_key-parts, Tells-key}
 use Rattle.coap_cache.proofs.laws.equal_keys_have_equal_parts.Goals as goal
 

@@ -1,4 +1,4 @@
-use Rattle.coap_target.proofs.Same.{Tells-both}
+use Rattle.coap_target.proofs.Equality.{Tells-both}
 use Rattle.coap_routes.specs.Hosts.{same_host}
 use Rattle.coap_routes.specs.Uris.{same_uri}
 use Rattle.coap_routes.proofs.Uris.{Tells-host, Tells-uri}

@@ -1,6 +1,6 @@
 use Rattle.std.proofs.Common.{◌≡◌, length}
 use Rattle.coap_routes.specs.RouteTexts.{are_distinct}
-use Rattle.coap_routes.proofs.reading.are_distinct.Given as goal
+use Rattle.coap_routes.proofs.route_texts.are_distinct.Given as goal
 
 abbrev pub invariant-loop-rest : goal.invariant-loop-rest
 invariant-loop-rest l = are_distinct l.hosts ≡ are_distinct l.rest

@@ -35,7 +35,8 @@ trait Reader<E, T> {
 
     /// What the entry says.
     fn read(&self, alloc: Global, entry: &E) -> Result<T, RouteError>
-        ensures { Answers errors.OutOfMemory result (ok_or (part_of self.now entry.now) errors.Unreadable) };
+        ensures { Answers errors.OutOfMemory result
+            (ok_or (part_of self.now entry.now) errors.Unreadable) };
 }
 
 /// All entries of a list, in order.
@@ -44,7 +45,8 @@ fn read_all<E, T: Drop, R: Reader<E, T>>(
     reader: &R,
     entries: &[E],
 ) -> Result<Seq<T>, RouteError>
-    ensures { Answers errors.OutOfMemory result (ok_or (spec.all_of (map (R.part_of reader.now) entries.now)) errors.Unreadable) }
+    ensures { Answers errors.OutOfMemory result
+        (ok_or (spec.all_of (map (R.part_of reader.now) entries.now)) errors.Unreadable) }
 {
     let mut parts = Seq::new(alloc);
     for entry in entries {
@@ -78,7 +80,8 @@ fn is_name(text: &[u8]) -> bool
 
 /// The own name, or the host, that a text is.
 fn read_name(alloc: Global, text: &String) -> Result<HostPart, RouteError>
-    ensures { Answers errors.OutOfMemory result (ok_or (spec.name_of (string_bytes text.now)) errors.Unreadable) }
+    ensures { Answers errors.OutOfMemory result
+        (ok_or (spec.name_of (string_bytes text.now)) errors.Unreadable) }
 {
     if !is_name(text.as_bytes()) {
         return Err(RouteError::Unreadable);
@@ -100,7 +103,8 @@ impl Reader<String, HostPart> for Names {
 
 /// All own names.
 fn read_names(alloc: Global, names: &[String]) -> Result<Seq<HostPart>, RouteError>
-    ensures { Answers errors.OutOfMemory result (ok_or (spec.all_of (map spec.name_of (map string_bytes names.now))) errors.Unreadable) }
+    ensures { Answers errors.OutOfMemory result
+        (ok_or (spec.all_of (map spec.name_of (map string_bytes names.now))) errors.Unreadable) }
 {
     read_all(alloc, &Names, names)
 }
@@ -142,7 +146,8 @@ fn is_prefix(text: &[u8]) -> bool
 
 /// The segments of a prefix.
 fn read_prefix(alloc: Global, text: &String) -> Result<Pieces, RouteError>
-    ensures { Answers errors.OutOfMemory result (ok_or (spec.prefix_of (string_bytes text.now)) errors.Unreadable) }
+    ensures { Answers errors.OutOfMemory result
+        (ok_or (spec.prefix_of (string_bytes text.now)) errors.Unreadable) }
 {
     if !is_prefix(text.as_bytes()) {
         return Err(RouteError::Unreadable);
@@ -153,7 +158,8 @@ fn read_prefix(alloc: Global, text: &String) -> Result<Pieces, RouteError>
 /// The target that an origin's text says: a URI without a query, whose host is an address or one of the
 /// hosts.
 fn read_origin(alloc: Global, hosts: &[KnownHost], text: &String) -> Result<Target, RouteError>
-    ensures { Answers errors.OutOfMemory result (ok_or (spec.origin_at hosts.now (uri_of (string_bytes text.now))) errors.Unreadable) }
+    ensures { Answers errors.OutOfMemory result
+        (ok_or (spec.origin_at hosts.now (uri_of (string_bytes text.now))) errors.Unreadable) }
 {
     let uri = match split_uri(alloc, text.as_str()) {
         Ok(uri) => uri,
@@ -191,7 +197,10 @@ fn read_maps(
     hosts: &[KnownHost],
     maps: &[(String, String)],
 ) -> Result<Seq<Map>, RouteError>
-    ensures { Answers errors.OutOfMemory result (ok_or (spec.all_of (map (spec.map_read hosts.now) (map spec.pair_of maps.now))) errors.Unreadable) }
+    ensures { Answers errors.OutOfMemory result
+        (ok_or
+        (spec.all_of (map (spec.map_read hosts.now) (map spec.pair_of maps.now)))
+        errors.Unreadable) }
 {
     read_all(alloc, &Maps { hosts }, maps)
 }
@@ -221,14 +230,16 @@ fn are_distinct(hosts: &[KnownHost]) -> bool
 
 /// All hosts.
 fn read_known(alloc: Global, hosts: &[(String, String)]) -> Result<Seq<KnownHost>, RouteError>
-    ensures { Answers errors.OutOfMemory result (ok_or (spec.all_of (map spec.known_of (map spec.pair_of hosts.now))) errors.Unreadable) }
+    ensures { Answers errors.OutOfMemory result
+        (ok_or (spec.all_of (map spec.known_of (map spec.pair_of hosts.now))) errors.Unreadable) }
 {
     read_all(alloc, &Hosts, hosts)
 }
 
 /// All hosts, if no name stands twice.
 fn read_hosts(alloc: Global, hosts: &[(String, String)]) -> Result<Seq<KnownHost>, RouteError>
-    ensures { Answers errors.OutOfMemory result (ok_or (spec.hosts_of (map spec.pair_of hosts.now)) errors.Unreadable) }
+    ensures { Answers errors.OutOfMemory result
+        (ok_or (spec.hosts_of (map spec.pair_of hosts.now)) errors.Unreadable) }
 {
     let known = read_known(alloc, hosts)?;
     if are_distinct(known.as_slice()) {
@@ -240,7 +251,9 @@ fn read_hosts(alloc: Global, hosts: &[(String, String)]) -> Result<Seq<KnownHost
 
 /// Whether there are as few as there may be.
 fn are_few(names: &[String], hosts: &[(String, String)], maps: &[(String, String)]) -> bool
-    ensures { result ≡ spec.are_few (map string_bytes names.now) (map spec.pair_of hosts.now) (map spec.pair_of maps.now) }
+    ensures { result
+        ≡ spec.are_few (map string_bytes names.now) (map spec.pair_of hosts.now)
+        (map spec.pair_of maps.now) }
 {
     names.len() <= MOST_NAMES && hosts.len() <= MOST_HOSTS && maps.len() <= MOST_MAPS
 }
@@ -264,7 +277,9 @@ impl Routes {
         hosts: &[(String, String)],
         maps: &[(String, String)],
     ) -> Result<Routes, RouteError>
-        ensures { Answers errors.OutOfMemory result (spec.routes_of (map string_bytes names.now) (map spec.pair_of hosts.now) (map spec.pair_of maps.now)) }
+        ensures { Answers errors.OutOfMemory result
+            (spec.routes_of (map string_bytes names.now) (map spec.pair_of hosts.now)
+            (map spec.pair_of maps.now)) }
     {
         let own = read_names(alloc, names)?;
         let known = read_hosts(alloc, hosts)?;
