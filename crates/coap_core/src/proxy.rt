@@ -161,6 +161,6 @@ impl Core {
     pub fn datagram(&self) -> usize
         ensures exact { result ≡ self.now.setting.limits.datagram }
     {
-        self.tables.limits.datagram as usize
+        self.tables.limits.values().datagram as usize
     }
 }

@@ -139,7 +139,7 @@ impl Tables {
         ensures kept { out.new.room ≡ out.old.room }
     {
         let token = token_of(self.salt, self.exchanges.admitted() + 1);
-        let room = self.limits.datagram as usize;
+        let room = self.limits.values().datagram as usize;
         match put_forwarded(out, room, &token, &target) {
             Ok(()) => Verdict::MayOpen(target),
             Err(_) => Verdict::RefusedWith(Code::REQUEST_ENTITY_TOO_LARGE),
@@ -191,7 +191,7 @@ impl Tables {
         let id = self.take_id();
         self.pass(now);
         let head = reply_head(Code::SERVICE_UNAVAILABLE, id);
-        put_with_max_age(out, head, &request.token, self.limits.retry_s, &[]);
+        put_with_max_age(out, head, &request.token, self.limits.values().retry_s, &[]);
         Report {
             send: Some(client),
             outcome: Outcome::Overloaded,

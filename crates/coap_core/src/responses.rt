@@ -79,7 +79,7 @@ impl Tables {
         ensures err { OnErr result (self.new ≡ self.old) }
         ensures kept { out.new.room ≡ out.old.room }
     {
-        let most = self.limits.datagram as usize;
+        let most = self.limits.values().datagram as usize;
         let answer = answer_of(self.alloc, most, now, response)?;
         self.exchanges.answer(number, answer);
         out.clear();

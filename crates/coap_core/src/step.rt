@@ -96,7 +96,7 @@ impl Tables {
     fn read<'a>(&self, bytes: &'a [u8]) -> Option<MessageRef<'a>>
         ensures { result ≡ message_in self.now.setting.limits.datagram bytes.now }
     {
-        if bytes.len() > self.limits.datagram as usize {
+        if bytes.len() > self.limits.values().datagram as usize {
             return None;
         }
         MessageRef::read(bytes).ok()

@@ -48,8 +48,8 @@ impl Tables {
         ensures exact { IfOk result (λ tables. tables ≡ new_world (record { limits = limits; routes = routes; first_id = first_id; salt = salt })) }
         ensures limits { AreLimits limits }
     {
-        let exchanges = Exchanges::new(alloc, limits.exchanges as usize)?;
-        let waiters = Table::new(alloc, limits.waiters as usize)?;
+        let exchanges = Exchanges::new(alloc, limits.values().exchanges as usize)?;
+        let waiters = Table::new(alloc, limits.values().waiters as usize)?;
         Ok(Tables {
             alloc,
             limits,
@@ -104,8 +104,8 @@ impl Tables {
         requires { CanGoOn self.now }
         ensures { result ≡ has_room self.now }
     {
-        (self.exchanges.len() as u64) < self.limits.exchanges
-            && (self.waiters.len() as u64) < self.limits.waiters
+        (self.exchanges.len() as u64) < self.limits.values().exchanges
+            && (self.waiters.len() as u64) < self.limits.values().waiters
             && self.has_ids(2)
     }
 

@@ -13,6 +13,7 @@ use Rattle.coap_message.proofs.Extensions.{IsBytes-left, IsBytes-right}
 use Rattle.coap_message.proofs.Spellings.{spelling-length}
 use Rattle.coap_message.proofs.Uints.{uint_bound, uint_spelling-four}
 use Rattle.coap_exchange.specs.declared.exchange.Answer.{Answer}
+use Rattle.coap_model.specs.declared.limits.Limit.TheVariants.{Datagram}
 use Rattle.coap_model.specs.Limits.{AreLimits}
 use Rattle.coap_model.specs.Events.{Event, IsEvent}
 use Rattle.coap_message.specs.Codes.{is_code}
@@ -121,12 +122,12 @@ length-with_id id (a ∷ b ∷ c ∷ d ∷ rest) = refl
 -- ---- each case
 
 rule_fits : {w : World} {now draw : ℕ} {event : Event} {s : Step} (history : List Deed) → Bears history w → AreLimits w.setting.limits → Rule w now draw event s → length s.bytes ≤ w.setting.limits.datagram
-rule_fits {w = w} history c are (refusing client bytes m code fit asked verdict free) = let came = request-came w client bytes m fit asked in omega (arith, are.datagram.0, own-short code (next_id w) m.token came.brings.spells.message.token)
+rule_fits {w = w} history c are (refusing client bytes m code fit asked verdict free) = let came = request-came w client bytes m fit asked in omega (arith, (are Datagram).0, own-short code (next_id w) m.token came.brings.spells.message.token)
 rule_fits {w = w} history c are (lacking client bytes m fit asked full free) = omega arith
-rule_fits {w = w} history c are (overloading client bytes m t fit asked verdict full free) = let came = request-came w client bytes m fit asked in omega (arith, are.datagram.0, busy-short w.setting.limits.retry_s (next_id w) m.token came.brings.spells.message.token)
+rule_fits {w = w} history c are (overloading client bytes m t fit asked verdict full free) = let came = request-came w client bytes m fit asked in omega (arith, (are Datagram).0, busy-short w.setting.limits.retry_s (next_id w) m.token came.brings.spells.message.token)
 rule_fits {w = w} history c are (opening client bytes m t fit asked verdict room) = omega arith
 rule_fits {w = w} history c are (answering source bytes m x fit read response found) = omega arith
-rule_fits {w = w} history c are (rejecting source bytes head is con) = omega (arith, are.datagram.0, reset-short head.id)
+rule_fits {w = w} history c are (rejecting source bytes head is con) = omega (arith, (are Datagram).0, reset-short head.id)
 rule_fits {w = w} history c are (ignoring source bytes none) = omega arith
 rule_fits {w = w} {now = now} history c are (forwarding x due) =
     let f = due-sending (IsExchangeOf w.setting history) (IsWaiterOf w.setting history) w.exchanges w.waiters now x c.exchanges c.waiters due in
@@ -135,7 +136,7 @@ rule_fits {w = w} {now = now} history c are (delivering v a due) =
     let s = served w history c now v a due in
     let g = s.got.gets in
     let short : length v.1.token ≤ 8 = subst (λ (t : List ℕ). length t ≤ 8) (sym s.waiter.token_is) s.waiter.asked.brings.spells.message.token in
-    let fit = answer-fits w.setting.limits.datagram now s.got.getting.deed.entry.now (next_id w) g.meets.brings.bytes g.meets.response v.1.token are.datagram.0 g.fits g.meets.brings.spells short in
+    let fit = answer-fits w.setting.limits.datagram now s.got.getting.deed.entry.now (next_id w) g.meets.brings.bytes g.meets.response v.1.token (are Datagram).0 g.fits g.meets.brings.spells short in
     subst (λ (b : Answer). length (spelling (shown now b (next_id w) v.1.token)) ≤ w.setting.limits.datagram) (sym s.got.answer_is) fit
 rule_fits {w = w} history c are (idling nothing) = omega arith
 

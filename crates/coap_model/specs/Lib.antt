@@ -1,6 +1,4 @@
 pub mod Limits
-pub mod LimitsView
-pub mod Ranges
 pub mod Setting
 pub mod Messages
 pub mod Events

@@ -1,19 +1,27 @@
--- The limits of a proxy, and the range of each.
-use Rattle.std.specs.Prelude.{ℕ, ◌≤◌}
+-- The limits of a proxy, the range of each, and which is at fault.
+use Rattle.std.specs.Prelude.{ℕ, ◌≤◌, ◌&&◌, Bool, not, nat_le, List, [], ◌∷◌, Option}
+use Rattle.std.specs.List.{find}
 use Rattle.coap_model.specs.declared.limits.Limit.{Limit}
 use Rattle.coap_model.specs.declared.limits.Limit.TheVariants.{CacheBytes, CacheEntries, ConRecords, NonRecords, Exchanges, Waiters, Nstart, Datagram, ExchangeMs, RetryS}
+use Rattle.coap_model.specs.declared.limits.LimitValues.{LimitValues}
 
-pub record Limits : Type 0 where
-  pub cache_bytes : ℕ
-  pub cache_entries : ℕ
-  pub con_records : ℕ
-  pub non_records : ℕ
-  pub exchanges : ℕ
-  pub waiters : ℕ
-  pub nstart : ℕ
-  pub datagram : ℕ
-  pub exchange_ms : ℕ
-  pub retry_s : ℕ
+-- a value for each limit
+abbrev pub Limits : Type 0
+Limits = LimitValues
+
+abbrev pub value_of : Limits → Limit → ℕ
+value_of l CacheBytes = l.cache_bytes
+value_of l CacheEntries = l.cache_entries
+value_of l ConRecords = l.con_records
+value_of l NonRecords = l.non_records
+value_of l Exchanges = l.exchanges
+value_of l Waiters = l.waiters
+value_of l Nstart = l.nstart
+value_of l Datagram = l.datagram
+value_of l ExchangeMs = l.exchange_ms
+value_of l RetryS = l.retry_s
+
+-- ---- ranges
 
 -- the least and the greatest value of each limit
 abbrev pub range_of : Limit → ℕ × ℕ
@@ -32,19 +40,28 @@ range_of RetryS = (0, 3600)
 abbrev pub MayBe : Limit → ℕ → Type 0
 MayBe limit n = ((range_of limit).0 ≤ n) × (n ≤ (range_of limit).1)
 
-pub record AreLimits (limits : Limits) : Type 0 where
-  pub cache_bytes : MayBe CacheBytes limits.cache_bytes
-  pub cache_entries : MayBe CacheEntries limits.cache_entries
-  pub con_records : MayBe ConRecords limits.con_records
-  pub non_records : MayBe NonRecords limits.non_records
-  pub exchanges : MayBe Exchanges limits.exchanges
-  pub waiters : MayBe Waiters limits.waiters
-  pub nstart : MayBe Nstart limits.nstart
-  pub datagram : MayBe Datagram limits.datagram
-  pub exchange_ms : MayBe ExchangeMs limits.exchange_ms
-  pub retry_s : MayBe RetryS limits.retry_s
+-- each is within its range
+abbrev pub AreLimits : Limits → Type 0
+AreLimits limits = (limit : Limit) → MayBe limit (value_of limits limit)
 
--- those of a proxy that is told nothing else
+-- ---- faults
+
+abbrev pub is_out : Limits → Limit → Bool
+is_out l limit =
+    not (nat_le (range_of limit).0 (value_of l limit) && nat_le (value_of l limit) (range_of limit).1)
+
+-- in the order in which they are checked
+abbrev pub all_limits : List Limit
+all_limits =
+    CacheBytes ∷ CacheEntries ∷ ConRecords ∷ NonRecords ∷ Exchanges
+    ∷ Waiters ∷ Nstart ∷ Datagram ∷ ExchangeMs ∷ RetryS ∷ []
+
+-- the first that is out of its range
+abbrev pub first_fault : Limits → Option Limit
+first_fault l = find (is_out l) all_limits
+
+-- ---- what a proxy has that is told nothing else
+
 abbrev pub default_limits : Limits
 default_limits = record {
   cache_bytes = 262144;

@@ -1,8 +1,6 @@
 //! The limits of a proxy.
 ghost use Rattle.std.specs.Prelude.{◌≡◌, None, Some, not, IfOk, IfErr};
-ghost use Rattle.coap_model.specs.Limits.{default_limits, range_of};
-ghost use Rattle.coap_model.specs.LimitsView.{of_values};
-ghost use Rattle.coap_model.specs.Ranges.{value_of, is_out, first_fault};
+ghost use Rattle.coap_model.specs.Limits.{default_limits, range_of, value_of, is_out, first_fault};
 
 use std::marker::Model;
 use thiserror::Error;
@@ -65,7 +63,7 @@ impl Limit {
 
     /// Whether its value is within its range.
     fn allows(self, values: &LimitValues) -> bool
-        ensures { result ≡ not (is_out (of_values values.now) self) }
+        ensures { result ≡ not (is_out values.now self) }
     {
         let (least, most) = self.range();
         let value = values.get(self);
@@ -73,72 +71,9 @@ impl Limit {
     }
 }
 
-/// Values for the limits, within their ranges or not. The units are those of `Limits`.
+/// Values for the limits, within their ranges or not.
 #[derive(Clone, Copy, Debug, PartialEq, Eq)]
 pub struct LimitValues {
-    pub cache_bytes: u64,
-    pub cache_entries: u64,
-    pub con_records: u64,
-    pub non_records: u64,
-    pub exchanges: u64,
-    pub waiters: u64,
-    pub nstart: u64,
-    pub datagram: u64,
-    pub exchange_ms: u64,
-    pub retry_s: u64,
-}
-
-impl LimitValues {
-    /// The value of a limit.
-    pub fn get(&self, limit: Limit) -> u64
-        ensures exact { result ≡ value_of (of_values self.now) limit }
-    {
-        match limit {
-            Limit::CacheBytes => self.cache_bytes,
-            Limit::CacheEntries => self.cache_entries,
-            Limit::ConRecords => self.con_records,
-            Limit::NonRecords => self.non_records,
-            Limit::Exchanges => self.exchanges,
-            Limit::Waiters => self.waiters,
-            Limit::Nstart => self.nstart,
-            Limit::Datagram => self.datagram,
-            Limit::ExchangeMs => self.exchange_ms,
-            Limit::RetryS => self.retry_s,
-        }
-    }
-
-    /// The first limit that is out of its range.
-    fn first_fault(&self) -> Option<Limit>
-        ensures { result ≡ first_fault (of_values self.now) }
-    {
-        Limit::ALL.iter().copied().find(|limit| !limit.allows(self))
-    }
-}
-
-impl Default for LimitValues {
-    /// Those of a proxy that is told nothing else.
-    fn default() -> LimitValues
-        ensures exact { of_values result ≡ default_limits }
-    {
-        LimitValues {
-            cache_bytes: 262_144,
-            cache_entries: 1_024,
-            con_records: 4_096,
-            non_records: 4_096,
-            exchanges: 256,
-            waiters: 1_024,
-            nstart: 1,
-            datagram: 1_500,
-            exchange_ms: 93_000,
-            retry_s: 5,
-        }
-    }
-}
-
-/// The limits of a proxy, each within its range. Those of the cache and of the records, `nstart` and
-/// `exchange_ms` limit nothing yet.
-#[derive(Clone, Copy, Debug, PartialEq, Eq)]
-pub struct Limits {
     /// The greatest size of the cache, in bytes.
     pub cache_bytes: u64,
     /// The greatest number of entries in the cache.
@@ -161,18 +96,70 @@ pub struct Limits {
     pub retry_s: u64,
 }
 
+impl LimitValues {
+    /// The value of a limit.
+    pub fn get(&self, limit: Limit) -> u64
+        ensures exact { result ≡ value_of self.now limit }
+    {
+        match limit {
+            Limit::CacheBytes => self.cache_bytes,
+            Limit::CacheEntries => self.cache_entries,
+            Limit::ConRecords => self.con_records,
+            Limit::NonRecords => self.non_records,
+            Limit::Exchanges => self.exchanges,
+            Limit::Waiters => self.waiters,
+            Limit::Nstart => self.nstart,
+            Limit::Datagram => self.datagram,
+            Limit::ExchangeMs => self.exchange_ms,
+            Limit::RetryS => self.retry_s,
+        }
+    }
+
+    /// The first limit that is out of its range.
+    fn first_fault(&self) -> Option<Limit>
+        ensures { result ≡ first_fault self.now }
+    {
+        Limit::ALL.iter().copied().find(|limit| !limit.allows(self))
+    }
+}
+
+impl Default for LimitValues {
+    /// Those of a proxy that is told nothing else.
+    fn default() -> LimitValues
+        ensures exact { result ≡ default_limits }
+    {
+        LimitValues {
+            cache_bytes: 262_144,
+            cache_entries: 1_024,
+            con_records: 4_096,
+            non_records: 4_096,
+            exchanges: 256,
+            waiters: 1_024,
+            nstart: 1,
+            datagram: 1_500,
+            exchange_ms: 93_000,
+            retry_s: 5,
+        }
+    }
+}
+
+/// The limits of a proxy, each within its range. Those of the cache and of the records, `nstart` and
+/// `exchange_ms` limit nothing yet.
+#[derive(Clone, Copy, Debug, PartialEq, Eq)]
+pub struct Limits {
+    values: LimitValues,
+}
+
 impl Model for Limits {
     ghost use Rattle.coap_model.specs.Limits.{Limits, AreLimits};
 
     ghost Value = { Limits };
 
-    ghost use Rattle.coap_model.specs.LimitsView.{seen, kept};
+    ghost view = { λ limits. limits.values };
 
-    ghost view = { seen };
+    ghost invariant = { λ limits. AreLimits limits.values };
 
-    ghost invariant = { λ limits. AreLimits (seen limits) };
-
-    ghost inverse = { kept };
+    ghost inverse = { λ values. record { values = values } };
 }
 
 impl Limits {
@@ -181,24 +168,20 @@ impl Limits {
     /// # Errors
     /// The first limit that is out of its range, in the order of `Limit`.
     pub fn new(values: LimitValues) -> Result<Limits, LimitError>
-        ensures exact { IfOk result (λ limits. limits ≡ of_values values) }
-        ensures in_range { IfOk result (λ limits. first_fault (of_values values) ≡ None) }
-        ensures err { IfErr result (λ error. first_fault (of_values values) ≡ Some error.limit) }
+        ensures exact { IfOk result (λ limits. limits ≡ values) }
+        ensures in_range { IfOk result (λ limits. first_fault values ≡ None) }
+        ensures err { IfErr result (λ error. first_fault values ≡ Some error.limit) }
     {
         match values.first_fault() {
             Some(limit) => Err(LimitError { limit }),
-            None => Ok(Limits {
-                cache_bytes: values.cache_bytes,
-                cache_entries: values.cache_entries,
-                con_records: values.con_records,
-                non_records: values.non_records,
-                exchanges: values.exchanges,
-                waiters: values.waiters,
-                nstart: values.nstart,
-                datagram: values.datagram,
-                exchange_ms: values.exchange_ms,
-                retry_s: values.retry_s,
-            }),
+            None => Ok(Limits { values }),
         }
+    }
+
+    /// The value of each.
+    pub fn values(&self) -> &LimitValues
+        ensures exact { result.now ≡ self.now }
+    {
+        &self.values
     }
 }
