@@ -174,16 +174,16 @@ queued-unsent setting history x t (Sent s) state e = absurd cc
 queued-unsent setting history x t (Done a) state e = absurd cc
 
 item-due : (w : World) (history : List Deed) (c : Bears history w) (i : Item) → IsDueOf (IsExchangeOf w.setting history) (IsWaiterOf w.setting history) w.exchanges i → IsDueAt w.setting history (act_of i) (due_of i)
-item-due w history c (sending x) d = let f = d.0 in record { opening = f.opening; was_opened = f.was_opened; opens = f.opens; unsent = queued-unsent w.setting history x.0 x.1.target x.1.state f.state d.1; at_is = f.admitted }
+item-due w history c (sending x) d = let f = d.0 in let o = f.opened in record { opening = o.opening; was_opened = o.was_opened; opens = o.opens; unsent = queued-unsent w.setting history x.0 x.1.target x.1.state f.state d.1; at_is = f.admitted }
 item-due w history c (serving v a) d =
     let g = d.0 in
     let found = answer-holds (IsExchangeOf w.setting history) w.exchanges v.1.exchange a c.exchanges d.1 in
     let x = found.0 in
     let state = subst (IsState w.setting history x.0 x.1.target) found.3 found.1.state in
     record {
-      admission = g.admission;
-      was_admitted = g.was_admitted;
-      opens = g.opens;
+      admission = g.opened.opening;
+      was_admitted = g.opened.was_opened;
+      opens = g.opened.opens;
       getting = state.getting;
       was_got = state.was_got;
       gets = subst (λ (n : ℕ). Gets w.setting n state.getting) (found.2 ∙ g.exchange) state.gets;
@@ -248,7 +248,8 @@ send-item w history c x at d = ⊎_elim in_table was_served (c.whole.complete x 
         let y = f.0 in
         let unsent = subst (λ (n : ℕ). Never (Sends w.setting.salt n) history) f.1 d.unsent in
         let queued = unsent-queued w.setting history y.0 y.1.target y.1.state f.2.state unsent in
-        let place = Opens-unique history f.2.opening d.opening x f.2.was_opened d.was_opened (subst (λ (n : ℕ). Opens n f.2.opening) (sym f.1) f.2.opens) d.opens in
+        let o = f.2.opened in
+        let place = Opens-unique history o.opening d.opening x o.was_opened d.was_opened (subst (λ (n : ℕ). Opens n o.opening) (sym f.1) o.opens) d.opens in
         record { item = sending y; there = Has-left (sending y) (exchange_items w.exchanges) (waiter_items w.exchanges w.waiters) (sending-there y w.exchanges f.3 queued); act = ap moves (sym f.1); due = f.2.admitted ∙ ap (λ (p : Place). p.deed.entry.now) place ∙ sym d.at_is }
 
 -- an exchange is got at one place

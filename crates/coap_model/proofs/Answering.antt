@@ -29,10 +29,10 @@ use Rattle.coap_model.specs.History.{moves, Deed, Never, Sends, Gets}
 use Rattle.coap_model.specs.Runs.{entry_of}
 use Rattle.coap_model.specs.Carries.{WasAsked, IsState, IsExchangeOf, Bears}
 use Rattle.coap_model.proofs.Lists.{find-holds, All-map, Has, All-there}
-use Rattle.coap_model.proofs.Places.{here, doing, same_moves, Opens-number}
+use Rattle.coap_model.proofs.Places.{here, doing, same_moves, opened-number}
 use Rattle.coap_model.proofs.Spelled.{message_in-is}
 use Rattle.coap_model.proofs.Tables.{ArePaired-with_state, HasNumber-with_state, count-moved}
-use Rattle.coap_model.proofs.Frames.{exchange_frame, waiters_frame, fresh_frame, later_served, sends-not, serves-not}
+use Rattle.coap_model.proofs.Frames.{clock_frame, numbers_frame, exchange_moved, exchange_frame, waiters_frame, fresh_frame, later_served, sends-not, serves-not}
 use Rattle.coap_model.proofs.Forwarding.{same_target}
 
 -- ---- what was awaited
@@ -104,30 +104,19 @@ keeps_answering w history c now draw source bytes m x onward fits read response 
     let was_sent : one_if (is_queued x.1.state) ≡ 0 = ap (λ (s : ExchangeState). one_if (is_queued s)) a.state_is in
     record {
       routes = c.routes;
-      clock = record { events = let h = c.clock.events in omega arith; last = refl; in_order = (let h = c.clock.last in omega arith, c.clock.in_order) };
-      numbers = record { opened = let h = c.numbers.opened in omega arith; admitted = let h = c.numbers.admitted in omega arith; given = let h = c.numbers.given in omega arith };
+      clock = clock_frame c.clock onward refl refl;
+      numbers = numbers_frame c.numbers (omega arith) (omega arith) (omega arith);
       ids = ((λ g. absurd (omega arith)), c.ids);
-      fresh = fresh_frame w.setting history e (λ n above s. unsent n s) (λ n above g. let i = number n g in let j = Opens-number history f.opening x.0 f.was_opened f.opens in omega (arith, j.1)) c.fresh;
+      fresh = fresh_frame w.setting history e (λ n above s. unsent n s) (λ n above g. let i = number n g in let j = opened-number f.opened in omega (arith, j.1)) c.fresh;
       exchanges =
           All-map (IsExchangeOf w.setting history) (IsExchangeOf w.setting (e ∷ history)) (moved x.0 next) w.exchanges
           (λ y g.
           moved-cases (IsExchangeOf w.setting (e ∷ history)) x.0 next y
-          (λ same. record {
-            opening = g.opening;
-            client = g.client;
-            request = g.request;
-            was_opened = inr g.was_opened;
-            opens = g.opens;
-            admitted = g.admitted;
-            asked = g.asked;
-            target_is = g.target_is;
-            sound = g.sound;
-            form_is = g.form_is;
-            form_short = g.form_short;
-            state = subst (λ (n : ℕ). IsState w.setting (e ∷ history) n y.1.target next) (sym same) (
+          (λ same. exchange_moved w.setting history e y next (
+            subst (λ (n : ℕ). IsState w.setting (e ∷ history) n y.1.target next) (sym same) (
                 record { getting = p; was_got = inl refl; gets = gets; asked_target = a.was.asked_target ∙ same_target w history x y f g (sym same); answer_is = refl }
-                );
-          })
+                )
+          ) g)
           (λ other. exchange_frame w.setting history e y (unsent y.0) (λ h. other (number y.0 h)) g))
           c.exchanges;
       waiters = waiters_frame w.setting history e w.waiters (serves-not history e (λ o. cc)) c.waiters;

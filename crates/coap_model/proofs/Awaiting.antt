@@ -45,7 +45,7 @@ asked-number : (setting : Setting) (history : List Deed) → AllJustified settin
 asked-number setting history all x p at s =
     let f = justified-at setting history p SentRequest all at s.outcome in
     let same = same_moves f.exchange x (sym f.act ∙ s.act) in
-    Opens-number history f.opening x (place-before history p f.opening at f.was_opened) (subst (λ (n : ℕ). Opens n f.opening) same f.opens)
+    Opens-number history f.opened.opening x (place-before history p f.opened.opening at f.opened.was_opened) (subst (λ (n : ℕ). Opens n f.opened.opening) same f.opened.opens)
 
 -- ---- the table
 

@@ -28,10 +28,10 @@ use Rattle.coap_model.specs.declared.report.Outcome.TheVariants.{Delivered}
 use Rattle.coap_model.specs.Runs.{entry_of}
 use Rattle.coap_model.specs.Carries.{WasGot, IsState, IsExchangeOf, IsWaiterOf, HasNumber, Bears}
 use Rattle.coap_model.proofs.Lists.{All-filter, Has, All-there}
-use Rattle.coap_model.proofs.Places.{in-order, here, doing, same_serves, Never-at, Opens-unique, request-unique}
+use Rattle.coap_model.proofs.Places.{in-order, here, doing, same_serves, Never-at, one-opened}
 use Rattle.coap_model.proofs.Spelled.{shown-is}
 use Rattle.coap_model.proofs.Tables.{due-serving, answer-holds, answer-number, ArePaired-without, length-paired, length-without, HasNumber-without, HasNumber-paired, count-without, not_awaited}
-use Rattle.coap_model.proofs.Frames.{exchange_frame, waiter_frame, fresh_frame, later_served, sends-not, gets-not}
+use Rattle.coap_model.proofs.Frames.{clock_frame, numbers_frame, exchange_frame, waiter_frame, fresh_frame, later_served, sends-not, gets-not}
 use Rattle.coap_model.proofs.Acting.{acting}
 use Rattle.coap_model.proofs.Replying.{id-same}
 
@@ -43,7 +43,7 @@ pub record IsServed (w : World) (history : List Deed) (v : Numbered Waiter) (a :
   pub there : HasNumber v.0 w.exchanges
   pub counted : (t : ExchangeState → Bool) → count_where t (without v.0 w.exchanges) + one_if (t (Done a)) ≡ count_where t w.exchanges
   pub target : Target
-  pub target_is : mapped_target w.setting.routes waiter.request ≡ Some target
+  pub target_is : mapped_target w.setting.routes waiter.opened.request ≡ Some target
   pub got : WasGot w.setting history v.0 target a
 
 pub served : (w : World) (history : List Deed) (c : Bears history w) (now : ℕ) (v : Numbered Waiter) (a : Answer) → if_due now (least (items_of w)) ≡ Some (serving v a) → IsServed w history v a
@@ -56,8 +56,7 @@ served w history c now v a due =
     let f = found.1.0 in
     let same : x.0 ≡ v.0 = found.2 in
     let state : WasGot w.setting history x.0 x.1.target a = subst (IsState w.setting history x.0 x.1.target) found.3 f.state in
-    let place = Opens-unique history f.opening g.admission v.0 f.was_opened g.was_admitted (subst (λ (n : ℕ). Opens n f.opening) same f.opens) g.opens in
-    let request = request-unique w.setting g.admission.deed.entry.event f.client g.client f.request g.request (subst (λ (p : Place). IsRequestOf w.setting f.client f.request p.deed.entry.event) place f.asked) g.asked in
+    let request = (one-opened same f.opened g.opened).2 in
     record {
       waiter = g;
       there = answer-number w.exchanges v.0 a answer;
@@ -65,7 +64,7 @@ served w history c now v a due =
           subst (λ (s : ExchangeState). count_where t (without v.0 w.exchanges) + one_if (t s) ≡ count_where t w.exchanges) found.3
           (subst (λ (n : ℕ). count_where t (without n w.exchanges) + one_if (t x.1.state) ≡ count_where t w.exchanges) same (count-without t x 0 w.exchanges c.whole.rising found.1.1));
       target = x.1.target;
-      target_is = sym (ap (mapped_target w.setting.routes) request.1) ∙ f.target_is;
+      target_is = sym (ap (mapped_target w.setting.routes) request) ∙ f.target_is;
       got = subst (λ (n : ℕ). WasGot w.setting history n x.1.target a) same state;
     }
 
@@ -74,7 +73,7 @@ served w history c now v a due =
 reply-is : (w : World) (history : List Deed) (now id : ℕ) (v : Numbered Waiter) (a : Answer) → IsServed w history v a → IsMessage (shown now a id v.1.token)
 reply-is w history now id v a s =
     let got = s.got in
-    let short : length v.1.token ≤ 8 = subst (λ (t : List ℕ). length t ≤ 8) (sym s.waiter.token_is) s.waiter.asked.brings.spells.message.token in
+    let short : length v.1.token ≤ 8 = subst (λ (t : List ℕ). length t ≤ 8) (sym s.waiter.token_is) s.waiter.opened.asked.brings.spells.message.token in
     let is = shown-is w.setting.limits.datagram now got.getting.deed.entry.now got.gets.meets.response id v.1.token got.gets.meets.brings.spells.message got.gets.meets.matches.code short in
     subst (λ (b : Answer). IsMessage (shown now b id v.1.token)) (sym got.answer_is) is
 
@@ -82,31 +81,27 @@ delivery : (w : World) (history : List Deed) (e : Deed) (id : ℕ) (v : Numbered
 delivery w history e id v a s act acts sent spells =
     let g = s.waiter in
     let got = s.got in
+    let o = g.opened in
     record {
       waiter = v.0;
       act = act;
       first = g.unserved;
-      admission = g.admission;
-      client = g.client;
-      request = g.request;
+      opened = o;
       target = s.target;
       getting = got.getting;
       id = id;
-      was_admitted = g.was_admitted;
-      opens = g.opens;
-      asked = g.asked;
       target_is = s.target_is;
       was_got = got.was_got;
       gets = got.gets;
       got_later =
           ⊎_elim
-          (λ (same : got.getting ≡ g.admission). absurd (let o = sym got.gets.outcome ∙ ap (λ (p : Place). p.deed.entry.report.outcome) same ∙ g.opens.0 in cc))
-          (λ (other : IsPlaceOf got.getting.before g.admission ⊎ IsPlaceOf g.admission.before got.getting).
+          (λ (same : got.getting ≡ o.opening). absurd (let o = sym got.gets.outcome ∙ ap (λ (p : Place). p.deed.entry.report.outcome) same ∙ o.opens.0 in cc))
+          (λ (other : IsPlaceOf got.getting.before o.opening ⊎ IsPlaceOf o.opening.before got.getting).
           ⊎_elim
-          (λ (later : IsPlaceOf got.getting.before g.admission). later)
-          (λ (earlier : IsPlaceOf g.admission.before got.getting). absurd (Never-at (Gets w.setting v.0) g.admission.before got.getting g.ungot earlier got.gets))
+          (λ (later : IsPlaceOf got.getting.before o.opening). later)
+          (λ (earlier : IsPlaceOf o.opening.before got.getting). absurd (Never-at (Gets w.setting v.0) o.opening.before got.getting g.ungot earlier got.gets))
           other)
-          (in-order history got.getting g.admission got.was_got g.was_admitted);
+          (in-order history got.getting o.opening got.was_got o.was_opened);
       asked_target = got.asked_target;
       acting = acts;
       tells = record {
@@ -155,8 +150,8 @@ keeps_delivering w history c now draw v a onward due =
     subst (λ (xs : List (Numbered Exchange)). Bears (e ∷ history) (record (later w now) { waiters = without v.0 w.waiters; exchanges = xs; given = w.given + 1 })) (sym (exchanges_left w history c v s.waiter.exchange)) (
     record {
       routes = c.routes;
-      clock = record { events = let h = c.clock.events in omega arith; last = refl; in_order = (let h = c.clock.last in omega arith, c.clock.in_order) };
-      numbers = record { opened = let h = c.numbers.opened in omega arith; admitted = let h = c.numbers.admitted in omega arith; given = let h = c.numbers.given in omega arith };
+      clock = clock_frame c.clock onward refl refl;
+      numbers = numbers_frame c.numbers (omega arith) (omega arith) (omega arith);
       ids = ((λ g. record { gives = refl; message = reply; spells = spells; id_is = id-same w history c }), c.ids);
       fresh = fresh_frame w.setting history e (λ n above. unsent n) (λ n above. ungot n) c.fresh;
       exchanges =

@@ -135,7 +135,7 @@ rule_fits {w = w} {now = now} history c are (forwarding x due) =
 rule_fits {w = w} {now = now} history c are (delivering v a due) =
     let s = served w history c now v a due in
     let g = s.got.gets in
-    let short : length v.1.token ≤ 8 = subst (λ (t : List ℕ). length t ≤ 8) (sym s.waiter.token_is) s.waiter.asked.brings.spells.message.token in
+    let short : length v.1.token ≤ 8 = subst (λ (t : List ℕ). length t ≤ 8) (sym s.waiter.token_is) s.waiter.opened.asked.brings.spells.message.token in
     let fit = answer-fits w.setting.limits.datagram now s.got.getting.deed.entry.now (next_id w) g.meets.brings.bytes g.meets.response v.1.token (are Datagram).0 g.fits g.meets.brings.spells short in
     subst (λ (b : Answer). length (spelling (shown now b (next_id w) v.1.token)) ≤ w.setting.limits.datagram) (sym s.got.answer_is) fit
 rule_fits {w = w} history c are (idling nothing) = omega arith

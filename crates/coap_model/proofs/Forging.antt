@@ -15,7 +15,7 @@ use Rattle.coap_model.specs.declared.report.Outcome.TheVariants.{SentRequest}
 use Rattle.coap_model.specs.Due.{IsToServe, IsSooner}
 use Rattle.coap_model.specs.Justified.{IsDelivery}
 use Rattle.coap_model.specs.Forged.{setting, opened, asked, answered, past, delivery, right, at_an_arrival}
-use Rattle.coap_model.proofs.Places.{here, same_moves, same_serves, arrival-same, Opens-number}
+use Rattle.coap_model.proofs.Places.{here, same_moves, same_serves, arrival-same, opened-number}
 
 -- the waiter that is served is that of the act
 pub for_nobody : ¬ IsDelivery setting past (delivery (client 1) (content_for_client 7) no_item)
@@ -25,7 +25,7 @@ for_nobody s = let e = s.act in absurd cc
 pub for_another : ¬ IsDelivery setting past (delivery (client 1) (content_for_client 7) (serves 2))
 for_another s =
     let same = same_serves 2 s.waiter s.act in
-    let i = Opens-number past s.admission s.waiter s.was_admitted s.opens in
+    let i = opened-number s.opened in
     omega (arith, same, i.1)
 
 -- it wasn't served
@@ -64,8 +64,8 @@ one_getting p x at g =
 -- the client is the one that asked
 pub to_another : ¬ IsDelivery setting past (delivery (client 2) (content_for_client 7) (serves 1))
 to_another s =
-    let place = one_opening s.admission s.waiter s.was_admitted s.opens in
-    let same = arrival-same s.client (client 1) s.asked.brings.bytes _ (sym s.asked.brings.came ∙ ap (λ (p : Place). p.deed.entry.event) place) in
+    let place = one_opening s.opened.opening s.waiter s.opened.was_opened s.opened.opens in
+    let same = arrival-same s.opened.client (client 1) s.opened.asked.brings.bytes _ (sym s.opened.asked.brings.came ∙ ap (λ (p : Place). p.deed.entry.event) place) in
     let to = same_Some (client 2) (client 1) (s.tells.sent ∙ ap Some same.0) in
     let port = ap (λ (e : Endpoint). e.port) to in
     omega (arith, port)
@@ -109,7 +109,7 @@ another_age s =
     let m = s.gets.meets in
     let same = arrival-same m.asks.sends.to _ m.brings.bytes content (sym m.brings.came ∙ ap (λ (p : Place). p.deed.entry.event) place) in
     let read = ap read_message (sym same.1) ∙ read_again m.brings.bytes m.response m.brings.spells in
-    let told = read_again (content_for_client 10) (shown 2500 (answer_of 1500 s.getting.deed.entry.now m.response) s.id s.request.token) s.tells.spells in
+    let told = read_again (content_for_client 10) (shown 2500 (answer_of 1500 s.getting.deed.entry.now m.response) s.id s.opened.request.token) s.tells.spells in
     let moment = ap (λ (p : Place). max_age_of (shown_options 2500 (answer_of 1500 p.deed.entry.now m.response))) place in
     let ten : 10 ≡ 7 = ap told_by told ∙ moment ∙ sym (ap owed_by read) in
     omega (arith, ten)

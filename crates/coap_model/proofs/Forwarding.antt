@@ -22,10 +22,10 @@ use Rattle.coap_model.specs.Justified.{IsRequestOf}
 use Rattle.coap_model.specs.Runs.{entry_of}
 use Rattle.coap_model.specs.Carries.{IsState, IsExchangeOf, IsWaiterOf, Bears}
 use Rattle.coap_model.proofs.Lists.{All-map, Has, All-there}
-use Rattle.coap_model.proofs.Places.{here, doing, same_moves, Opens-number, Opens-unique, request-unique}
+use Rattle.coap_model.proofs.Places.{here, doing, same_moves, opened-number, one-opened}
 use Rattle.coap_model.proofs.Spelled.{forwarded-is, length-token_of, with_id-forwarded, target_sent-forwarded}
 use Rattle.coap_model.proofs.Tables.{due-sending, ArePaired-with_state, HasNumber-with_state, count-moved}
-use Rattle.coap_model.proofs.Frames.{exchange_frame, waiters_frame, fresh_frame, later_served, gets-not, serves-not}
+use Rattle.coap_model.proofs.Frames.{clock_frame, numbers_frame, exchange_moved, exchange_frame, waiters_frame, fresh_frame, later_served, gets-not, serves-not}
 use Rattle.coap_model.proofs.Acting.{acting}
 use Rattle.coap_model.proofs.Replying.{id-same}
 
@@ -37,9 +37,8 @@ queued_state (Done a) e = absurd cc
 -- exchanges of one number have one target
 pub same_target : (w : World) (history : List Deed) (x y : Numbered Exchange) → IsExchangeOf w.setting history x → IsExchangeOf w.setting history y → x.0 ≡ y.0 → x.1.target ≡ y.1.target
 same_target w history x y f g same =
-    let place = Opens-unique history f.opening g.opening y.0 f.was_opened g.was_opened (subst (λ (n : ℕ). Opens n f.opening) same f.opens) g.opens in
-    let request = request-unique w.setting g.opening.deed.entry.event f.client g.client f.request g.request (subst (λ (p : Place). IsRequestOf w.setting f.client f.request p.deed.entry.event) place f.asked) g.asked in
-    let targets : Some x.1.target ≡ Some y.1.target = sym f.target_is ∙ ap (mapped_target w.setting.routes) request.1 ∙ g.target_is in
+    let request = (one-opened same f.opened g.opened).2 in
+    let targets : Some x.1.target ≡ Some y.1.target = sym f.target_is ∙ ap (mapped_target w.setting.routes) request ∙ g.target_is in
     same_Some x.1.target y.1.target targets
 
 pub keeps_forwarding : (w : World) (history : List Deed) (c : Bears history w) → (now draw : ℕ) (x : Numbered Exchange) → w.last ≤ now → if_due now (least (items_of w)) ≡ Some (sending x)
@@ -66,27 +65,16 @@ keeps_forwarding w history c now draw x onward due =
     let first_is : Sends salt x.0 p = record { act = refl; outcome = refl; to = x.1.target.at; sent = refl; message = request; spells = spells; token = refl } in
     record {
       routes = c.routes;
-      clock = record { events = let h = c.clock.events in omega arith; last = refl; in_order = (let h = c.clock.last in omega arith, c.clock.in_order) };
-      numbers = record { opened = let h = c.numbers.opened in omega arith; admitted = let h = c.numbers.admitted in omega arith; given = let h = c.numbers.given in omega arith };
+      clock = clock_frame c.clock onward refl refl;
+      numbers = numbers_frame c.numbers (omega arith) (omega arith) (omega arith);
       ids = ((λ g. record { gives = refl; message = request; spells = spells; id_is = id-same w history c }), c.ids);
-      fresh = fresh_frame w.setting history e (λ n above s. let i = number n s in let j = Opens-number history f.opening x.0 f.was_opened f.opens in omega (arith, j.1)) (λ n above g. ungot n g) c.fresh;
+      fresh = fresh_frame w.setting history e (λ n above s. let i = number n s in let j = opened-number f.opened in omega (arith, j.1)) (λ n above g. ungot n g) c.fresh;
       exchanges =
           All-map (IsExchangeOf w.setting history) (IsExchangeOf w.setting (e ∷ history)) (moved x.0 next) w.exchanges
           (λ y g.
           moved-cases (IsExchangeOf w.setting (e ∷ history)) x.0 next y
-          (λ same. record {
-            opening = g.opening;
-            client = g.client;
-            request = g.request;
-            was_opened = inr g.was_opened;
-            opens = g.opens;
-            admitted = g.admitted;
-            asked = g.asked;
-            target_is = g.target_is;
-            sound = g.sound;
-            form_is = g.form_is;
-            form_short = g.form_short;
-            state = subst (λ (n : ℕ). IsState w.setting (e ∷ history) n y.1.target next) (sym same) (
+          (λ same. exchange_moved w.setting history e y next (
+            subst (λ (n : ℕ). IsState w.setting (e ∷ history) n y.1.target next) (sym same) (
               record {
                 asking = p;
                 was_asked = inl refl;
@@ -97,8 +85,8 @@ keeps_forwarding w history c now draw x onward due =
                 number = c.clock.events;
               },
               (ungot x.0, state.1),
-            );
-          })
+            )
+          ) g)
           (λ other. exchange_frame w.setting history e y (λ s. other (number y.0 s)) (ungot y.0) g))
           c.exchanges;
       waiters = waiters_frame w.setting history e w.waiters (serves-not history e (λ o. cc)) c.waiters;
@@ -114,14 +102,9 @@ keeps_forwarding w history c now draw x onward due =
         record {
           exchange = x.0;
           act = refl;
-          opening = f.opening;
-          client = f.client;
-          request = f.request;
+          opened = f.opened;
           target = x.1.target;
           id = id;
-          was_opened = f.was_opened;
-          opens = f.opens;
-          asked = f.asked;
           target_is = f.target_is;
           first = state.0;
           acting = acting w history c now (sending x) due e refl refl refl;

@@ -1,5 +1,5 @@
 -- What stays as the history grows by an entry.
-use Rattle.std.proofs.Common.{◌≢◌, ◌⊎◌, ⊎_elim, inl, inr, ℕ, ◌<◌, ◌≤◌, List, [], ◌∷◌, arith}
+use Rattle.std.proofs.Common.{◌≡◌, ◌≢◌, ◌⊎◌, ⊎_elim, inl, inr, ℕ, ◌+◌, ◌<◌, ◌≤◌, List, [], ◌∷◌, arith}
 use Rattle.std.specs.List.{AllByRecursion}
 use Rattle.coap_target.specs.declared.target.Target.{Target}
 use Rattle.coap_target.proofs.Lists.{All-weaken}
@@ -13,10 +13,18 @@ use Rattle.coap_model.specs.declared.report.Outcome.TheVariants.{Answered, SentR
 use Rattle.coap_model.specs.declared.report.Storing.TheVariants.{NotStored}
 use Rattle.coap_model.specs.Setting.{Setting}
 use Rattle.coap_model.specs.World.{World}
-use Rattle.coap_model.specs.History.{Deed, Somewhere, serves_one, gives_id, opened_in, served_in, ids_in, Sends, Gets, Serves}
-use Rattle.coap_model.specs.Carries.{IsState, IsExchangeOf, IsWaiterOf, HasNumber, IsFresh, Bears}
-use Rattle.coap_model.proofs.Places.{here}
+use Rattle.coap_model.specs.History.{Deed, Somewhere, opens_one, serves_one, gives_id, opened_in, served_in, ids_in, Sends, Gets, Serves}
+use Rattle.coap_model.specs.Carries.{Clock, Numbers, IsState, IsExchangeOf, IsWaiterOf, HasNumber, IsFresh, Bears}
+use Rattle.coap_model.proofs.Places.{here, opened-later}
 use Rattle.coap_model.proofs.Tables.{length-paired}
+
+-- the clock goes on by an entry
+pub clock_frame : {history : List Deed} {w v : World} {e : Deed} → Clock history w → w.last ≤ e.entry.now → v.events ≡ w.events + 1 → v.last ≡ e.entry.now → Clock (e ∷ history) v
+clock_frame c onward events last = record { events = let h = c.events in omega arith; last = last; in_order = (let h = c.last in omega arith, c.in_order) }
+
+-- the numbers count what an entry does
+pub numbers_frame : {history : List Deed} {w v : World} {e : Deed} → Numbers history w → v.opened ≡ w.opened + opens_one e.entry.report.outcome → v.admitted ≡ w.admitted + opens_one e.entry.report.outcome → v.given ≡ w.given + gives_id e.entry.report.outcome → Numbers (e ∷ history) v
+numbers_frame n opened admitted given = record { opened = let h = n.opened in omega arith; admitted = let h = n.admitted in omega arith; given = let h = n.given in omega arith }
 
 -- a state stays where nothing is sent or got for the exchange
 state_frame : (setting : Setting) (history : List Deed) (e : Deed) (x : ℕ) (target : Target) (s : ExchangeState) → ¬ Sends setting.salt x (here history e) → ¬ Gets setting x (here history e) → IsState setting history x target s → IsState setting (e ∷ history) x target s
@@ -27,22 +35,15 @@ state_frame setting history e x target (Sent sending) unsent ungot s =
 state_frame setting history e x target (Done answer) unsent ungot s =
     record { getting = s.getting; was_got = inr s.was_got; gets = s.gets; asked_target = s.asked_target; answer_is = s.answer_is }
 
+-- an exchange comes to another state, which is how far the history brought it
+pub exchange_moved : (setting : Setting) (history : List Deed) (e : Deed) (x : Numbered Exchange) (next : ExchangeState) → IsState setting (e ∷ history) x.0 x.1.target next → IsExchangeOf setting history x → IsExchangeOf setting (e ∷ history) (x.0, record { target = x.1.target; form = x.1.form; admitted = x.1.admitted; state = next })
+exchange_moved setting history e x next state f =
+    record { opened = opened-later e f.opened; admitted = f.admitted; target_is = f.target_is; sound = f.sound; form_is = f.form_is; form_short = f.form_short; state = state }
+
+-- an exchange stays for which nothing is sent or got
 pub exchange_frame : (setting : Setting) (history : List Deed) (e : Deed) (x : Numbered Exchange) → ¬ Sends setting.salt x.0 (here history e) → ¬ Gets setting x.0 (here history e) → IsExchangeOf setting history x → IsExchangeOf setting (e ∷ history) x
 exchange_frame setting history e x unsent ungot f =
-    record {
-      opening = f.opening;
-      client = f.client;
-      request = f.request;
-      was_opened = inr f.was_opened;
-      opens = f.opens;
-      admitted = f.admitted;
-      asked = f.asked;
-      target_is = f.target_is;
-      sound = f.sound;
-      form_is = f.form_is;
-      form_short = f.form_short;
-      state = state_frame setting history e x.0 x.1.target x.1.state unsent ungot f.state;
-    }
+    exchange_moved setting history e x x.1.state (state_frame setting history e x.0 x.1.target x.1.state unsent ungot f.state) f
 
 pub exchanges_frame : (setting : Setting) (history : List Deed) (e : Deed) (xs : List (Numbered Exchange)) → ((x : ℕ) → ¬ Sends setting.salt x (here history e)) → ((x : ℕ) → ¬ Gets setting x (here history e))
     → AllByRecursion (IsExchangeOf setting history) xs → AllByRecursion (IsExchangeOf setting (e ∷ history)) xs
@@ -52,19 +53,7 @@ exchanges_frame setting history e xs unsent ungot all =
 -- a waiter stays that isn't served
 pub waiter_frame : (setting : Setting) (history : List Deed) (e : Deed) (v : Numbered Waiter) → ¬ Serves v.0 (here history e) → IsWaiterOf setting history v → IsWaiterOf setting (e ∷ history) v
 waiter_frame setting history e v unserved f =
-    record {
-      admission = f.admission;
-      client = f.client;
-      request = f.request;
-      was_admitted = inr f.was_admitted;
-      opens = f.opens;
-      asked = f.asked;
-      exchange = f.exchange;
-      client_is = f.client_is;
-      token_is = f.token_is;
-      ungot = f.ungot;
-      unserved = (unserved, f.unserved);
-    }
+    record { opened = opened-later e f.opened; exchange = f.exchange; client_is = f.client_is; token_is = f.token_is; ungot = f.ungot; unserved = (unserved, f.unserved) }
 
 -- what was served stays served
 pub later_served : (history : List Deed) (e : Deed) (xs : List (Numbered Exchange)) (n : ℕ) → HasNumber n xs ⊎ Somewhere (Serves n) history → HasNumber n xs ⊎ Somewhere (Serves n) (e ∷ history)

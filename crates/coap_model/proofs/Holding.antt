@@ -116,7 +116,7 @@ exchange-held setting history x f = go x.1.state f.state
         omega (arith, target.most, f.form_short, subst (λ (b : Answer). response_bytes b.message ≤ setting.limits.datagram + 6) (sym state.answer_is) short)
 
 waiter-held : (setting : Setting) (history : List Deed) (v : Numbered Waiter) → IsWaiterOf setting history v → waiter_bytes v ≤ setting.limits.datagram + 256
-waiter-held setting history v f = omega (arith, ap length f.token_is, f.asked.brings.spells.message.token)
+waiter-held setting history v f = omega (arith, ap length f.token_is, f.opened.asked.brings.spells.message.token)
 
 pub within-bound : (history : List Deed) (w : World) → Bears history w → held w ≤ most_held w.setting.limits
 within-bound history w c =

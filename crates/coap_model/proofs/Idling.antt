@@ -3,7 +3,7 @@ use Rattle.std.proofs.Common.{◌≡◌, ℕ, ◌≤◌, List, ◌∷◌, None, 
 use Rattle.coap_model.specs.Events.{tick}
 use Rattle.coap_exchange.specs.Due.{least}
 use Rattle.coap_model.specs.World.{World}
-use Rattle.coap_model.specs.Ticks.{items_of, if_due, on_item}
+use Rattle.coap_model.specs.Ticks.{items_of, if_due, idles}
 use Rattle.coap_model.specs.History.{no_item, Deed}
 use Rattle.coap_model.specs.Runs.{entry_of}
 use Rattle.coap_model.specs.Carries.{Bears}
@@ -11,8 +11,8 @@ use Rattle.coap_model.proofs.Places.{doing}
 use Rattle.coap_model.proofs.Acting.{idling-due}
 use Rattle.coap_model.proofs.Quiet.{keeps_quiet}
 
-pub keeps_idling : (w : World) (history : List Deed) (c : Bears history w) (now draw : ℕ) → w.last ≤ now → if_due now (least (items_of w)) ≡ None → Bears (doing no_item (entry_of now draw tick (on_item w now None)) ∷ history) (on_item w now None).world
+pub keeps_idling : (w : World) (history : List Deed) (c : Bears history w) (now draw : ℕ) → w.last ≤ now → if_due now (least (items_of w)) ≡ None → Bears (doing no_item (entry_of now draw tick (idles w now)) ∷ history) (idles w now).world
 keeps_idling w history c now draw onward nothing =
-    let e = doing no_item (entry_of now draw tick (on_item w now None)) in
+    let e = doing no_item (entry_of now draw tick (idles w now)) in
     keeps_quiet w history c e w.given (record { opens = refl; sends = refl; serves = refl; unsent = λ o. cc; ungot = λ o. cc; unserved = λ o. cc }) onward (omega arith) (λ g. absurd (omega arith)) c.within.ids
     (record { act = refl; ticked = refl; nothing = idling-due w history c now nothing; silent = record { sent = refl; bytes = refl } }, c.past)

@@ -25,7 +25,7 @@ use Rattle.coap_model.specs.Due.{IsDueAt, ComesBefore, IsSooner}
 use Rattle.coap_model.specs.Justified.{IsRequestOf, Tells, IsSilent, IsRefusal, IsOverload, IsRejection, IsAwaited, IsActing, IsForwarding, IsDelivery, IsUnprocessable, JustifiedBy, AllJustified, MayFollow, AreOfOneTurn}
 use Rattle.coap_model.specs.Runs.{entry_of}
 use Rattle.coap_model.specs.Carries.{Carries}
-use Rattle.coap_model.proofs.Places.{doing, same_moves, same_serves, arrival-same, one-brought, request-unique, first-once, Opens-unique}
+use Rattle.coap_model.proofs.Places.{doing, same_moves, same_serves, arrival-same, one-brought, request-unique, first-once, one-opened}
 use Rattle.coap_model.proofs.Acting.{got-first}
 use Rattle.coap_model.proofs.Carrying.{keeps_deeds}
 use Rattle.coap_model.proofs.Running.{setting_stays}
@@ -110,15 +110,10 @@ one-response setting x y p q e g h =
     let m = g.meets in
     (one-brought (subst (λ (r : Place). Brings setting.limits.datagram m.asks.sends.to m.response r.deed.entry.event) e m.brings) h.meets.brings).1
 
--- a request of an event is that of the same event at another place
-at-same : (setting : Setting) (p q : Place) (client : Endpoint) (request : Message) → p ≡ q → IsRequestOf setting client request p.deed.entry.event → IsRequestOf setting client request q.deed.entry.event
-at-same setting p q client request e r = subst (λ (s : Place). IsRequestOf setting client request s.deed.entry.event) e r
-
 one-forwarding : (setting : Setting) (past : List Deed) (d e : Deed) (id : ℕ) → Gives id d.entry → Gives id e.entry → IsForwarding setting past d → IsForwarding setting past e → d.act ≡ e.act → SayTheSame d.entry e.entry
 one-forwarding setting past d e id g h j k act =
     let number = same_moves j.exchange k.exchange (sym j.act ∙ act ∙ k.act) in
-    let place = Opens-unique past j.opening k.opening k.exchange j.was_opened k.was_opened (subst (λ (n : ℕ). Opens n j.opening) number j.opens) k.opens in
-    let request = (request-unique setting k.opening.deed.entry.event j.client k.client j.request k.request (at-same setting j.opening k.opening j.client j.request place j.asked) k.asked).1 in
+    let request = (one-opened number j.opened k.opened).2 in
     let target = same_Some j.target k.target (sym j.target_is ∙ ap (mapped_target setting.routes) request ∙ k.target_is) in
     let sent_id = id-told d.entry id j.target.at (forwarded (token_of setting.salt j.exchange) j.target j.id) g j.tells in
     let other_id = id-told e.entry id k.target.at (forwarded (token_of setting.salt k.exchange) k.target k.id) h k.tells in
@@ -129,17 +124,16 @@ one-delivery : (setting : Setting) (past : List Deed) → AllJustified setting p
 one-delivery setting past all d e id g h j k act now =
     let most = setting.limits.datagram in
     let number = same_serves j.waiter k.waiter (sym j.act ∙ act ∙ k.act) in
-    let place = Opens-unique past j.admission k.admission k.waiter j.was_admitted k.was_admitted (subst (λ (n : ℕ). Opens n j.admission) number j.opens) k.opens in
-    let one = request-unique setting k.admission.deed.entry.event j.client k.client j.request k.request (at-same setting j.admission k.admission j.client j.request place j.asked) k.asked in
+    let one = one-opened number j.opened k.opened in
     let gets = subst (λ (n : ℕ). Gets setting n j.getting) number j.gets in
     let getting = first-once (Gets setting k.waiter) past j.getting k.getting j.was_got k.was_got gets k.gets (got-first setting past k.waiter j.getting all j.was_got gets) (got-first setting past k.waiter k.getting all k.was_got k.gets) in
     let response = one-response setting j.waiter k.waiter j.getting k.getting getting j.gets k.gets in
     let moment : j.getting.deed.entry.now ≡ k.getting.deed.entry.now = ap (λ (p : Place). p.deed.entry.now) getting in
-    let token : j.request.token ≡ k.request.token = ap (λ (m : Message). m.token) one.1 in
-    let said_id = id-told d.entry id j.client (shown d.entry.now (answer_of most j.getting.deed.entry.now j.gets.meets.response) j.id j.request.token) g j.tells in
-    let other_id = id-told e.entry id k.client (shown e.entry.now (answer_of most k.getting.deed.entry.now k.gets.meets.response) k.id k.request.token) h k.tells in
-    let same = shown-same most d.entry.now e.entry.now j.getting.deed.entry.now k.getting.deed.entry.now j.gets.meets.response k.gets.meets.response j.id k.id j.request.token k.request.token now moment response (said_id ∙ sym other_id) token in
-    told-same d.entry e.entry j.client k.client _ _ j.tells k.tells one.0 same
+    let token : j.opened.request.token ≡ k.opened.request.token = ap (λ (m : Message). m.token) one.2 in
+    let said_id = id-told d.entry id j.opened.client (shown d.entry.now (answer_of most j.getting.deed.entry.now j.gets.meets.response) j.id j.opened.request.token) g j.tells in
+    let other_id = id-told e.entry id k.opened.client (shown e.entry.now (answer_of most k.getting.deed.entry.now k.gets.meets.response) k.id k.opened.request.token) h k.tells in
+    let same = shown-same most d.entry.now e.entry.now j.getting.deed.entry.now k.getting.deed.entry.now j.gets.meets.response k.gets.meets.response j.id k.id j.opened.request.token k.opened.request.token now moment response (said_id ∙ sym other_id) token in
+    told-same d.entry e.entry j.opened.client k.opened.client _ _ j.tells k.tells one.1 same
 
 -- ---- one answer
 

@@ -21,13 +21,13 @@ use Rattle.coap_model.specs.Justified.{AllJustified}
 use Rattle.coap_model.specs.declared.report.Outcome.TheVariants.{Delivered}
 use Rattle.coap_model.specs.Runs.{entry_of}
 use Rattle.coap_model.specs.Carries.{IsExchangeOf, IsWaiterOf, ArePaired, HasNumber, Bears}
-use Rattle.coap_model.proofs.Places.{here, doing, never-from, place-before, justified-at, Opens-number}
+use Rattle.coap_model.proofs.Places.{here, doing, never-from, place-before, justified-at, Opens-number, opened-number}
 use Rattle.coap_model.proofs.Spelled.{length-token_of}
 use Rattle.coap_model.proofs.Verdicts.{openable}
 use Rattle.coap_model.proofs.Rules.{Asked, verdict_in}
 use Rattle.coap_model.proofs.Tables.{ArePaired-push, HasNumber-push, HasNumber-last}
 use Rattle.coap_model.proofs.Room.{room-there}
-use Rattle.coap_model.proofs.Frames.{exchanges_frame, waiters_frame, fresh_frame, later_served, sends-not, gets-not, serves-not}
+use Rattle.coap_model.proofs.Frames.{clock_frame, exchanges_frame, waiters_frame, fresh_frame, later_served, sends-not, gets-not, serves-not}
 use Rattle.coap_model.proofs.Replying.{request-came}
 
 -- a waiter that was served has a number that was opened
@@ -36,13 +36,13 @@ served-number setting history all n p at s =
     let d = justified-at setting history p Delivered all at s.outcome in
     let same : serves n ≡ serves d.waiter = sym s.act ∙ d.act in
     let number : n ≡ d.waiter = cc in
-    let i = Opens-number history d.admission d.waiter (place-before history p d.admission at d.was_admitted) d.opens in
+    let i = Opens-number history d.opened.opening d.waiter (place-before history p d.opened.opening at d.opened.was_opened) d.opened.opens in
     omega (arith, i.1)
 
 -- the numbers of exchanges that were opened are at most as many
 exchanges-below : (w : World) (history : List Deed) → Bears history w → AllByRecursion (λ x. x.0 < opened_in history + 1) w.exchanges
 exchanges-below w history c =
-    All-weaken (IsExchangeOf w.setting history) (λ x. x.0 < opened_in history + 1) w.exchanges (λ x f. let i = Opens-number history f.opening x.0 f.was_opened f.opens in omega (arith, i.1)) c.exchanges
+    All-weaken (IsExchangeOf w.setting history) (λ x. x.0 < opened_in history + 1) w.exchanges (λ x f. let i = opened-number f.opened in omega (arith, i.1)) c.exchanges
 
 pub keeps_opening : (w : World) (history : List Deed) (c : Bears history w) → (now draw : ℕ) (client : Endpoint) (bytes : List ℕ) (m : Message) (t : Target) → w.last ≤ now → IsBytes bytes → Asked w bytes m → verdict_in w m ≡ may_open t → has_room w ≡ true
     → Bears (doing (admits (opened_in history + 1) (opened_in history + 1)) (entry_of now draw (arrival client bytes) (opens w now client m t)) ∷ history) (opens w now client m t).world
@@ -67,20 +67,15 @@ keeps_opening w history c now draw client bytes m t onward fits asks verdict roo
     let below : AllByRecursion (λ x. x.0 < w.opened + 1) w.exchanges = subst (λ (n : ℕ). AllByRecursion (λ x. x.0 < n) w.exchanges) (sym number) (exchanges-below w history c) in
     record {
       routes = c.routes;
-      clock = record { events = let h = c.clock.events in omega arith; last = refl; in_order = (let h = c.clock.last in omega arith, c.clock.in_order) };
+      clock = clock_frame c.clock onward refl refl;
       numbers = record { opened = number; admitted = same ∙ number; given = let h = c.numbers.given in omega arith };
       ids = ((λ g. absurd (omega arith)), c.ids);
       fresh = fresh_frame w.setting history e (λ x above. unsent x) (λ x above. ungot x) c.fresh;
       exchanges =
           All-append (IsExchangeOf w.setting (e ∷ history)) w.exchanges (new_exchange w now t ∷ []) (exchanges_frame w.setting history e w.exchanges unsent ungot c.exchanges) (
             record {
-              opening = here history e;
-              client = client;
-              request = m;
-              was_opened = inl refl;
-              opens = (refl, number);
+              opened = record { opening = here history e; client = client; request = m; was_opened = inl refl; opens = (refl, number); asked = came };
               admitted = refl;
-              asked = came;
               target_is = may.target_is;
               sound = may.sound;
               form_is = refl;
@@ -92,12 +87,7 @@ keeps_opening w history c now draw client bytes m t onward fits asks verdict roo
       waiters =
           All-append (IsWaiterOf w.setting (e ∷ history)) w.waiters (new_waiter w client m ∷ []) (waiters_frame w.setting history e w.waiters unserved c.waiters) (
             record {
-              admission = here history e;
-              client = client;
-              request = m;
-              was_admitted = inl refl;
-              opens = (refl, same ∙ number);
-              asked = came;
+              opened = record { opening = here history e; client = client; request = m; was_opened = inl refl; opens = (refl, same ∙ number); asked = came };
               exchange = sym same;
               client_is = refl;
               token_is = refl;

@@ -7,7 +7,7 @@ use Rattle.coap_target.specs.declared.endpoint.Endpoint.{Endpoint}
 use Rattle.coap_model.specs.Events.{Event, arrival}
 use Rattle.coap_model.specs.Setting.{Setting}
 use Rattle.coap_model.specs.History.{Entry, Act, moves, serves, Deed, Place, index, IsPlaceOf, Never, opens_one, opened_in, Opens, Brings}
-use Rattle.coap_model.specs.Justified.{IsRequestOf, JustifiedBy, AllJustified}
+use Rattle.coap_model.specs.Justified.{IsRequestOf, WasOpened, JustifiedBy, AllJustified}
 use Rattle.coap_model.specs.declared.report.Outcome.{Outcome}
 
 -- the newest place
@@ -153,3 +153,21 @@ one-brought {a = a} {b = b} {m = m} {n = n} p q =
 -- a request of an event is one request of one client
 pub request-unique : (setting : Setting) (event : Event) (a b : Endpoint) (r s : Message) → IsRequestOf setting a r event → IsRequestOf setting b s event → (a ≡ b) × (r ≡ s)
 request-unique setting event a b r s p q = one-brought p.brings q.brings
+
+-- ---- what opened an exchange
+
+-- its number is one of those that were given
+pub opened-number : {setting : Setting} {history : List Deed} {x : ℕ} → WasOpened setting history x → (0 < x) × (x ≤ opened_in history)
+opened-number {history = history} {x = x} o = Opens-number history o.opening x o.was_opened o.opens
+
+-- it stays as the history goes on
+abbrev pub opened-later : {setting : Setting} {history : List Deed} {x : ℕ} (e : Deed) → WasOpened setting history x → WasOpened setting (e ∷ history) x
+opened-later e o = record { opening = o.opening; client = o.client; request = o.request; was_opened = inr o.was_opened; opens = o.opens; asked = o.asked }
+
+-- an exchange is opened at one place, by one request of one client
+pub one-opened : {setting : Setting} {history : List Deed} {x y : ℕ} → x ≡ y → (a : WasOpened setting history x) (b : WasOpened setting history y) → (a.opening ≡ b.opening) × (a.client ≡ b.client) × (a.request ≡ b.request)
+one-opened {setting = setting} {history = history} {y = y} number a b =
+    let place = Opens-unique history a.opening b.opening y a.was_opened b.was_opened (subst (λ (n : ℕ). Opens n a.opening) number a.opens) b.opens in
+    let asked = subst (λ (p : Place). IsRequestOf setting a.client a.request p.deed.entry.event) place a.asked in
+    let one = request-unique setting b.opening.deed.entry.event a.client b.client a.request b.request asked b.asked in
+    (place, one.0, one.1)

@@ -6,7 +6,7 @@ use Rattle.coap_model.specs.World.{World, reserved, later}
 use Rattle.coap_model.specs.History.{Deed, opens_one, sends_one, serves_one, gives_id, ids_in, Gives}
 use Rattle.coap_model.specs.Justified.{AllJustified}
 use Rattle.coap_model.specs.Carries.{Bears}
-use Rattle.coap_model.proofs.Frames.{later_served, exchanges_frame, waiters_frame, fresh_frame, sends-not, gets-not, serves-not}
+use Rattle.coap_model.proofs.Frames.{clock_frame, numbers_frame, later_served, exchanges_frame, waiters_frame, fresh_frame, sends-not, gets-not, serves-not}
 
 -- what an entry must be
 pub record IsQuiet (e : Deed) : Type 0 where
@@ -29,8 +29,8 @@ keeps_quiet w history c e given q onward given_is gives room past =
     let serves = q.serves in
     record {
       routes = c.routes;
-      clock = record { events = let h = c.clock.events in omega arith; last = refl; in_order = (let h = c.clock.last in omega arith, c.clock.in_order) };
-      numbers = record { opened = let h = c.numbers.opened in omega arith; admitted = let h = c.numbers.admitted in omega arith; given = let h = c.numbers.given in omega arith };
+      clock = clock_frame c.clock onward refl refl;
+      numbers = numbers_frame c.numbers (omega arith) (omega arith) (omega arith);
       ids = (gives, c.ids);
       fresh = fresh_frame w.setting history e (λ x above. sends-not w.setting history e q.unsent x) (λ x above. gets-not w.setting history e q.ungot x) c.fresh;
       exchanges = exchanges_frame w.setting history e w.exchanges (sends-not w.setting history e q.unsent) (gets-not w.setting history e q.ungot) c.exchanges;

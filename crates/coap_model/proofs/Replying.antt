@@ -17,9 +17,9 @@ use Rattle.coap_target.specs.declared.target.Target.{Target}
 use Rattle.coap_model.specs.Events.{arrival}
 use Rattle.coap_message.specs.Codes.{is_request}
 use Rattle.coap_model.specs.Messages.{is_con, is_non, reset, own_reply, busy_reply, refused_with, may_open}
-use Rattle.coap_model.specs.World.{World, reserved, next_id, has_ids, has_room}
+use Rattle.coap_model.specs.World.{World, reserved, next_id, has_ids, has_room, ignores}
 use Rattle.coap_model.specs.Requests.{lacks_id, refuses, overloads}
-use Rattle.coap_model.specs.Step.{ignores, rejects, message_in}
+use Rattle.coap_model.specs.Step.{rejects, message_in}
 use Rattle.coap_model.specs.History.{no_item, Deed, ids_in}
 use Rattle.coap_model.specs.Setting.{Setting}
 use Rattle.coap_model.specs.Justified.{IsRequestOf, IsAwaited, IsUnprocessable}

@@ -19,12 +19,12 @@ use Rattle.coap_exchange.specs.Table.{Numbered}
 use Rattle.coap_model.specs.Events.{Event, arrival, tick, IsEvent}
 use Rattle.coap_message.specs.Codes.{is_request, is_response}
 use Rattle.coap_model.specs.Messages.{is_con, is_non, is_ack, Verdict, refused_with, may_open, verdict_of}
-use Rattle.coap_model.specs.World.{World, Step, has_ids, has_room}
+use Rattle.coap_model.specs.World.{World, Step, has_ids, has_room, ignores}
 use Rattle.coap_model.specs.Requests.{lacks_id, refuses, overloads, opens, on_verdict, on_request}
-use Rattle.coap_model.specs.Responses.{awaiting, answers, on_response}
+use Rattle.coap_model.specs.Responses.{awaiting, answers, on_awaited, on_response}
 use Rattle.coap_exchange.specs.Due.{Item, sending, serving, least}
-use Rattle.coap_model.specs.Ticks.{items_of, if_due, sends, delivers, on_item}
-use Rattle.coap_model.specs.Step.{ignores, rejects, unprocessed, on_message, message_in, on_read, step_of}
+use Rattle.coap_model.specs.Ticks.{items_of, if_due, sends, delivers, idles, on_item}
+use Rattle.coap_model.specs.Step.{rejects, unprocessed, on_message, message_in, on_read, step_of}
 use Rattle.coap_model.proofs.Spelled.{message_in-is}
 
 -- a request that is processed came in these bytes
@@ -55,7 +55,7 @@ pub data Rule (w : World) (now draw : ℕ) : Event → Step → Type 0 where
   ignoring : (source : Endpoint) (bytes : List ℕ) → IsNothing w source bytes → Rule w now draw (arrival source bytes) (ignores w now)
   forwarding : (x : Numbered Exchange) → if_due now (least (items_of w)) ≡ Some (sending x) → Rule w now draw tick (sends w now x)
   delivering : (v : Numbered Waiter) (a : Answer) → if_due now (least (items_of w)) ≡ Some (serving v a) → Rule w now draw tick (delivers w now v a)
-  idling : if_due now (least (items_of w)) ≡ None → Rule w now draw tick (on_item w now None)
+  idling : if_due now (least (items_of w)) ≡ None → Rule w now draw tick (idles w now)
 
 -- ---- requests
 
@@ -116,18 +116,18 @@ head_of_read : (w : World) (bytes : List ℕ) (m : Message) → IsBytes bytes �
 head_of_read w bytes m fits read = head_read bytes m (message_in-is w.setting.limits.datagram bytes m fits read).2
 
 rule_response : (w : World) (now draw : ℕ) (source : Endpoint) (bytes : List ℕ) (m : Message) → IsBytes bytes → message_in w.setting.limits.datagram bytes ≡ Some m → (is_non m.kind && is_request m.code) ≡ false → (is_ack m.kind && is_response m.code) ≡ true
-    → (o : Option (Numbered Exchange)) → awaiting w source m ≡ o → Rule w now draw (arrival source bytes) (on_response w now m o)
+    → (o : Option (Numbered Exchange)) → awaiting w source m ≡ o → Rule w now draw (arrival source bytes) (on_awaited w now m o)
 rule_response w now draw source bytes m fits read request response None e = ignoring source bytes (nothing_else w source bytes m read request (λ _. e) (one_head bytes (record { kind = m.kind; code = m.code; id = m.id }) (head_of_read w bytes m fits read) (ack_not_con m.kind (is_response m.code) response)))
 rule_response w now draw source bytes m fits read request response (Some x) e = answering source bytes m x fits read response e
 
 rule_message : (w : World) (now draw : ℕ) (source : Endpoint) (bytes : List ℕ) (m : Message) → IsBytes bytes → message_in w.setting.limits.datagram bytes ≡ Some m → Rule w now draw (arrival source bytes) (on_message w now source m)
 rule_message w now draw source bytes m fits read = request (is_non m.kind && is_request m.code) refl
   where
-    response : (is_non m.kind && is_request m.code) ≡ false → (b : Bool) → (is_ack m.kind && is_response m.code) ≡ b → Rule w now draw (arrival source bytes) (cond b (on_response w now m (awaiting w source m)) (unprocessed w now source m.kind m.id))
+    response : (is_non m.kind && is_request m.code) ≡ false → (b : Bool) → (is_ack m.kind && is_response m.code) ≡ b → Rule w now draw (arrival source bytes) (cond b (on_response w now source m) (unprocessed w now source m.kind m.id))
     response other true e = rule_response w now draw source bytes m fits read other e (awaiting w source m) refl
     response other false e = rule_unprocessed w now draw source bytes (record { kind = m.kind; code = m.code; id = m.id }) (head_of_read w bytes m fits read) (nothing_else w source bytes m read other (λ t. absurd (let g = sym t ∙ e in cc)))
 
-    request : (b : Bool) → (is_non m.kind && is_request m.code) ≡ b → Rule w now draw (arrival source bytes) (cond b (on_request w now source m) (cond (is_ack m.kind && is_response m.code) (on_response w now m (awaiting w source m)) (unprocessed w now source m.kind m.id)))
+    request : (b : Bool) → (is_non m.kind && is_request m.code) ≡ b → Rule w now draw (arrival source bytes) (cond b (on_request w now source m) (cond (is_ack m.kind && is_response m.code) (on_response w now source m) (unprocessed w now source m.kind m.id)))
     request true e = rule_verdict w now draw source bytes m fits (record { read = read; request = e }) (verdict_in w m) refl
     request false e = response e (is_ack m.kind && is_response m.code) refl
 

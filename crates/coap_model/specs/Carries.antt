@@ -18,7 +18,7 @@ use Rattle.coap_model.specs.Messages.{token_of, forwarded, target_sent, answer_o
 use Rattle.coap_exchange.specs.Exchanges.{is_queued, count_where}
 use Rattle.coap_model.specs.World.{World, reserved}
 use Rattle.coap_model.specs.History.{Entry, Deed, told_by, Place, index, IsPlaceOf, Never, Somewhere, opened_in, sent_in, served_in, ids_in, Opens, Sends, Asks, Gets, Serves, last_of, IsInOrder, AreIds}
-use Rattle.coap_model.specs.Justified.{IsRequestOf, AllJustified}
+use Rattle.coap_model.specs.Justified.{WasOpened, AllJustified}
 
 -- ---- the clock, the numbers and the ids
 
@@ -60,14 +60,9 @@ IsState setting history x target (Done a) = WasGot setting history x target a
 
 -- the exchange is the one that the history opened under its number
 pub record IsExchangeOf (setting : Setting) (history : List Deed) (x : Numbered Exchange) : Type 0 where
-  pub opening : Place
-  pub client : Endpoint
-  pub request : Message
-  pub was_opened : IsPlaceOf history opening
-  pub opens : Opens x.0 opening
-  pub admitted : x.1.admitted ≡ opening.deed.entry.now
-  pub asked : IsRequestOf setting client request opening.deed.entry.event
-  pub target_is : mapped_target setting.routes request ≡ Some x.1.target
+  pub opened : WasOpened setting history x.0
+  pub admitted : x.1.admitted ≡ opened.opening.deed.entry.now
+  pub target_is : mapped_target setting.routes opened.request ≡ Some x.1.target
   pub sound : IsTarget x.1.target
   pub form_is : x.1.form ≡ spelling (forwarded (token_of setting.salt x.0) x.1.target 0)
   pub form_short : length x.1.form ≤ setting.limits.datagram
@@ -78,16 +73,11 @@ pub record IsExchangeOf (setting : Setting) (history : List Deed) (x : Numbered 
 -- the waiter is the one that the history admitted under its number, with an exchange of its own, and
 -- wasn't served
 pub record IsWaiterOf (setting : Setting) (history : List Deed) (v : Numbered Waiter) : Type 0 where
-  pub admission : Place
-  pub client : Endpoint
-  pub request : Message
-  pub was_admitted : IsPlaceOf history admission
-  pub opens : Opens v.0 admission
-  pub asked : IsRequestOf setting client request admission.deed.entry.event
+  pub opened : WasOpened setting history v.0
   pub exchange : v.1.exchange ≡ v.0
-  pub client_is : v.1.client ≡ client
-  pub token_is : v.1.token ≡ request.token
-  pub ungot : Never (Gets setting v.0) admission.before
+  pub client_is : v.1.client ≡ opened.client
+  pub token_is : v.1.token ≡ opened.request.token
+  pub ungot : Never (Gets setting v.0) opened.opening.before
   pub unserved : Never (Serves v.0) history
 
 -- ---- the tables as wholes

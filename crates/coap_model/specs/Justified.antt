@@ -27,6 +27,15 @@ pub record IsRequestOf (setting : Setting) (client : Endpoint) (request : Messag
   pub kind : request.kind ≡ Non
   pub method : is_request request.code ≡ true
 
+-- the request that opened the exchange of this number, and admitted the waiter of this number
+pub record WasOpened (setting : Setting) (past : List Deed) (number : ℕ) : Type 0 where
+  pub opening : Place
+  pub client : Endpoint
+  pub request : Message
+  pub was_opened : IsPlaceOf past opening
+  pub opens : Opens number opening
+  pub asked : IsRequestOf setting client request opening.deed.entry.event
+
 -- what becomes of a request, leaving room aside
 abbrev pub verdict_on : Setting → Message → Verdict
 verdict_on setting request = verdict_of setting.routes setting.limits.datagram request
@@ -100,15 +109,10 @@ pub record IsActing (setting : Setting) (past : List Deed) (d : Deed) : Type 0 w
 pub record IsForwarding (setting : Setting) (past : List Deed) (d : Deed) : Type 0 where
   pub exchange : ℕ
   pub act : d.act ≡ moves exchange
-  pub opening : Place
-  pub client : Endpoint
-  pub request : Message
+  pub opened : WasOpened setting past exchange
   pub target : Target
   pub id : ℕ
-  pub was_opened : IsPlaceOf past opening
-  pub opens : Opens exchange opening
-  pub asked : IsRequestOf setting client request opening.deed.entry.event
-  pub target_is : mapped_target setting.routes request ≡ Some target
+  pub target_is : mapped_target setting.routes opened.request ≡ Some target
   pub first : Never (Sends setting.salt exchange) past
   pub acting : IsActing setting past d
   pub tells : Tells target.at (forwarded (token_of setting.salt exchange) target id) d.entry
@@ -127,22 +131,17 @@ pub record IsDelivery (setting : Setting) (past : List Deed) (d : Deed) : Type 0
   pub waiter : ℕ
   pub act : d.act ≡ serves waiter
   pub first : Never (Serves waiter) past
-  pub admission : Place
-  pub client : Endpoint
-  pub request : Message
+  pub opened : WasOpened setting past waiter
   pub target : Target
   pub getting : Place
   pub id : ℕ
-  pub was_admitted : IsPlaceOf past admission
-  pub opens : Opens waiter admission
-  pub asked : IsRequestOf setting client request admission.deed.entry.event
-  pub target_is : mapped_target setting.routes request ≡ Some target
+  pub target_is : mapped_target setting.routes opened.request ≡ Some target
   pub was_got : IsPlaceOf past getting
   pub gets : Gets setting waiter getting
-  pub got_later : IsPlaceOf getting.before admission
+  pub got_later : IsPlaceOf getting.before opened.opening
   pub asked_target : target_sent gets.meets.asks.sends.to gets.meets.asks.sends.message ≡ target
   pub acting : IsActing setting past d
-  pub tells : Tells client (shown d.entry.now (answer_of setting.limits.datagram getting.deed.entry.now gets.meets.response) id request.token) d.entry
+  pub tells : Tells opened.client (shown d.entry.now (answer_of setting.limits.datagram getting.deed.entry.now gets.meets.response) id opened.request.token) d.entry
 
 -- ---- what isn't processed
 

@@ -10,10 +10,10 @@ use Rattle.coap_exchange.specs.declared.exchange.ExchangeState.TheVariants.{Queu
 use Rattle.coap_exchange.specs.declared.exchange.Exchange.{Exchange}
 use Rattle.coap_exchange.specs.Exchanges.{with_state}
 use Rattle.coap_exchange.specs.Table.{Numbered}
-use Rattle.coap_model.specs.declared.report.Outcome.TheVariants.{Ignored, Answered}
+use Rattle.coap_model.specs.declared.report.Outcome.TheVariants.{Answered}
 use Rattle.coap_model.specs.declared.report.Storing.TheVariants.{NotStored}
 use Rattle.coap_model.specs.Messages.{token_of, answer_of}
-use Rattle.coap_model.specs.World.{World, Step, later, silent}
+use Rattle.coap_model.specs.World.{World, Step, later, silent, ignores}
 
 -- whether it was sent with this id, and no answer has come
 abbrev pub has_id : ℕ → ExchangeState → Bool
@@ -32,6 +32,9 @@ awaiting w source m = find (awaits w.setting.salt source m) w.exchanges
 abbrev pub answers : World → ℕ → Message → Numbered Exchange → Step
 answers w now m x = silent (Answered NotStored) (record (later w now) { exchanges = with_state x.0 (Done (answer_of w.setting.limits.datagram now m)) w.exchanges })
 
-abbrev pub on_response : World → ℕ → Message → Option (Numbered Exchange) → Step
-on_response w now m None = silent Ignored (later w now)
-on_response w now m (Some x) = answers w now m x
+abbrev pub on_awaited : World → ℕ → Message → Option (Numbered Exchange) → Step
+on_awaited w now m None = ignores w now
+on_awaited w now m (Some x) = answers w now m x
+
+abbrev pub on_response : World → ℕ → Endpoint → Message → Step
+on_response w now source m = on_awaited w now m (awaiting w source m)

@@ -6,17 +6,14 @@ use Rattle.coap_message.specs.declared.message.Head.{Head}
 use Rattle.coap_message.specs.Message.{Message}
 use Rattle.coap_message.specs.Reading.{read_message, head_at}
 use Rattle.coap_target.specs.declared.endpoint.Endpoint.{Endpoint}
-use Rattle.coap_model.specs.declared.report.Outcome.TheVariants.{Ignored, Rejected}
+use Rattle.coap_model.specs.declared.report.Outcome.TheVariants.{Rejected}
 use Rattle.coap_model.specs.Events.{Event, arrival, tick}
 use Rattle.coap_message.specs.Codes.{is_request, is_response}
 use Rattle.coap_model.specs.Messages.{is_con, is_non, is_ack, reset}
-use Rattle.coap_model.specs.World.{World, Step, later, silent, says}
+use Rattle.coap_model.specs.World.{World, Step, later, says, ignores}
 use Rattle.coap_model.specs.Requests.{on_request}
-use Rattle.coap_model.specs.Responses.{awaiting, on_response}
+use Rattle.coap_model.specs.Responses.{on_response}
 use Rattle.coap_model.specs.Ticks.{on_tick}
-
-abbrev pub ignores : World → ℕ → Step
-ignores w now = silent Ignored (later w now)
 
 -- a Reset with the id of what can't be processed (RFC 7252, 4.2)
 abbrev pub rejects : World → ℕ → Endpoint → ℕ → Step
@@ -29,7 +26,7 @@ unprocessed w now source kind id = if is_con kind then rejects w now source id e
 -- Non-confirmable requests, and responses in acknowledgements, are what is processed so far.
 abbrev pub on_message : World → ℕ → Endpoint → Message → Step
 on_message w now source m =
-    if is_non m.kind && is_request m.code then on_request w now source m else (if is_ack m.kind && is_response m.code then on_response w now m (awaiting w source m) else unprocessed w now source m.kind m.id)
+    if is_non m.kind && is_request m.code then on_request w now source m else (if is_ack m.kind && is_response m.code then on_response w now source m else unprocessed w now source m.kind m.id)
 
 -- the message that a datagram spells, if it isn't too long
 unfoldable pub message_in : ℕ → List ℕ → Option Message

@@ -60,8 +60,12 @@ delivers w now v a =
       given = w.given + 1;
     })
 
+-- nothing is due
+abbrev pub idles : World → ℕ → Step
+idles w now = silent Idle (later w now)
+
 abbrev pub on_item : World → ℕ → Option Item → Step
-on_item w now None = silent Idle (later w now)
+on_item w now None = idles w now
 on_item w now (Some (sending x)) = sends w now x
 on_item w now (Some (serving v a)) = delivers w now v a
 

@@ -9,6 +9,7 @@ use Rattle.coap_exchange.specs.Exchanges.{is_queued, count_where}
 use Rattle.coap_exchange.specs.Ids.{nth_id}
 use Rattle.coap_exchange.specs.Table.{Numbered}
 use Rattle.coap_model.specs.declared.report.Outcome.{Outcome}
+use Rattle.coap_model.specs.declared.report.Outcome.TheVariants.{Ignored}
 use Rattle.coap_model.specs.declared.report.Report.{Report}
 use Rattle.coap_model.specs.declared.report.Counts.{Counts}
 use Rattle.coap_model.specs.Setting.{Setting}
@@ -46,6 +47,10 @@ silent outcome w = record { report = record { send = None; outcome = outcome }; 
 
 abbrev pub says : Outcome → Endpoint → Message → World → Step
 says outcome to m w = record { report = record { send = Some to; outcome = outcome }; bytes = spelling m; world = w }
+
+-- the datagram is no one's business
+abbrev pub ignores : World → ℕ → Step
+ignores w now = silent Ignored (later w now)
 
 -- ---- message ids
 
