@@ -14,7 +14,7 @@ use Rattle.coap_model.specs.World.{World, later}
 use Rattle.coap_model.specs.Ticks.{items_of, if_due, sends, delivers, on_item, on_tick}
 use Rattle.coap_model.proofs.Tables.{IsDueOf, least-holds, items-are}
 use Rattle.coap_core.specs.declared.ticks.DueItem.{DueItem}
-use Rattle.coap_core.specs.declared.ticks.DueItem.TheVariants.{Sending, Serving}
+use Rattle.coap_core.specs.declared.ticks.DueItem.TheVariants.{ToSend, ToServe}
 use Rattle.coap_core.specs.Steps.{item_as}
 
 -- ---- the first of two lists, one behind the other
@@ -48,15 +48,15 @@ least-append (i ∷ xs) ys = ap (earlier i) (least-append xs ys) ∙ both (least
 -- what is due first of a table of exchanges and of one of waiters
 abbrev choose : Option Due → Option Due → Option DueItem
 choose None None = None
-choose None (Some v) = Some (Serving v)
-choose (Some x) None = Some (Sending x)
-choose (Some x) (Some v) = cond (leb x.at v.at) (Some (Sending x)) (Some (Serving v))
+choose None (Some v) = Some (ToServe v)
+choose (Some x) None = Some (ToSend x)
+choose (Some x) (Some v) = cond (leb x.at v.at) (Some (ToSend x)) (Some (ToServe v))
 
 abbrev IsSending : Item → Type 0
-IsSending i = item_as i ≡ Sending (due_as i)
+IsSending i = item_as i ≡ ToSend (due_as i)
 
 abbrev IsServing : Item → Type 0
-IsServing i = item_as i ≡ Serving (due_as i)
+IsServing i = item_as i ≡ ToServe (due_as i)
 
 all-sending : (xs : List (Numbered Exchange)) → AllByRecursion IsSending (exchange_items xs)
 all-sending [] = tt
@@ -80,7 +80,7 @@ chosen None (Some v) p q = ap (λ (i : DueItem). Some i) (sym (q v refl))
 chosen (Some x) None p q = ap (λ (i : DueItem). Some i) (sym (p x refl))
 chosen (Some x) (Some v) p q = go (leb (due_of x) (due_of v))
   where
-    go : (t : Bool) → cond t (Some (Sending (due_as x))) (Some (Serving (due_as v))) ≡ option_map item_as (cond t (Some x) (Some v))
+    go : (t : Bool) → cond t (Some (ToSend (due_as x))) (Some (ToServe (due_as v))) ≡ option_map item_as (cond t (Some x) (Some v))
     go true = ap (λ (i : DueItem). Some i) (sym (p x refl))
     go false = ap (λ (i : DueItem). Some i) (sym (q v refl))
 
@@ -135,10 +135,10 @@ module _ (w : World) (now : ℕ) (rising : IsRising 0 w.exchanges) (waiting : Is
   not-now : (i : Item) → now < due_of i → if_due now (Some i) ≡ None
   not-now i lt = let t : leb (due_of i) now ≡ false = lt-leb _ _ lt in rw t refl
 
-  pub sending-due : (d : Due) → Some (Sending d) ≡ option_map item_as (least (items_of w)) → d.at ≤ now → IsSendingDue d.number
+  pub sending-due : (d : Due) → Some (ToSend d) ≡ option_map item_as (least (items_of w)) → d.at ≤ now → IsSendingDue d.number
   sending-due d e le = go (least (items_of w)) refl e
     where
-      go : (o : Option Item) → least (items_of w) ≡ o → Some (Sending d) ≡ option_map item_as o → IsSendingDue d.number
+      go : (o : Option Item) → least (items_of w) ≡ o → Some (ToSend d) ≡ option_map item_as o → IsSendingDue d.number
       go None f g = absurd cc
       go (Some (serving v a)) f g = absurd cc
       go (Some (sending x)) f g =
@@ -152,10 +152,10 @@ module _ (w : World) (now : ℕ) (rising : IsRising 0 w.exchanges) (waiting : Is
             step = on-tick (Some (sending x)) f ∙ ap (on_item w now) (due-now (sending x) (subst (λ (e : Due). e.at ≤ now) same le));
           })
 
-  pub serving-due : (d : Due) → Some (Serving d) ≡ option_map item_as (least (items_of w)) → d.at ≤ now → IsServingDue d.number
+  pub serving-due : (d : Due) → Some (ToServe d) ≡ option_map item_as (least (items_of w)) → d.at ≤ now → IsServingDue d.number
   serving-due d e le = go (least (items_of w)) refl e
     where
-      go : (o : Option Item) → least (items_of w) ≡ o → Some (Serving d) ≡ option_map item_as o → IsServingDue d.number
+      go : (o : Option Item) → least (items_of w) ≡ o → Some (ToServe d) ≡ option_map item_as o → IsServingDue d.number
       go None f g = absurd cc
       go (Some (sending x)) f g = absurd cc
       go (Some (serving v a)) f g =

@@ -18,7 +18,7 @@ use Rattle.coap_exchange.specs.Exchanges.{is_sent}
 use Rattle.coap_exchange.specs.Table.{Numbered, Table, IsRising, IsTable, item_at}
 use Rattle.coap_model.specs.Messages.{token_of}
 use Rattle.coap_model.specs.World.{World, Step}
-use Rattle.coap_model.specs.Responses.{has_id, awaits, answers, on_response}
+use Rattle.coap_model.specs.Responses.{has_id, awaits, answers, on_awaited}
 use Rattle.coap_model.proofs.Spelled.{length-token_of, token-same}
 
 eight : (a b c d e f g h : ℕ) → uint_of (a ∷ b ∷ c ∷ d ∷ e ∷ f ∷ g ∷ h ∷ []) ≡ from_be_bytes w64 (a ∷ b ∷ c ∷ d ∷ e ∷ f ∷ g ∷ h ∷ [])
@@ -134,7 +134,7 @@ sent-with id (Sent sending) b e = refl
 sent-with id (Done a) b e = absurd cc
 
 -- what is done for the exchange that awaits a response depends on its number alone
-pub answered : (w : World) (now : ℕ) (m : Message) (o : Option (Numbered Exchange)) (number : ℕ) (P : Step → Type 0) → Some number ≡ option_map (λ x. x.0) o → ((x : Exchange) → P (answers w now m (number, x))) → P (on_response w now m o)
+pub answered : (w : World) (now : ℕ) (m : Message) (o : Option (Numbered Exchange)) (number : ℕ) (P : Step → Type 0) → Some number ≡ option_map (λ x. x.0) o → ((x : Exchange) → P (answers w now m (number, x))) → P (on_awaited w now m o)
 answered w now m None number P e each = absurd cc
 answered w now m (Some x) number P e each =
     let same : number ≡ x.0 = cc in

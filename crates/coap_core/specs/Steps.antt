@@ -18,7 +18,7 @@ use Rattle.coap_core.specs.declared.requests.Verdict.{Verdict}
 use Rattle.coap_core.specs.declared.requests.Verdict.TheVariants.{RefusedWith, MayOpen}
 use Rattle.coap_model.specs.Ticks.{sends, delivers}
 use Rattle.coap_core.specs.declared.ticks.DueItem.{DueItem}
-use Rattle.coap_core.specs.declared.ticks.DueItem.TheVariants.{Sending, Serving}
+use Rattle.coap_core.specs.declared.ticks.DueItem.TheVariants.{ToSend, ToServe}
 
 -- the report, the datagram and the tables after it are those of the step
 abbrev pub Does : Step → Report → Datagram → Datagram → World → Type 0
@@ -58,8 +58,8 @@ FormIs token (MayOpen target) bytes = bytes ≡ spelling (messages.forwarded tok
 
 -- an item by its moment and its number
 abbrev pub item_as : Item → DueItem
-item_as (sending x) = Sending (due_as (sending x))
-item_as (serving v a) = Serving (due_as (serving v a))
+item_as (sending x) = ToSend (due_as (sending x))
+item_as (serving v a) = ToServe (due_as (serving v a))
 
 -- ---- steps by the number of what they are about
 

@@ -1,14 +1,16 @@
 //! The step of a proxy in code: exactly the step of the model, for one event at a time.
 #![tactic(auto)]
 
+mod answers;
 mod event;
-mod messages;
 mod proxy;
 mod requests;
 mod responses;
 mod step;
-mod tables;
 mod ticks;
+mod token;
+mod world;
+mod writing;
 
 pub use coap_model::{Counts, Limit, LimitError, LimitValues, Limits, Outcome, Report, Storing};
 pub use event::Event;

@@ -14,7 +14,7 @@ ghost use Rattle.coap_core.specs.Events.{IsUnread, seen};
 ghost use Rattle.coap_core.specs.Steps.{Does};
 
 use crate::event::Event;
-use crate::tables::Tables;
+use crate::world::World;
 use coap_message::{Datagram, OutOfMemory};
 use coap_model::laws::{
     datagrams_fit, new_proxies_carry_nothing, settings_stay, steps_are_carried,
@@ -29,7 +29,7 @@ use std::marker::Model;
 /// tables.
 #[derive(Drop)]
 pub struct Core {
-    tables: Tables,
+    world: World,
 }
 
 impl Model for Core {
@@ -41,10 +41,10 @@ impl Model for Core {
 
     ghost Value = { World };
 
-    ghost view = { λ c. c.tables };
+    ghost view = { λ c. c.world };
 
     // It carries some history.
-    ghost invariant = { λ c. AreLimits c.tables.setting.limits × ((history : List Entry) × Carries history c.tables) };
+    ghost invariant = { λ c. AreLimits c.world.setting.limits × ((history : List Entry) × Carries history c.world) };
 }
 
 impl Core {
@@ -68,8 +68,8 @@ impl Core {
     {
         new_proxies_carry_nothing();
         routes.maps();
-        let tables = Tables::new(alloc, limits, routes, first_id, salt)?;
-        Ok(Core { tables })
+        let world = World::new(alloc, limits, routes, first_id, salt)?;
+        Ok(Core { world })
     }
 
     /// One step: what is made of an event at a moment, with a random draw, which no step reads yet. The
@@ -126,41 +126,41 @@ impl Core {
         datagrams_fit();
         settings_stay();
         event.holds_bytes();
-        self.tables.step(now, event, out)
+        self.world.step(now, event, out)
     }
 
     /// The moment at which the next thing is due, in milliseconds, if anything is.
     pub fn next_due(&self) -> Option<u64>
         ensures exact { result ≡ next_due self.now }
     {
-        self.tables.next_due()
+        self.world.next_due()
     }
 
     /// The moment of the last step, in milliseconds, 0 at first.
     pub fn last(&self) -> u64
         ensures exact { result ≡ self.now.last }
     {
-        self.tables.last
+        self.world.last
     }
 
     /// How many steps were done.
     pub fn events(&self) -> u64
         ensures exact { result ≡ self.now.events }
     {
-        self.tables.events
+        self.world.events
     }
 
     /// How much it holds.
     pub fn counts(&self) -> Counts
         ensures exact { result ≡ counts self.now }
     {
-        self.tables.counts()
+        self.world.counts()
     }
 
     /// The greatest length of a datagram, in bytes.
     pub fn datagram(&self) -> usize
         ensures exact { result ≡ self.now.setting.limits.datagram }
     {
-        self.tables.limits.values().datagram as usize
+        self.world.limits.values().datagram as usize
     }
 }

@@ -12,8 +12,9 @@ ghost use Rattle.coap_model.specs.Requests.{lacks_id, refuses, overloads, opens,
 ghost use Rattle.coap_model.specs.World.{has_ids};
 ghost use Rattle.coap_core.specs.Steps.{Does, CanGoOn, FormIs, verdict_seen};
 
-use crate::messages::{put_forwarded, put_message, put_with_max_age, token_of};
-use crate::tables::{Tables, silent};
+use crate::token::token_of;
+use crate::world::{World, silent};
+use crate::writing::{put_forwarded, put_message, put_with_max_age};
 use coap_exchange::Waiter;
 use coap_message::{Code, Datagram, Head, Kind, MessageRef, Options, OutOfMemory, Seq};
 use coap_model::{Outcome, Report};
@@ -54,7 +55,7 @@ fn reply_head(code: Code, id: u16) -> Head
     }
 }
 
-impl Tables {
+impl World {
     pub(crate) fn on_request(
         &mut self,
         now: u64,

@@ -6,8 +6,9 @@ ghost use Rattle.coap_model.specs.Memory.{takes_memory};
 ghost use Rattle.coap_model.specs.Responses.{has_id, awaiting, answers, on_response};
 ghost use Rattle.coap_core.specs.Steps.{Does, CanGoOn, IsSentAt};
 
-use crate::messages::{answer_of, number_of};
-use crate::tables::{Tables, silent};
+use crate::answers::answer_of;
+use crate::token::number_of;
+use crate::world::{World, silent};
 use coap_exchange::{Exchange, ExchangeState};
 use coap_message::{Datagram, MessageRef, OutOfMemory};
 use coap_model::{Outcome, Report, Storing};
@@ -30,7 +31,7 @@ fn awaits(exchange: &Exchange, source: Endpoint, id: u16) -> bool
     has_id(id, &exchange.state) && exchange.target.at.is(&source)
 }
 
-impl Tables {
+impl World {
     pub(crate) fn on_response(
         &mut self,
         now: u64,
@@ -39,10 +40,10 @@ impl Tables {
         out: &mut Datagram,
     ) -> Result<Report, OutOfMemory>
         requires { CanGoOn self.old }
-        ensures exact { IfOk result (λ report. Does (on_response self.old now response.now (awaiting self.old source response.now)) report out.old out.new self.new) }
+        ensures exact { IfOk result (λ report. Does (on_response self.old now source response.now) report out.old out.new self.new) }
         ensures err { OnErr result (self.new ≡ self.old) }
         ensures kept { out.new.room ≡ out.old.room }
-        ensures memory { OnErr result (takes_memory (on_response self.old now response.now (awaiting self.old source response.now)).report.outcome ≡ true) }
+        ensures memory { OnErr result (takes_memory (on_response self.old now source response.now).report.outcome ≡ true) }
     {
         match self.awaiting(source, response) {
             Some(number) => self.answer(now, number, response, out),

@@ -4,18 +4,19 @@ ghost use Rattle.coap_model.specs.Events.{tick};
 ghost use Rattle.coap_message.specs.declared.kind.Kind.{Kind};
 ghost use Rattle.coap_message.specs.Datagram.{holding};
 ghost use Rattle.coap_model.specs.Memory.{takes_memory};
-ghost use Rattle.coap_model.specs.Step.{ignores, rejects, unprocessed, message_in, on_message, on_datagram, step_of};
+ghost use Rattle.coap_model.specs.World.{ignores};
+ghost use Rattle.coap_model.specs.Step.{rejects, unprocessed, message_in, on_message, on_datagram, step_of};
 ghost use Rattle.coap_core.specs.Events.{IsUnread, seen};
 ghost use Rattle.coap_core.specs.Steps.{Does, CanGoOn};
 
 use crate::event::Event;
-use crate::messages::put_message;
-use crate::tables::{Tables, silent};
+use crate::world::{World, silent};
+use crate::writing::put_message;
 use coap_message::{Code, Datagram, Head, Kind, MessageRef, Options, OutOfMemory, Token, head_of};
 use coap_model::{Outcome, Report};
 use coap_target::Endpoint;
 
-impl Tables {
+impl World {
     /// One step. Where memory is missing, nothing happened, and `out` is empty.
     pub(crate) fn step(
         &mut self,
@@ -34,36 +35,14 @@ impl Tables {
         ensures ticks { seen event.entry ≡ tick → IsOk result }
         ensures unread { IsUnread self.old.setting.limits.datagram (seen event.entry) → IsOk result }
     {
-        match self.advance(now, event, out) {
-            Ok(report) => Ok(report),
-            Err(OutOfMemory) => {
-                out.clear();
-                Err(OutOfMemory)
-            }
-        }
-    }
-
-    fn advance(
-        &mut self,
-        now: u64,
-        event: Event<'_>,
-        out: &mut Datagram,
-    ) -> Result<Report, OutOfMemory>
-        requires can { CanGoOn self.old }
-        requires moment { now < 2 ^ 63 }
-        requires room { self.old.setting.limits.datagram ≤ out.old.room }
-        requires fits { length (step_of self.old now 0 (seen event)).bytes ≤ out.old.room }
-        ensures exact { IfOk result (λ report. Does (step_of self.old now 0 (seen event.entry)) report out.old out.new self.new) }
-        ensures err { OnErr result (self.new ≡ self.old) }
-        ensures kept { out.new.room ≡ out.old.room }
-        ensures memory { OnErr result (takes_memory (step_of self.old now 0 (seen event.entry)).report.outcome ≡ true) }
-        ensures ticks { seen event.entry ≡ tick → IsOk result }
-        ensures unread { IsUnread self.old.setting.limits.datagram (seen event.entry) → IsOk result }
-    {
-        match event {
+        let done = match event {
             Event::Datagram { from, bytes } => self.on_datagram(now, from, bytes, out),
             Event::Tick => Ok(self.on_tick(now, out)),
+        };
+        if done.is_err() {
+            out.clear();
         }
+        done
     }
 
     fn on_datagram(
@@ -82,7 +61,7 @@ impl Tables {
         ensures memory { OnErr result (takes_memory (on_datagram self.old now source bytes.now).report.outcome ≡ true) }
         ensures unread { message_in self.old.setting.limits.datagram bytes.now ≡ None → IsOk result }
     {
-        if let Some(message) = self.read(bytes) {
+        if let Some(message) = self.message_in(bytes) {
             return self.on_message(now, source, &message, out);
         }
         match head_of(bytes) {
@@ -93,7 +72,7 @@ impl Tables {
 
     /// The message that a datagram spells, if it isn't too long.
     #[tactic(auto, unfolding(coap_model::specs::Step::message_in))]
-    fn read<'a>(&self, bytes: &'a [u8]) -> Option<MessageRef<'a>>
+    fn message_in<'a>(&self, bytes: &'a [u8]) -> Option<MessageRef<'a>>
         ensures { result ≡ message_in self.now.setting.limits.datagram bytes.now }
     {
         if bytes.len() > self.limits.values().datagram as usize {

@@ -3,13 +3,11 @@ ghost use Rattle.std.specs.Prelude.{◌≡◌, ◌≤◌, ◌<◌, ◌^◌, true
 ghost use Rattle.coap_exchange.specs.Due.{least};
 ghost use Rattle.coap_exchange.specs.Exchanges.{is_queued};
 ghost use Rattle.coap_exchange.specs.Table.{item_at};
-ghost use Rattle.coap_model.specs.Ticks.{items_of, next_due, on_tick};
-ghost use Rattle.coap_model.specs.World.{silent, later};
-ghost use Rattle.coap_model.specs.declared.report.Outcome.TheVariants.{Idle};
+ghost use Rattle.coap_model.specs.Ticks.{items_of, next_due, on_tick, idles};
 ghost use Rattle.coap_core.specs.Steps.{Does, CanGoOn, item_as, sending_at, delivery_at};
 
-use crate::messages::{put_shown, put_with_id};
-use crate::tables::{Tables, silent};
+use crate::world::{World, silent};
+use crate::writing::{put_shown, put_with_id};
 use coap_exchange::{Due, Sending};
 use coap_message::Datagram;
 use coap_model::{Outcome, Report};
@@ -18,12 +16,12 @@ use coap_model::{Outcome, Report};
 #[derive(Clone, Copy)]
 pub(crate) enum DueItem {
     /// The request of an exchange is to be sent.
-    Sending(Due),
+    ToSend(Due),
     /// A waiter is to be served.
-    Serving(Due),
+    ToServe(Due),
 }
 
-impl Tables {
+impl World {
     pub(crate) fn on_tick(&mut self, now: u64, out: &mut Datagram) -> Report
         requires can { CanGoOn self.old }
         requires moment { now < 2 ^ 63 }
@@ -31,8 +29,8 @@ impl Tables {
         ensures { Does (on_tick self.old now) result out.old out.new self.new }
     {
         match self.first_due() {
-            Some(DueItem::Sending(due)) if due.at <= now => self.send(now, due.number, out),
-            Some(DueItem::Serving(due)) if due.at <= now => self.deliver(now, due.number, out),
+            Some(DueItem::ToSend(due)) if due.at <= now => self.send(now, due.number, out),
+            Some(DueItem::ToServe(due)) if due.at <= now => self.deliver(now, due.number, out),
             _ => self.idle(now, out),
         }
     }
@@ -42,7 +40,7 @@ impl Tables {
         ensures { result ≡ next_due self.now }
     {
         match self.first_due()? {
-            DueItem::Sending(due) | DueItem::Serving(due) => Some(due.at),
+            DueItem::ToSend(due) | DueItem::ToServe(due) => Some(due.at),
         }
     }
 
@@ -53,13 +51,13 @@ impl Tables {
         match (self.exchanges.due(), self.waiters.due(&self.exchanges)) {
             (Some(exchange), Some(waiter)) => {
                 if exchange.at <= waiter.at {
-                    Some(DueItem::Sending(exchange))
+                    Some(DueItem::ToSend(exchange))
                 } else {
-                    Some(DueItem::Serving(waiter))
+                    Some(DueItem::ToServe(waiter))
                 }
             }
-            (Some(exchange), None) => Some(DueItem::Sending(exchange)),
-            (None, Some(waiter)) => Some(DueItem::Serving(waiter)),
+            (Some(exchange), None) => Some(DueItem::ToSend(exchange)),
+            (None, Some(waiter)) => Some(DueItem::ToServe(waiter)),
             (None, None) => None,
         }
     }
@@ -117,7 +115,7 @@ impl Tables {
     /// Nothing is due.
     fn idle(&mut self, now: u64, out: &mut Datagram) -> Report
         requires { CanGoOn self.old }
-        ensures { Does (silent Idle (later self.old now)) result out.old out.new self.new }
+        ensures { Does (idles self.old now) result out.old out.new self.new }
     {
         out.clear();
         self.pass(now);

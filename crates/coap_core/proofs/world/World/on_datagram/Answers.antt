@@ -1,0 +1,24 @@
+use Rattle.std.proofs.Common.{◌≡◌, ◌≤◌, Some, OnErr, true, length, sym, ap, subst}
+use Rattle.std.specs.Prelude.{IfOk}
+use Rattle.coap_model.specs.Memory.{takes_memory}
+use Rattle.coap_model.specs.Step.{message_in, on_message, on_datagram}
+use Rattle.coap_model.specs.World.{Step}
+use Rattle.coap_core.specs.Steps.{Does}
+use Rattle.coap_core.proofs.Read.{on_read-message}
+use Rattle.coap_core.proofs.world.World.on_datagram.Goals.{In-Some}
+use Rattle.coap_core.proofs.world.World.on_datagram.Goals as goal
+
+-- the step is that of the message that is read
+same : (c : In-Some) → on_datagram c.args.self.now c.args.now c.args.source c.args.bytes.now ≡ on_message c.args.self.now c.args.now c.args.source c.in-Some.message
+same c = on_read-message c.args.self.now c.args.now c.args.source c.args.bytes.now c.in-Some.message (sym c.in-Some.ensures)
+
+pub on_message-requires-clause-fits : goal.on_message-requires-clause-fits
+on_message-requires-clause-fits c = subst (λ (s : Step). length s.bytes ≤ c.args.out.now.room) (same (goal.at.on_message-requires-clause-fits c).In-Some) c.requires.fits
+
+pub returns-in-Some-clause-exact : goal.returns-in-Some-clause-exact
+returns-in-Some-clause-exact c =
+    subst (λ (s : Step). IfOk c.on_message.result (λ report. Does s report c.args.out.now c.on_message.new.out c.on_message.new.self)) (sym (same (goal.at.returns-in-Some-clause-exact c).In-Some)) c.on_message.ensures.exact
+
+pub returns-in-Some-clause-memory : goal.returns-in-Some-clause-memory
+returns-in-Some-clause-memory c =
+    subst (λ (s : Step). OnErr c.on_message.result (takes_memory s.report.outcome ≡ true)) (sym (same (goal.at.returns-in-Some-clause-memory c).In-Some)) c.on_message.ensures.memory

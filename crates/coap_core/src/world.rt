@@ -1,0 +1,135 @@
+//! What a proxy was made with, and its tables.
+ghost use Rattle.std.specs.Prelude.{◌≡◌, ◌+◌, ◌<◌, ◌^◌, None, IfOk};
+ghost use Rattle.coap_model.specs.Limits.{AreLimits};
+ghost use Rattle.coap_model.specs.World.{next_id, later, reserved, has_ids, has_room, new_world, counts};
+ghost use Rattle.coap_core.specs.Steps.{CanGoOn};
+
+use coap_exchange::{Exchanges, Ids, Table, Waiter};
+use coap_message::OutOfMemory;
+use coap_model::{Counts, Limits, Outcome, Report};
+use coap_routes::Routes;
+use std::alloc::Global;
+use std::marker::Model;
+
+/// What a proxy was made with, and what it holds. A contract sees the world of the model.
+#[derive(Drop)]
+pub(crate) struct World {
+    pub(crate) alloc: Global,
+    pub(crate) limits: Limits,
+    pub(crate) routes: Routes,
+    pub(crate) salt: u64,
+    pub(crate) exchanges: Exchanges,
+    pub(crate) waiters: Table<Waiter>,
+    pub(crate) ids: Ids,
+    pub(crate) last: u64,
+    pub(crate) events: u64,
+}
+
+impl Model for World {
+    ghost use Rattle.std.specs.Prelude.{◌≡◌};
+    ghost use Rattle.coap_model.specs.World.{World};
+
+    ghost Value = { World };
+
+    ghost view = { λ t. record { setting = record { limits = t.limits; routes = t.routes; first_id = t.ids.first; salt = t.salt }; exchanges = t.exchanges.items; waiters = t.waiters.items; opened = t.exchanges.admitted; admitted = t.waiters.admitted; given = t.ids.given; last = t.last; events = t.events } };
+
+    ghost invariant = { λ t. (t.exchanges.limit ≡ t.limits.exchanges) × (t.waiters.limit ≡ t.limits.waiters) };
+}
+
+impl World {
+    /// The world of a proxy that has done nothing. Room for the items of both is made here.
+    pub(crate) fn new(
+        alloc: Global,
+        limits: Limits,
+        routes: Routes,
+        first_id: u16,
+        salt: u64,
+    ) -> Result<World, OutOfMemory>
+        ensures exact { IfOk result (λ world. world ≡ new_world (record { limits = limits; routes = routes; first_id = first_id; salt = salt })) }
+        ensures limits { AreLimits limits }
+    {
+        let exchanges = Exchanges::new(alloc, limits.values().exchanges as usize)?;
+        let waiters = Table::new(alloc, limits.values().waiters as usize)?;
+        Ok(World {
+            alloc,
+            limits,
+            routes,
+            salt,
+            exchanges,
+            waiters,
+            ids: Ids::new(first_id),
+            last: 0,
+            events: 0,
+        })
+    }
+
+    /// The clock, one event on.
+    pub(crate) fn pass(&mut self, now: u64)
+        requires { self.old.events < 2 ^ 63 }
+        ensures { self.new ≡ later self.old now }
+    {
+        self.last = now;
+        self.events += 1;
+    }
+
+    /// The next message id.
+    pub(crate) fn take_id(&mut self) -> u16
+        requires { self.old.given < 32768 }
+        ensures id { result ≡ next_id self.old }
+        ensures given { self.new ≡ record self.old { given = self.old.given + 1 } }
+    {
+        self.ids.next()
+    }
+
+    /// How many ids are kept for requests that are still to be sent, and for clients that are still to
+    /// be served.
+    fn reserved(&self) -> u64
+        requires { CanGoOn self.now }
+        ensures { result ≡ reserved self.now }
+    {
+        self.waiters.len() as u64 + self.exchanges.queued() as u64
+    }
+
+    /// Whether so many ids are free.
+    pub(crate) fn has_ids(&self, count: u64) -> bool
+        requires can { CanGoOn self.now }
+        requires few { count < 3 }
+        ensures { result ≡ has_ids count self.now }
+    {
+        self.ids.given + self.reserved() + count <= Ids::MOST
+    }
+
+    /// Whether there is room for an exchange and its client.
+    pub(crate) fn has_room(&self) -> bool
+        requires { CanGoOn self.now }
+        ensures { result ≡ has_room self.now }
+    {
+        (self.exchanges.len() as u64) < self.limits.values().exchanges
+            && (self.waiters.len() as u64) < self.limits.values().waiters
+            && self.has_ids(2)
+    }
+
+    /// How much the proxy holds.
+    pub(crate) fn counts(&self) -> Counts
+        ensures { result ≡ counts self.now }
+    {
+        Counts {
+            cached_bytes: 0,
+            entries: 0,
+            con_records: 0,
+            non_records: 0,
+            exchanges: self.exchanges.len() as u64,
+            waiters: self.waiters.len() as u64,
+        }
+    }
+}
+
+/// Nothing is sent.
+pub(crate) fn silent(outcome: Outcome) -> Report
+    ensures { result ≡ record { send = None; outcome = outcome } }
+{
+    Report {
+        send: None,
+        outcome,
+    }
+}
