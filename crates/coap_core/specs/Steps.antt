@@ -1,5 +1,5 @@
 -- What the calls of a core answer and leave.
-use Rattle.std.specs.Prelude.{◌≡◌, ℕ, ◌+◌, ◌<◌, ◌≤◌, ◌^◌, true, List, Option, Some, None, IfSome, option_map}
+use Rattle.std.specs.Prelude.{◌≡◌, ℕ, ◌+◌, ◌<◌, ◌≤◌, ◌^◌, true, List, ◌∷◌, Option, Some, None, IfSome, option_map}
 use Rattle.std.specs.List.{AllByRecursion}
 use Rattle.coap_message.specs.Datagram.{Datagram, holding}
 use Rattle.coap_message.specs.Spelling.{spelling}
@@ -13,6 +13,10 @@ use Rattle.coap_exchange.specs.declared.waiter.Waiter.{Waiter}
 use Rattle.coap_exchange.specs.Due.{Item, sending, serving, due_as, answer_in}
 use Rattle.coap_model.specs.declared.report.Report.{Report}
 use Rattle.coap_model.specs.Messages as messages
+use Rattle.coap_model.specs.Events.{Event}
+use Rattle.coap_model.specs.History.{Entry}
+use Rattle.coap_model.specs.Carries.{Carries}
+use Rattle.coap_model.specs.Promised.{Promised}
 use Rattle.coap_model.specs.World.{World, Step, reserved}
 use Rattle.coap_core.specs.declared.requests.Verdict.{Verdict}
 use Rattle.coap_core.specs.declared.requests.Verdict.TheVariants.{RefusedWith, MayOpen}
@@ -24,14 +28,27 @@ use Rattle.coap_core.specs.declared.ticks.DueItem.TheVariants.{ToSend, ToServe}
 abbrev pub Does : Step → Report → Datagram → Datagram → World → Type 0
 Does s report old new world = (report ≡ s.report) × (new ≡ holding old s.bytes) × (world ≡ s.world)
 
+-- what the outside saw of a step
+abbrev pub entry_told : ℕ → ℕ → Event → Report → List ℕ → Entry
+entry_told now draw event report bytes =
+    record { now = now; draw = draw; event = event; report = report; bytes = bytes }
+
+-- Whatever history is carried before an entry is carried after it with the entry in front, and what
+-- is carried then is promised.
+abbrev pub CarriesOn : World → Entry → World → Type 0
+CarriesOn before e after = (history : List Entry) → Carries history before → Carries (e ∷ history) after
+
+abbrev pub PromisesOn : World → Entry → World → Type 0
+PromisesOn before e after = (history : List Entry) → Carries history before → Promised (e ∷ history) after
+
 -- the options of an answer were understood
 abbrev pub IsUnderstood : ExchangeState → Type 0
 IsUnderstood Queued = Unit {0}
 IsUnderstood (Sent s) = Unit {0}
 IsUnderstood (Done a) = messages.are_understood a.message.options ≡ true
 
--- What a step needs of the tables before it: they are in order of number, there are numbers left to count
--- with, an id is left for whoever it is kept for, and answers can be shown.
+-- What a step needs of the tables before it: they are in order of number, there are numbers left to
+-- count with, an id is left for whoever it is kept for, and answers can be shown.
 pub record CanGoOn (w : World) : Type 0 where
   pub exchanges : IsRising 0 w.exchanges
   pub waiters : IsRising 0 w.waiters
@@ -68,7 +85,8 @@ sending_at w now number = option_map (λ x. sends w now (number, x)) (item_at nu
 
 abbrev pub delivery_of : World → ℕ → ℕ → Option Waiter → Option Step
 delivery_of w now number None = None
-delivery_of w now number (Some v) = option_map (λ a. delivers w now (number, v) a) (answer_in v.exchange w.exchanges)
+delivery_of w now number (Some v) =
+    option_map (λ a. delivers w now (number, v) a) (answer_in v.exchange w.exchanges)
 
 abbrev pub delivery_at : World → ℕ → ℕ → Option Step
 delivery_at w now number = delivery_of w now number (item_at number w.waiters)

@@ -10,8 +10,8 @@ use coap_message::{
 use coap_option::numbers;
 use std::alloc::Global;
 
-/// How many bytes a datagram has at most beside a payload and its marker: the header, a token of eight
-/// bytes, and a Max-Age of four.
+/// How many bytes a datagram has at most beside a payload and its marker: the header, a token of
+/// eight bytes, and a Max-Age of four.
 const BESIDE_PAYLOAD: usize = 18;
 
 /// Whether a response fits a datagram of so many bytes with any token and any Max-Age.

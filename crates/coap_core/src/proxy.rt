@@ -1,17 +1,16 @@
 //! The core of a proxy: one step for one event.
-ghost use Rattle.std.specs.Prelude.{◌≡◌, ◌≤◌, ◌<◌, ◌^◌, List, [], ◌∷◌, true, length, IfOk, IsOk, OnErr};
+ghost use Rattle.std.specs.Prelude.{◌≡◌, ◌≤◌, ◌<◌, ◌^◌, [], true, length, IfOk, IsOk, OnErr};
 ghost use Rattle.coap_message.specs.Datagram.{holding};
 ghost use Rattle.coap_model.specs.Events.{tick};
 ghost use Rattle.coap_model.specs.Held.{held, most_held};
 ghost use Rattle.coap_model.specs.Memory.{takes_memory};
+ghost use Rattle.coap_model.specs.Setting.{setting_of};
 ghost use Rattle.coap_model.specs.World.{new_world, counts};
 ghost use Rattle.coap_model.specs.Ticks.{next_due};
 ghost use Rattle.coap_model.specs.Step.{step_of};
-ghost use Rattle.coap_model.specs.History.{Entry};
 ghost use Rattle.coap_model.specs.Carries.{Carries};
-ghost use Rattle.coap_model.specs.Promised.{Promised};
 ghost use Rattle.coap_core.specs.Events.{IsUnread, seen};
-ghost use Rattle.coap_core.specs.Steps.{Does};
+ghost use Rattle.coap_core.specs.Steps.{CarriesOn, Does, PromisesOn, entry_told};
 
 use crate::event::Event;
 use crate::world::World;
@@ -25,8 +24,8 @@ use coap_routes::Routes;
 use std::alloc::Global;
 use std::marker::Model;
 
-/// The core of a proxy. A contract sees the world of the model: what the core was made with, and its
-/// tables.
+/// The core of a proxy. A contract sees the world of the model: what the core was made with, and
+/// its tables.
 #[derive(Drop)]
 pub struct Core {
     world: World,
@@ -50,8 +49,8 @@ impl Model for Core {
 impl Core {
     /// A core that has done nothing. Room for exchanges and clients is made here.
     ///
-    /// `first_id` is the first message id that it gives (RFC 7252, 4.4). `salt` makes its tokens differ from
-    /// those of its former lives (RFC 7252, 5.3.1).
+    /// `first_id` is the first message id that it gives (RFC 7252, 4.4). `salt` makes its tokens
+    /// differ from those of its former lives (RFC 7252, 5.3.1).
     ///
     /// # Errors
     /// Want of memory.
@@ -63,7 +62,7 @@ impl Core {
         salt: u64,
     ) -> Result<Core, OutOfMemory>
         // It is made of exactly what it was handed, and carries no history.
-        ensures exact { IfOk result (λ core. core ≡ new_world (record { limits = limits; routes = routes; first_id = first_id; salt = salt })) }
+        ensures exact { IfOk result (λ core. core ≡ new_world (setting_of limits routes first_id salt)) }
         ensures carries { IfOk result (λ core. Carries [] core) }
     {
         new_proxies_carry_nothing();
@@ -72,15 +71,15 @@ impl Core {
         Ok(Core { world })
     }
 
-    /// One step: what is made of an event at a moment, with a random draw, which no step reads yet. The
-    /// datagram that it sends, if it sends one, is in `out`, which is empty otherwise.
+    /// One step: what is made of an event at a moment, with a random draw, which no step reads yet.
+    /// The datagram that it sends, if it sends one, is in `out`, which is empty otherwise.
     ///
-    /// `now` is in milliseconds, at most 2^62, and doesn't go back; `draw` is at most 1,000; `out` has room
-    /// for `datagram()` bytes; fewer than 2^63 steps were done.
+    /// `now` is in milliseconds, at most 2^62, and doesn't go back; `draw` is at most 1,000; `out`
+    /// has room for `datagram()` bytes; fewer than 2^63 steps were done.
     ///
     /// # Errors
-    /// Want of memory, which changes nothing. It is answered only where an exchange was to be opened or an answer
-    /// to be kept.
+    /// Want of memory, which changes nothing. It is answered only where an exchange was to be
+    /// opened or an answer to be kept.
     pub fn step(
         &mut self,
         now: u64,
@@ -94,16 +93,20 @@ impl Core {
         requires room { self.old.setting.limits.datagram ≤ out.old.room }
         requires events { self.old.events < 2 ^ 63 }
 
-        // The report, the datagram and the core after it are determined, and the datagram isn't too long.
-        ensures exact { IfOk result (λ report. Does (step_of self.old now draw (seen event.entry)) report out.old out.new self.new) }
+        // The report, the datagram and the core after it are determined, and the datagram isn't too
+        // long.
+        ensures exact { IfOk result (λ report.
+            Does (step_of self.old now draw (seen event.entry)) report out.old out.new self.new) }
 
         ensures short { length out.new.bytes ≤ self.new.setting.limits.datagram }
 
         // A core that carries a history carries it with the entry of the step in front.
-        ensures carries { IfOk result (λ report. (history : List Entry) → Carries history self.old → Carries (record { now = now; draw = draw; event = seen event.entry; report = report; bytes = out.new.bytes } ∷ history) self.new) }
+        ensures carries { IfOk result (λ report.
+            CarriesOn self.old (entry_told now draw (seen event.entry) report out.new.bytes) self.new) }
 
         // So it promises of this step what it promised of those before.
-        ensures promised { IfOk result (λ report. (history : List Entry) → Carries history self.old → Promised (record { now = now; draw = draw; event = seen event.entry; report = report; bytes = out.new.bytes } ∷ history) self.new) }
+        ensures promised { IfOk result (λ report.
+            PromisesOn self.old (entry_told now draw (seen event.entry) report out.new.bytes) self.new) }
 
         // It is as it was made, within its limits, and within the bound on bytes.
         ensures setting { self.new.setting ≡ self.old.setting }
@@ -115,9 +118,10 @@ impl Core {
         ensures err { OnErr result (self.new ≡ self.old) }
         ensures none { OnErr result (out.new ≡ holding out.old []) }
 
-        // It can be missing only where an exchange is opened or an answer is kept: whatever else is done needs none.
-        // So a tick needs none, nor does a datagram without a message.
-        ensures memory { OnErr result (takes_memory (step_of self.old now draw (seen event.entry)).report.outcome ≡ true) }
+        // It can be missing only where an exchange is opened or an answer is kept: whatever else is
+        // done needs none. So a tick needs none, nor does a datagram without a message.
+        ensures memory { OnErr result
+            (takes_memory (step_of self.old now draw (seen event.entry)).report.outcome ≡ true) }
         ensures ticks { seen event.entry ≡ tick → IsOk result }
         ensures unread { IsUnread self.old.setting.limits.datagram (seen event.entry) → IsOk result }
     {

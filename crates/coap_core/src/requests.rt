@@ -66,10 +66,12 @@ impl World {
         requires can { CanGoOn self.old }
         requires room { self.old.setting.limits.datagram ≤ out.old.room }
         requires fits { length (on_request self.old now client request.now).bytes ≤ out.old.room }
-        ensures exact { IfOk result (λ report. Does (on_request self.old now client request.now) report out.old out.new self.new) }
+        ensures exact { IfOk result (λ report.
+            Does (on_request self.old now client request.now) report out.old out.new self.new) }
         ensures err { OnErr result (self.new ≡ self.old) }
         ensures kept { out.new.room ≡ out.old.room }
-        ensures memory { OnErr result (takes_memory (on_request self.old now client request.now).report.outcome ≡ true) }
+        ensures memory { OnErr result
+            (takes_memory (on_request self.old now client request.now).report.outcome ≡ true) }
     {
         match self.verdict_of(request, out) {
             Verdict::MayOpen(target) => {
@@ -92,13 +94,15 @@ impl World {
         }
     }
 
-    /// What becomes of a request: the method, the options, the target, the length of what is sent on; the
-    /// first that is at fault decides. Where an exchange may be opened, `out` holds what is sent on.
+    /// What becomes of a request: the method, the options, the target, the length of what is sent
+    /// on; the first that is at fault decides. Where an exchange may be opened, `out` holds what is
+    /// sent on.
     #[tactic(auto, unfolding(coap_model::specs::Messages::verdict_of))]
     fn verdict_of<'m, 'a>(&'m self, request: &MessageRef<'a>, out: &mut Datagram) -> Verdict<'m, 'a>
         requires can { CanGoOn self.now }
         requires room { self.now.setting.limits.datagram ≤ out.old.room }
-        ensures exact { verdict_seen result ≡ verdict_of self.now.setting.routes self.now.setting.limits.datagram request.now }
+        ensures exact { verdict_seen result
+            ≡ verdict_of self.now.setting.routes self.now.setting.limits.datagram request.now }
         ensures form { FormIs (next_token self.now) result out.new.bytes }
         ensures kept { out.new.room ≡ out.old.room }
     {
@@ -135,7 +139,8 @@ impl World {
         requires can { CanGoOn self.now }
         requires room { self.now.setting.limits.datagram ≤ out.old.room }
         requires target { IsTarget (seen target) }
-        ensures exact { verdict_seen result ≡ verdict_of_target self.now.setting.limits.datagram (Some (seen target.entry)) }
+        ensures exact { verdict_seen result
+            ≡ verdict_of_target self.now.setting.limits.datagram (Some (seen target.entry)) }
         ensures form { FormIs (next_token self.now) result out.new.bytes }
         ensures kept { out.new.room ≡ out.old.room }
     {
@@ -209,7 +214,8 @@ impl World {
         silent(Outcome::NoId)
     }
 
-    /// An exchange is opened for a target, and the client waits for it. `out` holds what is sent on.
+    /// An exchange is opened for a target, and the client waits for it. `out` holds what is sent
+    /// on.
     fn open(
         &mut self,
         now: u64,
@@ -220,7 +226,8 @@ impl World {
     ) -> Result<Report, OutOfMemory>
         requires can { CanGoOn self.old }
         requires form { out.old.bytes ≡ spelling (forwarded (next_token self.old) target 0) }
-        ensures exact { IfOk result (λ report. Does (opens self.old now client request.now target) report out.old out.new self.new) }
+        ensures exact { IfOk result (λ report.
+            Does (opens self.old now client request.now target) report out.old out.new self.new) }
         ensures err { OnErr result (self.new ≡ self.old) }
         ensures kept { out.new.room ≡ out.old.room }
     {

@@ -40,10 +40,12 @@ impl World {
         out: &mut Datagram,
     ) -> Result<Report, OutOfMemory>
         requires { CanGoOn self.old }
-        ensures exact { IfOk result (λ report. Does (on_response self.old now source response.now) report out.old out.new self.new) }
+        ensures exact { IfOk result (λ report.
+            Does (on_response self.old now source response.now) report out.old out.new self.new) }
         ensures err { OnErr result (self.new ≡ self.old) }
         ensures kept { out.new.room ≡ out.old.room }
-        ensures memory { OnErr result (takes_memory (on_response self.old now source response.now).report.outcome ≡ true) }
+        ensures memory { OnErr result
+            (takes_memory (on_response self.old now source response.now).report.outcome ≡ true) }
     {
         match self.awaiting(source, response) {
             Some(number) => self.answer(now, number, response, out),
@@ -51,7 +53,8 @@ impl World {
         }
     }
 
-    /// The number of the exchange that awaits this response of this endpoint: by endpoint, id and token.
+    /// The number of the exchange that awaits this response of this endpoint: by endpoint, id and
+    /// token.
     fn awaiting(&self, source: Endpoint, response: &MessageRef<'_>) -> Option<u64>
         requires { CanGoOn self.now }
         ensures exact { result ≡ option_map (λ x. x.0) (awaiting self.now source response.now) }
@@ -76,7 +79,9 @@ impl World {
     ) -> Result<Report, OutOfMemory>
         requires can { CanGoOn self.old }
         requires sent { IsSentAt number self.old.exchanges }
-        ensures exact { (x : Exchange) → IfOk result (λ report. Does (answers self.old now response.now (number, x)) report out.old out.new self.new) }
+        ensures exact { (x : Exchange)
+            → IfOk result (λ report.
+            Does (answers self.old now response.now (number, x)) report out.old out.new self.new) }
         ensures err { OnErr result (self.new ≡ self.old) }
         ensures kept { out.new.room ≡ out.old.room }
     {

@@ -28,10 +28,12 @@ impl World {
         requires moment { now < 2 ^ 63 }
         requires room { self.old.setting.limits.datagram ≤ out.old.room }
         requires fits { length (step_of self.old now 0 (seen event)).bytes ≤ out.old.room }
-        ensures exact { IfOk result (λ report. Does (step_of self.old now 0 (seen event.entry)) report out.old out.new self.new) }
+        ensures exact { IfOk result (λ report.
+            Does (step_of self.old now 0 (seen event.entry)) report out.old out.new self.new) }
         ensures err { OnErr result (self.new ≡ self.old) }
         ensures none { OnErr result (out.new ≡ holding out.old []) }
-        ensures memory { OnErr result (takes_memory (step_of self.old now 0 (seen event.entry)).report.outcome ≡ true) }
+        ensures memory { OnErr result
+            (takes_memory (step_of self.old now 0 (seen event.entry)).report.outcome ≡ true) }
         ensures ticks { seen event.entry ≡ tick → IsOk result }
         ensures unread { IsUnread self.old.setting.limits.datagram (seen event.entry) → IsOk result }
     {
@@ -55,10 +57,12 @@ impl World {
         requires can { CanGoOn self.old }
         requires room { self.old.setting.limits.datagram ≤ out.old.room }
         requires fits { length (on_datagram self.old now source bytes.now).bytes ≤ out.old.room }
-        ensures exact { IfOk result (λ report. Does (on_datagram self.old now source bytes.now) report out.old out.new self.new) }
+        ensures exact { IfOk result (λ report.
+            Does (on_datagram self.old now source bytes.now) report out.old out.new self.new) }
         ensures err { OnErr result (self.new ≡ self.old) }
         ensures kept { out.new.room ≡ out.old.room }
-        ensures memory { OnErr result (takes_memory (on_datagram self.old now source bytes.now).report.outcome ≡ true) }
+        ensures memory { OnErr result
+            (takes_memory (on_datagram self.old now source bytes.now).report.outcome ≡ true) }
         ensures unread { message_in self.old.setting.limits.datagram bytes.now ≡ None → IsOk result }
     {
         if let Some(message) = self.message_in(bytes) {
@@ -92,10 +96,12 @@ impl World {
         requires can { CanGoOn self.old }
         requires room { self.old.setting.limits.datagram ≤ out.old.room }
         requires fits { length (on_message self.old now source message.now).bytes ≤ out.old.room }
-        ensures exact { IfOk result (λ report. Does (on_message self.old now source message.now) report out.old out.new self.new) }
+        ensures exact { IfOk result (λ report.
+            Does (on_message self.old now source message.now) report out.old out.new self.new) }
         ensures err { OnErr result (self.new ≡ self.old) }
         ensures kept { out.new.room ≡ out.old.room }
-        ensures memory { OnErr result (takes_memory (on_message self.old now source message.now).report.outcome ≡ true) }
+        ensures memory { OnErr result
+            (takes_memory (on_message self.old now source message.now).report.outcome ≡ true) }
     {
         match message.kind {
             Kind::Non if message.code.is_request() => self.on_request(now, source, message, out),

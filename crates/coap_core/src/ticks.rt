@@ -68,7 +68,8 @@ impl World {
         requires there { IsSome (sending_at self.old now number) }
         requires queued { IfSome (item_at number self.old.exchanges) (λ x. is_queued x.state ≡ true) }
         requires fits { IfSome (sending_at self.old now number) (λ step. length step.bytes ≤ out.old.room) }
-        ensures { IfSome (sending_at self.old now number) (λ step. Does step result out.old out.new self.new) }
+        ensures { IfSome (sending_at self.old now number) (λ step.
+            Does step result out.old out.new self.new) }
     {
         let Some(exchange) = self.exchanges.get(number) else {
             unreachable!();
@@ -91,7 +92,8 @@ impl World {
         requires moment { now < 2 ^ 63 }
         requires there { IsSome (delivery_at self.old now number) }
         requires fits { IfSome (delivery_at self.old now number) (λ step. length step.bytes ≤ out.old.room) }
-        ensures { IfSome (delivery_at self.old now number) (λ step. Does step result out.old out.new self.new) }
+        ensures { IfSome (delivery_at self.old now number) (λ step.
+            Does step result out.old out.new self.new) }
     {
         let Some(waiter) = self.waiters.get(number).copied() else {
             unreachable!();

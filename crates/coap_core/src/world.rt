@@ -1,6 +1,7 @@
 //! What a proxy was made with, and its tables.
 ghost use Rattle.std.specs.Prelude.{◌≡◌, ◌+◌, ◌<◌, ◌^◌, None, IfOk};
 ghost use Rattle.coap_model.specs.Limits.{AreLimits};
+ghost use Rattle.coap_model.specs.Setting.{setting_of};
 ghost use Rattle.coap_model.specs.World.{next_id, later, reserved, has_ids, has_room, new_world, counts};
 ghost use Rattle.coap_core.specs.Steps.{CanGoOn};
 
@@ -28,10 +29,11 @@ pub(crate) struct World {
 impl Model for World {
     ghost use Rattle.std.specs.Prelude.{◌≡◌};
     ghost use Rattle.coap_model.specs.World.{World};
+    ghost use Rattle.coap_core.specs.WorldView.{seen};
 
     ghost Value = { World };
 
-    ghost view = { λ t. record { setting = record { limits = t.limits; routes = t.routes; first_id = t.ids.first; salt = t.salt }; exchanges = t.exchanges.items; waiters = t.waiters.items; opened = t.exchanges.admitted; admitted = t.waiters.admitted; given = t.ids.given; last = t.last; events = t.events } };
+    ghost view = { seen };
 
     ghost invariant = { λ t. (t.exchanges.limit ≡ t.limits.exchanges) × (t.waiters.limit ≡ t.limits.waiters) };
 }
@@ -45,7 +47,7 @@ impl World {
         first_id: u16,
         salt: u64,
     ) -> Result<World, OutOfMemory>
-        ensures exact { IfOk result (λ world. world ≡ new_world (record { limits = limits; routes = routes; first_id = first_id; salt = salt })) }
+        ensures exact { IfOk result (λ world. world ≡ new_world (setting_of limits routes first_id salt)) }
         ensures limits { AreLimits limits }
     {
         let exchanges = Exchanges::new(alloc, limits.values().exchanges as usize)?;
@@ -81,8 +83,8 @@ impl World {
         self.ids.next()
     }
 
-    /// How many ids are kept for requests that are still to be sent, and for clients that are still to
-    /// be served.
+    /// How many ids are kept for requests that are still to be sent, and for clients that are still
+    /// to be served.
     fn reserved(&self) -> u64
         requires { CanGoOn self.now }
         ensures { result ≡ reserved self.now }

@@ -1,4 +1,5 @@
-//! The messages that a proxy sends, written part by part into the caller's datagram, without memory.
+//! The messages that a proxy sends, written part by part into the caller's datagram, without
+//! memory.
 ghost use Rattle.std.specs.Prelude.{◌≡◌, ◌≤◌, ◌<◌, ◌∷◌, ◌^◌, [], true, length, map, IfOk, IfSome};
 ghost use Rattle.std.specs.List.{AllByRecursion};
 ghost use Rattle.coap_message.specs.Datagram.{Appends, holding};
@@ -48,7 +49,8 @@ fn try_message(
     payload: &[u8],
 ) -> Result<(), Full>
     requires room { room ≤ out.old.room }
-    ensures { Appends (holding out.old []) out.new room (spelling (message_of head token.now options.now payload.now)) result }
+    ensures { Appends (holding out.old []) out.new room
+        (spelling (message_of head token.now options.now payload.now)) result }
 {
     put_head(out, room, head, token)?;
     put_options(out, room, options)?;
@@ -63,8 +65,11 @@ pub(crate) fn put_with_max_age(
     seconds: u64,
     payload: &[u8],
 )
-    requires fits { length (spelling (message_of head token.now (max_age_option seconds ∷ []) payload.now)) ≤ out.old.room }
-    ensures { out.new ≡ holding out.old (spelling (message_of head token.now (max_age_option seconds ∷ []) payload.now)) }
+    requires fits { length (spelling (message_of head token.now (max_age_option seconds ∷ []) payload.now)) ≤
+        out.old.room }
+    ensures { out.new
+        ≡ holding out.old
+        (spelling (message_of head token.now (max_age_option seconds ∷ []) payload.now)) }
 {
     let room = out.room();
     if try_with_max_age(out, room, head, token, seconds, payload).is_err() {
@@ -82,7 +87,8 @@ fn try_with_max_age(
     payload: &[u8],
 ) -> Result<(), Full>
     requires { room ≤ out.old.room }
-    ensures { Appends (holding out.old []) out.new room (spelling (message_of head token.now (max_age_option seconds ∷ []) payload.now)) result }
+    ensures { Appends (holding out.old []) out.new room
+        (spelling (message_of head token.now (max_age_option seconds ∷ []) payload.now)) result }
 {
     let seconds = seconds.to_be_bytes();
     put_head(out, room, head, token)?;
@@ -92,7 +98,8 @@ fn try_with_max_age(
 
 // ---- the request that is sent on
 
-/// Adds an option for each value, behind one of the number `before`. Answers the number of the last.
+/// Adds an option for each value, behind one of the number `before`. Answers the number of the
+/// last.
 fn put_values<'a, P: Segments<'a>>(
     out: &mut Datagram,
     room: usize,
@@ -104,7 +111,8 @@ fn put_values<'a, P: Segments<'a>>(
     requires held { length out.old.bytes ≤ room }
     requires above { before ≤ number }
     requires within { AllByRecursion IsShort (P.left values) }
-    ensures written { Appends out.old out.new room (options_spelling before (map (option_of number) (P.left values))) (unit_of result) }
+    ensures written { Appends out.old out.new room
+        (options_spelling before (map (option_of number) (P.left values))) (unit_of result) }
     ensures last { IfOk result (λ last. last ≡ last_number before (map (option_of number) (P.left values))) }
 {
     let mut values = values;
@@ -133,8 +141,8 @@ fn put_host(out: &mut Datagram, room: usize, host: &Option<Seq<u8>>) -> Result<u
     }
 }
 
-/// Adds a Uri-Path for each segment of a target, those of the map's origin first, behind an option of the number
-/// `before`. Answers the number of the last.
+/// Adds a Uri-Path for each segment of a target, those of the map's origin first, behind an option
+/// of the number `before`. Answers the number of the last.
 fn put_path(
     out: &mut Datagram,
     room: usize,
@@ -145,7 +153,8 @@ fn put_path(
     requires held { length out.old.bytes ≤ room }
     requires above { before ≤ 11 }
     requires within { AllByRecursion IsShort (seen target.now).path }
-    ensures written { Appends out.old out.new room (options_spelling before (map (option_of 11) (seen target.now).path)) (unit_of result) }
+    ensures written { Appends out.old out.new room
+        (options_spelling before (map (option_of 11) (seen target.now).path)) (unit_of result) }
     ensures last { IfOk result (λ last. last ≡ last_number before (map (option_of 11) (seen target.now).path)) }
 {
     let path = target.origin.path.iter();
@@ -154,8 +163,8 @@ fn put_path(
     put_values(out, room, last, numbers::URI_PATH, rest)
 }
 
-/// Writes the request for a target, with the id 0, if it is at most `room` bytes: Uri-Host, a Uri-Path
-/// for each segment and a Uri-Query for each part (RFC 7252, 5.10.1).
+/// Writes the request for a target, with the id 0, if it is at most `room` bytes: Uri-Host, a
+/// Uri-Path for each segment and a Uri-Query for each part (RFC 7252, 5.10.1).
 #[tactic(auto, unfolding(coap_message::specs::Spelling::spelling, coap_model::specs::Messages::target_options))]
 pub(crate) fn put_forwarded(
     out: &mut Datagram,
@@ -165,7 +174,8 @@ pub(crate) fn put_forwarded(
 ) -> Result<(), Full>
     requires room { room ≤ out.old.room }
     requires target { IsTarget (seen target.now) }
-    ensures { Appends (holding out.old []) out.new room (spelling (forwarded token.now (seen target.now) 0)) result }
+    ensures { Appends (holding out.old []) out.new room
+        (spelling (forwarded token.now (seen target.now) 0)) result }
 {
     let head = Head {
         kind: Kind::Con,

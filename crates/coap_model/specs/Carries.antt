@@ -35,7 +35,9 @@ pub record Numbers (history : List Deed) (w : World) : Type 0 where
 -- ---- exchanges
 
 -- the exchange was asked in the history, for this target, with this id
-pub record WasAsked (setting : Setting) (history : List Deed) (x : ℕ) (target : Target) (id asked : ℕ) : Type 0 where
+pub record WasAsked
+    (setting : Setting) (history : List Deed) (x : ℕ) (target : Target) (id asked : ℕ)
+    : Type 0 where
   pub asking : Place
   pub was_asked : IsPlaceOf history asking
   pub asks : Asks setting.salt x asking
@@ -45,21 +47,27 @@ pub record WasAsked (setting : Setting) (history : List Deed) (x : ℕ) (target 
   pub number : asked ≡ index asking
 
 -- the exchange was got in the history, with this answer
-pub record WasGot (setting : Setting) (history : List Deed) (x : ℕ) (target : Target) (answer : Answer) : Type 0 where
+pub record WasGot
+    (setting : Setting) (history : List Deed) (x : ℕ) (target : Target) (answer : Answer)
+    : Type 0 where
   pub getting : Place
   pub was_got : IsPlaceOf history getting
   pub gets : Gets setting x getting
   pub asked_target : target_sent gets.meets.asks.sends.to gets.meets.asks.sends.message ≡ target
-  pub answer_is : answer ≡ answer_of setting.limits.datagram getting.deed.entry.now gets.meets.response
+  pub answer_is :
+    answer ≡ answer_of setting.limits.datagram getting.deed.entry.now gets.meets.response
 
 -- the state is how far the history brought the exchange
 abbrev pub IsState : Setting → List Deed → ℕ → Target → ExchangeState → Type 0
-IsState setting history x target Queued = Never (Sends setting.salt x) history × Never (Gets setting x) history
-IsState setting history x target (Sent s) = WasAsked setting history x target s.id s.asked × Never (Gets setting x) history
+IsState setting history x target Queued =
+    Never (Sends setting.salt x) history × Never (Gets setting x) history
+IsState setting history x target (Sent s) =
+    WasAsked setting history x target s.id s.asked × Never (Gets setting x) history
 IsState setting history x target (Done a) = WasGot setting history x target a
 
 -- the exchange is the one that the history opened under its number
-pub record IsExchangeOf (setting : Setting) (history : List Deed) (x : Numbered Exchange) : Type 0 where
+pub record IsExchangeOf
+    (setting : Setting) (history : List Deed) (x : Numbered Exchange) : Type 0 where
   pub opened : WasOpened setting history x.0
   pub admitted : x.1.admitted ≡ opened.opening.deed.entry.now
   pub target_is : mapped_target setting.routes opened.request ≡ Some x.1.target
@@ -70,8 +78,8 @@ pub record IsExchangeOf (setting : Setting) (history : List Deed) (x : Numbered 
 
 -- ---- waiters
 
--- the waiter is the one that the history admitted under its number, with an exchange of its own, and
--- wasn't served
+-- the waiter is the one that the history admitted under its number, with an exchange of its own,
+-- and wasn't served
 pub record IsWaiterOf (setting : Setting) (history : List Deed) (v : Numbered Waiter) : Type 0 where
   pub opened : WasOpened setting history v.0
   pub exchange : v.1.exchange ≡ v.0
@@ -93,18 +101,22 @@ abbrev pub HasNumber : {A : Type 0} → ℕ → List (Numbered A) → Type 0
 HasNumber n [] = ⊥
 HasNumber n (x ∷ xs) = (n ≡ x.0) ⊎ HasNumber n xs
 
--- Nothing is missing and nothing is there twice: what was opened waits or was served, and the lengths
--- are what the history counts.
+-- Nothing is missing and nothing is there twice: what was opened waits or was served, and the
+-- lengths are what the history counts.
 pub record AreWhole (history : List Deed) (w : World) : Type 0 where
   pub rising : IsRising 0 w.exchanges
   pub paired : ArePaired w.exchanges w.waiters
-  pub complete : (n : ℕ) → 0 < n → n ≤ opened_in history → HasNumber n w.exchanges ⊎ Somewhere (Serves n) history
+  pub complete :
+    (n : ℕ) → 0 < n → n ≤ opened_in history → HasNumber n w.exchanges ⊎ Somewhere (Serves n) history
   pub under_way : length w.exchanges + served_in history ≡ opened_in history
   pub unsent : count_where is_queued w.exchanges + sent_in history ≡ opened_in history
 
 -- no exchange that isn't opened was sent or got
 abbrev pub IsFresh : Setting → List Deed → Type 0
-IsFresh setting history = (x : ℕ) → opened_in history < x → Never (Sends setting.salt x) history × Never (Gets setting x) history
+IsFresh setting history =
+    (x : ℕ)
+    → opened_in history < x
+    → Never (Sends setting.salt x) history × Never (Gets setting x) history
 
 -- ---- limits
 

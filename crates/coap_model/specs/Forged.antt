@@ -13,20 +13,56 @@ setting = proxy.setting
 
 -- a request comes and is sent on, and its answer comes
 abbrev pub opened : Deed
-opened = record { entry = record { now = 0; draw = 0; event = arrival (client 1) (get_t []); report = record { send = None; outcome = Opened }; bytes = [] }; act = admits 1 1 }
+opened = record {
+  entry = record {
+    now = 0;
+    draw = 0;
+    event = arrival (client 1) (get_t []);
+    report = record { send = None; outcome = Opened };
+    bytes = [];
+  };
+  act = admits 1 1;
+}
 
 abbrev pub asked : Deed
-asked = record { entry = record { now = 0; draw = 0; event = tick; report = record { send = Some origin; outcome = SentRequest }; bytes = get_temp [] }; act = moves 1 }
+asked = record {
+  entry = record {
+    now = 0;
+    draw = 0;
+    event = tick;
+    report = record { send = Some origin; outcome = SentRequest };
+    bytes = get_temp [];
+  };
+  act = moves 1;
+}
 
 abbrev pub answered : Deed
-answered = record { entry = record { now = 0; draw = 0; event = arrival origin content; report = record { send = None; outcome = Answered NotStored }; bytes = [] }; act = moves 1 }
+answered = record {
+  entry = record {
+    now = 0;
+    draw = 0;
+    event = arrival origin content;
+    report = record { send = None; outcome = Answered NotStored };
+    bytes = [];
+  };
+  act = moves 1;
+}
 
 abbrev pub past : List Deed
 past = answered ∷ asked ∷ opened ∷ []
 
 -- a delivery after 2,500 milliseconds
 abbrev pub delivery : Endpoint → List ℕ → Act → Deed
-delivery to bytes act = record { entry = record { now = 2500; draw = 0; event = tick; report = record { send = Some to; outcome = Delivered }; bytes = bytes }; act = act }
+delivery to bytes act = record {
+  entry = record {
+    now = 2500;
+    draw = 0;
+    event = tick;
+    report = record { send = Some to; outcome = Delivered };
+    bytes = bytes;
+  };
+  act = act;
+}
 
 abbrev pub right : Deed
 right = delivery (client 1) (content_for_client 7) (serves 1)

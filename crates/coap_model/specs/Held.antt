@@ -1,5 +1,5 @@
--- How many bytes a proxy holds, and the most that it holds by its limits. What is held counts as many bytes as the
--- values of the program keep of it.
+-- How many bytes a proxy holds, and the most that it holds by its limits. What is held counts as
+-- many bytes as the values of the program keep of it.
 use Rattle.std.specs.Prelude.{ℕ, ◌+◌, ◌*◌, List, length, Option, Some, None}
 use Rattle.std.specs.List.{sum_by}
 use Rattle.coap_message.specs.Message.{Message}
@@ -20,10 +20,11 @@ host_bytes (Some host) = length host + 1
 
 -- segments and parts of a query count as they are kept: each with its length in front of it
 abbrev pub target_bytes : Target → ℕ
-target_bytes t = host_bytes t.host + (length (pieces_spelling t.path) + length (pieces_spelling t.query))
+target_bytes t =
+    host_bytes t.host + (length (pieces_spelling t.path) + length (pieces_spelling t.query))
 
--- A response counts without its token and its id; its options count as they are kept, in the bytes that spell them
--- (RFC 7252, 3.1).
+-- A response counts without its token and its id; its options count as they are kept, in the bytes
+-- that spell them (RFC 7252, 3.1).
 abbrev pub response_bytes : Message → ℕ
 response_bytes m = length (options_spelling 0 m.options) + length m.payload
 
@@ -42,7 +43,11 @@ waiter_bytes v = length v.1.token
 abbrev pub held : World → ℕ
 held w = sum_by exchange_bytes w.exchanges + sum_by waiter_bytes w.waiters
 
--- a bound on what the store, the records, the waiters and the exchanges hold together; there is no store and
--- there are no records yet
+-- a bound on what the store, the records, the waiters and the exchanges hold together; there is no
+-- store and there are no records yet
 abbrev pub most_held : Limits → ℕ
-most_held l = l.cache_bytes + (l.con_records + l.non_records) * (l.datagram + 128) + l.waiters * (l.datagram + 256) + l.exchanges * (4 * l.datagram + 256)
+most_held l =
+    l.cache_bytes
+    + (l.con_records + l.non_records) * (l.datagram + 128)
+    + l.waiters * (l.datagram + 256)
+    + l.exchanges * (4 * l.datagram + 256)

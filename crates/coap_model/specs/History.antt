@@ -1,5 +1,5 @@
--- What the traffic alone says: which entry of a history opened, asked, got and admitted what. This file
--- names no table. A history has its newest entry first.
+-- What the traffic alone says: which entry of a history opened, asked, got and admitted what. This
+-- file names no table. A history has its newest entry first.
 use Rattle.std.specs.Prelude.{◌≡◌, ◌⊎◌, ℕ, ◌+◌, ◌-◌, ◌%◌, ◌<◌, ◌≤◌, List, [], ◌∷◌, length, map, true, Some}
 use Rattle.coap_message.specs.declared.kind.Kind.TheVariants.{Ack}
 use Rattle.coap_message.specs.Uint.{IsBytes}
@@ -94,7 +94,8 @@ gives_id SentRequest = 1
 gives_id Delivered = 1
 gives_id _ = 0
 
--- exchanges that were opened, requests that were sent on, waiters that were served, ids that were given
+-- exchanges that were opened, requests that were sent on, waiters that were served, ids that were
+-- given
 abbrev pub opened_in : List Deed → ℕ
 opened_in history = count_in opens_one history
 
@@ -111,8 +112,8 @@ ids_in history = count_in gives_id history
 abbrev pub under_way : List Deed → ℕ
 under_way history = opened_in history - served_in history
 
--- so many ids are free beside those that were given, and one for each client that waits and each request
--- that is still to be sent
+-- so many ids are free beside those that were given, and one for each client that waits and each
+-- request that is still to be sent
 pub record HasIds (k : ℕ) (history : List Deed) : Type 0 where
   pub free : ids_in history + under_way history + (opened_in history - sent_in history) + k ≤ 32768
 
@@ -124,8 +125,8 @@ pub record HasRoom (limits : Limits) (history : List Deed) : Type 0 where
 
 -- ---- what an entry did
 
--- the entry opened the exchange of this number, and admitted the waiter of that number: the x-th that
--- opened one
+-- the entry opened the exchange of this number, and admitted the waiter of that number: the x-th
+-- that opened one
 abbrev pub Opens : ℕ → Place → Type 0
 Opens x p = (p.deed.entry.report.outcome ≡ Opened) × (x ≡ opened_in p.before + 1)
 
@@ -158,7 +159,8 @@ pub record Matches (token : List ℕ) (id : ℕ) (response : Message) : Type 0 w
   pub same_token : response.token ≡ token
   pub same_id : response.id ≡ id
 
--- an event brings a response to the request of this exchange, from the endpoint that was asked before
+-- an event brings a response to the request of this exchange, from the endpoint that was asked
+-- before
 pub record Meets (setting : Setting) (x : ℕ) (past : List Deed) (event : Event) : Type 0 where
   pub asking : Place
   pub was_asked : IsPlaceOf past asking
@@ -200,4 +202,6 @@ pub record Gives (id : ℕ) (e : Entry) : Type 0 where
 -- ids count up from the first, and begin anew at 0 behind 65,535 (RFC 7252, 4.4)
 abbrev pub AreIds : ℕ → List Deed → Type 0
 AreIds first [] = Unit {0}
-AreIds first (d ∷ past) = (gives_id d.entry.report.outcome ≡ 1 → Gives ((first + ids_in past) % 65536) d.entry) × AreIds first past
+AreIds first (d ∷ past) =
+    (gives_id d.entry.report.outcome ≡ 1 → Gives ((first + ids_in past) % 65536) d.entry)
+    × AreIds first past

@@ -22,7 +22,8 @@ use Rattle.coap_model.specs.History.{Entry, Act, no_item, admits, moves, serves,
 -- ---- requests
 
 -- a Non-confirmable request of a client that is not too long for a datagram
-pub record IsRequestOf (setting : Setting) (client : Endpoint) (request : Message) (event : Event) : Type 0 where
+pub record IsRequestOf
+    (setting : Setting) (client : Endpoint) (request : Message) (event : Event) : Type 0 where
   pub brings : Brings setting.limits.datagram client request event
   pub kind : request.kind ≡ Non
   pub method : is_request request.code ≡ true
@@ -124,9 +125,9 @@ pub record IsAnswer (setting : Setting) (past : List Deed) (d : Deed) : Type 0 w
   pub first : Never (Gets setting exchange) past
   pub silent : IsSilent d.entry
 
--- A delivery: the exchange that was opened for this client's request was got after that, its request
--- was for the target of the client's, and the datagram is what this client is shown of the answer, with
--- what is left of its Max-Age.
+-- A delivery: the exchange that was opened for this client's request was got after that, its
+-- request was for the target of the client's, and the datagram is what this client is shown of the
+-- answer, with what is left of its Max-Age.
 pub record IsDelivery (setting : Setting) (past : List Deed) (d : Deed) : Type 0 where
   pub waiter : ℕ
   pub act : d.act ≡ serves waiter
@@ -141,18 +142,23 @@ pub record IsDelivery (setting : Setting) (past : List Deed) (d : Deed) : Type 0
   pub got_later : IsPlaceOf getting.before opened.opening
   pub asked_target : target_sent gets.meets.asks.sends.to gets.meets.asks.sends.message ≡ target
   pub acting : IsActing setting past d
-  pub tells : Tells opened.client (shown d.entry.now (answer_of setting.limits.datagram getting.deed.entry.now gets.meets.response) id opened.request.token) d.entry
+  pub tells :
+    Tells opened.client
+      (shown d.entry.now (answer_of setting.limits.datagram getting.deed.entry.now gets.meets.response) id opened.request.token) d.entry
 
 -- ---- what isn't processed
 
 -- An exchange awaits the response that an event brings: it was asked, and wasn't got.
-pub record IsAwaited (setting : Setting) (past : List Deed) (exchange : ℕ) (event : Event) : Type 0 where
+pub record IsAwaited
+    (setting : Setting) (past : List Deed) (exchange : ℕ) (event : Event) : Type 0 where
   pub meets : Meets setting exchange past event
   pub ungot : Never (Gets setting exchange) past
 
--- What came can't be processed: it is neither a request that would be nor a response that an exchange awaits.
+-- What came can't be processed: it is neither a request that would be nor a response that an
+-- exchange awaits.
 pub record IsUnprocessable (setting : Setting) (past : List Deed) (event : Event) : Type 0 where
-  pub no_request : (client : Endpoint) (request : Message) → ¬ IsRequestOf setting client request event
+  pub no_request :
+    (client : Endpoint) (request : Message) → ¬ IsRequestOf setting client request event
   pub no_answer : (exchange : ℕ) → ¬ IsAwaited setting past exchange event
 
 -- a Reset of a confirmable datagram that can't be processed, with its id
@@ -203,14 +209,17 @@ JustifiedBy _ setting past d = ⊥
 -- Each deed is justified by the deeds before it.
 abbrev pub AllJustified : Setting → List Deed → Type 0
 AllJustified setting [] = Unit {0}
-AllJustified setting (d ∷ past) = JustifiedBy d.entry.report.outcome setting past d × AllJustified setting past
+AllJustified setting (d ∷ past) =
+    JustifiedBy d.entry.report.outcome setting past d × AllJustified setting past
 
 -- ---- one answer
 
--- A deed may follow: the deeds before it justify it, and where it gives an id, it gives the one that is due.
+-- A deed may follow: the deeds before it justify it, and where it gives an id, it gives the one
+-- that is due.
 pub record MayFollow (setting : Setting) (past : List Deed) (d : Deed) : Type 0 where
   pub justified : JustifiedBy d.entry.report.outcome setting past d
-  pub id : gives_id d.entry.report.outcome ≡ 1 → Gives ((setting.first_id + ids_in past) % 65536) d.entry
+  pub id :
+    gives_id d.entry.report.outcome ≡ 1 → Gives ((setting.first_id + ids_in past) % 65536) d.entry
 
 -- two entries of one event, at one moment and with one draw
 pub record AreOfOneTurn (d e : Entry) : Type 0 where

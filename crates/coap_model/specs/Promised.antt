@@ -7,7 +7,13 @@ use Rattle.coap_model.specs.Held.{held, most_held}
 
 -- Message ids don't come back: two places that gave one id are one place (RFC 7252, 4.4).
 abbrev pub IdsDiffer : List Deed → Type 0
-IdsDiffer history = (p q : Place) (id : ℕ) → IsPlaceOf history p → IsPlaceOf history q → Gives id p.deed.entry → Gives id q.deed.entry → p ≡ q
+IdsDiffer history =
+    (p q : Place) (id : ℕ)
+    → IsPlaceOf history p
+    → IsPlaceOf history q
+    → Gives id p.deed.entry
+    → Gives id q.deed.entry
+    → p ≡ q
 
 pub record Promised (history : List Entry) (w : World) : Type 0 where
   -- each entry did something, and is justified by what was done before it

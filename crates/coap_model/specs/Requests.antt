@@ -19,21 +19,27 @@ lacks_id w now = silent NoId (later w now)
 
 -- the client is refused with a code
 abbrev pub refuses : World → ℕ → Endpoint → Message → Code → Step
-refuses w now client m code = says (Refused code) client (own_reply code [] (next_id w) m.token) (record (later w now) { given = w.given + 1 })
+refuses w now client m code =
+    says (Refused code) client (own_reply code [] (next_id w) m.token)
+      (record (later w now) { given = w.given + 1 })
 
 -- there is no room for the client: try again later
 abbrev pub overloads : World → ℕ → Endpoint → Message → Step
-overloads w now client m = says Overloaded client (busy_reply w.setting.limits.retry_s (next_id w) m.token) (record (later w now) { given = w.given + 1 })
+overloads w now client m =
+    says Overloaded client (busy_reply w.setting.limits.retry_s (next_id w) m.token)
+      (record (later w now) { given = w.given + 1 })
 
 -- the token of the request of the exchange that is opened next
 abbrev pub next_token : World → List ℕ
 next_token w = token_of w.setting.salt (w.opened + 1)
 
 abbrev pub new_exchange : World → ℕ → Target → Numbered Exchange
-new_exchange w now t = (w.opened + 1, record { target = t; form = spelling (forwarded (next_token w) t 0); admitted = now; state = Queued })
+new_exchange w now t =
+    (w.opened + 1, record { target = t; form = spelling (forwarded (next_token w) t 0); admitted = now; state = Queued })
 
 abbrev pub new_waiter : World → Endpoint → Message → Numbered Waiter
-new_waiter w client m = (w.admitted + 1, record { client = client; token = m.token; exchange = w.opened + 1 })
+new_waiter w client m =
+    (w.admitted + 1, record { client = client; token = m.token; exchange = w.opened + 1 })
 
 -- an exchange is opened, and the client waits for it
 abbrev pub opens : World → ℕ → Endpoint → Message → Target → Step
@@ -46,8 +52,13 @@ opens w now client m t =
     })
 
 abbrev pub on_verdict : World → ℕ → Endpoint → Message → Verdict → Step
-on_verdict w now client m (refused_with code) = if has_ids 1 w then refuses w now client m code else lacks_id w now
-on_verdict w now client m (may_open t) = if has_room w then opens w now client m t else (if has_ids 1 w then overloads w now client m else lacks_id w now)
+on_verdict w now client m (refused_with code) =
+    if has_ids 1 w then refuses w now client m code else lacks_id w now
+on_verdict w now client m (may_open t) =
+    if has_room w
+    then opens w now client m t
+    else (if has_ids 1 w then overloads w now client m else lacks_id w now)
 
 abbrev pub on_request : World → ℕ → Endpoint → Message → Step
-on_request w now client m = on_verdict w now client m (verdict_of w.setting.routes w.setting.limits.datagram m)
+on_request w now client m =
+    on_verdict w now client m (verdict_of w.setting.routes w.setting.limits.datagram m)

@@ -21,6 +21,10 @@ AreTurns last (t ∷ turns) = (last ≤ t.now) × IsEvent t.event × AreTurns t.
 abbrev pub entry_of : ℕ → ℕ → Event → Step → Entry
 entry_of now draw event s = record { now = now; draw = draw; event = event; report = s.report; bytes = s.bytes }
 
+-- the entry of the step of an event at a moment
+abbrev pub answer_at : World → ℕ → ℕ → Event → Entry
+answer_at w now draw event = entry_of now draw event (step_of w now draw event)
+
 -- a proxy, and what happened to it
 pub record Run : Type 0 where
   pub world : World
@@ -30,7 +34,10 @@ abbrev pub new_run : Setting → Run
 new_run setting = record { world = new_world setting; history = [] }
 
 abbrev pub one_turn : Run → Turn → Run
-one_turn r t = record { world = (step_of r.world t.now t.draw t.event).world; history = entry_of t.now t.draw t.event (step_of r.world t.now t.draw t.event) ∷ r.history }
+one_turn r t = record {
+  world = (step_of r.world t.now t.draw t.event).world;
+  history = entry_of t.now t.draw t.event (step_of r.world t.now t.draw t.event) ∷ r.history;
+}
 
 abbrev pub run_of : Run → List Turn → Run
 run_of r [] = r

@@ -8,3 +8,7 @@ pub record Setting : Type 0 where
   pub routes : Routes
   pub first_id : ℕ
   pub salt : ℕ
+
+abbrev pub setting_of : Limits → Routes → ℕ → ℕ → Setting
+setting_of limits routes first_id salt =
+    record { limits = limits; routes = routes; first_id = first_id; salt = salt }

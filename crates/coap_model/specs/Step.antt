@@ -26,7 +26,12 @@ unprocessed w now source kind id = if is_con kind then rejects w now source id e
 -- Non-confirmable requests, and responses in acknowledgements, are what is processed so far.
 abbrev pub on_message : World → ℕ → Endpoint → Message → Step
 on_message w now source m =
-    if is_non m.kind && is_request m.code then on_request w now source m else (if is_ack m.kind && is_response m.code then on_response w now source m else unprocessed w now source m.kind m.id)
+    if is_non m.kind && is_request m.code
+    then on_request w now source m
+    else (
+        if is_ack m.kind && is_response m.code
+        then on_response w now source m
+        else unprocessed w now source m.kind m.id)
 
 -- the message that a datagram spells, if it isn't too long
 unfoldable pub message_in : ℕ → List ℕ → Option Message
@@ -39,7 +44,8 @@ on_read w now source (Some head) (Some m) = on_message w now source m
 
 -- fewer than four bytes, or another version, are ignored
 abbrev pub on_datagram : World → ℕ → Endpoint → List ℕ → Step
-on_datagram w now source bytes = on_read w now source (head_at bytes) (message_in w.setting.limits.datagram bytes)
+on_datagram w now source bytes =
+    on_read w now source (head_at bytes) (message_in w.setting.limits.datagram bytes)
 
 -- one step, at a moment, with a draw, which no step reads yet
 abbrev pub step_of : World → ℕ → ℕ → Event → Step

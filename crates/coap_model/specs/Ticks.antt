@@ -48,8 +48,10 @@ sends w now x =
     }
 
 -- when nobody waits for an exchange any more, it is closed
-abbrev pub without_idle : ℕ → List (Numbered Waiter) → List (Numbered Exchange) → List (Numbered Exchange)
-without_idle number waiters exchanges = if is_awaited number waiters then exchanges else without number exchanges
+abbrev pub without_idle :
+    ℕ → List (Numbered Waiter) → List (Numbered Exchange) → List (Numbered Exchange)
+without_idle number waiters exchanges =
+    if is_awaited number waiters then exchanges else without number exchanges
 
 -- the waiter is given the answer of its exchange, with a new id
 abbrev pub delivers : World → ℕ → Numbered Waiter → Answer → Step

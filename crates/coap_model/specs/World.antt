@@ -28,7 +28,8 @@ pub record World : Type 0 where
   pub last : ℕ
   pub events : ℕ
 
--- what a step answers, the bytes of its datagram (none where it sends none), and the tables after it
+-- what a step answers, the bytes of its datagram (none where it sends none), and the tables after
+-- it
 pub record Step : Type 0 where
   pub report : Report
   pub bytes : List ℕ
@@ -36,7 +37,16 @@ pub record Step : Type 0 where
 
 -- a proxy that has done nothing
 abbrev pub new_world : Setting → World
-new_world setting = record { setting = setting; exchanges = []; waiters = []; opened = 0; admitted = 0; given = 0; last = 0; events = 0 }
+new_world setting = record {
+  setting = setting;
+  exchanges = [];
+  waiters = [];
+  opened = 0;
+  admitted = 0;
+  given = 0;
+  last = 0;
+  events = 0;
+}
 
 -- the clock, one event on
 abbrev pub later : World → ℕ → World
@@ -58,7 +68,8 @@ ignores w now = silent Ignored (later w now)
 abbrev pub next_id : World → ℕ
 next_id w = nth_id w.setting.first_id w.given
 
--- ids that are kept for exchanges which are still to be sent, and for clients which are still to be served
+-- ids that are kept for exchanges which are still to be sent, and for clients which are still to be
+-- served
 abbrev pub reserved : World → ℕ
 reserved w = length w.waiters + count_where is_queued w.exchanges
 
@@ -69,9 +80,18 @@ has_ids k w = nat_le (w.given + reserved w + k) 32768
 -- ---- room
 
 abbrev pub has_room : World → Bool
-has_room w = nat_lt (length w.exchanges) w.setting.limits.exchanges && (nat_lt (length w.waiters) w.setting.limits.waiters && has_ids 2 w)
+has_room w =
+    nat_lt (length w.exchanges) w.setting.limits.exchanges
+    && (nat_lt (length w.waiters) w.setting.limits.waiters && has_ids 2 w)
 
 -- ---- how much a proxy holds
 
 abbrev pub counts : World → Counts
-counts w = record { cached_bytes = 0; entries = 0; con_records = 0; non_records = 0; exchanges = length w.exchanges; waiters = length w.waiters }
+counts w = record {
+  cached_bytes = 0;
+  entries = 0;
+  con_records = 0;
+  non_records = 0;
+  exchanges = length w.exchanges;
+  waiters = length w.waiters;
+}

@@ -25,7 +25,7 @@ ghost use Rattle.coap_model.specs.Forged as forged;
 ghost use Rattle.coap_model.specs.Forged.{asked, delivery, right, at_an_arrival};
 ghost use Rattle.coap_model.specs.Carries.{Carries};
 ghost use Rattle.coap_model.specs.Promised.{Promised};
-ghost use Rattle.coap_model.specs.Runs.{Turn, AreTurns, new_run, run_of, entry_of};
+ghost use Rattle.coap_model.specs.Runs.{Turn, AreTurns, new_run, run_of, entry_of, answer_at};
 ghost use Rattle.coap_model.specs.Examples.{origin, from, tick_at, client, content_for_client, play, proxy, small_proxy, narrow_proxy, first_answer, first_answer_sent, late_answer, late_answer_sent, error, error_sent, fault, fault_sent, changed, changed_sent, valid, replaced_sent, block_in_response, long_max_age, impostor, impostor_sent, refusals, refusals_sent, long_paths, long_paths_sent, long_segments, long_segments_sent, payload_in_get, payload_in_get_sent, full, full_sent, unprocessed_messages, unprocessed_messages_sent, too_long, too_long_sent, payload_of, payload_of_109_sent, spent_proxy, last_id, last_id_sent, wrapping_proxy, wrapping, wrapping_sent};
 ghost use Rattle.coap_model.specs.EdgeExamples.{after, asks_at, with_token, tokens, tokens_sent, two_faults, two_faults_sent, of_class_3, of_class_3_sent, changed_with_age, changed_with_age_sent, two_ages, greatest_age, greatest_age_sent, shorter_age, shorter_age_sent, ten_seconds_after, one_left, none_left, of_one_moment, of_one_moment_sent, request_first, request_first_sent, client_first, client_first_sent, named, named_form, target_in};
 ghost use Rattle.coap_model.specs.Held.{target_bytes, held, most_held};
@@ -55,22 +55,23 @@ pub fn examples()
     ensures wrapping { play wrapping_proxy wrapping ≡ wrapping_sent }
 {}
 
-/// Runs of the step with other limits, another first id and another salt, and where ids run out, computed on the
-/// definitions.
+/// Runs of the step with other limits, another first id and another salt, and where ids run out,
+/// computed on the definitions.
 pub fn examples_at_limits()
     ensures one_exchange { play one_exchange until_served ≡ until_served_sent }
     ensures one_waiter { play one_waiter until_served ≡ until_served_sent }
     ensures at_once { play (retries_after 0) two_requests ≡ second_is_told (0xD0 ∷ 1 ∷ []) }
-    ensures in_an_hour { play (retries_after 3600) two_requests ≡ second_is_told (0xD2 ∷ 1 ∷ 0x0E ∷ 0x10 ∷ []) }
+    ensures in_an_hour {
+        play (retries_after 3600) two_requests ≡ second_is_told (0xD2 ∷ 1 ∷ 0x0E ∷ 0x10 ∷ []) }
     ensures long_datagrams { play narrow long_datagrams ≡ long_datagrams_sent }
     ensures counted_on { play later_proxy counted_on ≡ counted_on_sent }
     ensures last_refusal { play (after_ids 32767) last_refusal ≡ last_refusal_sent }
     ensures kept_ids { play (after_ids 32766) kept_ids ≡ kept_ids_sent }
 {}
 
-/// Words that the step and the history share, computed at their edges: a client's token, two faults in one request,
-/// what a response gives at some age, what is due first, the form of a target with a host and a query, which is read
-/// back off it, and what is held.
+/// Words that the step and the history share, computed at their edges: a client's token, two faults
+/// in one request, what a response gives at some age, what is due first, the form of a target with
+/// a host and a query, which is read back off it, and what is held.
 pub fn examples_at_edges()
     ensures tokens { play one_exchange tokens ≡ tokens_sent }
     ensures two_faults { play proxy two_faults ≡ two_faults_sent }
@@ -90,97 +91,177 @@ pub fn examples_at_edges()
     ensures held_when_opened { held (after proxy (asks_at 0 1 ∷ [])) ≡ 22 }
     ensures held_with_token { held (after proxy (from 0 (client 1) (with_token 0x74) ∷ [])) ≡ 24 }
     ensures held_with_host { target_bytes named ≡ 11 }
-    ensures held_when_answered { held (after proxy (asks_at 0 1 ∷ tick_at 0 ∷ from 0 origin (got 1 1) ∷ [])) ≡ 27 }
+    ensures held_when_answered {
+        held (after proxy (asks_at 0 1 ∷ tick_at 0 ∷ from 0 origin (got 1 1) ∷ [])) ≡ 27 }
     ensures bound { most_held default_limits ≡ 16998400 }
-    ensures counted { counts (after proxy (asks_at 0 1 ∷ asks_at 0 2 ∷ [])) ≡ record { cached_bytes = 0; entries = 0; con_records = 0; non_records = 0; exchanges = 2; waiters = 2 } }
+    ensures counted { counts (after proxy (asks_at 0 1 ∷ asks_at 0 2 ∷ []))
+        ≡ record {
+            cached_bytes = 0;
+            entries = 0;
+            con_records = 0;
+            non_records = 0;
+            exchanges = 2;
+            waiters = 2;
+          } }
     ensures none_due { next_due proxy ≡ None }
     ensures due_at_opening { next_due (after proxy (asks_at 5 1 ∷ [])) ≡ Some 5 }
 {}
 
-/// What is left of a Max-Age and the age add up to it: no more than it, and more than it with one second more.
+/// What is left of a Max-Age and the age add up to it: no more than it, and more than it with one
+/// second more.
 pub fn left_and_age_add_up()
-    ensures within { (now : ℕ) (a : Answer) → 0 < left_of now a → 1000 * left_of now a + (now - a.got) ≤ 1000 * max_age_of a.message.options }
-    ensures no_more { (now : ℕ) (a : Answer) → 1000 * max_age_of a.message.options < 1000 * (left_of now a + 1) + (now - a.got) }
+    ensures within { (now : ℕ) (a : Answer)
+        → 0 < left_of now a
+        → 1000 * left_of now a + (now - a.got) ≤ 1000 * max_age_of a.message.options }
+    ensures no_more { (now : ℕ) (a : Answer)
+        → 1000 * max_age_of a.message.options < 1000 * (left_of now a + 1) + (now - a.got) }
 {}
 
 /// A tick does nothing exactly where nothing is due, or only later.
 pub fn ticks_are_idle_where_nothing_is_due()
-    ensures none { (w : World) (now draw : ℕ) → next_due w ≡ None → (step_of w now draw tick).report.outcome ≡ Idle }
-    ensures later { (w : World) (now draw at : ℕ) → next_due w ≡ Some at → now < at → (step_of w now draw tick).report.outcome ≡ Idle }
-    ensures due { (w : World) (now draw at : ℕ) → next_due w ≡ Some at → at ≤ now → (step_of w now draw tick).report.outcome ≢ Idle }
+    ensures none { (w : World) (now draw : ℕ)
+        → next_due w ≡ None
+        → (step_of w now draw tick).report.outcome ≡ Idle }
+    ensures later { (w : World) (now draw at : ℕ)
+        → next_due w ≡ Some at
+        → now < at
+        → (step_of w now draw tick).report.outcome ≡ Idle }
+    ensures due { (w : World) (now draw at : ℕ)
+        → next_due w ≡ Some at
+        → at ≤ now
+        → (step_of w now draw tick).report.outcome ≢ Idle }
 {}
 
 /// Deliveries that are right but for one thing are not justified.
 pub fn forged_deliveries_are_refused()
-    ensures for_nobody { ¬ IsDelivery forged.setting forged.past (delivery (client 1) (content_for_client 7) no_item) }
-    ensures for_another { ¬ IsDelivery forged.setting forged.past (delivery (client 1) (content_for_client 7) (serves 2)) }
+    ensures for_nobody {
+        ¬ IsDelivery forged.setting forged.past (delivery (client 1) (content_for_client 7) no_item)
+    }
+    ensures for_another { ¬ IsDelivery forged.setting forged.past
+          (delivery (client 1) (content_for_client 7) (serves 2)) }
     ensures again { ¬ IsDelivery forged.setting (right ∷ forged.past) right }
     ensures nothing_got { ¬ IsDelivery forged.setting (asked ∷ forged.opened ∷ []) right }
-    ensures to_another { ¬ IsDelivery forged.setting forged.past (delivery (client 2) (content_for_client 7) (serves 1)) }
+    ensures to_another { ¬ IsDelivery forged.setting forged.past
+          (delivery (client 2) (content_for_client 7) (serves 1)) }
     ensures untimely { ¬ IsDelivery forged.setting forged.past (at_an_arrival right) }
     ensures out_of_turn { ¬ IsDelivery forged.setting (forged.opened ∷ forged.past) right }
-    ensures another_age { ¬ IsDelivery forged.setting forged.past (delivery (client 1) (content_for_client 10) (serves 1)) }
+    ensures another_age { ¬ IsDelivery forged.setting forged.past
+          (delivery (client 1) (content_for_client 10) (serves 1)) }
 {}
 
-/// Each step of a proxy that carries a history leaves a proxy that carries the history with the step's
-/// entry in front, where moments don't go back and datagrams are bytes.
+/// Each step of a proxy that carries a history leaves a proxy that carries the history with the
+/// step's entry in front, where moments don't go back and datagrams are bytes.
 pub fn steps_are_carried()
-    ensures carried { (w : World) (history : List Entry) (now draw : ℕ) (event : Event) → Carries history w → w.last ≤ now → IsEvent event → Carries (entry_of now draw event (step_of w now draw event) ∷ history) (step_of w now draw event).world }
+    ensures carried { (w : World) (history : List Entry) (now draw : ℕ) (event : Event)
+        → Carries history w
+        → w.last ≤ now
+        → IsEvent event
+        → Carries (entry_of now draw event (step_of w now draw event) ∷ history)
+            (step_of w now draw event).world }
 {}
 
 /// A proxy that has done nothing carries the empty history.
 pub fn new_proxies_carry_nothing()
-    ensures carried { (setting : Setting) → AreRoutes setting.routes → Carries [] (new_world setting) }
+    ensures carried {
+        (setting : Setting) → AreRoutes setting.routes → Carries [] (new_world setting) }
 {}
 
-/// No step changes the limits, the routes, the first message id and the salt, where datagrams are bytes.
+/// No step changes the limits, the routes, the first message id and the salt, where datagrams are
+/// bytes.
 pub fn settings_stay()
-    ensures stays { (w : World) (now draw : ℕ) (event : Event) → IsEvent event → (step_of w now draw event).world.setting ≡ w.setting }
+    ensures stays { (w : World) (now draw : ℕ) (event : Event)
+        → IsEvent event
+        → (step_of w now draw event).world.setting ≡ w.setting }
 {}
 
 /// What a proxy carries it promises: each entry is justified by the entries before it, each waiter
-/// is served at most once, message ids count up and none comes back, and exchanges, waiters and the bytes
-/// held are within their limits.
+/// is served at most once, message ids count up and none comes back, and exchanges, waiters and the
+/// bytes held are within their limits.
 pub fn what_is_carried_is_promised()
     ensures promised { (history : List Entry) (w : World) → Carries history w → Promised history w }
 {}
 
-/// What is owed is given, where an entry is justified by what was done before it: a request that may be opened,
-/// with room, is opened; a response that an exchange awaits is its answer; a confirmable datagram is rejected
-/// where it isn't processed, which is always so far; and a tick at which something is due does what is due first.
+/// What is owed is given, where an entry is justified by what was done before it: a request that
+/// may be opened, with room, is opened; a response that an exchange awaits is its answer; a
+/// confirmable datagram is rejected where it isn't processed, which is always so far; and a tick at
+/// which something is due does what is due first.
 pub fn what_is_owed_is_given()
-    ensures opened { (setting : Setting) (past : List Deed) (d : Deed) (client : Endpoint) (request : Message) (target : Target) → JustifiedBy d.entry.report.outcome setting past d → IsRequestOf setting client request d.entry.event → verdict_on setting request ≡ may_open target → HasRoom setting.limits past → d.entry.report.outcome ≡ Opened }
-    ensures answered { (setting : Setting) (past : List Deed) (d : Deed) (exchange : ℕ) → JustifiedBy d.entry.report.outcome setting past d → IsAwaited setting past exchange d.entry.event → d.entry.report.outcome ≡ Answered NotStored }
-    ensures rejected { (setting : Setting) (past : List Deed) (d : Deed) (source : Endpoint) (bytes : List ℕ) (head : Head) → JustifiedBy d.entry.report.outcome setting past d → d.entry.event ≡ arrival source bytes → head_at bytes ≡ Some head → head.kind ≡ Con → d.entry.report.outcome ≡ Rejected }
-    ensures done { (setting : Setting) (past : List Deed) (d : Deed) (act : Act) (at : ℕ) → JustifiedBy d.entry.report.outcome setting past d → d.entry.event ≡ tick → IsDueAt setting past act at → at ≤ d.entry.now → IsActing setting past d }
+    ensures opened {
+        (setting : Setting) (past : List Deed) (d : Deed) (client : Endpoint) (request : Message)
+        (target : Target)
+        → JustifiedBy d.entry.report.outcome setting past d
+        → IsRequestOf setting client request d.entry.event
+        → verdict_on setting request ≡ may_open target
+        → HasRoom setting.limits past
+        → d.entry.report.outcome ≡ Opened }
+    ensures answered { (setting : Setting) (past : List Deed) (d : Deed) (exchange : ℕ)
+        → JustifiedBy d.entry.report.outcome setting past d
+        → IsAwaited setting past exchange d.entry.event
+        → d.entry.report.outcome ≡ Answered NotStored }
+    ensures rejected {
+        (setting : Setting) (past : List Deed) (d : Deed) (source : Endpoint) (bytes : List ℕ)
+        (head : Head)
+        → JustifiedBy d.entry.report.outcome setting past d
+        → d.entry.event ≡ arrival source bytes
+        → head_at bytes ≡ Some head
+        → head.kind ≡ Con
+        → d.entry.report.outcome ≡ Rejected }
+    ensures done { (setting : Setting) (past : List Deed) (d : Deed) (act : Act) (at : ℕ)
+        → JustifiedBy d.entry.report.outcome setting past d
+        → d.entry.event ≡ tick
+        → IsDueAt setting past act at
+        → at ≤ d.entry.now
+        → IsActing setting past d }
 {}
 
-/// The histories allow one answer: two deeds that may follow the same deeds, of one event at one moment with one
-/// draw, are one entry; and what may follow what a proxy carries is what its step answers. So the traffic alone
-/// says all that a proxy does.
+/// The histories allow one answer: two deeds that may follow the same deeds, of one event at one
+/// moment with one draw, are one entry; and what may follow what a proxy carries is what its step
+/// answers. So the traffic alone says all that a proxy does.
 pub fn one_answer_is_justified()
-    ensures one { (setting : Setting) (past : List Deed) → AllJustified setting past
-        → (d e : Deed) → MayFollow setting past d → MayFollow setting past e → AreOfOneTurn d.entry e.entry → d.entry ≡ e.entry }
-    ensures of_the_step { (w : World) (history : List Entry) (c : Carries history w) (d : Deed) → w.last ≤ d.entry.now → IsEvent d.entry.event → MayFollow w.setting c.deeds d
-        → d.entry ≡ entry_of d.entry.now d.entry.draw d.entry.event (step_of w d.entry.now d.entry.draw d.entry.event) }
+    ensures one { (setting : Setting) (past : List Deed) (d e : Deed)
+        → AllJustified setting past
+        → MayFollow setting past d
+        → MayFollow setting past e
+        → AreOfOneTurn d.entry e.entry
+        → d.entry ≡ e.entry }
+    ensures of_the_step { (w : World) (history : List Entry) (c : Carries history w) (d : Deed)
+        → w.last ≤ d.entry.now
+        → IsEvent d.entry.event
+        → MayFollow w.setting c.deeds d
+        → d.entry ≡ answer_at w d.entry.now d.entry.draw d.entry.event }
 {}
 
-/// The moment at which a tick is wanted is the least at which anything is due by the history, and none is wanted
-/// where nothing is.
+/// The moment at which a tick is wanted is the least at which anything is due by the history, and
+/// none is wanted where nothing is.
 pub fn next_due_is_least()
-    ensures next { (w : World) (history : List Entry) (c : Carries history w) (at : ℕ) → next_due w ≡ Some at → IsNextDue w.setting c.deeds at }
-    ensures none { (w : World) (history : List Entry) (c : Carries history w) → next_due w ≡ None → (act : Act) (at : ℕ) → ¬ IsDueAt w.setting c.deeds act at }
+    ensures next { (w : World) (history : List Entry) (c : Carries history w) (at : ℕ)
+        → next_due w ≡ Some at
+        → IsNextDue w.setting c.deeds at }
+    ensures none { (w : World) (history : List Entry) (c : Carries history w)
+        → next_due w ≡ None
+        → (act : Act) (at : ℕ)
+        → ¬ IsDueAt w.setting c.deeds act at }
 {}
 
-/// No datagram that a step sends is longer than the limit `datagram`, where the limits are within their
-/// ranges.
+/// No datagram that a step sends is longer than the limit `datagram`, where the limits are within
+/// their ranges.
 pub fn datagrams_fit()
-    ensures fits { (w : World) (history : List Entry) (now draw : ℕ) (event : Event) → Carries history w → AreLimits w.setting.limits → IsEvent event → length (step_of w now draw event).bytes ≤ w.setting.limits.datagram }
+    ensures fits { (w : World) (history : List Entry) (now draw : ℕ) (event : Event)
+        → Carries history w
+        → AreLimits w.setting.limits
+        → IsEvent event
+        → length (step_of w now draw event).bytes ≤ w.setting.limits.datagram }
 {}
 
-/// Whatever happens to a new proxy at moments that don't go back, where datagrams are bytes and origins are
-/// targets, it promises the same of all that happened.
+/// Whatever happens to a new proxy at moments that don't go back, where datagrams are bytes and
+/// origins are targets, it promises the same of all that happened.
 pub fn runs_are_promised()
-    ensures kept { (setting : Setting) (turns : List Turn) → AreRoutes setting.routes → AreTurns 0 turns → (run_of (new_run setting) turns).world.setting ≡ setting }
-    ensures promised { (setting : Setting) (turns : List Turn) → AreRoutes setting.routes → AreTurns 0 turns → Promised (run_of (new_run setting) turns).history (run_of (new_run setting) turns).world }
+    ensures kept { (setting : Setting) (turns : List Turn)
+        → AreRoutes setting.routes
+        → AreTurns 0 turns
+        → (run_of (new_run setting) turns).world.setting ≡ setting }
+    ensures promised { (setting : Setting) (turns : List Turn)
+        → AreRoutes setting.routes
+        → AreTurns 0 turns
+        → Promised (run_of (new_run setting) turns).history (run_of (new_run setting) turns).world }
 {}

@@ -1,5 +1,5 @@
-//! What a proxy means: its tables as one value, one step over them, histories, and the laws that join
-//! them. There is next to no code here.
+//! What a proxy means: its tables as one value, one step over them, histories, and the laws that
+//! join them. There is next to no code here.
 #![tactic(auto)]
 
 pub mod laws;

@@ -143,8 +143,8 @@ impl Default for LimitValues {
     }
 }
 
-/// The limits of a proxy, each within its range. Those of the cache and of the records, `nstart` and
-/// `exchange_ms` limit nothing yet.
+/// The limits of a proxy, each within its range. Those of the cache and of the records, `nstart`
+/// and `exchange_ms` limit nothing yet.
 #[derive(Clone, Copy, Debug, PartialEq, Eq)]
 pub struct Limits {
     values: LimitValues,

@@ -15,8 +15,9 @@ pub enum Storing {
     NotStored,
 }
 
-/// What a step did. Of the first path are `Ignored`, `Rejected`, `Refused`, `Opened`, `Overloaded`, `NoId`,
-/// `Answered` with `NotStored`, `SentRequest`, `Delivered` and `Idle`; the others don't come yet.
+/// What a step did. Of the first path are `Ignored`, `Rejected`, `Refused`, `Opened`, `Overloaded`,
+/// `NoId`, `Answered` with `NotStored`, `SentRequest`, `Delivered` and `Idle`; the others don't
+/// come yet.
 #[derive(Clone, Copy, Debug, PartialEq, Eq)]
 pub enum Outcome {
     /// Nothing: the datagram is no one's business.
@@ -62,8 +63,8 @@ pub struct Report {
     pub outcome: Outcome,
 }
 
-/// How much a proxy holds: bytes and entries of its cache, duplicate records, exchanges, clients that wait. The
-/// first four are 0 so far.
+/// How much a proxy holds: bytes and entries of its cache, duplicate records, exchanges, clients
+/// that wait. The first four are 0 so far.
 #[derive(Clone, Copy, Debug, PartialEq, Eq)]
 pub struct Counts {
     pub cached_bytes: u64,
