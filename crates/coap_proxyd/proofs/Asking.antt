@@ -3,16 +3,16 @@ use Rattle.std.proofs.Common.{◌≡◌, ℕ, ◌^◌, ◌<◌, ◌≤◌, true,
 use Rattle.std.specs.Prelude.{IfSome}
 use Rattle.coap_model.specs.Runs.{Turn}
 use Rattle.coap_proxyd.specs.declared.error.ReplayError.TheVariants.{BadEvent}
-use Rattle.coap_lines.specs.declared.input.Next.{Next}
-use Rattle.coap_lines.specs.declared.input.Next.TheVariants as next
+use Rattle.coap_lines.specs.declared.reading.input.Next.{Next}
+use Rattle.coap_lines.specs.declared.reading.input.Next.TheVariants as next
 use Rattle.coap_proxyd.specs.declared.replays.Asked.TheVariants.{End, Skip, Do}
-use Rattle.coap_lines.specs.declared.turn.Turn.{Turn as TurnRead}
+use Rattle.coap_lines.specs.declared.reading.turn.Turn.{Turn as TurnRead}
 use Rattle.coap_lines.specs.Lines.{IsNext, is_skipped}
 use Rattle.coap_proxyd.specs.Replays.{AsksNext, MayBeDone}
 use Rattle.coap_lines.specs.Turns.{greatest, turn_of, turn_seen}
-use Rattle.coap_lines.proofs.Following.{IsEvent-said}
-use Rattle.coap_lines.proofs.Steps.{step-bad, step-end, step-full, step-long, step-many, step-skip, step-turn}
-use Rattle.coap_lines.proofs.Written.{turn_of-is}
+use Rattle.coap_lines.proofs.ScriptTurns.{IsEvent-said}
+use Rattle.coap_lines.proofs.LineByLine.{step-bad, step-end, step-full, step-long, step-many, step-skip, step-turn}
+use Rattle.coap_lines.proofs.TurnTexts.{turn_of-is}
 
 module _ (number last events : ℕ) (old left : Option (List ℕ)) (line : List ℕ) where
   abbrev Comes : Next → Type 0

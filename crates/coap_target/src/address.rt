@@ -29,8 +29,9 @@ pub(crate) fn read_url(alloc: Global, text: &str) -> Result<Url, UriError>
     }
 }
 
-/// The address that a text is in dotted-decimal form, each number written in one way (RFC 3986, 3.2.2).
-pub(crate) fn read_ipv4(text: &[u8]) -> Option<Ip>
+/// The IPv4 address that a text is in dotted-decimal form, each number written in one way (RFC 3986, 3.2.2).
+/// It takes no memory.
+pub fn read_ipv4(text: &[u8]) -> Option<Ip>
     ensures { result ≡ option_map V4 (ipv4_of text.now) }
 {
     match Ipv4Addr::parse_ascii(text) {

@@ -16,7 +16,7 @@ mod segment;
 mod target;
 mod uri;
 
-pub use address::read_ip;
+pub use address::{read_ip, read_ipv4};
 pub use endpoint::{Endpoint, Ip};
 pub use error::{RouteError, TargetError, UriError};
 pub use map::{KnownHost, Map};
