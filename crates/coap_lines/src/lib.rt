@@ -11,5 +11,5 @@ mod writing;
 pub use error::LineError;
 pub use reading::input::{LONGEST, Next, is_skipped, next_line};
 pub use reading::turn::{Input, Turn, read_turn};
-pub use writing::line::{longest_line, put_line};
+pub use writing::line::{line_buffer, put_line};
 pub use writing::output::write_bytes;

@@ -115,7 +115,7 @@ broken w v i rest None turns lines world s (part, clear, taken) = absurd taken
 broken w v i rest (Some rest') turns lines world (done, split, cut, len, script) (part, clear, taken) =
     let up : IsUpTo w i turns (lines + 1) (lines_of rest) = up-to-next w v i rest turns lines world (done, split, cut, len, script) in
     let same : IsUpTo w i turns (length (lines_of done) + 1) (lines_of (part ++ rest')) = rw len (subst (λ (r : List ℕ). IsUpTo w i turns (lines + 1) (lines_of r)) taken up) in
-    (done, part, split ∙ ap (λ (r : List ℕ). done ++ r) taken, clear, same)
+    (done, part, split ∙ ap (λ (r : List ℕ). done ++ r) taken ∙ sym (append_assoc done part rest'), clear, same)
 
 -- what is still asked for after a line more, by what the script is then
 line-more : (w v v' : World) (i rest rest' line : List ℕ) (turns turns' : List Turn) (lines : ℕ) → StillAsks w i (Some rest) turns lines v → IsLine rest rest' line
@@ -184,7 +184,7 @@ module _ (w v : World) (input left left' old new : Option (List ℕ)) (lines cou
     where
       missing : (i rest : List ℕ) → StillAsks w i (Some rest) at.turns lines v → (l' : Option (List ℕ)) → AsksNext (lines + 1) v.last v.events rest l' (Err (OutOfMemory line)) → IsAtEvent w i at.turns line
       missing i rest s None a = absurd a
-      missing i rest s (Some rest') (is, turn, asks) = at-event i rest line turn s is asks
+      missing i rest s (Some rest') (is, (turn, asks)) = at-event i rest line turn s is asks
   ends-refused Read asks may =
       record {
         turns = at.turns;
@@ -237,7 +237,7 @@ module _ (w v : World) (input left left' old new : Option (List ℕ)) (lines cou
         go None l s l' a = tt
         go (Some i) None s l' a = absurd s
         go (Some i) (Some rest) s None a = absurd a
-        go (Some i) (Some rest) s (Some more) (text, is, other, next) =
+        go (Some i) (Some rest) s (Some more) (text, is, (other, next)) =
             line-more w v (step_at v t).world i rest more text at.turns turns lines s is
             (λ script. script ∙ ap (λ (ls : List (List ℕ)). with_turns at.turns (script_from (lines + 1) v.last v.events ls)) is.0 ∙ ap (with_turns at.turns) next ∙ one-more (lines_of more) (step_at v t).world.last (step_at v t).world.events clock.0 clock.1)
 

@@ -1,5 +1,5 @@
 //! Lines of an output.
-ghost use Rattle.std.specs.Prelude.{◌≡◌, ◌≤◌, ◌^◌, ◌++◌, length, vec_capacity};
+ghost use Rattle.std.specs.Prelude.{◌≡◌, ◌≤◌, ◌++◌, IfOk, length, vec_capacity};
 ghost use Rattle.coap_lines.specs.Lines.{line_of};
 ghost use Rattle.coap_lines.specs.Room.{HasRoom, longest_line};
 
@@ -7,20 +7,23 @@ use crate::room::put;
 use crate::writing::datagram::put_bytes;
 use crate::writing::endpoint::put_endpoint;
 use crate::writing::number::put_number;
+use coap_message::OutOfMemory;
 use coap_target::Endpoint;
+use std::alloc::Global;
 
-/// The most bytes of the line of a datagram of so many bytes, at most 65,535.
-pub fn longest_line(datagram: usize) -> usize
-    requires { datagram ≤ 65535 }
-    ensures { result ≡ longest_line datagram }
+/// An empty buffer with room for the line of a datagram of so many bytes.
+pub fn line_buffer(alloc: Global, datagram: usize) -> Result<Vec<u8>, OutOfMemory>
+    ensures { IfOk result (λ buffer. longest_line datagram ≤ vec_capacity buffer) }
 {
-    71 + 2 * datagram
+    let hex = datagram.checked_mul(2).ok_or(OutOfMemory)?;
+    let room = hex.checked_add(71).ok_or(OutOfMemory)?;
+    Ok(Vec::with_capacity(alloc, room)?)
 }
 
 /// Adds the line of a datagram that is sent at `now`, in milliseconds: `MOMENT TO HEX` and a line feed, TO
 /// with groups in lower case without leading zeros, HEX in upper case, or `-` for no bytes.
 ///
-/// The buffer has room for a line of `longest_line(bytes.len())` bytes, so that this takes no memory.
+/// The buffer has room for it, as one of `line_buffer`, so that this takes no memory.
 #[tactic(auto, unfolding(crate::specs::Lines::line_of))]
 pub fn put_line(out: &mut Vec<u8>, now: u64, to: Endpoint, bytes: &[u8])
     requires { HasRoom out.old (longest_line (length bytes.now)) }
