@@ -16,7 +16,7 @@ cut-here byte b text hit = ap (λ t. cond t (Some ([], text)) (option_map (with_
 cut-later : (byte b : ℕ) (text : List ℕ) → (b == byte) ≡ false → cut byte (b ∷ text) ≡ option_map (with_front b) (cut byte text)
 cut-later byte b text miss = ap (λ t. cond t (Some ([], text)) (option_map (with_front b) (cut byte text))) miss
 
--- what stands before the place and behind it
+-- what stands before the place and after it
 cut_place : (byte : ℕ) (text : List ℕ) (n : ℕ) → position_or_len (λ b. b == byte) text ≡ n → n < length text → cut byte text ≡ Some (take n text, drop (suc n) text)
 cut_place byte [] n is within = absurd (omega arith)
 cut_place byte (b ∷ text) n is within =
@@ -27,8 +27,8 @@ cut_place byte (b ∷ text) n is within =
     let found : 1 + m ≡ n = rw no at is in
     let later : n ≡ suc m = omega arith in
     let inside : m < length text = omega arith in
-    let behind = cut_place byte text m refl inside in
-    rw later (cut-later byte b text no ∙ ap (option_map (with_front b)) behind))
+    let rest = cut_place byte text m refl inside in
+    rw later (cut-later byte b text no ∙ ap (option_map (with_front b)) rest))
     (cases_Bool (b == byte))
 
 -- where the byte stands nowhere, there is nothing to cut
@@ -97,8 +97,8 @@ cut-is byte (b ∷ text) front rest found =
         let split = further f r is in
         let made : Some (b ∷ f, r) ≡ Some (front, rest) = rw is at found in
         let before : b ∷ f ≡ front = ap (λ (o : Option (List ℕ × List ℕ)). (unwrap_or {T = List ℕ × List ℕ} o ([], [])).0) made in
-        let behind : r ≡ rest = ap (λ (o : Option (List ℕ × List ℕ)). (unwrap_or {T = List ℕ × List ℕ} o ([], [])).1) made in
-        rw (← before, ← behind) (ap (λ t. b ∷ t) split.0, rw miss split.1)
+        let after : r ≡ rest = ap (λ (o : Option (List ℕ × List ℕ)). (unwrap_or {T = List ℕ × List ℕ} o ([], [])).1) made in
+        rw (← before, ← after) (ap (λ t. b ∷ t) split.0, rw miss split.1)
 
 -- each byte of a text without the byte is another
 pub All-others : (byte : ℕ) (text : List ℕ) → has byte text ≡ false → All (λ b. (b == byte) ≡ false) text

@@ -1,5 +1,5 @@
 -- Lists of eight.
-use Rattle.std.proofs.Common.{◌≡◌, ℕ, List, [], ◌∷◌, ◌++◌, length, get_or, codes, false, refl, sym, subst, arith, append_assoc}
+use Rattle.std.proofs.Common.{◌≡◌, ℕ, List, [], ◌∷◌, ◌++◌, length, get_or, codes, false, refl, sym, ap, ◌∙◌, subst, arith, append_assoc}
 use Rattle.std.specs.Fmt.{digits}
 use Rattle.std.specs.List.{join_with_byte}
 use Rattle.coap_lines.specs.Endpoints.{groups_text}
@@ -34,3 +34,20 @@ pub groups_text-joined : (segments front back : List ℕ) → length segments �
 unfolding four
 groups_text-joined segments front back all first last =
     subst (λ (xs : List ℕ). codes "[" ++ front ++ codes ":" ++ back ++ codes "]" ≡ groups_text xs) (sym (eight segments all)) (rw (first, last) (eight_joined _ _ _ _ _ _ _ _))
+
+-- brackets, four groups, a colon and four groups that were added one after the other
+pub groups_text-added : (segments held front back one two three four' five : List ℕ) → length segments ≡ 8
+    → one ≡ held ++ codes "["
+    → two ≡ one ++ front
+    → three ≡ two ++ codes ":"
+    → four' ≡ three ++ back
+    → five ≡ four' ++ codes "]"
+    → front ≡ digits 16 false (get_or segments 0 0) ++ codes ":" ++ digits 16 false (get_or segments 1 0) ++ codes ":" ++ digits 16 false (get_or segments 2 0) ++ codes ":" ++ digits 16 false (get_or segments 3 0)
+    → back ≡ digits 16 false (get_or segments 4 0) ++ codes ":" ++ digits 16 false (get_or segments 5 0) ++ codes ":" ++ digits 16 false (get_or segments 6 0) ++ codes ":" ++ digits 16 false (get_or segments 7 0)
+    → five ≡ held ++ groups_text segments
+groups_text-added segments held front back one two three four' five all p q r s t first last =
+    let joined = groups_text-joined segments front back all first last in
+    rw (t, s, r, q, p) (regrouped held front back ∙ ap (λ (l : List ℕ). held ++ l) joined)
+  where
+    regrouped : (h f b : List ℕ) → ((((h ++ codes "[") ++ f) ++ codes ":") ++ b) ++ codes "]" ≡ h ++ (codes "[" ++ f ++ codes ":" ++ b ++ codes "]")
+    regrouped h f b = simp append_assoc refl

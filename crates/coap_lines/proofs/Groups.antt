@@ -86,7 +86,7 @@ group-none (b ∷ text) few reads =
     let most : 16 ^ length (b ∷ text) ≤ 16 ^ 4 = pow-le-pow_right {n = 16} (omega arith) short in
     absurd (never ((omega arith, all), omega (arith, below, most)))
 
--- what is behind a group that is read, behind those before it
+-- what comes after a group that is read, after those before it
 pub step : (front : List ℕ) (parts : List (List ℕ)) (group : List ℕ) (n : ℕ) → group_of group ≡ Some n → option_map (λ more. front ++ more) (all_of (map group_of (group ∷ parts))) ≡ option_map (λ more. (front ++ n ∷ []) ++ more) (all_of (map group_of parts))
 step front parts group n reads = rw reads (go (all_of (map group_of parts)))
   where
@@ -124,7 +124,7 @@ pub bad-none : (text : List ℕ) → all_of (map group_of (slice_split (λ b. b 
 unfolding segments_read
 bad-none text bad = rw bad refl
 
--- behind eight groups another is one too many
+-- after eight groups another is one too many
 pub more-none : (text rest front : List ℕ) → all_of (map group_of (slice_split (λ b. b == colon) text)) ≡ option_map (λ more. front ++ more) (all_of (map group_of (slice_split (λ b. b == colon) rest))) → length front ≡ 8 → segments_read text ≡ None
 more-none text rest front read eight = go (all_of (map group_of (slice_split (λ b. b == colon) rest))) refl
   where

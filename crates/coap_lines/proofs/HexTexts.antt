@@ -1,16 +1,39 @@
 -- The bytes of a datagram as a text: what is read.
-use Rattle.std.proofs.Common.{◌≡◌, ◌==◌, ℕ, ◌%◌, Bool, true, false, ◌&&◌, List, [], length, codes, Option, Some, None, Result, Ok, Err, refl, sym, ap, arith, cond, inl, inr, leb, le-leb, eq-eqb}
+use Rattle.std.proofs.Common.{◌≡◌, ◌==◌, ℕ, ◌+◌, ◌/◌, ◌%◌, ◌<◌, Bool, true, false, ◌&&◌, List, [], ◌∷◌, ◌++◌, length, take, get_or, slice_index, ◌∙◌, codes, Option, Some, None, Result, Ok, Err, refl, sym, ap, arith, cond, inl, inr, leb, le-leb, eq-eqb}
 use Rattle.std.specs.List.{list_all}
 use Rattle.std.specs.Option.{IsSome, unwrap_or}
 use Rattle.std.specs.Str.{bytes_eq}
 use Rattle.std.proofs.lemmas.Bool.{and_parts, eqb-true, leb-true}
+use Rattle.std.proofs.lemmas.List.{take_more}
 use Rattle.std.proofs.lemmas.List.Sums.{AllPass-from_list_all, list_all-from_AllPass}
 use Rattle.std.proofs.lemmas.Option.{none-some}
 use Rattle.std.proofs.lemmas.Slice.Eq.{bytes_eq-Decides}
 use Rattle.hex.specs.declared.error.FromHexError.{FromHexError}
-use Rattle.hex.specs.Hex.{decode_of, is_hex_digit}
+use Rattle.hex.specs.Hex.{decode_of, encode_upper, encode_with, is_hex_digit, upper_digits}
 use Rattle.hex.proofs.HexLemmas.{decode_of-digits, decode_of-ok}
 use Rattle.coap_lines.specs.Datagrams.{IsHex, bytes_read, decoded, is_hex}
+
+-- the digits of bytes and of others after them
+encode_with-append : (table xs ys : List ℕ) → encode_with table (xs ++ ys) ≡ encode_with table xs ++ encode_with table ys
+unfolding encode_with
+encode_with-append table [] ys = refl
+encode_with-append table (x ∷ xs) ys = ap (λ (l : List ℕ). slice_index table (x / 16) ∷ slice_index table (x % 16) ∷ l) (encode_with-append table xs ys)
+
+-- no bytes have no digits
+pub encode-none : encode_upper [] ≡ []
+unfolding encode_with
+encode-none = refl
+
+-- the two digits of a byte
+encode-one : (b : ℕ) → encode_upper (b ∷ []) ≡ slice_index upper_digits (b / 16) ∷ slice_index upper_digits (b % 16) ∷ []
+unfolding encode_with
+encode-one b = refl
+
+-- the digits of a byte more
+pub encode-more : (bytes : List ℕ) (i : ℕ) → i < length bytes → encode_upper (take (i + 1) bytes) ≡ encode_upper (take i bytes) ++ (slice_index upper_digits (get_or bytes i 0 / 16) ∷ slice_index upper_digits (get_or bytes i 0 % 16) ∷ [])
+encode-more bytes i within =
+    ap encode_upper (take_more bytes i 0 within) ∙ encode_with-append upper_digits (take i bytes) (get_or bytes i 0 ∷ [])
+    ∙ ap (λ (l : List ℕ). encode_upper (take i bytes) ++ l) (encode-one (get_or bytes i 0))
 
 -- a hyphen writes no bytes
 pub hyphen-read : (text : List ℕ) → bytes_eq text (codes "-") ≡ true → bytes_read text ≡ Some []

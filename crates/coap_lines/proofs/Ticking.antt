@@ -8,7 +8,7 @@ use Rattle.coap_model.specs.Events.{Event}
 use Rattle.coap_model.specs.Events.Event.{tick}
 use Rattle.coap_lines.specs.Texts.{◌>>=◌}
 use Rattle.coap_lines.specs.Turns.{event_of, not_before, turn_at}
-use Rattle.coap_lines.proofs.Written.{event_of-is}
+use Rattle.coap_lines.proofs.TurnTexts.{event_of-is}
 
 -- another text says no tick
 pub never_tick : (P : Type 0) (text : List ℕ) → bytes_eq text (codes "tick") ≡ false → IfSome (event_of text) (λ event. event ≡ tick → P)
@@ -21,9 +21,9 @@ never_tick P text other = go (event_of text) refl
         absurd (false≢true (sym other ∙ (bytes_eq-Decides text (codes "tick")).1 said))
 
 -- a turn is a tick where its event is one
-pub behind_tick : (P : Type 0) (o : Option Event) (last now draw : ℕ) → IfSome o (λ event. event ≡ tick → P) → IfSome (o >>= λ event. not_before last (turn_at now draw event)) (λ turn. turn.event ≡ tick → P)
-behind_tick P None last now draw holds = tt
-behind_tick P (Some event) last now draw holds = go (leb last now)
+pub tick_of_event : (P : Type 0) (o : Option Event) (last now draw : ℕ) → IfSome o (λ event. event ≡ tick → P) → IfSome (o >>= λ event. not_before last (turn_at now draw event)) (λ turn. turn.event ≡ tick → P)
+tick_of_event P None last now draw holds = tt
+tick_of_event P (Some event) last now draw holds = go (leb last now)
   where
     go : (b : Bool) → IfSome (cond b (Some (turn_at now draw event)) None) (λ turn. turn.event ≡ tick → P)
     go false = tt

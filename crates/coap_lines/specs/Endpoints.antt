@@ -1,5 +1,5 @@
 -- Endpoints as texts: `a.b.c.d:port`, and `[g:g:g:g:g:g:g:g]:port`.
-use Rattle.std.specs.Prelude.{◌≡◌, ◌==◌, ◌<◌, ℕ, false, List, [], ◌∷◌, ◌++◌, length, map, codes, Option, Some, None, if◌then◌else◌}
+use Rattle.std.specs.Prelude.{◌≡◌, ◌==◌, ◌<◌, ℕ, false, List, [], ◌∷◌, ◌++◌, length, map, codes, Option, Some, None, option_map, if◌then◌else◌}
 use Rattle.std.specs.Fmt.{decimal, digits}
 use Rattle.std.specs.List.{AllByRecursion, AllZip, join_with_byte, slice_split}
 use Rattle.std.specs.Net.Addr.{octets_of, segments_of}
@@ -35,9 +35,9 @@ endpoint_at ip port = record { ip = ip; port = port }
 unfoldable pub v4_endpoint : List ℕ → Option Endpoint
 v4_endpoint text = do
   parts ← cut colon text
-  octets ← ipv4_of parts.0
+  ip ← option_map V4 (ipv4_of parts.0)
   port ← number_of 65535 parts.1
-  Some (endpoint_at (V4 octets) port)
+  Some (endpoint_at ip port)
 
 -- the numbers, where there are eight
 abbrev pub if_eight : List ℕ → Option (List ℕ)
@@ -47,18 +47,18 @@ if_eight segments = if length segments == 8 then Some segments else None
 unfoldable pub segments_read : List ℕ → Option (List ℕ)
 segments_read text = all_of (map group_of (slice_split (λ b. b == colon) text)) >>= if_eight
 
--- the groups of what is left behind a colon, if there is one
+-- the groups of what is left after a colon, if there is one
 abbrev pub parts_left : Option (List ℕ) → List (List ℕ)
 parts_left None = []
 parts_left (Some text) = slice_split (λ b. b == colon) text
 
--- the endpoint of an IPv6 address and a port, behind the opening bracket
+-- the endpoint of an IPv6 address and a port, after the opening bracket
 unfoldable pub v6_endpoint : List ℕ → Option Endpoint
 v6_endpoint text = do
   parts ← cut right_bracket text
   segments ← segments_read parts.0
-  behind ← read_byte colon parts.1
-  port ← number_of 65535 behind
+  after ← read_byte colon parts.1
+  port ← number_of 65535 after
   Some (endpoint_at (V6 (octets_of segments)) port)
 
 -- the endpoint that a text writes

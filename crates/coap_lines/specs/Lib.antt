@@ -5,5 +5,6 @@ pub mod Endpoints
 pub mod Datagrams
 pub mod Turns
 pub mod Lines
+pub mod Room
 pub mod Scripts
 pub mod Examples

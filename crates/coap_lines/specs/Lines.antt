@@ -1,25 +1,31 @@
 -- Lines of an input, and lines of an output.
 use Rattle.std.specs.Prelude.{◌≡◌, ◌≢◌, ℕ, ◌==◌, ◌⊎◌, nat_lt, Bool, false, true, List, [], ◌∷◌, ◌++◌, length, codes, Option, Some, None}
 use Rattle.std.specs.Fmt.{decimal}
+use Rattle.std.specs.Io.KnownBytes.{Consumes}
 use Rattle.std.specs.List.{AllByRecursion, flat_map, slice_split}
 use Rattle.coap_target.specs.declared.endpoint.Endpoint.{Endpoint}
-use Rattle.coap_lines.specs.declared.input.Next.{Next}
-use Rattle.coap_lines.specs.declared.input.Next.TheVariants.{Line, TooLong, End}
-use Rattle.coap_lines.specs.declared.input.Piece.{Piece}
-use Rattle.coap_lines.specs.declared.input.Piece.TheVariants.{Feed, Full, Last}
+use Rattle.coap_lines.specs.declared.reading.input.Next.{Next}
+use Rattle.coap_lines.specs.declared.reading.input.Next.TheVariants.{Line, TooLong, End}
+use Rattle.coap_lines.specs.declared.reading.input.Piece.{Piece}
+use Rattle.coap_lines.specs.declared.reading.input.Piece.TheVariants.{Feed, Full, Last}
 use Rattle.coap_lines.specs.Texts.{has, line_feed, number_sign}
 use Rattle.coap_lines.specs.Endpoints.{endpoint_text}
 use Rattle.coap_lines.specs.Datagrams.{hex_text}
 
--- lines, each with a line feed behind it
+-- lines, each with its line feed
 abbrev pub ended : List (List ℕ) → List ℕ
 ended lines = flat_map (λ line. line ++ line_feed ∷ []) lines
 
--- An input has these lines: no line feed stands in one, and one stands behind each, but it may lack behind
--- the last, if that isn't empty.
+-- an input is these lines and one more, which isn't empty and lacks its line feed
+abbrev pub IsCutShort : List ℕ → List (List ℕ) → Type 0
+IsCutShort input lines = (front : List (List ℕ)) × (last : List ℕ)
+    × (lines ≡ front ++ last ∷ []) × (last ≢ []) × (input ≡ ended front ++ last)
+
+-- An input has these lines: no line feed stands in one, and each ends with one, but the last may lack it, if
+-- it isn't empty.
 abbrev pub AreLines : List ℕ → List (List ℕ) → Type 0
 AreLines input lines = AllByRecursion (λ line. has line_feed line ≡ false) lines
-    × ((input ≡ ended lines) ⊎ ((front : List (List ℕ)) × (last : List ℕ) × (lines ≡ front ++ last ∷ []) × (last ≢ []) × (input ≡ ended front ++ last)))
+    × ((input ≡ ended lines) ⊎ IsCutShort input lines)
 
 -- the parts without the last one, if that is empty
 abbrev pub without_empty_end : List (List ℕ) → List (List ℕ)
@@ -27,7 +33,7 @@ without_empty_end [] = []
 without_empty_end ([] ∷ []) = []
 without_empty_end (part ∷ parts) = part ∷ without_empty_end parts
 
--- the lines of an input: what stands between line feeds, and behind the last of them, if that isn't empty
+-- the lines of an input: what stands between line feeds, and after the last of them, if that isn't empty
 abbrev pub lines_of : List ℕ → List (List ℕ)
 lines_of input = without_empty_end (slice_split (λ b. b == line_feed) input)
 
@@ -40,13 +46,29 @@ abbrev pub is_skipped : List ℕ → Bool
 is_skipped [] = true
 is_skipped (b ∷ line) = b == number_sign
 
--- What comes next of an input, and what is left of it: its first line, which isn't too long; or a line that is,
--- of which no more was taken than is held; or nothing.
+-- an input begins with a line: its line feed comes after it, or nothing at all
+abbrev pub BeginsWith : List ℕ → List ℕ → List ℕ → Type 0
+BeginsWith input line rest = ((has line_feed line ≡ false) × (input ≡ line ++ line_feed ∷ rest)) ⊎ ((input ≡ line) × (rest ≡ []))
+
+-- the first line of an input, which isn't too long, was read
+abbrev pub IsLine : List ℕ → List ℕ → List ℕ → Type 0
+IsLine input rest line = (lines_of input ≡ line ∷ lines_of rest) × (is_too_long line ≡ false) × BeginsWith input line rest
+
+-- the first line of an input is too long, and no more was taken of it than is held
+abbrev pub IsTooLong : List ℕ → List ℕ → List ℕ → Type 0
+IsTooLong input rest line = (long : List ℕ) × (more : List (List ℕ))
+    × (lines_of input ≡ long ∷ more) × (is_too_long long ≡ true) × (input ≡ line ++ rest)
+
+-- what comes next of an input, and what is left of it: a line, one that is too long, or nothing
 abbrev pub IsNext : List ℕ → Option (List ℕ) → List ℕ → Next → Type 0
 IsNext input None line next = ⊥
-IsNext input (Some rest) line Line = (lines_of input ≡ line ∷ lines_of rest) × (is_too_long line ≡ false)
-IsNext input (Some rest) line TooLong = (long : List ℕ) × (more : List (List ℕ)) × (lines_of input ≡ long ∷ more) × (is_too_long long ≡ true) × (input ≡ line ++ rest)
+IsNext input (Some rest) line Line = IsLine input rest line
+IsNext input (Some rest) line TooLong = IsTooLong input rest line
 IsNext input (Some rest) line End = lines_of input ≡ []
+
+-- of what a reader has left, a part of the first line was taken, perhaps nothing, and not its line feed
+abbrev pub IsBegun : Option (List ℕ) → Option (List ℕ) → Type 0
+IsBegun old new = (part : List ℕ) × (has line_feed part ≡ false) × Consumes old new part
 
 -- the bytes of a line that were taken: its line feed isn't kept
 abbrev pub taken : Piece → List ℕ → List ℕ

@@ -29,7 +29,7 @@ has byte text = list_any (λ b. b == byte) text
 abbrev pub with_front : ℕ → List ℕ × List ℕ → List ℕ × List ℕ
 with_front b parts = (b ∷ parts.0, parts.1)
 
--- what stands before the first such byte and what stands behind it, if there is one
+-- what stands before the first such byte and what stands after it, if there is one
 abbrev pub cut : ℕ → List ℕ → Option (List ℕ × List ℕ)
 cut byte [] = None
 cut byte (b ∷ text) = if b == byte then Some ([], text) else option_map (with_front b) (cut byte text)

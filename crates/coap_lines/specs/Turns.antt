@@ -4,9 +4,9 @@ use Rattle.std.specs.Str.{bytes_eq}
 use Rattle.coap_model.specs.Events.{Event}
 use Rattle.coap_model.specs.Events.Event.{arrival, tick}
 use Rattle.coap_model.specs.Runs.{Turn}
-use Rattle.coap_lines.specs.declared.turn.Input.{Input}
-use Rattle.coap_lines.specs.declared.turn.Input.TheVariants.{Datagram, Tick}
-use Rattle.coap_lines.specs.declared.turn.Turn.{Turn as TurnRead}
+use Rattle.coap_lines.specs.declared.reading.turn.Input.{Input}
+use Rattle.coap_lines.specs.declared.reading.turn.Input.TheVariants.{Datagram, Tick}
+use Rattle.coap_lines.specs.declared.reading.turn.Turn.{Turn as TurnRead}
 use Rattle.coap_lines.specs.Texts.{◌>>=◌, cut, space}
 use Rattle.coap_lines.specs.Numbers.{IsNumber, number_of}
 use Rattle.coap_lines.specs.Endpoints.{IsEndpoint, endpoint_of}
@@ -21,7 +21,7 @@ abbrev pub IsHappening : List ℕ → Event → Type 0
 IsHappening text tick = text ≡ codes "tick"
 IsHappening text (arrival from bytes) = (source hex : List ℕ) × (text ≡ source ++ space ∷ hex) × IsEndpoint source from × IsHex hex bytes
 
--- A line says a turn behind the last moment: a moment, a draw and what happened, with one space between
+-- A line says a turn after the last moment: a moment, a draw and what happened, with one space between
 -- two of them.
 abbrev pub IsTurnLine : ℕ → List ℕ → Turn → Type 0
 IsTurnLine last line turn = (moment draw what : List ℕ) × (line ≡ moment ++ space ∷ draw ++ space ∷ what)
@@ -46,7 +46,7 @@ turn_at now draw event = record { now = now; draw = draw; event = event }
 abbrev pub not_before : ℕ → Turn → Option Turn
 not_before last turn = if nat_le last turn.now then Some turn else None
 
--- the turn that a line says behind the last moment
+-- the turn that a line says after the last moment
 unfoldable pub turn_of : ℕ → List ℕ → Option Turn
 turn_of last line = do
   first ← cut space line

@@ -34,7 +34,7 @@ pub fn bad_events()
     ensures huge { turn_of 1 (codes "99999999999999999999 0 tick") ≡ None }
     ensures capitals { turn_of 1 (codes "1 0 TICK") ≡ None }
     ensures space_before { turn_of 1 (codes " 1 0 tick") ≡ None }
-    ensures space_behind { turn_of 1 (codes "1 0 tick ") ≡ None }
+    ensures space_after { turn_of 1 (codes "1 0 tick ") ≡ None }
     ensures tabs { turn_of 1 (codes "1\t0\ttick") ≡ None }
     ensures carriage_return { turn_of 1 (codes "1 0 tick\r") ≡ None }
     ensures more_than_a_tick { turn_of 1 (codes "1 0 tick -") ≡ None }

@@ -11,7 +11,7 @@ ghost use Rattle.coap_lines.specs.Lines.{AreLines, IsNext, is_skipped, lines_of}
 ghost use Rattle.coap_lines.specs.Numbers.{IsNumber, number_of};
 ghost use Rattle.coap_lines.specs.Scripts.{all_done, bad_at, script_from, script_of, with_turn};
 ghost use Rattle.coap_lines.specs.Turns.{IsTurnLine, greatest, turn_of};
-ghost use Rattle.coap_lines.specs.declared.input.Next.{Next};
+ghost use Rattle.coap_lines.specs.declared.reading.input.Next.{Next};
 
 /// A number is read exactly where a text writes one.
 pub fn numbers_are_read()

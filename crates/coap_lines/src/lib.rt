@@ -1,20 +1,15 @@
 //! Lines: what happens to a proxy and what it sends, as text.
 #![tactic(auto)]
 
-mod cutting;
-mod datagram;
-mod endpoint;
 mod error;
 pub mod examples;
-mod input;
 pub mod laws;
-mod line;
-mod number;
-mod output;
-mod turn;
+mod reading;
+mod room;
+mod writing;
 
 pub use error::LineError;
-pub use input::{LONGEST, Next, is_skipped, next_line};
-pub use line::put_line;
-pub use output::write_bytes;
-pub use turn::{Input, Turn, read_turn};
+pub use reading::input::{LONGEST, Next, is_skipped, next_line};
+pub use reading::turn::{Input, Turn, read_turn};
+pub use writing::line::{line_buffer, put_line};
+pub use writing::output::write_bytes;

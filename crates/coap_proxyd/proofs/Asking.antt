@@ -1,18 +1,20 @@
 -- What the next line of an input asks for, whether or not the input is known.
-use Rattle.std.proofs.Common.{◌≡◌, ℕ, ◌^◌, ◌<◌, ◌≤◌, true, false, List, Option, Some, None, Ok, Err, refl}
-use Rattle.std.specs.Prelude.{IfSome}
+use Rattle.std.proofs.Common.{◌≡◌, ℕ, ◌^◌, ◌<◌, ◌≤◌, true, false, List, ◌∷◌, Option, Some, None, Ok, Err, refl, sym, ap, ◌∙◌, subst}
+use Rattle.std.specs.Prelude.{IfSome, IsSome}
+use Rattle.std.proofs.lemmas.Bool.{false≢true}
 use Rattle.coap_model.specs.Runs.{Turn}
-use Rattle.coap_proxyd.specs.declared.error.ReplayError.TheVariants.{BadEvent}
-use Rattle.coap_lines.specs.declared.input.Next.{Next}
-use Rattle.coap_lines.specs.declared.input.Next.TheVariants as next
+use Rattle.coap_proxyd.specs.declared.error.ReplayError.TheVariants.{BadEvent, OutOfMemory, Read}
+use Rattle.coap_lines.specs.declared.reading.input.Next.{Next}
+use Rattle.coap_lines.specs.declared.reading.input.Next.TheVariants as next
 use Rattle.coap_proxyd.specs.declared.replays.Asked.TheVariants.{End, Skip, Do}
-use Rattle.coap_lines.specs.declared.turn.Turn.{Turn as TurnRead}
-use Rattle.coap_lines.specs.Lines.{IsNext, is_skipped}
+use Rattle.coap_lines.specs.declared.reading.turn.Turn.{Turn as TurnRead}
+use Rattle.coap_lines.specs.Lines.{IsBegun, IsNext, is_skipped, lines_of}
+use Rattle.coap_lines.specs.Scripts.{AsksFor, bad_at, script_from}
 use Rattle.coap_proxyd.specs.Replays.{AsksNext, MayBeDone}
 use Rattle.coap_lines.specs.Turns.{greatest, turn_of, turn_seen}
-use Rattle.coap_lines.proofs.Following.{IsEvent-said}
-use Rattle.coap_lines.proofs.Steps.{step-bad, step-end, step-full, step-long, step-many, step-skip, step-turn}
-use Rattle.coap_lines.proofs.Written.{turn_of-is}
+use Rattle.coap_lines.proofs.ScriptTurns.{IsEvent-said}
+use Rattle.coap_lines.proofs.LineByLine.{step-bad, step-end, step-full, step-long, step-many, step-skip, step-turn}
+use Rattle.coap_lines.proofs.TurnTexts.{turn_of-is}
 
 module _ (number last events : ℕ) (old left : Option (List ℕ)) (line : List ℕ) where
   abbrev Comes : Next → Type 0
@@ -27,28 +29,60 @@ module _ (number last events : ℕ) (old left : Option (List ℕ)) (line : List 
       go (Some input) None c = absurd c
       go (Some input) (Some rest) c = each input rest c
 
+  -- no line is left
   pub asks-end : Comes next.End → IfSome old (λ input. AsksNext number last events input left (Ok End))
   asks-end comes = known next.End (λ input l. AsksNext number last events input l (Ok End)) comes (λ input rest n. step-end number last events input rest line n)
 
+  -- a line that is too long
   pub asks-long : Comes next.TooLong → IfSome old (λ input. AsksNext number last events input left (Err (BadEvent number)))
   asks-long comes = known next.TooLong (λ input l. AsksNext number last events input l (Err (BadEvent number))) comes (λ input rest n. (refl, step-long number last events input rest line n))
 
+  -- a line whose number is too great
   pub asks-many : Comes next.Line → greatest < number → IfSome old (λ input. AsksNext number last events input left (Err (BadEvent number)))
   asks-many comes above = known next.Line (λ input l. AsksNext number last events input l (Err (BadEvent number))) comes (λ input rest n. (refl, step-many number last events input rest line n above))
 
+  -- a line that is skipped
   pub asks-skip : Comes next.Line → number ≤ greatest → is_skipped line ≡ true → IfSome old (λ input. AsksNext number last events input left (Ok Skip))
-  asks-skip comes within skipped = known next.Line (λ input l. AsksNext number last events input l (Ok Skip)) comes (λ input rest n. (line, n.0, step-skip number last events input rest line n within skipped))
+  asks-skip comes within skipped = known next.Line (λ input l. AsksNext number last events input l (Ok Skip)) comes (λ input rest n. (line, n, step-skip number last events input rest line n within skipped))
 
+  -- a line that says no turn
   pub asks-bad : Comes next.Line → number ≤ greatest → is_skipped line ≡ false → turn_of last line ≡ None → IfSome old (λ input. AsksNext number last events input left (Err (BadEvent number)))
   asks-bad comes within other none = known next.Line (λ input l. AsksNext number last events input l (Err (BadEvent number))) comes (λ input rest n. (refl, step-bad number last events input rest line n within other none))
 
-  pub asks-full : (turn : Turn) → Comes next.Line → number ≤ greatest → is_skipped line ≡ false → turn_of last line ≡ Some turn → 2 ^ 63 ≤ events → IfSome old (λ input. AsksNext number last events input left (Err (BadEvent number)))
-  asks-full turn comes within other is many = known next.Line (λ input l. AsksNext number last events input l (Err (BadEvent number))) comes (λ input rest n. (refl, step-full number last events input rest line turn n within other is many))
+  -- a line after as many events as there may be
+  pub asks-full : Comes next.Line → number ≤ greatest → is_skipped line ≡ false → 2 ^ 63 ≤ events → IfSome old (λ input. AsksNext number last events input left (Err (BadEvent number)))
+  asks-full comes within other many = known next.Line (λ input l. AsksNext number last events input l (Err (BadEvent number))) comes (λ input rest n. (refl, by (turn_of last line) refl input rest n))
+    where
+      by : (turn : Option Turn) → turn_of last line ≡ turn → (input rest : List ℕ) → IsNext input (Some rest) line next.Line → script_from number last events (lines_of input) ≡ bad_at number
+      by None is input rest n = step-bad number last events input rest line n within other is
+      by (Some turn) is input rest n = step-full number last events input rest line turn n within other is many
 
+  -- what the first line asks for, if it says a turn
+  asks-for : (turn : Turn) (input rest : List ℕ) → IsNext input (Some rest) line next.Line → number ≤ greatest → is_skipped line ≡ false → turn_of last line ≡ Some turn → events < 2 ^ 63 → AsksFor number last events (line ∷ lines_of rest) turn
+  asks-for turn input rest n within other is few = (other, sym (ap (script_from number last events) n.0) ∙ step-turn number last events input rest line turn n within other is few)
+
+  -- a line that says a turn
   pub asks-turn : (turn : TurnRead) → Comes next.Line → number ≤ greatest → is_skipped line ≡ false → turn_of last line ≡ Some (turn_seen turn) → events < 2 ^ 63 → IfSome old (λ input. AsksNext number last events input left (Ok (Do turn)))
-  asks-turn turn comes within other is few = known next.Line (λ input l. AsksNext number last events input l (Ok (Do turn))) comes (λ input rest n. (line, n.0, step-turn number last events input rest line (turn_seen turn) n within other is few))
+  asks-turn turn comes within other is few = known next.Line (λ input l. AsksNext number last events input l (Ok (Do turn))) comes (λ input rest n. (line, n, asks-for (turn_seen turn) input rest n within other is few))
 
+  -- a line that says a turn for which there is no memory
+  pub asks-memory : Comes next.Line → number ≤ greatest → is_skipped line ≡ false → IsSome (turn_of last line) → events < 2 ^ 63 → IfSome old (λ input. AsksNext number last events input left (Err (OutOfMemory number)))
+  asks-memory comes within other some few = known next.Line (λ input l. AsksNext number last events input l (Err (OutOfMemory number))) comes (λ input rest n. (refl, by (turn_of last line) refl some input rest n))
+    where
+      by : (turn : Option Turn) → turn_of last line ≡ turn → IsSome turn → (input rest : List ℕ) → IsNext input (Some rest) line next.Line → (t : Turn) × AsksFor number last events (lines_of input) t
+      by None is some input rest n = absurd (false≢true some)
+      by (Some turn) is some input rest n = (turn, subst (λ (ls : List (List ℕ)). AsksFor number last events ls turn) (sym n.0) (asks-for turn input rest n within other is few))
+
+  -- a line that was not read
+  pub asks-unread : IsBegun old left → IfSome old (λ input. AsksNext number last events input left (Err Read))
+  asks-unread begun = go old begun
+    where
+      go : (o : Option (List ℕ)) → IsBegun o left → IfSome o (λ input. AsksNext number last events input left (Err Read))
+      go None b = tt
+      go (Some input) b = b
+
+-- a turn that a line says may be done
 pub may-be-done : (last events : ℕ) (line : List ℕ) (turn : Turn) → turn_of last line ≡ Some turn → events < 2 ^ 63 → MayBeDone last events turn
 may-be-done last events line turn is few =
-    let (moment, draw, what, split, now, behind, number, said) = turn_of-is last line turn is in
-    record { onward = behind; moment = now.1; draw = number.1; event = IsEvent-said what turn.event said; few = few }
+    let (moment, draw, what, split, now, onward, number, said) = turn_of-is last line turn is in
+    record { onward = onward; moment = now.1; draw = number.1; event = IsEvent-said what turn.event said; few = few }

@@ -1,15 +1,17 @@
 //! Replays: the events of an input are done one after the other, and what is sent is written.
-ghost use Rattle.std.specs.Prelude.{◌≡◌, ◌≤◌, IfSome, OnOk};
+ghost use Rattle.std.specs.Prelude.{◌≡◌, ◌≤◌, IfSome, length, vec_capacity};
 ghost use Rattle.coap_core.specs.Events.{seen};
 ghost use Rattle.coap_proxyd.specs.Replays.{AsksNext, DoesTurn, IfDo, IsReplayed, MayBeDone, line_for};
+ghost use Rattle.coap_lines.specs.Room.{longest_line};
 ghost use Rattle.coap_lines.specs.Turns.{turn_seen, event_seen};
 
 use crate::error::ReplayError;
 use coap_core::{Core, Event, Report};
 use coap_lines::{
-    Input, LONGEST, LineError, Next, Turn, is_skipped, next_line, put_line, read_turn, write_bytes,
+    Input, LONGEST, LineError, Next, Turn, is_skipped, line_buffer, next_line, put_line, read_turn,
+    write_bytes,
 };
-use coap_message::{Datagram, OutOfMemory};
+use coap_message::Datagram;
 use std::alloc::Global;
 use std::io::{BufRead, Write};
 
@@ -30,7 +32,7 @@ pub(crate) enum Asked {
     Do(Turn),
 }
 
-/// Reads the line of this number, and the turn that it says behind the moment `last` and so many events.
+/// Reads the line of this number, and the turn that it says after the moment `last` and so many events.
 fn next_asked<R: BufRead>(
     alloc: Global,
     reader: &mut R,
@@ -39,8 +41,10 @@ fn next_asked<R: BufRead>(
     last: u64,
     events: u64,
 ) -> Result<Asked, ReplayError>
+    requires { 16385 ≤ vec_capacity line.old }
     ensures asked { IfSome (R.remaining reader.old) (λ input. AsksNext number last events input (R.remaining reader.new) result) }
     ensures may { IfDo (MayBeDone last events) result }
+    ensures room { vec_capacity line.old ≤ vec_capacity line.new }
 {
     match next_line(reader, line) {
         Ok(Next::End) => return Ok(Asked::End),
@@ -54,9 +58,11 @@ fn next_asked<R: BufRead>(
     if is_skipped(line) {
         return Ok(Asked::Skip);
     }
+    if events >= MOST_EVENTS {
+        return Err(ReplayError::BadEvent { line: number });
+    }
     match read_turn(alloc, line, last) {
-        Ok(turn) if events < MOST_EVENTS => Ok(Asked::Do(turn)),
-        Ok(_) => Err(ReplayError::BadEvent { line: number }),
+        Ok(turn) => Ok(Asked::Do(turn)),
         Err(LineError::Bad) => Err(ReplayError::BadEvent { line: number }),
         Err(LineError::OutOfMemory) => Err(ReplayError::OutOfMemory { line: number }),
     }
@@ -75,18 +81,21 @@ fn event_of(input: &Input) -> Event<'_>
     }
 }
 
-/// Puts the line of the datagram that was sent in place of what a buffer holds, if one was sent.
-fn line_for(text: &mut Vec<u8>, now: u64, report: Report, out: &Datagram) -> Result<(), OutOfMemory>
-    ensures { OnOk result (text.new.items ≡ line_for now report.send out.now.bytes) }
+/// Puts the line of the datagram that was sent in place of what a buffer holds, if one was sent. There is room for
+/// it.
+fn line_for(text: &mut Vec<u8>, now: u64, report: Report, out: &Datagram)
+    requires { longest_line (length out.now.bytes) ≤ vec_capacity text.old }
+    ensures line { text.new.items ≡ line_for now report.send out.now.bytes }
+    ensures room { vec_capacity text.old ≤ vec_capacity text.new }
 {
     text.clear();
-    match report.send {
-        Some(to) => put_line(text, now, to, out.bytes()),
-        None => Ok(()),
+    if let Some(to) = report.send {
+        put_line(text, now, to, out.bytes());
     }
 }
 
-/// Does a turn, and writes the line of what it sends.
+/// Does a turn, and writes the line of what it sends, for which there is room. Where memory is missing, nothing was
+/// done.
 fn do_turn<W: Write>(
     writer: &mut W,
     core: &mut Core,
@@ -97,16 +106,16 @@ fn do_turn<W: Write>(
 ) -> Result<(), ReplayError>
     requires may { MayBeDone core.old.last core.old.events (turn_seen turn) }
     requires room { core.old.setting.limits.datagram ≤ out.old.room }
+    requires text { longest_line core.old.setting.limits.datagram ≤ vec_capacity text.old }
     ensures does { DoesTurn core.old core.new (turn_seen turn) (W.contents writer.old) (W.contents writer.new) number result }
     ensures kept { out.new.room ≡ out.old.room }
+    ensures text { vec_capacity text.old ≤ vec_capacity text.new }
     ensures setting { core.new.setting ≡ core.old.setting }
 {
     let Ok(report) = core.step(turn.now, turn.draw, event_of(&turn.input), out) else {
         return Err(ReplayError::OutOfMemory { line: number });
     };
-    if line_for(text, turn.now, report, out).is_err() {
-        return Err(ReplayError::OutOfMemory { line: number });
-    }
+    line_for(text, turn.now, report, out);
     if write_bytes(writer, text).is_err() {
         return Err(ReplayError::Write);
     }
@@ -116,20 +125,23 @@ fn do_turn<W: Write>(
 /// Does the events of an input, one after the other, and writes the lines of what is sent: those that the
 /// core sends at each event, and nothing else. Answers how many events were done.
 ///
+/// Room for a line that is read and for one that is written is made before the first event.
+///
 /// # Errors
-/// The number of the first bad line; of the line at which memory ran out, 1 where it did before the first
-/// line; `Read` and `Write` where the reader or the writer failed. What was done before stays done.
+/// The number of the first bad line; of the line whose event found no memory, or 1 where there was none before
+/// the first line; `Read` and `Write` where the reader or the writer failed. What the lines before say was done, and
+/// their lines were written; the event of the line was not done, but for `Write`.
 pub fn replay<R: BufRead, W: Write>(
     alloc: Global,
     reader: &mut R,
     writer: &mut W,
     core: &mut Core,
 ) -> Result<u64, ReplayError>
-    ensures replayed { IsReplayed core.old core.new (R.remaining reader.old) (W.contents writer.old) (W.contents writer.new) result }
+    ensures replayed { IsReplayed core.old core.new (R.remaining reader.old) (R.remaining reader.new) (W.contents writer.old) (W.contents writer.new) result }
 {
     let (Ok(mut line), Ok(mut text), Ok(mut out)) = (
         Vec::with_capacity(alloc, LONGEST + 1),
-        Vec::with_capacity(alloc, 0),
+        line_buffer(alloc, core.datagram()),
         Datagram::new(alloc, core.datagram()),
     ) else {
         return Err(ReplayError::OutOfMemory { line: 1 });
@@ -146,6 +158,6 @@ pub fn replay<R: BufRead, W: Write>(
             }
         }
     }
-    // Not reached: the line behind 2^62 is a bad event.
+    // Not reached: the line after 2^62 is a bad event.
     Err(ReplayError::Read)
 }

@@ -1,4 +1,5 @@
-//! Replays of an input that comes in pieces, of readers and writers that fail, and on a core that goes on.
+//! Replays of an input that comes in pieces, of readers and writers that fail or are interrupted, and on a core that
+//! goes on.
 use coap_core::{Core, LimitValues, Limits};
 use coap_message::OutOfMemory;
 use coap_proxyd::{ReplayError, replay};
@@ -121,7 +122,7 @@ fn replay_anew(
     Ok((result, core.events()))
 }
 
-/// Replays so many bytes of the first run, lent in pieces, behind which the reader ends or fails.
+/// Replays so many bytes of the first run, lent in pieces, after which the reader ends or fails.
 fn check_reader(
     rt: &impl Abort,
     alloc: Global,
@@ -144,7 +145,7 @@ fn check_reader(
 const WHOLE: usize = 16_384;
 
 #[test]
-fn a_reader_that_fails_leaves_whole_lines(rt: HostRuntime) -> Result<(), Fail> {
+fn an_input_may_come_in_pieces_and_break_off(rt: HostRuntime) -> Result<(), Fail> {
     let alloc = rt.alloc();
     let both = first_lines(alloc)?;
     for given in 0..=FIRST_RUN.len() {
@@ -160,13 +161,6 @@ fn a_reader_that_fails_leaves_whole_lines(rt: HostRuntime) -> Result<(), Fail> {
             check_reader(&rt, alloc, (given, piece, true), expected)?;
         }
     }
-    Ok(())
-}
-
-#[test]
-fn an_input_may_come_in_pieces(rt: HostRuntime) -> Result<(), Fail> {
-    let alloc = rt.alloc();
-    let both = first_lines(alloc)?;
     for piece in [1, 2, 7, 33, WHOLE] {
         let expected = (Ok(4), 4, both.as_str());
         check_reader(&rt, alloc, (FIRST_RUN.len(), piece, false), expected)?;
@@ -183,16 +177,21 @@ enum WhenFull {
     TakesNothing,
 }
 
-/// A writer that takes so many bytes in all, and one at a time.
+/// A writer that takes so many bytes in all, one at a time, and is interrupted before each.
 #[derive(Drop)]
 struct Small {
     held: Vec<u8>,
     room: usize,
     when_full: WhenFull,
+    interrupted: bool,
 }
 
 impl Write for Small {
     fn write(&mut self, buf: &[u8]) -> io::Result<usize> {
+        self.interrupted = !self.interrupted;
+        if self.interrupted {
+            return Err(io::Error::from(ErrorKind::Interrupted));
+        }
         let Some(byte) = buf.first() else {
             return Ok(0);
         };
@@ -223,6 +222,7 @@ fn check_writer(
         held: Vec::new(alloc),
         room,
         when_full,
+        interrupted: false,
     };
     let mut reader = FIRST_RUN.as_bytes();
     let (result, events) = replay_anew(alloc, &mut reader, &mut writer)?;
@@ -231,7 +231,9 @@ fn check_writer(
 }
 
 #[test]
-fn a_writer_that_fails_has_the_bytes_before(rt: HostRuntime) -> Result<(), Fail> {
+fn a_writer_that_fails_has_the_bytes_before_and_interruptions_pass(
+    rt: HostRuntime,
+) -> Result<(), Fail> {
     let alloc = rt.alloc();
     let both = first_lines(alloc)?;
     for room in 0..=both.len() {

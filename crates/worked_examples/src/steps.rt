@@ -104,7 +104,7 @@ fn insist_on_new(alloc: Global) -> Result<Run, Fail> {
 }
 
 /// A step, taken again where there was no memory for it: what it answers, what it sends, and what the core tells
-/// behind it.
+/// after it.
 fn check_step(
     rt: &impl Abort,
     run: &mut Run,

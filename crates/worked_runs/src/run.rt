@@ -9,8 +9,8 @@ use std::io::{ErrorKind, Write};
 /// What the line begins with that names the words of a run.
 const MARK: &str = "# words:";
 
-/// What stands behind the mark of a line, if it has the mark.
-fn behind_mark(line: &[u8]) -> Option<&str>
+/// What stands after the mark of a line, if it has the mark.
+fn after_mark(line: &[u8]) -> Option<&str>
     ensures { IfSome result (λ words. line.now ≡ codes "# words:" ++ words.now) }
 {
     str::from_utf8(line).ok()?.strip_prefix(MARK)
@@ -27,7 +27,7 @@ fn words_in(alloc: Global, text: &str) -> Result<Vec<String>, AllocError> {
 
 /// The words that a run is made with: those of its first line that begins with `# words:`.
 fn words_of(alloc: Global, events: &[u8]) -> io::Result<Vec<String>> {
-    match events.split(|byte| *byte == b'\n').find_map(behind_mark) {
+    match events.split(|byte| *byte == b'\n').find_map(after_mark) {
         Some(words) => Ok(words_in(alloc, words)?),
         None => Err(io::Error::new(
             ErrorKind::InvalidData,

@@ -1,4 +1,4 @@
-use Rattle.coap_lines.proofs.Steps.{step-bad, step-end, step-long, step-many, step-skip, step-turn, step-full}
+use Rattle.coap_lines.proofs.LineByLine.{step-bad, step-end, step-long, step-many, step-skip, step-turn, step-full}
 use Rattle.coap_lines.proofs.laws.an_input_is_done_line_by_line.Goals as goal
 
 pub returns : goal.returns

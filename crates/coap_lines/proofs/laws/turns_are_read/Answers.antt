@@ -1,4 +1,4 @@
-use Rattle.coap_lines.proofs.Written.{turn_of-is, turn_of-written}
+use Rattle.coap_lines.proofs.TurnTexts.{turn_of-is, turn_of-written}
 use Rattle.coap_lines.proofs.laws.turns_are_read.Goals as goal
 
 pub returns : goal.returns

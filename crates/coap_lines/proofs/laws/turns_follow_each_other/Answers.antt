@@ -1,5 +1,5 @@
 use Rattle.coap_lines.specs.Lines.{lines_of}
-use Rattle.coap_lines.proofs.Following.{script_from-turns}
+use Rattle.coap_lines.proofs.ScriptTurns.{script_from-turns}
 use Rattle.coap_lines.proofs.laws.turns_follow_each_other.Goals as goal
 
 pub returns : goal.returns

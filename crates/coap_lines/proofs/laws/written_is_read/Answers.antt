@@ -1,4 +1,4 @@
-use Rattle.coap_lines.proofs.Again.{bytes_again, endpoint_again}
+use Rattle.coap_lines.proofs.ReadAgain.{bytes_again, endpoint_again}
 use Rattle.coap_lines.proofs.laws.written_is_read.Goals as goal
 
 pub returns : goal.returns

@@ -1,7 +1,8 @@
 use Rattle.std.proofs.Common.{◌≡◌, true, false, Some, None, sym}
+use Rattle.std.specs.Prelude.{IsSome}
 use Rattle.coap_lines.specs.Lines.{is_skipped}
 use Rattle.coap_lines.specs.Turns.{turn_of, turn_seen}
-use Rattle.coap_proxyd.proofs.Asking.{asks-end, asks-long, asks-many, asks-skip, asks-bad, asks-full, asks-turn, may-be-done}
+use Rattle.coap_proxyd.proofs.Asking.{asks-end, asks-long, asks-many, asks-skip, asks-bad, asks-full, asks-memory, asks-turn, asks-unread, may-be-done}
 use Rattle.coap_proxyd.proofs.replays.next_asked.Goals as goal
 
 pub returns-in-Ok-End-clause-asked : goal.returns-in-Ok-End-clause-asked
@@ -23,19 +24,29 @@ returns-in-Ok-clause-asked g c =
     let comes = rw c.in-Ok-Line.field-0-is at c.in-Ok-Line.ensures.read in
     let other : is_skipped c.next_line.new.line.items ≡ false = rw (← c.deref.ensures.value) (sym c.if-is_skipped.ensures) in
     let is : turn_of c.args.last c.next_line.new.line.items ≡ Some (turn_seen c.in-Ok.turn) = rw (← c.deref-2.ensures.value) c.in-Ok.ensures.read in
-    asks-turn c.args.number c.args.last c.args.events _ _ c.next_line.new.line.items c.in-Ok.turn comes c.if-number-gt-LAST_LINE.false other is c.if-events-lt-MOST_EVENTS.true
+    asks-turn c.args.number c.args.last c.args.events _ _ c.next_line.new.line.items c.in-Ok.turn comes c.if-number-gt-LAST_LINE.false other is c.if-events-ge-MOST_EVENTS.false
 
 pub returns-in-Ok-clause-may : goal.returns-in-Ok-clause-may
 returns-in-Ok-clause-may g c =
     let is : turn_of c.args.last c.next_line.new.line.items ≡ Some (turn_seen c.in-Ok.turn) = rw (← c.deref-2.ensures.value) c.in-Ok.ensures.read in
-    may-be-done c.args.last c.args.events c.next_line.new.line.items (turn_seen c.in-Ok.turn) is c.if-events-lt-MOST_EVENTS.true
+    may-be-done c.args.last c.args.events c.next_line.new.line.items (turn_seen c.in-Ok.turn) is c.if-events-ge-MOST_EVENTS.false
 
-pub returns-in-Ok-2-clause-asked : goal.returns-in-Ok-2-clause-asked
-returns-in-Ok-2-clause-asked g c =
+pub returns-then-events-ge-MOST_EVENTS-clause-asked : goal.returns-then-events-ge-MOST_EVENTS-clause-asked
+returns-then-events-ge-MOST_EVENTS-clause-asked g c =
     let comes = rw c.in-Ok-Line.field-0-is at c.in-Ok-Line.ensures.read in
     let other : is_skipped c.next_line.new.line.items ≡ false = rw (← c.deref.ensures.value) (sym c.if-is_skipped.ensures) in
-    let is : turn_of c.args.last c.next_line.new.line.items ≡ Some (turn_seen c.in-Ok-2.field-0) = rw (← c.deref-2.ensures.value) c.in-Ok-2.ensures.read in
-    asks-full c.args.number c.args.last c.args.events _ _ c.next_line.new.line.items (turn_seen c.in-Ok-2.field-0) comes c.if-number-gt-LAST_LINE.false other is c.if-events-lt-MOST_EVENTS.false
+    asks-full c.args.number c.args.last c.args.events _ _ c.next_line.new.line.items comes c.if-number-gt-LAST_LINE.false other c.if-events-ge-MOST_EVENTS.true
+
+pub returns-in-Err-OutOfMemory-clause-asked : goal.returns-in-Err-OutOfMemory-clause-asked
+returns-in-Err-OutOfMemory-clause-asked g c =
+    let comes = rw c.in-Ok-Line.field-0-is at c.in-Ok-Line.ensures.read in
+    let other : is_skipped c.next_line.new.line.items ≡ false = rw (← c.deref.ensures.value) (sym c.if-is_skipped.ensures) in
+    let some = rw c.in-Err-OutOfMemory.field-0-is at c.in-Err-OutOfMemory.ensures.read in
+    let says : IsSome (turn_of c.args.last c.next_line.new.line.items) = rw (← c.deref-2.ensures.value) some in
+    asks-memory c.args.number c.args.last c.args.events _ _ c.next_line.new.line.items comes c.if-number-gt-LAST_LINE.false other says c.if-events-ge-MOST_EVENTS.false
+
+pub returns-in-Err-clause-asked : goal.returns-in-Err-clause-asked
+returns-in-Err-clause-asked g c = asks-unread c.args.number c.args.last c.args.events _ _ c.next_line.new.line.items c.in-Err.ensures.begun
 
 pub returns-in-Err-Bad-clause-asked : goal.returns-in-Err-Bad-clause-asked
 returns-in-Err-Bad-clause-asked g c =

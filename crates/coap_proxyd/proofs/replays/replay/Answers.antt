@@ -6,7 +6,13 @@ use Rattle.coap_proxyd.proofs.replays.replay.Goals.{in-Skip, in-Do+in_ok-do_turn
 use Rattle.coap_proxyd.proofs.replays.replay.Goals as goal
 
 pub loop-read-init : goal.loop-read-init
-loop-read-init g c = record { at = at-start _ _ _; few = omega arith; room = rw (c.in-Ok-Ok-Ok.ensures'', c.datagram.ensures.exact) (omega arith) }
+loop-read-init g c = record {
+  at = at-start _ _ _;
+  few = omega arith;
+  room = rw (c.in-Ok-Ok-Ok.ensures'', c.datagram-2.ensures.exact) (omega arith);
+  line = c.in-Ok-Ok-Ok.ensures.capacity;
+  text = omega (arith, c.in-Ok-Ok-Ok.ensures', c.datagram.ensures.exact);
+}
 
 pub returns-in_err-next_asked : goal.returns-in_err-next_asked
 returns-in_err-next_asked g c =
@@ -34,12 +40,12 @@ loop-read-preserved g c =
     elim c.match-branch-2.branch [
       | in-Skip w ↦
           let asks = as-asked (c.loop-read.read + 1) v.last v.events _ _ a.field-0 Skip w.in-Skip.is (by-clock (c.loop-read.read + 1) v _ _ (Ok a.field-0) c.last.result c.events.result c.last.ensures.exact c.events.ensures.exact a.ensures.asked) in
-          rw (w.core-is, w.writer-is, w.count-is, w.out-is) (record { at = goes-on _ _ _ _ _ _ _ _ _ i.at asks; few = omega (arith, i.few); room = i.room })
+          rw (w.core-is, w.writer-is, w.count-is, w.out-is, w.text-is) (record { at = goes-on _ _ _ _ _ _ _ _ _ i.at asks; few = omega (arith, i.few); room = i.room; line = omega (arith, i.line, c.next_asked.ensures.room); text = i.text })
       | in-Do+in_ok-do_turn-in-Do w ↦
           let asks = as-asked (c.loop-read.read + 1) v.last v.events _ _ a.field-0 (Do w.in-Do.turn) w.in-Do.is (by-clock (c.loop-read.read + 1) v _ _ (Ok a.field-0) c.last.result c.events.result c.last.ensures.exact c.events.ensures.exact a.ensures.asked) in
           let may = as-may v.last v.events a.field-0 (Do w.in-Do.turn) w.in-Do.is (may-by-clock v (Ok a.field-0) c.last.result c.events.result c.last.ensures.exact c.events.ensures.exact a.ensures.may) in
           let does = w.in_ok-do_turn-in-Do.ensures.does in
-          rw (w.core-is, w.writer-is, w.count-is, w.out-is) (record { at = goes-further _ _ _ _ _ _ _ _ _ i.at w.in-Do.turn asks may _ _ does.0 does.1; few = omega (arith, i.few); room = rw (w.do_turn.ensures.setting, w.do_turn.ensures.kept) i.room })
+          rw (w.core-is, w.writer-is, w.count-is, w.out-is, w.text-is) (record { at = goes-further _ _ _ _ _ _ _ _ _ i.at w.in-Do.turn asks may _ _ does.0 does.1; few = omega (arith, i.few); room = rw (w.do_turn.ensures.setting, w.do_turn.ensures.kept) i.room; line = omega (arith, i.line, c.next_asked.ensures.room); text = rw w.do_turn.ensures.setting (omega (arith, i.text, w.do_turn.ensures.text)) })
     ]
 
 pub returns : goal.returns

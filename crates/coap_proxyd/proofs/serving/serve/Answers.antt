@@ -1,7 +1,10 @@
-use Rattle.std.proofs.Common.{◌≡◌, ℕ, List, [], Option, Some, None, inr, Ok, refl, subst}
+use Rattle.std.proofs.Common.{◌≡◌, ℕ, List, [], Option, Some, None, Result, inr, Ok, Err, refl, subst}
+use Rattle.std.proofs.lemmas.Result.{err_from_is_err_and}
 use Rattle.std.specs.Io.KnownBytes.{prepend_known}
 use Rattle.coap_proxyd.specs.Replays.{IsReplayed}
-use Rattle.coap_proxyd.specs.Serving.{first_proxy}
+use Rattle.coap_proxyd.specs.declared.error.ReplayError.{ReplayError}
+use Rattle.coap_model.specs.World.{World}
+use Rattle.coap_proxyd.specs.Serving.{IsServed, ended_as, first_proxy}
 use Rattle.coap_proxyd.proofs.serving.serve.Goals as goal
 
 -- a buffer that holds nothing leaves what is known of a reader
@@ -9,12 +12,19 @@ none-prepended : (known : Option (List ℕ)) → prepend_known [] known ≡ know
 none-prepended None = refl
 none-prepended (Some bytes) = refl
 
+-- a replay of what a new buffer over a reader gives is one of what the reader gives
+served : (after : World) (input left old new : Option (List ℕ)) (replayed : Result ℕ ReplayError) → IsReplayed first_proxy after (prepend_known [] input) left old new replayed → IsServed input old new (ended_as replayed)
+served after input left old new replayed is =
+    inr (after, left, replayed, subst (λ (known : Option (List ℕ)). IsReplayed first_proxy after known left old new replayed) (none-prepended input) is, refl)
+
 pub returns-clause-known : goal.returns-clause-known
 returns-clause-known g c = λ known.
-    let input = g.R.Read.remaining c.args.input in
-    let written = g.W.Write.contents c.replay.new.writer in
-    let before = g.W.Write.contents c.args.output.now in
     let reader = c.in-Ok-Ok.ensures' in
-    let replayed : IsReplayed first_proxy c.replay.new.core (prepend_known [] input) before written (Ok c.in_ok-replay.field-0) =
-    rw (c.in-Ok-Ok.ensures, reader.capacity, reader.empty, reader.inner) at c.in_ok-replay.ensures.replayed in
-    inr (c.replay.new.core, Ok c.in_ok-replay.field-0, subst (λ (k : Option (List ℕ)). IsReplayed first_proxy c.replay.new.core k before written (Ok c.in_ok-replay.field-0)) (none-prepended input) replayed, refl)
+    served _ (g.R.Read.remaining c.args.input) _ _ _ (Ok c.in_ok-replay.field-0) (rw (c.in-Ok-Ok.ensures, reader.capacity, reader.empty, reader.inner) at c.in_ok-replay.ensures.replayed)
+
+pub returns-in_err-replay-clause-known : goal.returns-in_err-replay-clause-known
+returns-in_err-replay-clause-known g c = λ known.
+    let reader = c.in-Ok-Ok.ensures' in
+    let p = err_from_is_err_and c.from_residual.result c.from_residual.ensures.1 in
+    let e = c.in_err-replay.field-0.0 in
+    rw (p.1, p.2) (served _ (g.R.Read.remaining c.args.input) _ _ _ (Err e) (rw (c.in-Ok-Ok.ensures, reader.capacity, reader.empty, reader.inner) at c.in_err-replay.ensures.replayed))

@@ -1,0 +1,101 @@
+//! Turns: an event with its moment and its draw, and the lines that say one.
+ghost use Rattle.std.specs.Prelude.{◌≡◌, IfSome, IsOk};
+ghost use Rattle.coap_model.specs.Events.Event.{tick};
+ghost use Rattle.coap_lines.specs.Answers.{Finds};
+ghost use Rattle.coap_lines.specs.Turns.{arrival_of, event_of, event_seen, turn_of, turn_seen};
+
+use crate::error::LineError;
+use crate::reading::cutting::cut;
+use crate::reading::datagram::read_bytes;
+use crate::reading::endpoint::read_endpoint;
+use crate::reading::number::read_number;
+use coap_message::Seq;
+use coap_target::Endpoint;
+use std::alloc::Global;
+
+/// The greatest moment, in milliseconds: 2^62.
+const LATEST: u64 = 1 << 62;
+
+/// The greatest draw.
+const GREATEST_DRAW: u64 = 1_000;
+
+/// What happens at a turn.
+#[derive(Debug, Drop)]
+pub enum Input {
+    /// A datagram comes from an endpoint.
+    Datagram { from: Endpoint, bytes: Seq<u8> },
+    /// Time has passed.
+    Tick,
+}
+
+/// An event with its moment and its draw.
+#[derive(Debug, Drop)]
+pub struct Turn {
+    /// Milliseconds, at most 2^62.
+    pub now: u64,
+    /// At most 1,000.
+    pub draw: u16,
+    pub input: Input,
+}
+
+/// The datagram that a text says, with its source.
+#[tactic(auto, unfolding(crate::specs::Turns::arrival_of))]
+fn read_arrival(alloc: Global, text: &[u8]) -> Result<Input, LineError>
+    ensures { Finds event_seen (arrival_of text.now) result }
+{
+    let Some((source, hex)) = cut(text, b' ') else {
+        return Err(LineError::Bad);
+    };
+    let Some(from) = read_endpoint(source) else {
+        return Err(LineError::Bad);
+    };
+    let bytes = read_bytes(alloc, hex)?;
+    Ok(Input::Datagram { from, bytes })
+}
+
+/// What a text says that happened.
+#[tactic(auto, unfolding(crate::specs::Turns::event_of))]
+fn read_input(alloc: Global, text: &[u8]) -> Result<Input, LineError>
+    ensures read { Finds event_seen (event_of text.now) result }
+    ensures ticks { IfSome (event_of text.now) (λ event. event ≡ tick → IsOk result) }
+{
+    if text == b"tick".as_slice() {
+        return Ok(Input::Tick);
+    }
+    read_arrival(alloc, text)
+}
+
+/// The turn that a line says after the moment `last`: `MOMENT DRAW FROM HEX` or `MOMENT DRAW tick`, its
+/// fields parted by one space, without a line end. The moment is in milliseconds, at least `last` and at
+/// most 2^62, the draw at most 1,000.
+///
+/// # Errors
+/// `Bad` where the line says none, and only there. `OutOfMemory` where it says one whose datagram found no
+/// memory; a tick takes none.
+#[tactic(auto, using(crate::proofs::Ticking::tick_of_event), unfolding(crate::specs::Turns::turn_of))]
+pub fn read_turn(alloc: Global, line: &[u8], last: u64) -> Result<Turn, LineError>
+    ensures read { Finds turn_seen (turn_of last line.now) result }
+    ensures ticks { IfSome (turn_of last line.now) (λ turn. turn.event ≡ tick → IsOk result) }
+{
+    let Some((moment, rest)) = cut(line, b' ') else {
+        return Err(LineError::Bad);
+    };
+    let Some((draw, what)) = cut(rest, b' ') else {
+        return Err(LineError::Bad);
+    };
+    let Some(now) = read_number(moment, LATEST) else {
+        return Err(LineError::Bad);
+    };
+    let Some(draw) = read_number(draw, GREATEST_DRAW) else {
+        return Err(LineError::Bad);
+    };
+    if now < last {
+        return Err(LineError::Bad);
+    }
+    let input = read_input(alloc, what)?;
+    Ok(Turn {
+        now,
+        draw: draw as u16,
+        input,
+    })
+}
