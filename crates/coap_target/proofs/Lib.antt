@@ -1,11 +1,9 @@
 pub mod Addresses
-pub mod Beginnings
 pub mod Cutting
 pub mod Equality
 pub mod Gathering
 pub mod Lists
 pub mod MapSearch
-pub mod Numbered
 pub mod Origins
 pub mod Requests
 pub mod Screened

@@ -21,6 +21,7 @@ pub use endpoint::{Endpoint, Ip};
 pub use error::{RouteError, TargetError, UriError};
 pub use map::{KnownHost, Map};
 pub use options::Values;
+pub use parts::first_part;
 pub use routes::Routes;
 pub use segment::Segments;
 pub use target::{MappedTarget, Target};
