@@ -120,7 +120,6 @@ impl Tables {
     {
         targets_fit_options();
         requests_to_the_proxy_are_mapped();
-        self.routes.maps();
         self.routes.mapped(request)
     }
 

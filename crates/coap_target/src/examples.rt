@@ -6,7 +6,7 @@ ghost use Rattle.coap_message.specs.Options.{option_of};
 ghost use Rattle.coap_target.specs.declared.error.TargetError.{TargetError};
 ghost use Rattle.coap_target.specs.declared.error.UriError.TheVariants.{Bad, Scheme};
 ghost use Rattle.coap_target.specs.declared.uri.HostPart.TheVariants.{Name};
-ghost use Rattle.coap_target.specs.Address.{ipv4_of};
+ghost use Rattle.coap_target.specs.Address.{bracketed_uri, inner_of, ipv4_of, is_address_byte};
 ghost use Rattle.coap_target.specs.Examples.{at, at_known_address, everything, get, named, numbered, other, plain_url, sensor, temperature, uri, with_maps, without_names};
 ghost use Rattle.coap_target.specs.Request.{request_target};
 ghost use Rattle.coap_target.specs.RouteTexts.{are_few, is_name, is_name_byte, prefix_of};
@@ -136,4 +136,15 @@ pub fn configured()
     ensures names { are_few (replicate 65 []) [] [] ≡ false }
     ensures hosts { are_few [] (replicate 257 ([], [])) [] ≡ false }
     ensures maps { are_few [] [] (replicate 65 ([], [])) ≡ false }
+{}
+
+/// What may stand between the brackets of an address, and what stands there.
+pub fn bracketed()
+    ensures bytes { filter is_address_byte (range_with_len 0 256)
+        ≡ 0x2E ∷ (range_with_len 0x30 11 ++ (range_with_len 0x41 6 ++ range_with_len 0x61 6)) }
+    ensures between { inner_of (codes "[::1]") ≡ Some (codes "::1") }
+    ensures open { inner_of (codes "[::1") ≡ None }
+    ensures closed { inner_of (codes "::1]") ≡ None }
+    ensures one_bracket { inner_of (codes "[") ≡ None }
+    ensures in_a_uri { bracketed_uri (codes "::1") ≡ codes "coap://[::1]" }
 {}
