@@ -126,7 +126,6 @@ impl World {
     {
         targets_fit_options();
         requests_to_the_proxy_are_mapped();
-        self.routes.maps();
         self.routes.mapped(request)
     }
 

@@ -6,6 +6,7 @@ pub record Datagram : Type 0 where
   pub room : ℕ
   pub bytes : List ℕ
 
+-- the datagram with these bytes in place of those that it holds
 abbrev pub holding : Datagram → List ℕ → Datagram
 holding d bytes = record { room = d.room; bytes = bytes }
 

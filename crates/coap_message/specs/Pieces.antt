@@ -10,6 +10,7 @@ use Rattle.std.specs.Hash.{Alike, same_Alike, slice, u8}
 abbrev pub length_spelling : ℕ → List ℕ
 length_spelling n = replicate (n / 255) 255 ++ (n % 255) ∷ []
 
+-- each piece after its length
 abbrev pub pieces_spelling : List (List ℕ) → List ℕ
 pieces_spelling [] = []
 pieces_spelling (p ∷ ps) = length_spelling (length p) ++ (p ++ pieces_spelling ps)
@@ -30,6 +31,7 @@ pieces_within (suc most) bytes =
     (λ found. take found.0 found.1 ∷ pieces_within most (drop found.0 found.1))
     (length_at bytes) []
 
+-- the pieces that bytes spell, each of which takes a byte at least
 abbrev pub pieces_of : List ℕ → List (List ℕ)
 pieces_of bytes = pieces_within (length bytes) bytes
 
@@ -37,14 +39,18 @@ pieces_of bytes = pieces_within (length bytes) bytes
 pub record SpellPieces (bytes : List ℕ) : Type 0 where
   pub bytes_are : bytes ≡ pieces_spelling (pieces_of bytes)
 
+-- lists of pieces have the same pieces in the same order
 abbrev pub same_pieces : List (List ℕ) → List (List ℕ) → Bool
 same_pieces = pointwise (pointwise ◌==◌)
 
+-- what is hashed of pieces: their bytes
 abbrev pub fed_pieces : List (List ℕ) → List (List ℕ)
 fed_pieces ps = slice u8 (pieces_spelling ps)
 
+-- the test says whether two lists are one
 pub same_pieces-Decides : (a b : List (List ℕ)) → Decides (same_pieces a b) (a ≡ b)
 same_pieces-Decides = pointwise_decides (pointwise_decides unsigned_Decides)
 
+-- lists that are the same are hashed alike
 pub same_pieces-Alike : Alike same_pieces fed_pieces
 same_pieces-Alike = same_Alike fed_pieces same_pieces-Decides

@@ -9,15 +9,18 @@ use Rattle.coap_message.specs.declared.options.Opt.{Opt}
 use Rattle.coap_message.specs.Kind.{kind_of}
 use Rattle.coap_message.specs.Message.{Message}
 
+-- a second step, where the first gave something
 infixl 10 ◌>>=◌
 abbrev pub ◌>>=◌ : {A B : Type 0} → Option A → (A → Option B) → Option B
 None >>= f = None
 (Some x) >>= f = f x
 
+-- one byte more, and what stands after it
 abbrev pub one_more : List ℕ → Option (ℕ × List ℕ)
 one_more [] = None
 one_more (a ∷ rest) = Some (a + 13, rest)
 
+-- two bytes more, and what stands after them
 abbrev pub two_more : List ℕ → Option (ℕ × List ℕ)
 two_more [] = None
 two_more (a ∷ []) = None
@@ -51,9 +54,11 @@ payload_at [] = Some []
 payload_at (marker ∷ []) = None
 payload_at (marker ∷ p ∷ ps) = Some (p ∷ ps)
 
+-- a payload without options before it
 abbrev pub no_options : List ℕ → List Opt × List ℕ
 no_options payload = ([], payload)
 
+-- one option more before what was found
 abbrev pub one_option_more : Opt → List Opt × List ℕ → List Opt × List ℕ
 one_option_more o found = (o ∷ found.0, found.1)
 
@@ -92,6 +97,7 @@ body_behind zero zero (b ∷ bytes) = None
 body_behind zero (suc n) bytes = None
 body_behind (suc code) token_length bytes = body_at token_length bytes
 
+-- the message of a header and what was read after it
 abbrev pub with_header : ℕ → ℕ → ℕ → Option Body → Result Message ReadError
 with_header first code id None = Err unread.Format
 with_header first code id (Some body) =

@@ -13,6 +13,7 @@ use Rattle.coap_message.specs.Spelling.{options_spelling}
 abbrev pub same_option : Opt → Opt → Bool
 same_option = eq_of_both (on (λ o. o.number) ◌==◌) (on (λ o. o.value) (pointwise ◌==◌))
 
+-- lists of options have the same options in the same order
 abbrev pub same_options : List Opt → List Opt → Bool
 same_options = pointwise same_option
 
@@ -20,9 +21,11 @@ same_options = pointwise same_option
 abbrev pub fed_options : List Opt → List (List ℕ)
 fed_options os = slice u8 (options_spelling 0 os)
 
+-- options of one number and one value are one
 both : {m n : ℕ} {v w : List ℕ} → m ≡ n → v ≡ w → option_of m v ≡ option_of n w
 both p q = cc
 
+-- so the test says whether two options are one
 same_option-Decides : (a b : Opt) → Decides (same_option a b) (a ≡ b)
 same_option-Decides a b =
     let numbers = unsigned_Decides a.number b.number in
@@ -33,8 +36,10 @@ same_option-Decides a b =
       λ e. rw e (rw (number_itself, value_itself) refl),
     )
 
+-- and whether two lists are
 pub same_options-Decides : (a b : List Opt) → Decides (same_options a b) (a ≡ b)
 same_options-Decides = pointwise_decides same_option-Decides
 
+-- lists that are the same are hashed alike
 pub same_options-Alike : Alike same_options fed_options
 same_options-Alike = same_Alike fed_options same_options-Decides

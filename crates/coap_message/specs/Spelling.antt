@@ -91,15 +91,18 @@ more_of n =
     then []
     else (if nat_lt n 269 then (n - 13) ∷ [] else (n - 269) / 256 ∷ (n - 269) % 256 ∷ [])
 
+-- an option after one of the number `before`
 unfoldable pub option_spelling : ℕ → Opt → List ℕ
 option_spelling before o =
     (16 * bits_of (o.number - before) + bits_of (length o.value))
     ∷ (more_of (o.number - before) ++ (more_of (length o.value) ++ o.value))
 
+-- options, the first after one of the number `before`
 abbrev pub options_spelling : ℕ → List Opt → List ℕ
 options_spelling before [] = []
 options_spelling before (o ∷ os) = option_spelling before o ++ options_spelling o.number os
 
+-- a payload after its marker, if there is one
 abbrev pub payload_spelling : List ℕ → List ℕ
 payload_spelling [] = []
 payload_spelling (p ∷ ps) = 255 ∷ p ∷ ps

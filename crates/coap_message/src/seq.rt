@@ -49,7 +49,7 @@ impl<T> Seq<T> {
         Seq { items }
     }
 
-    /// The `Vec` of the list, without copying.
+    /// The `Vec` of the list, without copying, for callers that go on with one.
     pub fn into_vec(self) -> Vec<T>
         ensures { result.items ≡ self }
     {

@@ -1,10 +1,8 @@
 pub mod Addresses
-pub mod Beginnings
 pub mod Cutting
 pub mod Dropping
 pub mod Gathering
 pub mod MapSearch
-pub mod Numbered
 pub mod Origins
 pub mod Requests
 pub mod Screened

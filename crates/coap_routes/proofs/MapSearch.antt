@@ -3,7 +3,6 @@ use Rattle.std.proofs.Common.{◌≡◌, ℕ, ◌+◌, ◌<◌, ◌≤◌, Bool,
 use Rattle.std.proofs.lemmas.Bool.{ltb-true, ltb-false, lt-ltb, le-ltb}
 use Rattle.std.proofs.lemmas.List.{length-map, drop_more}
 use Rattle.coap_routes.specs.declared.map.Map.{Map}
-use Rattle.coap_routes.proofs.Beginnings.{length-begins}
 use Rattle.coap_routes.specs.Routes.{begins, is_longer, longer, map_of}
 
 -- the best so far against what is found later
@@ -56,26 +55,3 @@ module _ (maps : List Map) (path : List (List ℕ)) (i : ℕ) (m : Map) (within 
   -- it doesn't begin the path
   best_of-other : (best : Option Map) → begins m.prefix path ≡ false → best_of best (map_of (drop i maps) path) ≡ best_of best (map_of (drop (i + 1) maps) path)
   best_of-other best fails = rw (more, fails) refl
-
--- a map's prefix begins the path
-abbrev BeginsIt : List (List ℕ) → Map → Type 0
-BeginsIt path m = begins m.prefix path ≡ true
-
--- what is found begins the path
-begins-map_of : (maps : List Map) (path : List (List ℕ)) (m : Map) → map_of maps path ≡ Some m → begins m.prefix path ≡ true
-begins-map_of [] path m found = absurd cc
-begins-map_of (n ∷ maps) path m found = go (λ later e. begins-map_of maps path later e) (begins n.prefix path) refl (map_of maps path) refl found
-  where
-    pick : (t : Bool) (later : Map) → begins n.prefix path ≡ true → begins later.prefix path ≡ true → cond t (Some later) (Some n) ≡ Some m → begins m.prefix path ≡ true
-    pick true later of_n of_later is = subst (BeginsIt path) (let same : later ≡ m = cc in same) of_later
-    pick false later of_n of_later is = subst (BeginsIt path) (let same : n ≡ m = cc in same) of_n
-
-    go : ((later : Map) → map_of maps path ≡ Some later → begins later.prefix path ≡ true) → (b : Bool) → begins n.prefix path ≡ b → (rest : Option Map) → map_of maps path ≡ rest → cond b (longer n rest) rest ≡ Some m → begins m.prefix path ≡ true
-    go holds true of_n None e is = subst (BeginsIt path) (let same : n ≡ m = cc in same) of_n
-    go holds true of_n (Some later) e is = pick (nat_lt (length n.prefix) (length later.prefix)) later of_n (holds later e) is
-    go holds false of_n None e is = absurd cc
-    go holds false of_n (Some later) e is = subst (BeginsIt path) (let same : later ≡ m = cc in same) (holds later e)
-
--- its prefix is no longer than the path
-pub length-map_of : {A : Type 0} (f : A → List ℕ) (maps : List Map) (path : List A) (m : Map) → Some m ≡ map_of maps (map f path) → length m.prefix ≤ length path
-length-map_of f maps path m found = rw length-map at (length-begins m.prefix (map f path) (begins-map_of maps (map f path) m (sym found)))

@@ -8,7 +8,11 @@ use Rattle.coap_target.specs.declared.endpoint.Ip.TheVariants.{V4}
 use Rattle.coap_routes.specs.declared.map.Map.{Map}
 use Rattle.coap_routes.specs.declared.routes.Routes.{Routes}
 use Rattle.coap_target.specs.declared.target.Target.{Target}
-use Rattle.coap_routes.specs.declared.uri.HostPart.TheVariants.{Name}
+use Rattle.coap_routes.specs.declared.uri.HostPart.{HostPart}
+use Rattle.coap_routes.specs.declared.uri.HostPart.TheVariants.{Name, Addr}
+use Rattle.coap_routes.specs.declared.uri.UriParts.{UriParts}
+use Rattle.url.specs.declared.host.Host.TheVariants.{Domain}
+use Rattle.url.specs.Parts.{Parts}
 
 -- a GET with these options
 abbrev pub get : List Opt → Message
@@ -59,3 +63,37 @@ sensor =
       path = codes "x" ∷ [];
       query = [];
     }
+
+-- the URL `coap://h/a`, as `url` reads it
+abbrev pub plain_url : Parts
+plain_url = record {
+  scheme = codes "coap";
+  username = [];
+  password = [];
+  host = Some (Domain (codes "h"));
+  port = None;
+  path = codes "/a";
+  query = None;
+  fragment = None;
+}
+
+-- the URI of a host, a port, a path and a query
+abbrev pub uri : HostPart → ℕ → List (List ℕ) → List (List ℕ) → UriParts
+uri host port path query = record { host = host; port = port; path = path; query = query }
+
+-- the host `h`
+abbrev pub named : HostPart
+named = Name (codes "h")
+
+-- an address as a host
+abbrev pub numbered : HostPart
+numbered = Addr (V4 (192 ∷ 0 ∷ 2 ∷ 7 ∷ []))
+
+-- the address of a host, at another port, with a query
+abbrev pub at_known_address : Target
+at_known_address = record {
+  host = None;
+  at = record { ip = V4 (192 ∷ 0 ∷ 2 ∷ 7 ∷ []); port = 5684 };
+  path = [];
+  query = codes "q" ∷ [];
+}

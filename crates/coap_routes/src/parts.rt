@@ -33,19 +33,19 @@ pub(crate) fn split_decoded(
     let mut parts = Pieces::new(alloc);
     let mut rest = Some(text);
     while let Some(text) = rest {
-        let (part, behind) = cut(text, separator);
+        let (part, after) = first_part(text, separator);
         parts.push(decoded(alloc, part)?.as_slice())?;
-        rest = behind;
+        rest = after;
     }
     parts.shrink_to_fit();
     Ok(parts)
 }
 
 /// What stands before the first separator, and what stands after it, if there is one.
-fn cut(text: &[u8], separator: u8) -> (&[u8], Option<&[u8]>)
+pub fn first_part(text: &[u8], separator: u8) -> (&[u8], Option<&[u8]>)
     ensures parts { slice_split (λ b. b == separator) text.now
         ≡ result.0.now ∷ parts_left separator (option_copied result.1) }
-    ensures shorter { IfSome result.1 (λ behind. length behind.now < length text.now) }
+    ensures shorter { IfSome result.1 (λ after. length after.now < length text.now) }
 {
     match place_of(text, separator) {
         Some(end) => (&text[..end], Some(&text[end + 1..])),

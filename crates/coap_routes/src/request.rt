@@ -7,7 +7,7 @@ ghost use Rattle.coap_routes.specs.Answer.{Answers};
 ghost use Rattle.coap_routes.specs.Hosts as names;
 ghost use Rattle.coap_routes.specs.Request as spec;
 ghost use Rattle.coap_routes.specs.MappedTarget.{seen};
-ghost use Rattle.coap_routes.specs.Routes.{mapped, mapped_target, path_of, query_of};
+ghost use Rattle.coap_routes.specs.Routes.{AreRoutes, mapped, mapped_target, path_of, query_of};
 ghost use Rattle.coap_routes.specs.declared.error.TargetError.TheVariants as errors;
 
 use crate::address::read_host;
@@ -160,7 +160,8 @@ impl Routes {
     /// Nothing is copied, so that it takes no memory.
     #[tactic(auto, unfolding(crate::specs::Routes::mapped_target))]
     pub fn mapped<'m, 'a>(&'m self, request: &MessageRef<'a>) -> Option<MappedTarget<'m, 'a>>
-        ensures { option_map seen result ≡ mapped_target self.now request.now }
+        ensures exact { option_map seen result ≡ mapped_target self.now request.now }
+        ensures sound { AreRoutes self.now }
     {
         let mut path = path_of(request);
         let map = map_of(self.maps.as_slice(), &path)?;

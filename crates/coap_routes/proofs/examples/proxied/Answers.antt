@@ -6,4 +6,13 @@ use Rattle.coap_routes.proofs.examples.proxied.Goals as goal
 
 pub returns : goal.returns
 unfolding request_target by_scheme ipv4_of ipv6_between read_number read_octet read_ipv4
-returns c = record { own = refl; host = refl; without_host = refl; scheme = refl; port = refl; unknown = refl; no_names = refl }
+returns c = record {
+  own = refl;
+  host = refl;
+  without_host = refl;
+  scheme = refl;
+  port = refl;
+  unknown = refl;
+  address = refl;
+  no_names = refl;
+}
