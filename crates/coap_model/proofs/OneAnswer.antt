@@ -20,14 +20,16 @@ use Rattle.coap_model.specs.Events.{Event, IsEvent, arrival, tick}
 use Rattle.coap_model.specs.Messages.{reset, own_reply, busy_reply, token_of, forwarded, answer_of, shown}
 use Rattle.coap_model.specs.World.{World}
 use Rattle.coap_model.specs.Step.{step_of}
-use Rattle.coap_model.specs.History.{Entry, Act, no_item, admits, moves, serves, Deed, Place, IsPlaceOf, ids_in, gives_id, Opens, Brings, Gets, Gives, AreIds}
+use Rattle.coap_model.specs.History.{Entry, Act, no_item, admits, moves, serves, Deed, Place, IsPlaceOf, ids_in, gives_id, Opens, Brings, Sends, Gets, Gives, AreIds}
 use Rattle.coap_model.specs.Due.{IsDueAt, ComesBefore, IsSooner}
 use Rattle.coap_model.specs.Justified.{IsRequestOf, Tells, IsSilent, IsRefusal, IsOverload, IsRejection, IsAwaited, IsActing, IsForwarding, IsDelivery, IsUnprocessable, JustifiedBy, AllJustified, MayFollow, AreOfOneTurn}
 use Rattle.coap_model.specs.Runs.{entry_of}
+use Rattle.coap_model.specs.Promised.{IdsDiffer}
 use Rattle.coap_model.specs.Carries.{Carries}
-use Rattle.coap_model.proofs.Places.{doing, same_moves, same_serves, arrival-same, one-brought, request-unique, first-once, one-opened}
+use Rattle.coap_model.proofs.Places.{here, doing, same_moves, same_serves, arrival-same, one-brought, request-unique, first-once, one-opened}
 use Rattle.coap_model.proofs.Acting.{got-first}
 use Rattle.coap_model.proofs.Carrying.{keeps_deeds}
+use Rattle.coap_model.proofs.Promising.{ids-differ}
 use Rattle.coap_model.proofs.Running.{setting_stays}
 use Rattle.coap_model.proofs.Owing.{given_refused, given_overloaded, given_no_id, given_opened, given_answered, given_rejected, given_ignored, OnTick, sent, delivered, idle, on-tick}
 
@@ -120,6 +122,19 @@ one-forwarding setting past d e id g h j k act =
     let same = forwarded-same setting.salt j.exchange k.exchange j.target k.target j.id k.id number target (sent_id ∙ sym other_id) in
     told-same d.entry e.entry j.target.at k.target.at _ _ j.tells k.tells (ap (λ (t : Target). t.at) target) same
 
+-- a response is of one exchange: the requests of two were sent with different ids
+one-exchange : (setting : Setting) (past : List Deed) → IdsDiffer past → (x y : ℕ) (d e : Deed) → d.entry.event ≡ e.entry.event → Gets setting x (here past d) → Gets setting y (here past e) → d.act ≡ e.act
+one-exchange setting past ids x y d e event g h =
+    let p = g.meets in
+    let q = h.meets in
+    let response = (one-brought (subst (Brings setting.limits.datagram p.asks.sends.to p.response) event p.brings) q.brings).1 in
+    let id : p.asks.sends.message.id ≡ q.asks.sends.message.id = sym p.matches.same_id ∙ ap (λ (m : Message). m.id) response ∙ q.matches.same_id in
+    let place = ids p.asking q.asking q.asks.sends.message.id p.was_asked q.was_asked (sending-gives setting x p.asking q.asks.sends.message.id p.asks.sends id) (sending-gives setting y q.asking q.asks.sends.message.id q.asks.sends refl) in
+    g.act ∙ sym p.asks.sends.act ∙ ap (λ (r : Place). r.deed.act) place ∙ q.asks.sends.act ∙ sym h.act
+  where
+    sending-gives : (setting : Setting) (n : ℕ) (r : Place) (id : ℕ) (s : Sends setting.salt n r) → s.message.id ≡ id → Gives id r.deed.entry
+    sending-gives setting n r id s is = record { gives = ap gives_id s.outcome; message = s.message; spells = s.spells; id_is = is }
+
 one-delivery : (setting : Setting) (past : List Deed) → AllJustified setting past → (d e : Deed) (id : ℕ) → Gives id d.entry → Gives id e.entry → IsDelivery setting past d → IsDelivery setting past e → d.act ≡ e.act → d.entry.now ≡ e.entry.now → SayTheSame d.entry e.entry
 one-delivery setting past all d e id g h j k act now =
     let most = setting.limits.datagram in
@@ -137,12 +152,22 @@ one-delivery setting past all d e id g h j k act now =
 
 -- ---- one answer
 
--- an answer of a kind: the outcome, and what is said
-abbrev AnswersAlike : Entry → Entry → Type 0
-AnswersAlike d e = (d.report.outcome ≡ e.report.outcome) × SayTheSame d e
+-- two deeds did the same: their outcome, what they acted on, and what is said
+record DoTheSame (d e : Deed) : Type 0 where
+  pub outcome : d.entry.report.outcome ≡ e.entry.report.outcome
+  pub act : d.act ≡ e.act
+  pub say : SayTheSame d.entry e.entry
 
-pub one-answer : (setting : Setting) (past : List Deed) → AllJustified setting past → (d e : Deed) → MayFollow setting past d → MayFollow setting past e → AreOfOneTurn d.entry e.entry → d.entry ≡ e.entry
-one-answer setting past all d e f g turn = let alike = by_outcome d.entry.report.outcome refl f.justified in same-entry d.entry e.entry turn alike.0 alike.1
+same-deed : (d e : Deed) → d.entry ≡ e.entry → d.act ≡ e.act → d ≡ e
+same-deed d e entry act = same
+  where
+    same : record { entry = d.entry; act = d.act } ≡ e
+    same = rw (entry, act) refl
+
+pub one-answer : (setting : Setting) (past : List Deed) (d e : Deed) → AllJustified setting past → IdsDiffer past → MayFollow setting past d → MayFollow setting past e → AreOfOneTurn d.entry e.entry → d ≡ e
+one-answer setting past d e all ids f g turn =
+    let alike = by_outcome d.entry.report.outcome refl f.justified in
+    same-deed d e (same-entry d.entry e.entry turn alike.outcome alike.say) alike.act
   where
     due : ℕ
     due = (setting.first_id + ids_in past) % 65536
@@ -158,16 +183,17 @@ one-answer setting past all d e f g turn = let alike = by_outcome d.entry.report
     acting (delivered k) a = one-act setting past d e a k.acting
     acting (idle k) a = let now = turn.now in let later = k.nothing d.act a.at a.due in let come = a.come in absurd (omega (arith, now, later, come))
 
-    by_outcome : (o : Outcome) → d.entry.report.outcome ≡ o → JustifiedBy o setting past d → AnswersAlike d.entry e.entry
+    by_outcome : (o : Outcome) → d.entry.report.outcome ≡ o → JustifiedBy o setting past d → DoTheSame d e
     by_outcome Ignored is j =
         let o = given_ignored e.entry.report.outcome setting past e j.source j.bytes g.justified (sym turn.event ∙ j.came) j.no_con (subst (IsUnprocessable setting past) turn.event j.unprocessable) in
-        (is ∙ sym o, silent-same d.entry e.entry j.silent (holds Ignored o).silent)
+        let k = holds Ignored o in
+        record { outcome = is ∙ sym o; act = j.act ∙ sym k.act; say = silent-same d.entry e.entry j.silent k.silent }
     by_outcome Rejected is j =
         let o = given_rejected e.entry.report.outcome setting past e j.source j.bytes j.head g.justified (sym turn.event ∙ j.came) j.head_is j.con in
         let k = holds Rejected o in
         let came = arrival-same j.source k.source j.bytes k.bytes (sym j.came ∙ turn.event ∙ k.came) in
         let head = same_Some j.head k.head (sym j.head_is ∙ ap head_at came.1 ∙ k.head_is) in
-        (is ∙ sym o, told-same d.entry e.entry j.source k.source (reset j.head.id) (reset k.head.id) j.tells k.tells came.0 (ap (λ (h : Head). reset h.id) head))
+        record { outcome = is ∙ sym o; act = j.act ∙ sym k.act; say = told-same d.entry e.entry j.source k.source (reset j.head.id) (reset k.head.id) j.tells k.tells came.0 (ap (λ (h : Head). reset h.id) head) }
     by_outcome (Refused code) is j =
         let o = given_refused e.entry.report.outcome setting past e j.client j.request code g.justified (same_request j.client j.request j.asked) j.verdict j.ids in
         let k = holds (Refused code) o in
@@ -176,7 +202,7 @@ one-answer setting past all d e f g turn = let alike = by_outcome d.entry.report
         let id = id-told d.entry due j.client (own_reply code [] j.id j.request.token) (f.id (ap gives_id is)) j.tells in
         let other = id-told e.entry due k.client (own_reply code [] k.id k.request.token) (g.id (ap gives_id o)) k.tells in
         let same = own_reply-same code j.id k.id j.request.token k.request.token (id ∙ sym other) token in
-        (is ∙ sym o, told-same d.entry e.entry j.client k.client _ _ j.tells k.tells one.0 same)
+        record { outcome = is ∙ sym o; act = j.act ∙ sym k.act; say = told-same d.entry e.entry j.client k.client _ _ j.tells k.tells one.0 same }
     by_outcome Overloaded is j =
         let o = given_overloaded e.entry.report.outcome setting past e j.client j.request j.target g.justified (same_request j.client j.request j.asked) j.verdict j.no_room j.ids in
         let k = holds Overloaded o in
@@ -186,38 +212,41 @@ one-answer setting past all d e f g turn = let alike = by_outcome d.entry.report
         let id = id-told d.entry due j.client (busy_reply retry j.id j.request.token) (f.id (ap gives_id is)) j.tells in
         let other = id-told e.entry due k.client (busy_reply retry k.id k.request.token) (g.id (ap gives_id o)) k.tells in
         let same = busy_reply-same retry j.id k.id j.request.token k.request.token (id ∙ sym other) token in
-        (is ∙ sym o, told-same d.entry e.entry j.client k.client _ _ j.tells k.tells one.0 same)
+        record { outcome = is ∙ sym o; act = j.act ∙ sym k.act; say = told-same d.entry e.entry j.client k.client _ _ j.tells k.tells one.0 same }
     by_outcome NoId is j =
         let o = given_no_id e.entry.report.outcome setting past e j.client j.request g.justified (same_request j.client j.request j.asked) j.no_ids in
-        (is ∙ sym o, silent-same d.entry e.entry j.silent (holds NoId o).silent)
+        let k = holds NoId o in
+        record { outcome = is ∙ sym o; act = j.act ∙ sym k.act; say = silent-same d.entry e.entry j.silent k.silent }
     by_outcome Opened is j =
         let o = given_opened e.entry.report.outcome setting past e j.client j.request j.target g.justified (same_request j.client j.request j.asked) j.verdict j.room in
-        (is ∙ sym o, silent-same d.entry e.entry j.silent (holds Opened o).silent)
+        let k = holds Opened o in
+        record { outcome = is ∙ sym o; act = j.act ∙ sym k.act; say = silent-same d.entry e.entry j.silent k.silent }
     by_outcome (Answered NotStored) is j =
         let awaited : IsAwaited setting past j.exchange d.entry.event = record { meets = j.gets.meets; ungot = j.first } in
         let o = given_answered e.entry.report.outcome setting past e j.exchange g.justified (subst (IsAwaited setting past j.exchange) turn.event awaited) in
-        (is ∙ sym o, silent-same d.entry e.entry j.silent (holds (Answered NotStored) o).silent)
+        let k = holds (Answered NotStored) o in
+        record { outcome = is ∙ sym o; act = one-exchange setting past ids j.exchange k.exchange d e turn.event j.gets k.gets; say = silent-same d.entry e.entry j.silent k.silent }
     by_outcome SentRequest is j = go refl (on-tick e.entry.report.outcome setting past e g.justified (sym turn.event ∙ j.acting.ticked))
       where
-        go : {o : Outcome} → e.entry.report.outcome ≡ o → OnTick setting past e o → AnswersAlike d.entry e.entry
-        go o (sent k) = (is ∙ sym o, one-forwarding setting past d e due (f.id (ap gives_id is)) (g.id (ap gives_id o)) j k (acting (sent k) j.acting))
+        go : {o : Outcome} → e.entry.report.outcome ≡ o → OnTick setting past e o → DoTheSame d e
+        go o (sent k) = let act = acting (sent k) j.acting in record { outcome = is ∙ sym o; act = act; say = one-forwarding setting past d e due (f.id (ap gives_id is)) (g.id (ap gives_id o)) j k act }
         go o (delivered k) = absurd (let act = sym j.act ∙ acting (delivered k) j.acting ∙ k.act in cc)
         go o (idle k) = absurd (let act = sym j.act ∙ acting (idle k) j.acting ∙ k.act in cc)
     by_outcome Delivered is j = go refl (on-tick e.entry.report.outcome setting past e g.justified (sym turn.event ∙ j.acting.ticked))
       where
-        go : {o : Outcome} → e.entry.report.outcome ≡ o → OnTick setting past e o → AnswersAlike d.entry e.entry
+        go : {o : Outcome} → e.entry.report.outcome ≡ o → OnTick setting past e o → DoTheSame d e
         go o (sent k) = absurd (let act = sym j.act ∙ acting (sent k) j.acting ∙ k.act in cc)
-        go o (delivered k) = (is ∙ sym o, one-delivery setting past all d e due (f.id (ap gives_id is)) (g.id (ap gives_id o)) j k (acting (delivered k) j.acting) turn.now)
+        go o (delivered k) = let act = acting (delivered k) j.acting in record { outcome = is ∙ sym o; act = act; say = one-delivery setting past all d e due (f.id (ap gives_id is)) (g.id (ap gives_id o)) j k act turn.now }
         go o (idle k) = absurd (let act = sym j.act ∙ acting (idle k) j.acting ∙ k.act in cc)
     by_outcome Idle is j = go refl (on-tick e.entry.report.outcome setting past e g.justified (sym turn.event ∙ j.ticked))
       where
         later : IsActing setting past e → ⊥
         later a = let now = turn.now in let not_yet = j.nothing e.act a.at a.due in let come = a.come in omega (arith, now, not_yet, come)
 
-        go : {o : Outcome} → e.entry.report.outcome ≡ o → OnTick setting past e o → AnswersAlike d.entry e.entry
+        go : {o : Outcome} → e.entry.report.outcome ≡ o → OnTick setting past e o → DoTheSame d e
         go o (sent k) = absurd (later k.acting)
         go o (delivered k) = absurd (later k.acting)
-        go o (idle k) = (is ∙ sym o, silent-same d.entry e.entry j.silent k.silent)
+        go o (idle k) = record { outcome = is ∙ sym o; act = j.act ∙ sym k.act; say = silent-same d.entry e.entry j.silent k.silent }
     by_outcome _ is j = absurd j
 
 -- ---- the step's answer
@@ -233,4 +262,4 @@ step-answer w history c d onward fits f =
     let kept = setting_stays w now draw event fits in
     let ids = subst (λ (t : Setting). AreIds t.first_id (doing k.act (entry_of now draw event s) ∷ c.deeds)) kept k.bears.ids in
     let past = subst (λ (t : Setting). AllJustified t (doing k.act (entry_of now draw event s) ∷ c.deeds)) kept k.bears.past in
-    one-answer w.setting c.deeds c.bears.past d (doing k.act (entry_of now draw event s)) f (record { justified = past.0; id = ids.0 }) (record { now = refl; draw = refl; event = refl })
+    ap (λ (e : Deed). e.entry) (one-answer w.setting c.deeds d (doing k.act (entry_of now draw event s)) c.bears.past (ids-differ c.deeds w c.bears) f (record { justified = past.0; id = ids.0 }) (record { now = refl; draw = refl; event = refl }))

@@ -58,7 +58,7 @@ one-place (e ∷ past) p q at_p at_q g k same =
 one-id : (e : Entry) (a b : ℕ) → Gives a e → Gives b e → a ≡ b
 one-id e a b g h = sym g.id_is ∙ ap (λ (m : Message). m.id) (one_message e.bytes g.message h.message g.spells h.spells) ∙ h.id_is
 
-ids-differ : (history : List Deed) (w : World) → Bears history w → IdsDiffer history
+pub ids-differ : (history : List Deed) (w : World) → Bears history w → IdsDiffer history
 ids-differ history w c p q id at_p at_q g h =
     let first = w.setting.first_id in
     let id_p = one-id p.deed.entry id ((first + ids_in p.before) % 65536) g (id-at first history p c.ids at_p g.gives) in

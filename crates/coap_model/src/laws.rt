@@ -24,7 +24,7 @@ ghost use Rattle.coap_model.specs.Justified.{IsRequestOf, verdict_on, IsAwaited,
 ghost use Rattle.coap_model.specs.Forged as forged;
 ghost use Rattle.coap_model.specs.Forged.{asked, delivery, right, at_an_arrival};
 ghost use Rattle.coap_model.specs.Carries.{Carries};
-ghost use Rattle.coap_model.specs.Promised.{Promised};
+ghost use Rattle.coap_model.specs.Promised.{IdsDiffer, Promised};
 ghost use Rattle.coap_model.specs.Runs.{Turn, AreTurns, new_run, run_of, entry_of, answer_at};
 ghost use Rattle.coap_model.specs.Examples.{origin, from, tick_at, client, content_for_client, play, proxy, small_proxy, narrow_proxy, first_answer, first_answer_sent, late_answer, late_answer_sent, error, error_sent, fault, fault_sent, changed, changed_sent, valid, replaced_sent, block_in_response, long_max_age, impostor, impostor_sent, refusals, refusals_sent, long_paths, long_paths_sent, long_segments, long_segments_sent, payload_in_get, payload_in_get_sent, full, full_sent, unprocessed_messages, unprocessed_messages_sent, too_long, too_long_sent, payload_of, payload_of_109_sent, spent_proxy, last_id, last_id_sent, wrapping_proxy, wrapping, wrapping_sent};
 ghost use Rattle.coap_model.specs.EdgeExamples.{after, asks_at, with_token, tokens, tokens_sent, two_faults, two_faults_sent, of_class_3, of_class_3_sent, changed_with_age, changed_with_age_sent, two_ages, greatest_age, greatest_age_sent, shorter_age, shorter_age_sent, ten_seconds_after, one_left, none_left, of_one_moment, of_one_moment_sent, request_first, request_first_sent, client_first, client_first_sent, named, named_form, target_in};
@@ -215,15 +215,16 @@ pub fn what_is_owed_is_given()
 {}
 
 /// The histories allow one answer: two deeds that may follow the same deeds, of one event at one
-/// moment with one draw, are one entry; and what may follow what a proxy carries is what its step
-/// answers. So the traffic alone says all that a proxy does.
+/// moment with one draw, are one deed; and the entry of what may follow what a proxy carries is what
+/// its step answers. So the traffic alone says all that a proxy does.
 pub fn one_answer_is_justified()
     ensures one { (setting : Setting) (past : List Deed) (d e : Deed)
         → AllJustified setting past
+        → IdsDiffer past
         → MayFollow setting past d
         → MayFollow setting past e
         → AreOfOneTurn d.entry e.entry
-        → d.entry ≡ e.entry }
+        → d ≡ e }
     ensures of_the_step { (w : World) (history : List Entry) (c : Carries history w) (d : Deed)
         → w.last ≤ d.entry.now
         → IsEvent d.entry.event
