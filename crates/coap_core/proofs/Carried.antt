@@ -39,11 +39,13 @@ answer-shown most now m = go (is_passed_on most m) refl
     go true e = (and_parts (are_understood m.options) (not (is_code m.code VALID) && fits most m) e).0
     go false e = refl
 
+-- what an exchange was got as can be shown
 state-shown : (setting : Setting) (history : List Deed) (x : ℕ) (t : Target) (s : ExchangeState) → IsState setting history x t s → IsUnderstood s
 state-shown setting history x t Queued is = tt
 state-shown setting history x t (Sent s) is = tt
 state-shown setting history x t (Done a) is = subst (λ (b : Answer). are_understood b.message.options ≡ true) (sym is.answer_is) (answer-shown setting.limits.datagram is.getting.deed.entry.now is.gets.meets.response)
 
+-- what is carried is what a step needs
 pub can_go_on : (history : List Entry) (w : World) → Carries history w → w.events < 2 ^ 63 → CanGoOn w
 can_go_on history w c few =
     let b = c.bears in
@@ -66,6 +68,7 @@ pub record IsLeft (w v : World) : Type 0 where
   pub history : List Entry
   pub carries : Carries history v
 
+-- what a step leaves: the setting, the limits, and a history that is carried
 pub is-left : (w : World) (now : ℕ) (event : Event) (history : List Entry) → Carries history w → w.last ≤ now → IsEvent event → (r : Result Report OutOfMemory) (old new : Datagram) (v : World)
     → IfOk r (λ report. Does (step_of w now 0 event) report old new v) → OnErr r (v ≡ w) → IsLeft w v
 is-left w now event history c onward fits (Ok report) old new v does same =

@@ -19,10 +19,12 @@ use Rattle.coap_core.specs.Steps.{item_as}
 
 -- ---- the first of two lists, one behind the other
 
+-- of two items that may be there the one that is due first
 abbrev sooner : Option Item → Option Item → Option Item
 sooner None later = later
 sooner (Some i) later = earlier i later
 
+-- the least of two lists is the sooner of their leasts
 least-append : (xs ys : List Item) → least (xs ++ ys) ≡ sooner (least xs) (least ys)
 least-append [] ys = refl
 least-append (i ∷ xs) ys = ap (earlier i) (least-append xs ys) ∙ both (least xs) (least ys)
@@ -52,12 +54,15 @@ choose None (Some v) = Some (ToServe v)
 choose (Some x) None = Some (ToSend x)
 choose (Some x) (Some v) = cond (leb x.at v.at) (Some (ToSend x)) (Some (ToServe v))
 
+-- an item is a request that is to be sent
 abbrev IsSending : Item → Type 0
 IsSending i = item_as i ≡ ToSend (due_as i)
 
+-- an item is a waiter that is to be served
 abbrev IsServing : Item → Type 0
 IsServing i = item_as i ≡ ToServe (due_as i)
 
+-- items of exchanges are requests
 all-sending : (xs : List (Numbered Exchange)) → AllByRecursion IsSending (exchange_items xs)
 all-sending [] = tt
 all-sending (x ∷ xs) = go (is_queued x.1.state) (all-sending xs)
@@ -66,6 +71,7 @@ all-sending (x ∷ xs) = go (is_queued x.1.state) (all-sending xs)
     go true rest = (refl, rest)
     go false rest = rest
 
+-- items of waiters are waiters
 all-serving : (xs : List (Numbered Exchange)) (vs : List (Numbered Waiter)) → AllByRecursion IsServing (waiter_items xs vs)
 all-serving xs [] = tt
 all-serving xs (v ∷ vs) = go (answer_in v.1.exchange xs) (all-serving xs vs)
@@ -74,6 +80,7 @@ all-serving xs (v ∷ vs) = go (answer_in v.1.exchange xs) (all-serving xs vs)
     go None rest = rest
     go (Some a) rest = (refl, rest)
 
+-- the choice between two searches is the sooner item
 chosen : (a b : Option Item) → ((i : Item) → a ≡ Some i → IsSending i) → ((i : Item) → b ≡ Some i → IsServing i) → choose (option_map due_as a) (option_map due_as b) ≡ option_map item_as (sooner a b)
 chosen None None p q = refl
 chosen None (Some v) p q = ap (λ (i : DueItem). Some i) (sym (q v refl))
@@ -84,6 +91,7 @@ chosen (Some x) (Some v) p q = go (leb (due_of x) (due_of v))
     go true = ap (λ (i : DueItem). Some i) (sym (p x refl))
     go false = ap (λ (i : DueItem). Some i) (sym (q v refl))
 
+-- the two searches find what is least in the one list
 pub first_of_both : (xs : List (Numbered Exchange)) (vs : List (Numbered Waiter)) (a b : Option Due) → a ≡ option_map due_as (least (exchange_items xs)) → b ≡ option_map due_as (least (waiter_items xs vs))
     → choose a b ≡ option_map item_as (least (exchange_items xs ++ waiter_items xs vs))
 first_of_both xs vs a b e f =
@@ -105,6 +113,7 @@ items-found {A} least (x ∷ xs) r =
         let other : eqb y.0 x.0 ≡ false = ne_eqb y.0 x.0 (λ e. let above = rising.0 in omega arith) in
         (rw other all.0, behind y.0 ys rising.1 all.1 (omega (arith, rising.0)))
 
+-- an item stands in a list under its number
 abbrev Found : {A : Type 0} → List (Numbered A) → Numbered A → Type 0
 Found xs x = item_at x.0 xs ≡ Some x.1
 

@@ -52,6 +52,7 @@ pub last-values : (before number : ℕ) (values : List (List ℕ)) → before �
 last-values before number [] le = le
 last-values before number (v ∷ values) le = last-values number number values (omega arith)
 
+-- a host ends at Uri-Host or at nothing, before any Uri-Path
 pub last-host : (host : Option (List ℕ)) → last_number 0 (host_options host) ≤ 11
 last-host None = omega arith
 last-host (Some h) = omega arith

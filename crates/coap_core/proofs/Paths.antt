@@ -21,9 +21,11 @@ use Rattle.coap_routes.specs.Routes.{values_of, mapped_target}
 use Rattle.coap_target.specs.Target.{IsTarget}
 use Rattle.coap_model.specs.Messages.{is_path_option}
 
+-- a short Uri-Path is never refused
 not-refused : (number len before : ℕ) → number ≡ 11 → leb len 255 ≡ true → (is_unsafe number && not (is_recognised Request number len before)) ≡ false
 not-refused number len before e short = let least : leb 0 len ≡ true = le-leb 0 len (omega arith) in rw (e, least, short) refl
 
+-- nor is one in a list of such options
 none-refused : (passed options : List Opt) → list_all is_path_option options ≡ true → find (is_refused Request) (places_behind passed options) ≡ None
 none-refused passed [] all = refl
 none-refused passed (o ∷ os) all =
@@ -31,9 +33,11 @@ none-refused passed (o ∷ os) all =
     let own = and_parts (eqb o.number 11) (leb (length o.value) 255) parts.0 in
     rw (not-refused o.number (length o.value) (count_of o.number passed) (eqb-true _ _ own.0) own.1) (none-refused (passed ++ o ∷ []) os parts.1)
 
+-- so a request of such options passes screening
 pub path-screened : (options : List Opt) → list_all is_path_option options ≡ true → first_refused Request options ≡ None
 path-screened options all = rw (none-refused [] options all) refl
 
+-- there is no option of another number among them
 values-none : (number : ℕ) → eqb 11 number ≡ false → (options : List Opt) → list_all is_path_option options ≡ true → values_of number options ≡ []
 values-none number other [] all = refl
 values-none number other (o ∷ os) all =
@@ -41,6 +45,7 @@ values-none number other (o ∷ os) all =
     let own = and_parts (eqb o.number 11) (leb (length o.value) 255) parts.0 in
     rw (eqb-true _ _ own.0, other) (values-none number other os parts.1)
 
+-- and so no value of one
 pub no-value : (number : ℕ) → eqb 11 number ≡ false → (m : Message) → list_all is_path_option m.options ≡ true → value_of number m ≡ None
 no-value number other m all = ap first_value (values-none number other m.options all)
 

@@ -11,6 +11,7 @@ use Rattle.coap_target.specs.declared.endpoint.Endpoint.{Endpoint}
 use Rattle.coap_model.specs.Step.{message_in, on_message, on_datagram}
 use Rattle.coap_model.specs.World.{World}
 
+-- a message that is read has its own head
 head-of_read : (most : ℕ) (bytes : List ℕ) (m : Message) → message_in most bytes ≡ Some m → head_at bytes ≡ Some (record { kind = m.kind; code = m.code; id = m.id })
 unfolding message_in
 head-of_read most bytes m e = go (leb (length bytes) most) (read_message bytes) refl e

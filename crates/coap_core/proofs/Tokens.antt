@@ -21,9 +21,11 @@ use Rattle.coap_model.specs.World.{World, Step}
 use Rattle.coap_model.specs.Responses.{has_id, awaits, answers, on_awaited}
 use Rattle.coap_model.proofs.Spelled.{length-token_of, token-same}
 
+-- the number that eight bytes stand for is the one that eight bytes are read as
 eight : (a b c d e f g h : ℕ) → uint_of (a ∷ b ∷ c ∷ d ∷ e ∷ f ∷ g ∷ h ∷ []) ≡ from_be_bytes w64 (a ∷ b ∷ c ∷ d ∷ e ∷ f ∷ g ∷ h ∷ [])
 eight a b c d e f g h = omega arith
 
+-- the same of any list of eight bytes
 uint_of-eight : (bs : List ℕ) → length bs ≡ 8 → uint_of bs ≡ from_be_bytes w64 bs
 uint_of-eight (a ∷ b ∷ c ∷ d ∷ e ∷ f ∷ g ∷ h ∷ []) l = eight a b c d e f g h
 uint_of-eight [] l = absurd cc
@@ -36,6 +38,7 @@ uint_of-eight (a ∷ b ∷ c ∷ d ∷ e ∷ f ∷ []) l = absurd cc
 uint_of-eight (a ∷ b ∷ c ∷ d ∷ e ∷ f ∷ g ∷ []) l = absurd cc
 uint_of-eight (a ∷ b ∷ c ∷ d ∷ e ∷ f ∷ g ∷ h ∷ i ∷ more) l = absurd (omega (arith, l))
 
+-- what the salt was added to is found by taking it away
 sum-back : (salt sum : ℕ) → salt < 18446744073709551616 → sum < 18446744073709551616 → (salt + (sum + (18446744073709551616 - salt)) % 18446744073709551616) % 18446744073709551616 ≡ sum
 sum-back salt sum small less = omega arith
 
@@ -115,13 +118,16 @@ all-small : {A : Type 0} (most : ℕ) (xs : List (Numbered A)) → most < 2 ^ 64
 all-small most [] lt all = tt
 all-small most (x ∷ xs) lt all = (let le = all.0 in omega (arith, lt), all-small most xs lt all.1)
 
+-- the number of the exchange that awaits a response
 abbrev awaiting_in : ℕ → Endpoint → Message → Table Exchange → Option ℕ
 awaiting_in salt source m t = option_map (λ x. x.0) (find (awaits salt source m) t.items)
 
+-- where the number in a token is of no exchange, none awaits the response
 pub awaits-none : (salt : ℕ) (source : Endpoint) (m : Message) (number : ℕ) (t : Table Exchange) → number < 2 ^ 64 → token_of salt number ≡ m.token → IsTable t → t.admitted < 2 ^ 64 → item_at number t.items ≡ None → awaiting_in salt source m t ≡ None
 awaits-none salt source m number t small token is few e =
     found-by-number salt source m number small token 0 t.items is.rising (all-small t.admitted t.items few is.below) ∙ rw e refl
 
+-- where it is of one, that one awaits the response if its endpoint and its id are right
 pub awaits-one : (salt : ℕ) (source : Endpoint) (m : Message) (number : ℕ) (t : Table Exchange) → number < 2 ^ 64 → token_of salt number ≡ m.token → IsTable t → t.admitted < 2 ^ 64 → (x : Exchange) → item_at number t.items ≡ Some x
     → (b : Bool) → b ≡ (has_id m.id x.state && same_endpoint x.target.at source) → awaiting_in salt source m t ≡ (if b then Some number else None)
 awaits-one salt source m number t small token is few x e b f =

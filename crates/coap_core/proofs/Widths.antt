@@ -10,6 +10,7 @@ use Rattle.coap_model.specs.Messages.{widest, fits}
 width : (m : Message) → length (spelling (widest m)) ≡ 18 + payload_length m.payload
 width m = omega (arith, spelling-length (widest m))
 
+-- what a widest message takes beside its payload
 beside : (m : Message) (b : Bool) → b ≡ eqb (length m.payload) 0 → length (spelling (widest m)) ≡ cond b 18 (19 + length m.payload)
 beside m b is = go m.payload b is (width m)
   where
@@ -19,9 +20,11 @@ beside m b is = go m.payload b is (width m)
     go (p ∷ ps) true f e = absurd (let z = eqb-true _ _ (sym f) in omega arith)
     go (p ∷ ps) false f e = omega (arith, e)
 
+-- without a payload a response fits where the rest does
 pub fits-bare : (most : ℕ) (m : Message) → true ≡ eqb (length m.payload) 0 → leb 18 most ≡ fits most m
 fits-bare most m bare = ap (λ (n : ℕ). leb n most) (sym (beside m true bare))
 
+-- with one it fits where the payload is short enough
 pub fits-payload : (most : ℕ) (m : Message) → false ≡ eqb (length m.payload) 0 → ltb (length m.payload) (most - 18) ≡ fits most m
 fits-payload most m some = go (leb (length (spelling (widest m))) most) refl
   where

@@ -31,12 +31,14 @@ use Rattle.coap_model.proofs.Places.{same_moves, first-once, place-before, justi
 use Rattle.coap_model.proofs.Tables.{IsDueOf, items-are, least-holds, if_due-is, answer-holds, HasNumber-paired}
 use Rattle.coap_model.proofs.Awaiting.{served-got, at-number}
 
+-- what an item is in the history
 abbrev pub act_of : Item → Act
 act_of (sending x) = moves x.0
 act_of (serving v a) = serves v.0
 
 -- ---- the least item is the first
 
+-- of two acts one comes before the other only
 before-other : (a b : Act) → ComesBefore a b → ComesBefore b a → ⊥
 before-other no_item b p q = p
 before-other (admits v x) b p q = p
@@ -53,6 +55,7 @@ before-other (serves v) (serves u) p q = omega (arith, p, q)
 abbrev pub IsFirst : Item → Item → Type 0
 IsFirst i j = ¬ IsSooner (act_of j) (due_of j) (act_of i) (due_of i)
 
+-- what is first is due no later
 first-no_later : (i j : Item) → IsFirst i j → due_of i ≤ due_of j
 first-no_later i j first = go (leb (due_of i) (due_of j)) refl
   where
@@ -60,10 +63,12 @@ first-no_later i j first = go (leb (due_of i) (due_of j)) refl
     go true t = leb-true _ _ t
     go false t = let later = leb-false _ _ t in absurd (first (inl later))
 
+-- each item comes before all that follow
 abbrev IsOrdered : List Item → Type 0
 IsOrdered [] = Unit {0}
 IsOrdered (i ∷ items) = AllByRecursion (λ j. ComesBefore (act_of i) (act_of j)) items × IsOrdered items
 
+-- where there are items, one is least
 least-some : (j : Item) (items : List Item) → least (j ∷ items) ≡ None → ⊥
 least-some j items e = go (least items) e
   where
@@ -75,10 +80,12 @@ least-some j items e = go (least items) e
         test true g = absurd cc
         test false g = absurd cc
 
+-- where none is least, there are no items
 none-least : (P : Item → Type 0) (items : List Item) → least items ≡ None → AllByRecursion P items
 none-least P [] e = tt
 none-least P (j ∷ items) e = absurd (least-some j items e)
 
+-- the least item of an ordered list comes before all others
 least-first : (items : List Item) (i : Item) → IsOrdered items → least items ≡ Some i → AllByRecursion (IsFirst i) items
 least-first [] i ordered e = tt
 least-first (j ∷ items) i ordered e = go (least items) refl (λ k f. least-first items k ordered.1 f) e
@@ -109,6 +116,7 @@ least-first (j ∷ items) i ordered e = go (least items) refl (λ k f. least-fir
 
 -- ---- the items are in order
 
+-- exchanges above a number come after it
 exchanges-above : (low n : ℕ) (xs : List (Numbered Exchange)) → IsRising low xs → n ≤ low → AllByRecursion (λ j. ComesBefore (moves n) (act_of j)) (exchange_items xs)
 exchanges-above low n [] r le = tt
 exchanges-above low n (x ∷ xs) r le = let first = r.0 in go (is_queued x.1.state) (omega (arith, first, le)) (exchanges-above x.0 n xs r.1 (omega (arith, first, le)))
@@ -117,6 +125,7 @@ exchanges-above low n (x ∷ xs) r le = let first = r.0 in go (is_queued x.1.sta
     go true lt rest = (lt, rest)
     go false lt rest = rest
 
+-- waiters come after exchanges
 waiters-behind : (n : ℕ) (all : List (Numbered Exchange)) (vs : List (Numbered Waiter)) → AllByRecursion (λ j. ComesBefore (moves n) (act_of j)) (waiter_items all vs)
 waiters-behind n all [] = tt
 waiters-behind n all (v ∷ vs) = go (answer_in v.1.exchange all) (waiters-behind n all vs)
@@ -125,6 +134,7 @@ waiters-behind n all (v ∷ vs) = go (answer_in v.1.exchange all) (waiters-behin
     go None rest = rest
     go (Some a) rest = (tt, rest)
 
+-- waiters above a number come after it
 waiters-above : (low n : ℕ) (all : List (Numbered Exchange)) (vs : List (Numbered Waiter)) → IsRising low vs → n ≤ low → AllByRecursion (λ j. ComesBefore (serves n) (act_of j)) (waiter_items all vs)
 waiters-above low n all [] r le = tt
 waiters-above low n all (v ∷ vs) r le = let first = r.0 in go (answer_in v.1.exchange all) (omega (arith, first, le)) (waiters-above v.0 n all vs r.1 (omega (arith, first, le)))
@@ -133,6 +143,7 @@ waiters-above low n all (v ∷ vs) r le = let first = r.0 in go (answer_in v.1.e
     go None lt rest = rest
     go (Some a) lt rest = (lt, rest)
 
+-- waiters are in order
 waiters-ordered : (low : ℕ) (all : List (Numbered Exchange)) (vs : List (Numbered Waiter)) → IsRising low vs → IsOrdered (waiter_items all vs)
 waiters-ordered low all [] r = tt
 waiters-ordered low all (v ∷ vs) r = go (answer_in v.1.exchange all) (waiters-ordered v.0 all vs r.1)
@@ -141,6 +152,7 @@ waiters-ordered low all (v ∷ vs) r = go (answer_in v.1.exchange all) (waiters-
     go None rest = rest
     go (Some a) rest = (waiters-above v.0 v.0 all vs r.1 (omega arith), rest)
 
+-- exchanges and waiters are
 all-ordered : (low : ℕ) (all xs : List (Numbered Exchange)) (vs : List (Numbered Waiter)) → IsRising low xs → IsRising 0 vs → IsOrdered (exchange_items xs ++ waiter_items all vs)
 all-ordered low all [] vs r s = waiters-ordered 0 all vs s
 all-ordered low all (x ∷ xs) vs r s = go (is_queued x.1.state) (all-ordered x.0 all xs vs r.1 s)
@@ -149,17 +161,20 @@ all-ordered low all (x ∷ xs) vs r s = go (is_queued x.1.state) (all-ordered x.
     go true rest = (All-append (λ j. ComesBefore (moves x.0) (act_of j)) (exchange_items xs) (waiter_items all vs) (exchanges-above x.0 x.0 xs r.1 (omega arith)) (waiters-behind x.0 all vs), rest)
     go false rest = rest
 
+-- waiters rise as their exchanges do
 pub rising-paired : (low : ℕ) (xs : List (Numbered Exchange)) (vs : List (Numbered Waiter)) → IsRising low xs → ArePaired xs vs → IsRising low vs
 rising-paired low [] [] r p = tt
 rising-paired low [] (v ∷ vs) r p = absurd p
 rising-paired low (x ∷ xs) [] r p = tt
 rising-paired low (x ∷ xs) (v ∷ vs) r p = (omega (arith, r.0, p.0), rising-paired v.0 xs vs (subst (λ (n : ℕ). IsRising n xs) p.0 r.1) p.1)
 
+-- so the items of a world are in order
 items-ordered : (w : World) (history : List Deed) → Bears history w → IsOrdered (items_of w)
 items-ordered w history c = all-ordered 0 w.exchanges w.exchanges w.waiters c.whole.rising (rising-paired 0 w.exchanges w.waiters c.whole.rising c.whole.paired)
 
 -- ---- what is due by the tables is due by the history
 
+-- an answer is got at the moment of its response
 got-is : (most now : ℕ) (m : Message) → (answer_of most now m).got ≡ now
 unfolding answer_of
 got-is most now m = go (is_passed_on most m)
@@ -168,11 +183,13 @@ got-is most now m = go (is_passed_on most m)
     go true = refl
     go false = refl
 
+-- what is queued was never sent
 queued-unsent : (setting : Setting) (history : List Deed) (x : ℕ) (t : Target) (s : ExchangeState) → IsState setting history x t s → is_queued s ≡ true → Never (Sends setting.salt x) history
 queued-unsent setting history x t Queued state e = state.0
 queued-unsent setting history x t (Sent s) state e = absurd cc
 queued-unsent setting history x t (Done a) state e = absurd cc
 
+-- an item of the tables is due by the history
 item-due : (w : World) (history : List Deed) (c : Bears history w) (i : Item) → IsDueOf (IsExchangeOf w.setting history) (IsWaiterOf w.setting history) w.exchanges i → IsDueAt w.setting history (act_of i) (due_of i)
 item-due w history c (sending x) d = let f = d.0 in let o = f.opened in record { opening = o.opening; was_opened = o.was_opened; opens = o.opens; unsent = queued-unsent w.setting history x.0 x.1.target x.1.state f.state d.1; at_is = f.admitted }
 item-due w history c (serving v a) d =
@@ -193,20 +210,24 @@ item-due w history c (serving v a) d =
 
 -- ---- what is due by the history is due by the tables
 
+-- an act that is due is an item of the tables, due at the same moment
 pub record IsItem (items : List Item) (a : Act) (at : ℕ) : Type 0 where
   pub item : Item
   pub there : Has item items
   pub act : act_of item ≡ a
   pub due : due_of item ≡ at
 
+-- what is in the first list is in both
 Has-left : (i : Item) (xs ys : List Item) → Has i xs → Has i (xs ++ ys)
 Has-left i [] ys h = absurd h
 Has-left i (x ∷ xs) ys h = ⊎_elim (λ (e : i ≡ x). inl e) (λ (t : Has i xs). inr (Has-left i xs ys t)) h
 
+-- what is in the second list is in both
 Has-right : (i : Item) (xs ys : List Item) → Has i ys → Has i (xs ++ ys)
 Has-right i [] ys h = h
 Has-right i (x ∷ xs) ys h = inr (Has-right i xs ys h)
 
+-- a queued exchange is an item
 sending-there : (x : Numbered Exchange) (xs : List (Numbered Exchange)) → Has x xs → is_queued x.1.state ≡ true → Has (sending x) (exchange_items xs)
 sending-there x [] h q = absurd h
 sending-there x (y ∷ ys) h q = go (is_queued y.1.state) refl h (λ t. sending-there x ys t q)
@@ -215,6 +236,7 @@ sending-there x (y ∷ ys) h q = go (is_queued y.1.state) refl h (λ t. sending-
     go true e at rest = ⊎_elim (λ (same : x ≡ y). inl (ap sending same)) (λ (t : Has x ys). inr (rest t)) at
     go false e at rest = ⊎_elim (λ (same : x ≡ y). absurd (let f : true ≡ false = sym q ∙ ap (λ (z : Numbered Exchange). is_queued z.1.state) same ∙ e in cc)) rest at
 
+-- a waiter whose exchange has its answer is an item
 serving-there : (v : Numbered Waiter) (a : Answer) (all : List (Numbered Exchange)) (vs : List (Numbered Waiter)) → Has v vs → answer_in v.1.exchange all ≡ Some a → Has (serving v a) (waiter_items all vs)
 serving-there v a all [] h e = absurd h
 serving-there v a all (u ∷ us) h e = go (answer_in u.1.exchange all) refl h (λ t. serving-there v a all us t e)
@@ -226,11 +248,13 @@ serving-there v a all (u ∷ us) h e = go (answer_in u.1.exchange all) refl h (�
     go None is at rest = ⊎_elim (λ (same : v ≡ u). absurd (let f = answer None is same in cc)) rest at
     go (Some b) is at rest = ⊎_elim (λ (same : v ≡ u). inl (let f = same_Some a b (answer (Some b) is same) in cc)) (λ (t : Has v us). inr (rest t)) at
 
+-- what was never sent is queued
 unsent-queued : (setting : Setting) (history : List Deed) (x : ℕ) (t : Target) (s : ExchangeState) → IsState setting history x t s → Never (Sends setting.salt x) history → is_queued s ≡ true
 unsent-queued setting history x t Queued state unsent = refl
 unsent-queued setting history x t (Sent s) state unsent = absurd (Never-at (Sends setting.salt x) history state.0.asking unsent state.0.was_asked state.0.asks.sends)
 unsent-queued setting history x t (Done a) state unsent = absurd (Never-at (Sends setting.salt x) history state.gets.meets.asking unsent (place-before history state.getting state.gets.meets.asking state.was_got state.gets.meets.was_asked) state.gets.meets.asks.sends)
 
+-- an exchange that is to be sent is an item
 send-item : (w : World) (history : List Deed) (c : Bears history w) (x at : ℕ) → IsToSend w.setting history x at → IsItem (items_of w) (moves x) at
 send-item w history c x at d = ⊎_elim in_table was_served (c.whole.complete x number.0 number.1)
   where
@@ -258,6 +282,7 @@ got-first setting history x p all at g =
     let j = justified-at setting history p (Answered NotStored) all at g.outcome in
     subst (λ (n : ℕ). Never (Gets setting n) p.before) (same_moves j.exchange x (sym j.gets.act ∙ g.act)) j.first
 
+-- all numbers are above the least
 all-above : (low : ℕ) (xs : List (Numbered Exchange)) → IsRising low xs → AllByRecursion (λ x. low < x.0) xs
 all-above low [] r = tt
 all-above low (x ∷ xs) r = (r.0, All-weaken (λ y. x.0 < y.0) (λ y. low < y.0) xs (λ y above. let first = r.0 in omega (arith, above)) (all-above x.0 xs r.1))
@@ -271,6 +296,7 @@ answers-own low (x ∷ xs) r = (rw (eq-eqb x.0 x.0 refl) refl, behind xs (all-ab
     behind [] above own = tt
     behind (y ∷ ys) above own = (rw (ne_eqb x.0 y.0 (λ e. let lt = above.0 in omega arith)) own.0, behind ys above.1 own.1)
 
+-- a waiter that is to be served is an item
 serve-item : (w : World) (history : List Deed) (c : Bears history w) (v at : ℕ) → IsToServe w.setting history v at → IsItem (items_of w) (serves v) at
 serve-item w history c v at d = ⊎_elim in_table was_served (c.whole.complete v number.0 number.1)
   where
@@ -300,6 +326,7 @@ serve-item w history c v at d = ⊎_elim in_table was_served (c.whole.complete v
         let g = at-number (IsWaiterOf w.setting history) (λ u. Has u w.waiters) v w.waiters (HasNumber-paired v w.exchanges w.waiters c.whole.paired there) c.waiters (Has-all w.waiters) in
         with_answer g.0 g.1 g.2 g.3 y.1.target y.1.state (subst (λ (n : ℕ). IsState w.setting history n y.1.target y.1.state) (sym f.1) f.2.state) (ap (λ (n : ℕ). answer_in n w.exchanges) f.1 ∙ f.3)
 
+-- whatever is due by the history is an item
 item-of : (w : World) (history : List Deed) (c : Bears history w) (a : Act) (at : ℕ) → IsDueAt w.setting history a at → IsItem (items_of w) a at
 item-of w history c no_item at d = absurd d
 item-of w history c (admits v x) at d = absurd d
@@ -308,6 +335,7 @@ item-of w history c (serves v) at d = serve-item w history c v at d
 
 -- ---- what is done
 
+-- what holds of each item holds of one that is there
 Has-holds : (P : Item → Type 0) (items : List Item) (i : Item) → AllByRecursion P items → Has i items → P i
 Has-holds P [] i all h = absurd h
 Has-holds P (j ∷ items) i all h = ⊎_elim (λ (same : i ≡ j). subst P (sym same) all.0) (λ (t : Has i items). Has-holds P items i all.1 t) h
@@ -316,12 +344,14 @@ Has-holds P (j ∷ items) i all h = ⊎_elim (λ (same : i ≡ j). subst P (sym 
 pub least-due : (w : World) (history : List Deed) → Bears history w → (i : Item) → least (items_of w) ≡ Some i → IsDueAt w.setting history (act_of i) (due_of i)
 least-due w history c i e = item-due w history c i (least-holds (IsDueOf (IsExchangeOf w.setting history) (IsWaiterOf w.setting history) w.exchanges) (items_of w) i (items-are (IsExchangeOf w.setting history) (IsWaiterOf w.setting history) w.exchanges w.waiters c.exchanges c.waiters) e)
 
+-- nothing is due before the least item
 pub none-sooner : (w : World) (history : List Deed) → Bears history w → (i : Item) → least (items_of w) ≡ Some i → (a : Act) (m : ℕ) → IsDueAt w.setting history a m → ¬ IsSooner a m (act_of i) (due_of i)
 none-sooner w history c i e a m d sooner =
     let t = item-of w history c a m d in
     let first = Has-holds (IsFirst i) (items_of w) t.item (least-first (items_of w) i (items-ordered w history c) e) t.there in
     first (subst (λ (b : Act). IsSooner b (due_of t.item) (act_of i) (due_of i)) (sym t.act) (subst (λ (n : ℕ). IsSooner a n (act_of i) (due_of i)) (sym t.due) sooner))
 
+-- a tick that does the least item does what is due first
 pub acting : (w : World) (history : List Deed) → Bears history w → (now : ℕ) (i : Item) → if_due now (least (items_of w)) ≡ Some i → (d : Deed) → d.act ≡ act_of i → d.entry.event ≡ tick → d.entry.now ≡ now → IsActing w.setting history d
 acting w history c now i due d act ticked moment =
     let first = if_due-is now (least (items_of w)) i due in
@@ -335,13 +365,16 @@ acting w history c now i due d act ticked moment =
 
 -- ---- where nothing is due
 
+-- where no item is least, none is there
 none-there : (items : List Item) (i : Item) → least items ≡ None → Has i items → ⊥
 none-there [] i e h = h
 none-there (j ∷ items) i e h = least-some j items e
 
+-- and nothing is due by the history
 pub nothing-due : (w : World) (history : List Deed) → Bears history w → least (items_of w) ≡ None → (a : Act) (m : ℕ) → ¬ IsDueAt w.setting history a m
 nothing-due w history c e a m d = let t = item-of w history c a m d in none-there (items_of w) t.item e t.there
 
+-- the least item is due no later than anything
 pub due-no_later : (w : World) (history : List Deed) → Bears history w → (i : Item) → least (items_of w) ≡ Some i → (a : Act) (m : ℕ) → IsDueAt w.setting history a m → due_of i ≤ m
 due-no_later w history c i e a m d = go (leb (due_of i) m) refl
   where
@@ -349,6 +382,7 @@ due-no_later w history c i e a m d = go (leb (due_of i) m) refl
     go true t = leb-true _ _ t
     go false t = absurd (none-sooner w history c i e a m d (inl (leb-false _ _ t)))
 
+-- where no item is due yet, nothing is
 pub idling-due : (w : World) (history : List Deed) → Bears history w → (now : ℕ) → if_due now (least (items_of w)) ≡ None → (a : Act) (m : ℕ) → IsDueAt w.setting history a m → now < m
 idling-due w history c now nothing a m d = go (least (items_of w)) refl nothing
   where
@@ -376,6 +410,7 @@ next-is w history c at e = go (least (items_of w)) refl e
           least = λ a m d. subst (λ (n : ℕ). n ≤ m) same (due-no_later w history c i is a m d);
         }
 
+-- where no tick is wanted, nothing is due
 pub no-next : (w : World) (history : List Deed) → Bears history w → next_due w ≡ None → (a : Act) (m : ℕ) → ¬ IsDueAt w.setting history a m
 no-next w history c e a m d = go (least (items_of w)) refl e
   where

@@ -37,6 +37,7 @@ use Rattle.coap_model.proofs.Forwarding.{same_target}
 
 -- ---- what was awaited
 
+-- what tests as an acknowledgement is one
 ack_is : (k : Kind) → is_ack k ≡ true → k ≡ Ack
 ack_is Con e = absurd cc
 ack_is Non e = absurd cc
@@ -61,6 +62,7 @@ record IsAwaited (w : World) (history : List Deed) (source : Endpoint) (m : Mess
   pub id_is : sending.id ≡ m.id
   pub token_is : m.token ≡ token_of w.setting.salt x.0
 
+-- what the search for a response finds awaits it
 awaited : (w : World) (history : List Deed) → Bears history w → (source : Endpoint) (m : Message) (x : Numbered Exchange) → awaiting w source m ≡ Some x → IsAwaited w history source m x
 awaited w history c source m x found =
     let f = find-holds (λ y. IsExchangeOf w.setting history y × Has y w.exchanges) (awaits w.setting.salt source m) w.exchanges x (All-there (IsExchangeOf w.setting history) w.exchanges c.exchanges) found in
@@ -72,6 +74,7 @@ awaited w history c source m x found =
 
 -- ---- the rule
 
+-- an answer that is got keeps what is carried
 pub keeps_answering : (w : World) (history : List Deed) (c : Bears history w) → (now draw : ℕ) (source : Endpoint) (bytes : List ℕ) (m : Message) (x : Numbered Exchange) → w.last ≤ now → IsBytes bytes → message_in w.setting.limits.datagram bytes ≡ Some m → (is_ack m.kind && is_response m.code) ≡ true → awaiting w source m ≡ Some x
     → Bears (doing (moves x.0) (entry_of now draw (arrival source bytes) (answers w now m x)) ∷ history) (answers w now m x).world
 keeps_answering w history c now draw source bytes m x onward fits read response found =

@@ -22,6 +22,7 @@ pub record IsKept (history : List Deed) (e : Entry) (w : World) : Type 0 where
   pub act : Act
   pub bears : Bears (doing act e ∷ history) w
 
+-- each case of a step keeps what is carried
 keeps_rule : {w : World} {now draw : ℕ} {event : Event} {s : Step} (history : List Deed) → Bears history w → w.last ≤ now → Rule w now draw event s → IsKept history (entry_of now draw event s) s.world
 keeps_rule {w = w} {now = now} {draw = draw} history c onward (refusing client bytes m code fits asked verdict free) = record { act = no_item; bears = keeps_refusing w history c now draw client bytes m code onward fits asked verdict free }
 keeps_rule {w = w} {now = now} {draw = draw} history c onward (lacking client bytes m fits asked full free) = record { act = no_item; bears = keeps_lacking w history c now draw client bytes m onward fits asked full free }
@@ -38,12 +39,14 @@ keeps_rule {w = w} {now = now} {draw = draw} history c onward (idling nothing) =
 pub keeps_deeds : (w : World) (history : List Deed) (now draw : ℕ) (event : Event) → Bears history w → w.last ≤ now → IsEvent event → IsKept history (entry_of now draw event (step_of w now draw event)) (step_of w now draw event).world
 keeps_deeds w history now draw event c onward fits = keeps_rule history c onward (rule_of w now draw event fits)
 
+-- so a step does
 pub keeps_step : (w : World) (history : List Entry) (now draw : ℕ) (event : Event) → Carries history w → w.last ≤ now → IsEvent event → Carries (entry_of now draw event (step_of w now draw event) ∷ history) (step_of w now draw event).world
 keeps_step w history now draw event c onward fits =
     let e = entry_of now draw event (step_of w now draw event) in
     let k = keeps_deeds w c.deeds now draw event c.bears onward fits in
     record { deeds = doing k.act e ∷ c.deeds; told = ap (λ (past : List Entry). e ∷ past) c.told; bears = k.bears }
 
+-- a new proxy carries the empty history
 pub starts : (setting : Setting) → AreRoutes setting.routes → Carries [] (new_world setting)
 starts setting are =
     record {

@@ -46,6 +46,7 @@ pub record IsServed (w : World) (history : List Deed) (v : Numbered Waiter) (a :
   pub target_is : mapped_target w.setting.routes waiter.opened.request ≡ Some target
   pub got : WasGot w.setting history v.0 target a
 
+-- a waiter that is due is served with the answer of its exchange
 pub served : (w : World) (history : List Deed) (c : Bears history w) (now : ℕ) (v : Numbered Waiter) (a : Answer) → if_due now (least (items_of w)) ≡ Some (serving v a) → IsServed w history v a
 served w history c now v a due =
     let item = due-serving (IsExchangeOf w.setting history) (IsWaiterOf w.setting history) w.exchanges w.waiters now v a c.exchanges c.waiters due in
@@ -70,6 +71,7 @@ served w history c now v a due =
 
 -- ---- what is told
 
+-- what it is told is a message
 reply-is : (w : World) (history : List Deed) (now id : ℕ) (v : Numbered Waiter) (a : Answer) → IsServed w history v a → IsMessage (shown now a id v.1.token)
 reply-is w history now id v a s =
     let got = s.got in
@@ -77,6 +79,7 @@ reply-is w history now id v a s =
     let is = shown-is w.setting.limits.datagram now got.getting.deed.entry.now got.gets.meets.response id v.1.token got.gets.meets.brings.spells.message got.gets.meets.matches.code short in
     subst (λ (b : Answer). IsMessage (shown now b id v.1.token)) (sym got.answer_is) is
 
+-- so the entry is a delivery
 delivery : (w : World) (history : List Deed) (e : Deed) (id : ℕ) (v : Numbered Waiter) (a : Answer) → IsServed w history v a → e.act ≡ serves v.0 → IsActing w.setting history e → e.entry.report.send ≡ Some v.1.client → Spells e.entry.bytes (shown e.entry.now a id v.1.token) → IsDelivery w.setting history e
 delivery w history e id v a s act acts sent spells =
     let g = s.waiter in
@@ -132,6 +135,7 @@ others_wait w history c e n act =
 
 -- ---- the rule
 
+-- serving a client keeps what is carried
 pub keeps_delivering : (w : World) (history : List Deed) (c : Bears history w) (now draw : ℕ) (v : Numbered Waiter) (a : Answer) → w.last ≤ now → if_due now (least (items_of w)) ≡ Some (serving v a)
     → Bears (doing (serves v.0) (entry_of now draw tick (delivers w now v a)) ∷ history) (delivers w now v a).world
 keeps_delivering w history c now draw v a onward due =

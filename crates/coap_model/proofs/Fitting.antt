@@ -37,11 +37,13 @@ value-bytes before bytes o s fit =
     let all : IsBytes ((16 * s.delta_bits + s.length_bits) ∷ (s.delta_more ++ (s.length_more ++ o.value))) = subst IsBytes s.bytes_are fit in
     IsBytes-right s.length_more o.value (IsBytes-right s.delta_more (s.length_more ++ o.value) (IsBytes-right ((16 * s.delta_bits + s.length_bits) ∷ []) (s.delta_more ++ (s.length_more ++ o.value)) all))
 
+-- the options of a datagram of bytes are bytes
 options-bytes : (bytes : List ℕ) (m : Message) (s : Spells bytes m) → IsBytes bytes → IsBytes s.options
 options-bytes bytes m s fit =
     let all : IsBytes (header m ++ (m.token ++ (s.options ++ s.payload))) = subst IsBytes s.bytes_are fit in
     IsBytes-left s.options s.payload (IsBytes-right m.token (s.options ++ s.payload) (IsBytes-right (header m) (m.token ++ (s.options ++ s.payload)) all))
 
+-- a Max-Age of four bytes is below 2 ^ 32
 age-small : (bytes : List ℕ) (os : List Opt) → IsBytes bytes → SpellsOptions 0 bytes os → are_understood os ≡ true → max_age_of os < 2 ^ 32
 age-small bytes [] fit s e = omega arith
 age-small bytes (o ∷ []) fit s e =
@@ -54,17 +56,21 @@ age-small bytes (o ∷ p ∷ more) fit s e = absurd cc
 
 -- ---- what a client is shown
 
+-- a length of at most four needs no bytes that extend it
 more-none : (n : ℕ) → n ≤ 4 → more_length n ≡ 0
 more-none n le = rw (lt-ltb n 13 (omega arith)) refl
 
+-- a Max-Age takes at most six bytes
 max_age-length : (number : ℕ) (value : List ℕ) → number ≡ 14 → length value ≤ 4 → options_length 0 (record { number = number; value = value } ∷ []) ≤ 6
 max_age-length number value is short = rw is (let more = more-none (length value) short in omega arith)
 
+-- so the options of a response that is understood take at most six
 understood-length : (os : List Opt) → are_understood os ≡ true → options_length 0 os ≤ 6
 understood-length [] e = omega arith
 understood-length (o ∷ []) e = let parts = and_parts (eqb o.number 14) (leb (length o.value) 4) e in max_age-length o.number o.value (eqb-true _ _ parts.0) (leb-true _ _ parts.1)
 understood-length (o ∷ p ∷ more) e = absurd cc
 
+-- and those of what is shown
 shown-length : (now id : ℕ) (a : Answer) (token : List ℕ) → options_length 0 a.message.options ≤ 6 → max_age_of a.message.options < 2 ^ 32 → options_length 0 (shown_options now a) ≤ 6
 shown-length now id a token short small = go (carries_max_age a)
   where
@@ -81,9 +87,11 @@ passed-short most now got id m token e small short =
     let wide = leb-true (length (spelling (widest m))) most more.1 in
     omega (arith, wide, spelling-length (widest m), spelling-length (shown now a id token), shown-length now id a token (understood-length m.options parts.0) small)
 
+-- what stands in place of a response is short
 replaced-short : (now got id : ℕ) (token : List ℕ) → length token ≤ 8 → length (spelling (shown now (record { message = bad_gateway; got = got; own = true }) id token)) ≤ 128
 replaced-short now got id token short = omega (arith, spelling-length (shown now (record { message = bad_gateway; got = got; own = true }) id token))
 
+-- what is shown of an answer fits a datagram
 answer-fits : (most now got id : ℕ) (bytes : List ℕ) (m : Message) (token : List ℕ) → 128 ≤ most → IsBytes bytes → Spells bytes m → length token ≤ 8 → length (spelling (shown now (answer_of most got m) id token)) ≤ most
 unfolding answer_of
 answer-fits most now got id bytes m token wide fit s short = go (is_passed_on most m) refl
@@ -96,9 +104,11 @@ answer-fits most now got id bytes m token wide fit s short = go (is_passed_on mo
 
 -- ---- the proxy's own replies
 
+-- a reply of the proxy's own is short
 own-short : (code : Code) (id : ℕ) (token : List ℕ) → length token ≤ 8 → length (spelling (own_reply code [] id token)) ≤ 128
 own-short code id token short = omega (arith, spelling-length (own_reply code [] id token))
 
+-- so is one that says when to try again
 busy-short : (seconds id : ℕ) (token : List ℕ) → length token ≤ 8 → length (spelling (busy_reply seconds id token)) ≤ 128
 busy-short seconds id token short =
     let value = length-uint_spelling seconds in
@@ -108,9 +118,11 @@ busy-short seconds id token short =
     more-none_eight : (n : ℕ) → n ≤ 8 → more_length n ≡ 0
     more-none_eight n le = rw (lt-ltb n 13 (omega arith)) refl
 
+-- and a Reset
 reset-short : (id : ℕ) → length (spelling (reset id)) ≤ 128
 reset-short id = omega (arith, spelling-length (reset id))
 
+-- another id leaves a form as long as it is
 pub length-with_id : (id : ℕ) (form : List ℕ) → length (with_id id form) ≡ length form
 unfolding with_id
 length-with_id id [] = refl
@@ -121,6 +133,7 @@ length-with_id id (a ∷ b ∷ c ∷ d ∷ rest) = refl
 
 -- ---- each case
 
+-- in each case of a step its datagram fits
 rule_fits : {w : World} {now draw : ℕ} {event : Event} {s : Step} (history : List Deed) → Bears history w → AreLimits w.setting.limits → Rule w now draw event s → length s.bytes ≤ w.setting.limits.datagram
 rule_fits {w = w} history c are (refusing client bytes m code fit asked verdict free) = let came = request-came w client bytes m fit asked in omega (arith, (are Datagram).0, own-short code (next_id w) m.token came.brings.spells.message.token)
 rule_fits {w = w} history c are (lacking client bytes m fit asked full free) = omega arith
@@ -140,5 +153,6 @@ rule_fits {w = w} {now = now} history c are (delivering v a due) =
     subst (λ (b : Answer). length (spelling (shown now b (next_id w) v.1.token)) ≤ w.setting.limits.datagram) (sym s.got.answer_is) fit
 rule_fits {w = w} history c are (idling nothing) = omega arith
 
+-- so each datagram fits
 pub datagrams_fit : (w : World) (history : List Entry) (now draw : ℕ) (event : Event) → Carries history w → AreLimits w.setting.limits → IsEvent event → length (step_of w now draw event).bytes ≤ w.setting.limits.datagram
 datagrams_fit w history now draw event c are fits = rule_fits c.deeds c.bears are (rule_of w now draw event fits)

@@ -51,6 +51,7 @@ one_opening p x at o =
     t)
     at
 
+-- and what was got
 one_getting : (p : Place) (x : ℕ) → IsPlaceOf past p → Gets setting x p → p ≡ here (asked ∷ opened ∷ []) answered
 one_getting p x at g =
     ⊎_elim

@@ -29,6 +29,7 @@ use Rattle.coap_model.proofs.Frames.{clock_frame, numbers_frame, exchange_moved,
 use Rattle.coap_model.proofs.Acting.{acting}
 use Rattle.coap_model.proofs.Replying.{id-same}
 
+-- what tests as queued is queued
 queued_state : (s : ExchangeState) → is_queued s ≡ true → s ≡ Queued
 queued_state Queued e = refl
 queued_state (Sent s) e = absurd cc
@@ -41,6 +42,7 @@ same_target w history x y f g same =
     let targets : Some x.1.target ≡ Some y.1.target = sym f.target_is ∙ ap (mapped_target w.setting.routes) request ∙ g.target_is in
     same_Some x.1.target y.1.target targets
 
+-- sending a request on keeps what is carried
 pub keeps_forwarding : (w : World) (history : List Deed) (c : Bears history w) → (now draw : ℕ) (x : Numbered Exchange) → w.last ≤ now → if_due now (least (items_of w)) ≡ Some (sending x)
     → Bears (doing (moves x.0) (entry_of now draw tick (sends w now x)) ∷ history) (sends w now x).world
 keeps_forwarding w history c now draw x onward due =

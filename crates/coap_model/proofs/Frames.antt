@@ -45,6 +45,7 @@ pub exchange_frame : (setting : Setting) (history : List Deed) (e : Deed) (x : N
 exchange_frame setting history e x unsent ungot f =
     exchange_moved setting history e x x.1.state (state_frame setting history e x.0 x.1.target x.1.state unsent ungot f.state) f
 
+-- all exchanges stay where nothing is sent or got
 pub exchanges_frame : (setting : Setting) (history : List Deed) (e : Deed) (xs : List (Numbered Exchange)) → ((x : ℕ) → ¬ Sends setting.salt x (here history e)) → ((x : ℕ) → ¬ Gets setting x (here history e))
     → AllByRecursion (IsExchangeOf setting history) xs → AllByRecursion (IsExchangeOf setting (e ∷ history)) xs
 exchanges_frame setting history e xs unsent ungot all =
@@ -64,6 +65,7 @@ pub waiters_frame : (setting : Setting) (history : List Deed) (e : Deed) (vs : L
 waiters_frame setting history e vs unserved all =
     All-weaken (IsWaiterOf setting history) (IsWaiterOf setting (e ∷ history)) vs (λ v f. waiter_frame setting history e v (unserved v.0) f) all
 
+-- what isn't opened wasn't sent or got, as before
 pub fresh_frame : (setting : Setting) (history : List Deed) (e : Deed) → ((x : ℕ) → opened_in history < x → ¬ Sends setting.salt x (here history e)) → ((x : ℕ) → opened_in history < x → ¬ Gets setting x (here history e))
     → IsFresh setting history → IsFresh setting (e ∷ history)
 fresh_frame setting history e unsent ungot fresh x above =
@@ -75,9 +77,11 @@ fresh_frame setting history e unsent ungot fresh x above =
 pub sends-not : (setting : Setting) (history : List Deed) (e : Deed) → e.entry.report.outcome ≢ SentRequest → (x : ℕ) → ¬ Sends setting.salt x (here history e)
 sends-not setting history e other x s = other s.outcome
 
+-- nor gets an answer
 pub gets-not : (setting : Setting) (history : List Deed) (e : Deed) → e.entry.report.outcome ≢ Answered NotStored → (x : ℕ) → ¬ Gets setting x (here history e)
 gets-not setting history e other x g = other g.outcome
 
+-- an entry with another outcome serves no waiter
 pub serves-not : (history : List Deed) (e : Deed) → e.entry.report.outcome ≢ Delivered → (v : ℕ) → ¬ Serves v (here history e)
 serves-not history e other v s = other s.outcome
 

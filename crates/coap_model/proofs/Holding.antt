@@ -45,6 +45,7 @@ pieces-short before number (v ∷ values) os n more =
     let here = pieces-length v values in
     record { most = omega (arith, rest, here) }
 
+-- a target takes little more than the options that say it
 target-short : (before : ℕ) (t : Target) → IsLittleMore (target_bytes t) (options_length before (target_options t))
 unfolding target_options
 target-short before t = go t.host
@@ -64,11 +65,13 @@ target-short before t = go t.host
     go None = record { most = omega (arith, (path before).most) }
     go (Some h) = record { most = omega (arith, (path 3).most) }
 
+-- and so little more than the form
 form-holds : (token : List ℕ) (t : Target) → IsLittleMore (target_bytes t) (length (spelling (forwarded token t 0)))
 form-holds token t = record { most = omega (arith, spelling-length (forwarded token t 0), (target-short 0 t).most) }
 
 -- ---- an answer is held in no more than a datagram and a Max-Age
 
+-- the options of a response that is understood take at most six bytes
 options-short : (os : List Opt) → are_understood os ≡ true → length (options_spelling 0 os) ≤ 6
 options-short os e = omega (arith, options-length 0 os, counted os e)
   where
@@ -82,6 +85,7 @@ options-short os e = omega (arith, options-length 0 os, counted os e)
         one number n is short = rw (is, lt-ltb n 13 (omega arith)) (omega arith)
     counted (o ∷ p ∷ more) e = absurd cc
 
+-- a payload is shorter than the widest message with it
 payload-short : (m : Message) → length m.payload ≤ length (spelling (widest m))
 payload-short m = omega (arith, spelling-length (widest m), least m.payload)
   where
@@ -89,6 +93,7 @@ payload-short m = omega (arith, spelling-length (widest m), least m.payload)
     least [] = omega arith
     least (p ∷ ps) = omega arith
 
+-- an answer takes little more than a datagram
 answer-short : (most now : ℕ) (m : Message) → response_bytes (answer_of most now m).message ≤ most + 6
 unfolding answer_of
 answer-short most now m = go (is_passed_on most m) refl
@@ -102,6 +107,7 @@ answer-short most now m = go (is_passed_on most m) refl
 
 -- ---- each element, and all of them
 
+-- what an exchange holds is within its part of the bound
 exchange-held : (setting : Setting) (history : List Deed) (x : Numbered Exchange) → IsExchangeOf setting history x → exchange_bytes x ≤ 4 * setting.limits.datagram + 256
 exchange-held setting history x f = go x.1.state f.state
   where
@@ -115,9 +121,11 @@ exchange-held setting history x f = go x.1.state f.state
         let short = answer-short setting.limits.datagram state.getting.deed.entry.now state.gets.meets.response in
         omega (arith, target.most, f.form_short, subst (λ (b : Answer). response_bytes b.message ≤ setting.limits.datagram + 6) (sym state.answer_is) short)
 
+-- what a waiter holds is within its part
 waiter-held : (setting : Setting) (history : List Deed) (v : Numbered Waiter) → IsWaiterOf setting history v → waiter_bytes v ≤ setting.limits.datagram + 256
 waiter-held setting history v f = omega (arith, ap length f.token_is, f.opened.asked.brings.spells.message.token)
 
+-- so what is held is within the bound
 pub within-bound : (history : List Deed) (w : World) → Bears history w → held w ≤ most_held w.setting.limits
 within-bound history w c =
     let d = w.setting.limits.datagram in

@@ -11,6 +11,7 @@ use Rattle.coap_model.proofs.Places.{doing}
 use Rattle.coap_model.proofs.Acting.{idling-due}
 use Rattle.coap_model.proofs.Quiet.{keeps_quiet}
 
+-- an idle tick keeps what is carried
 pub keeps_idling : (w : World) (history : List Deed) (c : Bears history w) (now draw : ℕ) → w.last ≤ now → if_due now (least (items_of w)) ≡ None → Bears (doing no_item (entry_of now draw tick (idles w now)) ∷ history) (idles w now).world
 keeps_idling w history c now draw onward nothing =
     let e = doing no_item (entry_of now draw tick (idles w now)) in

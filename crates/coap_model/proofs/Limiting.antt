@@ -8,6 +8,7 @@ use Rattle.coap_model.specs.declared.limits.Limit.TheVariants.{CacheBytes, Cache
 use Rattle.coap_model.specs.Limits.{Limits, value_of, range_of, MayBe, AreLimits, is_out, all_limits, first_fault}
 use Rattle.coap_model.proofs.Lists.{none-found}
 
+-- what isn't false is true
 not_out : (b : Bool) → not b ≡ false → b ≡ true
 not_out true e = refl
 not_out false e = absurd cc
@@ -31,5 +32,6 @@ each P all Datagram = all.1.1.1.1.1.1.1.0
 each P all ExchangeMs = all.1.1.1.1.1.1.1.1.0
 each P all RetryS = all.1.1.1.1.1.1.1.1.1.0
 
+-- limits of which none is at fault are limits
 pub are-limits : (l : Limits) → first_fault l ≡ None → AreLimits l
 are-limits l e limit = allowed l limit (each (λ m. is_out l m ≡ false) (none-found (is_out l) all_limits e) limit)

@@ -13,10 +13,12 @@ find-holds P test (y ∷ ys) x all e = go (test y) refl (λ f. find-holds P test
     go true t rest = let f : Some y ≡ Some x = rw t at e in let same : y ≡ x = cc in (subst P same all.0, rw (← same) t)
     go false t rest = let f : find test ys ≡ Some x = rw t at e in rest f
 
+-- what holds of each holds of each as it is changed
 pub All-map : {X : Type 0} (P Q : X → Type 0) (f : X → X) (xs : List X) → ((x : X) → P x → Q (f x)) → AllByRecursion P xs → AllByRecursion Q (map f xs)
 All-map P Q f [] step all = tt
 All-map P Q f (x ∷ xs) step all = (step x all.0, All-map P Q f xs step all.1)
 
+-- what is left passes the test
 pub All-filter : {X : Type 0} (P : X → Type 0) (test : X → Bool) (xs : List X) → AllByRecursion P xs → AllByRecursion (λ x. P x × (test x ≡ true)) (filter test xs)
 All-filter P test [] all = tt
 All-filter P test (x ∷ xs) all = go (test x) refl (All-filter P test xs all.1)
@@ -41,10 +43,12 @@ abbrev pub Has : {X : Type 0} → X → List X → Type 0
 Has x [] = ⊥
 Has x (y ∷ ys) = (x ≡ y) ⊎ Has x ys
 
+-- two facts of each are one of each
 pub All-both : {X : Type 0} (P Q : X → Type 0) (xs : List X) → AllByRecursion P xs → AllByRecursion Q xs → AllByRecursion (λ x. P x × Q x) xs
 All-both P Q [] p q = tt
 All-both P Q (x ∷ xs) p q = ((p.0, q.0), All-both P Q xs p.1 q.1)
 
+-- each element is there
 pub Has-all : {X : Type 0} (xs : List X) → AllByRecursion (λ x. Has x xs) xs
 Has-all [] = tt
 Has-all (x ∷ xs) = (inl refl, All-weaken (λ y. Has y xs) (λ y. Has y (x ∷ xs)) xs (λ y h. inr h) (Has-all xs))

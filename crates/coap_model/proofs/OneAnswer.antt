@@ -40,9 +40,11 @@ record SayTheSame (d e : Entry) : Type 0 where
   pub send : d.report.send ≡ e.report.send
   pub bytes : d.bytes ≡ e.bytes
 
+-- silence is silence
 silent-same : (d e : Entry) → IsSilent d → IsSilent e → SayTheSame d e
 silent-same d e s t = record { send = s.sent ∙ sym t.sent; bytes = s.bytes ∙ sym t.bytes }
 
+-- one message to one endpoint is one datagram
 told-same : (d e : Entry) (a b : Endpoint) (m n : Message) → Tells a m d → Tells b n e → a ≡ b → m ≡ n → SayTheSame d e
 told-same d e a b m n s t to same =
     record {
@@ -54,9 +56,11 @@ told-same d e a b m n s t to same =
 own_reply-same : (code : Code) (i k : ℕ) (t u : List ℕ) → i ≡ k → t ≡ u → own_reply code [] i t ≡ own_reply code [] k u
 own_reply-same code i k t u id token = rw (id, token) refl
 
+-- the same of replies that say when to try again
 busy_reply-same : (seconds i k : ℕ) (t u : List ℕ) → i ≡ k → t ≡ u → busy_reply seconds i t ≡ busy_reply seconds k u
 busy_reply-same seconds i k t u id token = rw (id, token) refl
 
+-- requests for one target, with one token and one id, are one
 forwarded-same : (salt x y : ℕ) (a b : Target) (i k : ℕ) → x ≡ y → a ≡ b → i ≡ k → forwarded (token_of salt x) a i ≡ forwarded (token_of salt y) b k
 forwarded-same salt x y a b i k number target id = rw (number, target, id) refl
 
@@ -68,6 +72,7 @@ shown-same most now later got again m n i k t u moment getting response id token
 id-told : (e : Entry) (id : ℕ) (to : Endpoint) (m : Message) → Gives id e → Tells to m e → m.id ≡ id
 id-told e id to m g t = ap (λ (k : Message). k.id) (one_message e.bytes m g.message t.spells g.spells) ∙ g.id_is
 
+-- entries of one turn with one outcome that say the same are one
 same-entry : (d e : Entry) → AreOfOneTurn d e → d.report.outcome ≡ e.report.outcome → SayTheSame d e → d ≡ e
 same-entry d e turn outcome say = same
   where
@@ -112,6 +117,7 @@ one-response setting x y p q e g h =
     let m = g.meets in
     (one-brought (subst (λ (r : Place). Brings setting.limits.datagram m.asks.sends.to m.response r.deed.entry.event) e m.brings) h.meets.brings).1
 
+-- for one exchange one request is sent
 one-forwarding : (setting : Setting) (past : List Deed) (d e : Deed) (id : ℕ) → Gives id d.entry → Gives id e.entry → IsForwarding setting past d → IsForwarding setting past e → d.act ≡ e.act → SayTheSame d.entry e.entry
 one-forwarding setting past d e id g h j k act =
     let number = same_moves j.exchange k.exchange (sym j.act ∙ act ∙ k.act) in
@@ -135,6 +141,7 @@ one-exchange setting past ids x y d e event g h =
     sending-gives : (setting : Setting) (n : ℕ) (r : Place) (id : ℕ) (s : Sends setting.salt n r) → s.message.id ≡ id → Gives id r.deed.entry
     sending-gives setting n r id s is = record { gives = ap gives_id s.outcome; message = s.message; spells = s.spells; id_is = is }
 
+-- to one waiter one answer is told
 one-delivery : (setting : Setting) (past : List Deed) → AllJustified setting past → (d e : Deed) (id : ℕ) → Gives id d.entry → Gives id e.entry → IsDelivery setting past d → IsDelivery setting past e → d.act ≡ e.act → d.entry.now ≡ e.entry.now → SayTheSame d.entry e.entry
 one-delivery setting past all d e id g h j k act now =
     let most = setting.limits.datagram in
@@ -158,12 +165,14 @@ record DoTheSame (d e : Deed) : Type 0 where
   pub act : d.act ≡ e.act
   pub say : SayTheSame d.entry e.entry
 
+-- deeds of one entry and one act are one
 same-deed : (d e : Deed) → d.entry ≡ e.entry → d.act ≡ e.act → d ≡ e
 same-deed d e entry act = same
   where
     same : record { entry = d.entry; act = d.act } ≡ e
     same = rw (entry, act) refl
 
+-- what may follow the same deeds at one turn is one deed
 pub one-answer : (setting : Setting) (past : List Deed) (d e : Deed) → AllJustified setting past → IdsDiffer past → MayFollow setting past d → MayFollow setting past e → AreOfOneTurn d.entry e.entry → d ≡ e
 one-answer setting past d e all ids f g turn =
     let alike = by_outcome d.entry.report.outcome refl f.justified in

@@ -44,6 +44,7 @@ exchanges-below : (w : World) (history : List Deed) → Bears history w → AllB
 exchanges-below w history c =
     All-weaken (IsExchangeOf w.setting history) (λ x. x.0 < opened_in history + 1) w.exchanges (λ x f. let i = opened-number f.opened in omega (arith, i.1)) c.exchanges
 
+-- opening an exchange keeps what is carried
 pub keeps_opening : (w : World) (history : List Deed) (c : Bears history w) → (now draw : ℕ) (client : Endpoint) (bytes : List ℕ) (m : Message) (t : Target) → w.last ≤ now → IsBytes bytes → Asked w bytes m → verdict_in w m ≡ may_open t → has_room w ≡ true
     → Bears (doing (admits (opened_in history + 1) (opened_in history + 1)) (entry_of now draw (arrival client bytes) (opens w now client m t)) ∷ history) (opens w now client m t).world
 keeps_opening w history c now draw client bytes m t onward fits asks verdict room =

@@ -28,6 +28,7 @@ data OnRequest (setting : Setting) (past : List Deed) (d : Deed) : Outcome → T
   lacking : IsLack setting past d → OnRequest setting past d NoId
   opened : IsOpening setting past d → OnRequest setting past d Opened
 
+-- a request is refused, told to come later, met with silence or opened, and nothing else
 on-request : (o : Outcome) (setting : Setting) (past : List Deed) (d : Deed) (client : Endpoint) (request : Message) → JustifiedBy o setting past d → IsRequestOf setting client request d.entry.event → OnRequest setting past d o
 on-request Ignored setting past d client request j r = absurd (j.unprocessable.no_request client request r)
 on-request Rejected setting past d client request j r = absurd (j.unprocessable.no_request client request r)
@@ -46,9 +47,11 @@ other_verdict : {A : Type 0} (setting : Setting) (d : Deed) (a b : Endpoint) (r 
 other_verdict setting d a b r s code target asked again refusal opening =
     absurd (let one = request-unique setting d.entry.event a b r s asked again in let e = sym refusal ∙ ap (verdict_on setting) one.1 ∙ opening in cc)
 
+-- where two ids are free, one is
 fewer_ids : (past : List Deed) → HasIds 2 past → HasIds 1 past
 fewer_ids past h = record { free = let f = h.free in omega arith }
 
+-- a request that deserves a code is refused with it
 pub given_refused : (o : Outcome) (setting : Setting) (past : List Deed) (d : Deed) (client : Endpoint) (request : Message) (code : Code) → JustifiedBy o setting past d → IsRequestOf setting client request d.entry.event → verdict_on setting request ≡ refused_with code → HasIds 1 past → o ≡ Refused code
 given_refused o setting past d client request code j r verdict ids = go (on-request o setting past d client request j r)
   where
@@ -62,6 +65,7 @@ given_refused o setting past d client request code j r verdict ids = go (on-requ
     go (lacking k) = absurd (k.no_ids ids)
     go (opened k) = other_verdict setting d client k.client request k.request code k.target r k.asked verdict k.verdict
 
+-- one that may be opened is told to come later where there is no room
 pub given_overloaded : (o : Outcome) (setting : Setting) (past : List Deed) (d : Deed) (client : Endpoint) (request : Message) (target : Target) → JustifiedBy o setting past d → IsRequestOf setting client request d.entry.event → verdict_on setting request ≡ may_open target → ¬ HasRoom setting.limits past → HasIds 1 past → o ≡ Overloaded
 given_overloaded o setting past d client request target j r verdict full ids = go (on-request o setting past d client request j r)
   where
@@ -71,6 +75,7 @@ given_overloaded o setting past d client request target j r verdict full ids = g
     go (lacking k) = absurd (k.no_ids ids)
     go (opened k) = absurd (full k.room)
 
+-- where no id is free, there is silence
 pub given_no_id : (o : Outcome) (setting : Setting) (past : List Deed) (d : Deed) (client : Endpoint) (request : Message) → JustifiedBy o setting past d → IsRequestOf setting client request d.entry.event → ¬ HasIds 1 past → o ≡ NoId
 given_no_id o setting past d client request j r none = go (on-request o setting past d client request j r)
   where
@@ -80,6 +85,7 @@ given_no_id o setting past d client request j r none = go (on-request o setting 
     go (lacking k) = refl
     go (opened k) = absurd (none (fewer_ids past k.room.ids))
 
+-- one that may be opened, with room, is opened
 pub given_opened : (o : Outcome) (setting : Setting) (past : List Deed) (d : Deed) (client : Endpoint) (request : Message) (target : Target) → JustifiedBy o setting past d → IsRequestOf setting client request d.entry.event → verdict_on setting request ≡ may_open target → HasRoom setting.limits past → o ≡ Opened
 given_opened o setting past d client request target j r verdict room = go (on-request o setting past d client request j r)
   where
@@ -91,6 +97,7 @@ given_opened o setting past d client request target j r verdict room = go (on-re
 
 -- ---- responses
 
+-- a response that is awaited is an answer
 pub given_answered : (o : Outcome) (setting : Setting) (past : List Deed) (d : Deed) (x : ℕ) → JustifiedBy o setting past d → IsAwaited setting past x d.entry.event → o ≡ Answered NotStored
 given_answered Ignored setting past d x j a = absurd (j.unprocessable.no_answer x a)
 given_answered Rejected setting past d x j a = absurd (j.unprocessable.no_answer x a)
@@ -106,6 +113,7 @@ given_answered _ setting past d x j a = absurd j
 
 -- ---- what isn't processed
 
+-- a confirmable datagram is rejected
 pub given_rejected : (o : Outcome) (setting : Setting) (past : List Deed) (d : Deed) (source : Endpoint) (bytes : List ℕ) (head : Head) → JustifiedBy o setting past d → d.entry.event ≡ arrival source bytes → head_at bytes ≡ Some head → head.kind ≡ Con → o ≡ Rejected
 given_rejected Ignored setting past d source bytes head j came is con = let same = arrival-same source j.source bytes j.bytes (sym came ∙ j.came) in absurd (j.no_con head (sym (ap head_at same.1) ∙ is) con)
 given_rejected Rejected setting past d source bytes head j came is con = refl
@@ -119,6 +127,7 @@ given_rejected Delivered setting past d source bytes head j came is con = no_tic
 given_rejected Idle setting past d source bytes head j came is con = no_tick came j.ticked
 given_rejected _ setting past d source bytes head j came is con = absurd j
 
+-- what can't be processed and isn't confirmable is ignored
 pub given_ignored : (o : Outcome) (setting : Setting) (past : List Deed) (d : Deed) (source : Endpoint) (bytes : List ℕ) → JustifiedBy o setting past d → d.entry.event ≡ arrival source bytes → ((head : Head) → head_at bytes ≡ Some head → head.kind ≢ Con) → IsUnprocessable setting past d.entry.event → o ≡ Ignored
 given_ignored Ignored setting past d source bytes j came no_con not = refl
 given_ignored Rejected setting past d source bytes j came no_con not = let same = arrival-same source j.source bytes j.bytes (sym came ∙ j.came) in absurd (no_con j.head (ap head_at same.1 ∙ j.head_is) j.con)
@@ -140,6 +149,7 @@ pub data OnTick (setting : Setting) (past : List Deed) (d : Deed) : Outcome → 
   delivered : IsDelivery setting past d → OnTick setting past d Delivered
   idle : IsIdle setting past d → OnTick setting past d Idle
 
+-- a tick sends a request on, serves a waiter or does nothing
 pub on-tick : (o : Outcome) (setting : Setting) (past : List Deed) (d : Deed) → JustifiedBy o setting past d → d.entry.event ≡ tick → OnTick setting past d o
 on-tick Ignored setting past d j ticked = no_tick j.came ticked
 on-tick Rejected setting past d j ticked = no_tick j.came ticked

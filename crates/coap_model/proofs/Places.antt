@@ -18,6 +18,7 @@ here past e = record { before = past; deed = e }
 abbrev pub doing : Act → Entry → Deed
 doing act entry = record { entry = entry; act = act }
 
+-- a place has fewer entries before it than the history has
 pub index_below : (history : List Deed) (p : Place) → IsPlaceOf history p → index p < length history
 index_below [] p h = absurd h
 index_below (e ∷ past) p h =
@@ -26,6 +27,7 @@ index_below (e ∷ past) p h =
     (λ (there : IsPlaceOf past p). let i = index_below past p there in omega arith)
     h
 
+-- what never is isn't at a place
 pub Never-at : (P : Place → Type 0) (history : List Deed) (p : Place) → Never P history → IsPlaceOf history p → P p → ⊥
 Never-at P [] p never h at = h
 Never-at P (e ∷ past) p never h at =
@@ -38,6 +40,7 @@ Never-at P (e ∷ past) p never h at =
 pub same_moves : (x y : ℕ) → moves x ≡ moves y → x ≡ y
 same_moves x y e = cc
 
+-- and so of one waiter
 pub same_serves : (x y : ℕ) → serves x ≡ serves y → x ≡ y
 same_serves x y e = cc
 
@@ -81,6 +84,7 @@ justified-at setting (e ∷ past) p o all at is =
     (λ (there : IsPlaceOf past p). justified-at setting past p o all.1 there is)
     at
 
+-- what says more never is either
 pub Never-weaken : (P Q : Place → Type 0) (history : List Deed) → ((p : Place) → Q p → P p) → Never P history → Never Q history
 Never-weaken P Q [] less never = tt
 Never-weaken P Q (e ∷ past) less never = ((λ q. never.0 (less _ q)), Never-weaken P Q past less never.1)

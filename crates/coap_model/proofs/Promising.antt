@@ -14,6 +14,7 @@ use Rattle.coap_model.proofs.Holding.{within-bound}
 abbrev GivesAt : Place → Type 0
 GivesAt p = gives_id p.deed.entry.report.outcome ≡ 1
 
+-- the id at a place is the one that was due there
 id-at : (first : ℕ) (history : List Deed) (p : Place) → AreIds first history → IsPlaceOf history p → GivesAt p → Gives ((first + ids_in p.before) % 65536) p.deed.entry
 id-at first [] p ids h g = absurd h
 id-at first (e ∷ past) p ids h g =
@@ -22,6 +23,7 @@ id-at first (e ∷ past) p ids h g =
     (λ (there : IsPlaceOf past p). id-at first past p ids.1 there g)
     h
 
+-- fewer ids were given before a place that gave one
 ids-below : (history : List Deed) (p : Place) → IsPlaceOf history p → GivesAt p → ids_in p.before < ids_in history
 ids-below [] p h g = absurd h
 ids-below (e ∷ past) p h g =
@@ -58,6 +60,7 @@ one-place (e ∷ past) p q at_p at_q g k same =
 one-id : (e : Entry) (a b : ℕ) → Gives a e → Gives b e → a ≡ b
 one-id e a b g h = sym g.id_is ∙ ap (λ (m : Message). m.id) (one_message e.bytes g.message h.message g.spells h.spells) ∙ h.id_is
 
+-- so no id comes back
 pub ids-differ : (history : List Deed) (w : World) → Bears history w → IdsDiffer history
 ids-differ history w c p q id at_p at_q g h =
     let first = w.setting.first_id in
@@ -71,6 +74,7 @@ ids-differ history w c p q id at_p at_q g h =
 
 -- ---- all of it
 
+-- what is carried is promised
 pub promises : (history : List Entry) (w : World) → Carries history w → Promised history w
 promises history w c =
     record {

@@ -17,9 +17,11 @@ pub record IsQuiet (e : Deed) : Type 0 where
   pub ungot : e.entry.report.outcome ≢ Answered NotStored
   pub unserved : e.entry.report.outcome ≢ Delivered
 
+-- the clock goes on, and so many ids were given
 abbrev pub quiet_world : World → ℕ → ℕ → World
 quiet_world w now given = record (later w now) { given = given }
 
+-- such a step keeps what is carried
 pub keeps_quiet : (w : World) (history : List Deed) (c : Bears history w) (e : Deed) (given : ℕ) → IsQuiet e → w.last ≤ e.entry.now → given ≡ w.given + gives_id e.entry.report.outcome
     → (gives_id e.entry.report.outcome ≡ 1 → Gives ((w.setting.first_id + ids_in history) % 65536) e.entry) → given + reserved w ≤ 32768
     → AllJustified w.setting (e ∷ history) → Bears (e ∷ history) (quiet_world w e.entry.now given)

@@ -36,12 +36,14 @@ use Rattle.coap_model.proofs.Quiet.{keeps_quiet}
 
 -- ---- what came
 
+-- what tests as Non-confirmable is so
 non_is : (k : Kind) → is_non k ≡ true → k ≡ Non
 non_is Con e = absurd cc
 non_is Non e = refl
 non_is Ack e = absurd cc
 non_is Rst e = absurd cc
 
+-- what tests as confirmable is so
 con_is : (k : Kind) → is_con k ≡ true → k ≡ Con
 con_is Con e = refl
 con_is Non e = absurd cc
@@ -55,14 +57,17 @@ request-came w client bytes m fits asked =
     let tests = and_parts (is_non m.kind) (is_request m.code) asked.request in
     record { brings = record { bytes = bytes; came = refl; spells = read.0; short = read.1 }; kind = non_is m.kind tests.0; method = tests.1 }
 
+-- the next id is the one that is due by the history
 pub id-same : (w : World) (history : List Deed) (c : Bears history w) → next_id w ≡ (w.setting.first_id + ids_in history) % 65536
 id-same w history c = ap (λ (n : ℕ). (w.setting.first_id + n) % 65536) c.numbers.given
 
+-- a free id may be given
 free-one : (w : World) → has_ids 1 w ≡ true → w.given + 1 + reserved w ≤ 32768
 free-one w e = let le = leb-true (w.given + reserved w + 1) 32768 e in omega arith
 
 -- ---- refusals
 
+-- a refusal keeps what is carried
 pub keeps_refusing : (w : World) (history : List Deed) (c : Bears history w) (now draw : ℕ) (client : Endpoint) (bytes : List ℕ) (m : Message) (code : Code) → w.last ≤ now → IsBytes bytes → Asked w bytes m → verdict_in w m ≡ refused_with code → has_ids 1 w ≡ true
     → Bears (doing no_item (entry_of now draw (arrival client bytes) (refuses w now client m code)) ∷ history) (refuses w now client m code).world
 keeps_refusing w history c now draw client bytes m code onward fits asked verdict free =
@@ -75,6 +80,7 @@ keeps_refusing w history c now draw client bytes m code onward fits asked verdic
     (λ g. record { gives = refl; message = reply; spells = spells; id_is = id-same w history c }) (free-one w free)
     (record { act = refl; client = client; request = m; id = next_id w; asked = came; verdict = verdict; ids = ids-free 1 history w c free; tells = record { sent = refl; spells = spells } }, c.past)
 
+-- so does 5.03
 pub keeps_overloading : (w : World) (history : List Deed) (c : Bears history w) (now draw : ℕ) (client : Endpoint) (bytes : List ℕ) (m : Message) (t : Target) → w.last ≤ now → IsBytes bytes → Asked w bytes m → verdict_in w m ≡ may_open t → has_room w ≡ false → has_ids 1 w ≡ true
     → Bears (doing no_item (entry_of now draw (arrival client bytes) (overloads w now client m)) ∷ history) (overloads w now client m).world
 keeps_overloading w history c now draw client bytes m t onward fits asked verdict full free =
@@ -86,6 +92,7 @@ keeps_overloading w history c now draw client bytes m t onward fits asked verdic
     (λ g. record { gives = refl; message = reply; spells = spells; id_is = id-same w history c }) (free-one w free)
     (record { act = refl; client = client; request = m; target = t; id = next_id w; asked = came; verdict = verdict; no_room = room-none history w c full; ids = ids-free 1 history w c free; tells = record { sent = refl; spells = spells } }, c.past)
 
+-- and silence for want of an id
 pub keeps_lacking : (w : World) (history : List Deed) (c : Bears history w) (now draw : ℕ) (client : Endpoint) (bytes : List ℕ) (m : Message) → w.last ≤ now → IsBytes bytes → Asked w bytes m → ((t : Target) → verdict_in w m ≡ may_open t → has_room w ≡ false) → has_ids 1 w ≡ false
     → Bears (doing no_item (entry_of now draw (arrival client bytes) (lacks_id w now)) ∷ history) (lacks_id w now).world
 keeps_lacking w history c now draw client bytes m onward fits asked full free =
@@ -102,6 +109,7 @@ confirmable history setting source bytes head is con = record {
   no_answer = λ x a. kinds (head_kind a.meets.brings refl is) a.meets.matches.kind con (λ e. cc);
 }
 
+-- a Reset keeps what is carried
 pub keeps_rejecting : (w : World) (history : List Deed) (c : Bears history w) (now draw : ℕ) (source : Endpoint) (bytes : List ℕ) (head : Head) → w.last ≤ now → head_at bytes ≡ Some head → is_con head.kind ≡ true
     → Bears (doing no_item (entry_of now draw (arrival source bytes) (rejects w now source head.id)) ∷ history) (rejects w now source head.id).world
 keeps_rejecting w history c now draw source bytes head onward is con =
@@ -118,6 +126,7 @@ request-read w source client bytes m r =
     let short : length bytes ≤ w.setting.limits.datagram = rw same.1 b.short in
     (message_in-again w.setting.limits.datagram bytes m read short, and_from (is_non m.kind) (is_request m.code) (ap is_non r.kind) r.method)
 
+-- and so does doing nothing
 pub keeps_ignoring : (w : World) (history : List Deed) (c : Bears history w) (now draw : ℕ) (source : Endpoint) (bytes : List ℕ) → w.last ≤ now → IsNothing w source bytes
     → Bears (doing no_item (entry_of now draw (arrival source bytes) (ignores w now)) ∷ history) (ignores w now).world
 keeps_ignoring w history c now draw source bytes onward none =

@@ -42,9 +42,11 @@ pub record IsNothing (w : World) (source : Endpoint) (bytes : List ℕ) : Type 0
   pub request : (m : Message) → message_in w.setting.limits.datagram bytes ≡ Some m → (is_non m.kind && is_request m.code) ≡ false
   pub response : (m : Message) → message_in w.setting.limits.datagram bytes ≡ Some m → (is_ack m.kind && is_response m.code) ≡ true → awaiting w source m ≡ None
 
+-- what becomes of a request in this world
 abbrev pub verdict_in : World → Message → Verdict
 verdict_in w m = verdict_of w.setting.routes w.setting.limits.datagram m
 
+-- the cases of a step, each with what is known in it
 pub data Rule (w : World) (now draw : ℕ) : Event → Step → Type 0 where
   refusing : (client : Endpoint) (bytes : List ℕ) (m : Message) (code : Code) → IsBytes bytes → Asked w bytes m → verdict_in w m ≡ refused_with code → has_ids 1 w ≡ true → Rule w now draw (arrival client bytes) (refuses w now client m code)
   lacking : (client : Endpoint) (bytes : List ℕ) (m : Message) → IsBytes bytes → Asked w bytes m → ((t : Target) → verdict_in w m ≡ may_open t → has_room w ≡ false) → has_ids 1 w ≡ false → Rule w now draw (arrival client bytes) (lacks_id w now)
@@ -59,12 +61,15 @@ pub data Rule (w : World) (now draw : ℕ) : Event → Step → Type 0 where
 
 -- ---- requests
 
+-- a request that is refused may not be opened
 other_verdict : (w : World) (m : Message) (code : Code) (t : Target) → verdict_in w m ≡ refused_with code → verdict_in w m ≡ may_open t → has_room w ≡ false
 other_verdict w m code t p q = absurd (let e = sym p ∙ q in cc)
 
+-- where there is no room, there is none for any target
 same_room : (w : World) → has_room w ≡ false → (m : Message) (t : Target) → verdict_in w m ≡ may_open t → has_room w ≡ false
 same_room w full m t e = full
 
+-- a request is a case by its verdict
 rule_verdict : (w : World) (now draw : ℕ) (client : Endpoint) (bytes : List ℕ) (m : Message) → IsBytes bytes → Asked w bytes m → (v : Verdict) → verdict_in w m ≡ v → Rule w now draw (arrival client bytes) (on_verdict w now client m v)
 rule_verdict w now draw client bytes m fits asked (refused_with code) e = go (has_ids 1 w) refl
   where
@@ -83,6 +88,7 @@ rule_verdict w now draw client bytes m fits asked (may_open t) e = go (has_room 
 
 -- ---- what came
 
+-- a datagram has one head
 one_head : (bytes : List ℕ) (head : Head) → head_at bytes ≡ Some head → is_con head.kind ≡ false → IsNotCon bytes
 one_head bytes head is other again also = let same : head ≡ again = same_Some head again (sym is ∙ also) in subst (λ (h : Head). is_con h.kind ≡ false) same other
 
@@ -103,23 +109,28 @@ nothing_else w source bytes m read request response quiet =
       response = λ n again. subst (λ (k : Message). (is_ack k.kind && is_response k.code) ≡ true → awaiting w source k ≡ None) (same_Some m n (sym read ∙ again)) response;
     }
 
+-- where no message is read, nothing is there
 nothing_read : (w : World) (source : Endpoint) (bytes : List ℕ) → message_in w.setting.limits.datagram bytes ≡ None → IsNotCon bytes → IsNothing w source bytes
 nothing_read w source bytes unread quiet = record { quiet = quiet; request = λ n again. absurd (let g = sym unread ∙ again in cc); response = λ n again. absurd (let g = sym unread ∙ again in cc) }
 
+-- an acknowledgement isn't confirmable
 ack_not_con : (k : Kind) (b : Bool) → (is_ack k && b) ≡ true → is_con k ≡ false
 ack_not_con Con b e = absurd cc
 ack_not_con Non b e = refl
 ack_not_con Ack b e = refl
 ack_not_con Rst b e = refl
 
+-- a message that is read has its own head
 head_of_read : (w : World) (bytes : List ℕ) (m : Message) → IsBytes bytes → message_in w.setting.limits.datagram bytes ≡ Some m → head_at bytes ≡ Some (record { kind = m.kind; code = m.code; id = m.id })
 head_of_read w bytes m fits read = head_read bytes m (message_in-is w.setting.limits.datagram bytes m fits read).2
 
+-- a response is a case by what awaits it
 rule_response : (w : World) (now draw : ℕ) (source : Endpoint) (bytes : List ℕ) (m : Message) → IsBytes bytes → message_in w.setting.limits.datagram bytes ≡ Some m → (is_non m.kind && is_request m.code) ≡ false → (is_ack m.kind && is_response m.code) ≡ true
     → (o : Option (Numbered Exchange)) → awaiting w source m ≡ o → Rule w now draw (arrival source bytes) (on_awaited w now m o)
 rule_response w now draw source bytes m fits read request response None e = ignoring source bytes (nothing_else w source bytes m read request (λ _. e) (one_head bytes (record { kind = m.kind; code = m.code; id = m.id }) (head_of_read w bytes m fits read) (ack_not_con m.kind (is_response m.code) response)))
 rule_response w now draw source bytes m fits read request response (Some x) e = answering source bytes m x fits read response e
 
+-- a message is a case by its type and its code
 rule_message : (w : World) (now draw : ℕ) (source : Endpoint) (bytes : List ℕ) (m : Message) → IsBytes bytes → message_in w.setting.limits.datagram bytes ≡ Some m → Rule w now draw (arrival source bytes) (on_message w now source m)
 rule_message w now draw source bytes m fits read = request (is_non m.kind && is_request m.code) refl
   where
@@ -131,6 +142,7 @@ rule_message w now draw source bytes m fits read = request (is_non m.kind && is_
     request true e = rule_verdict w now draw source bytes m fits (record { read = read; request = e }) (verdict_in w m) refl
     request false e = response e (is_ack m.kind && is_response m.code) refl
 
+-- a datagram is a case by what is read of it
 rule_read : (w : World) (now draw : ℕ) (source : Endpoint) (bytes : List ℕ) → IsBytes bytes → (h : Option Head) → head_at bytes ≡ h → (o : Option Message) → message_in w.setting.limits.datagram bytes ≡ o → Rule w now draw (arrival source bytes) (on_read w now source h o)
 rule_read w now draw source bytes fits None is None read = ignoring source bytes (nothing_read w source bytes read (λ head also. absurd (let g = sym is ∙ also in cc)))
 rule_read w now draw source bytes fits None is (Some m) read =
@@ -140,6 +152,7 @@ rule_read w now draw source bytes fits (Some head) is (Some m) read = rule_messa
 
 -- ---- ticks
 
+-- a tick is a case by what is due
 rule_item : (w : World) (now draw : ℕ) (o : Option Item) → if_due now (least (items_of w)) ≡ o → Rule w now draw tick (on_item w now o)
 rule_item w now draw None e = idling e
 rule_item w now draw (Some (sending x)) e = forwarding x e

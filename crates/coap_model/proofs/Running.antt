@@ -12,6 +12,7 @@ use Rattle.coap_model.proofs.Rules.{Rule, refusing, lacking, overloading, openin
 use Rattle.coap_model.proofs.Carrying.{keeps_step, starts}
 use Rattle.coap_model.proofs.Promising.{promises}
 
+-- no case of a step changes the setting
 rule_setting : {w : World} {now draw : ℕ} {event : Event} {s : Step} → Rule w now draw event s → s.world.setting ≡ w.setting
 rule_setting (refusing client bytes m code fits asked verdict free) = refl
 rule_setting (lacking client bytes m fits asked full free) = refl
@@ -24,6 +25,7 @@ rule_setting (forwarding x due) = refl
 rule_setting (delivering v a due) = refl
 rule_setting (idling nothing) = refl
 
+-- so no step does
 pub setting_stays : (w : World) (now draw : ℕ) (event : Event) → IsEvent event → (step_of w now draw event).world.setting ≡ w.setting
 setting_stays w now draw event fits = rule_setting (rule_of w now draw event fits)
 
@@ -31,6 +33,7 @@ setting_stays w now draw event fits = rule_setting (rule_of w now draw event fit
 abbrev IsOneOn : World → ℕ → World → Type 0
 IsOneOn w now v = (v.last ≡ now) × (v.events ≡ w.events + 1)
 
+-- in each case the clock goes on by one event
 rule_clock : {w : World} {now draw : ℕ} {event : Event} {s : Step} → Rule w now draw event s → IsOneOn w now s.world
 rule_clock (refusing client bytes m code fits asked verdict free) = (refl, refl)
 rule_clock (lacking client bytes m fits asked full free) = (refl, refl)
@@ -43,23 +46,28 @@ rule_clock (forwarding x due) = (refl, refl)
 rule_clock (delivering v a due) = (refl, refl)
 rule_clock (idling nothing) = (refl, refl)
 
+-- so it does in each step
 pub clock_after : (w : World) (now draw : ℕ) (event : Event) → IsEvent event → ((step_of w now draw event).world.last ≡ now) × ((step_of w now draw event).world.events ≡ w.events + 1)
 clock_after w now draw event fits = rule_clock (rule_of w now draw event fits)
 
+-- runs keep what is carried
 pub runs_carry : (r : Run) (turns : List Turn) → Carries r.history r.world → AreTurns r.world.last turns → Carries (run_of r turns).history (run_of r turns).world
 runs_carry r [] c are = c
 runs_carry r (t ∷ turns) c are =
     let next = keeps_step r.world r.history t.now t.draw t.event c are.0 are.1 in
     runs_carry (one_turn r t) turns next (subst (λ (last : ℕ). AreTurns last turns) (sym (clock_after r.world t.now t.draw t.event are.1).0) are.2)
 
+-- and the setting
 setting_after : (r : Run) (turns : List Turn) → AreTurns r.world.last turns → Carries r.history r.world → (run_of r turns).world.setting ≡ r.world.setting
 setting_after r [] are c = refl
 setting_after r (t ∷ turns) are c =
     let next = keeps_step r.world r.history t.now t.draw t.event c are.0 are.1 in
     setting_after (one_turn r t) turns (subst (λ (last : ℕ). AreTurns last turns) (sym (clock_after r.world t.now t.draw t.event are.1).0) are.2) next ∙ setting_stays r.world t.now t.draw t.event are.1
 
+-- so a run of a new proxy keeps its setting
 pub runs_keep_setting : (setting : Setting) (turns : List Turn) → AreRoutes setting.routes → AreTurns 0 turns → (run_of (new_run setting) turns).world.setting ≡ setting
 runs_keep_setting setting turns routes are = setting_after (new_run setting) turns are (starts setting routes)
 
+-- and is promised
 pub runs_promise : (setting : Setting) (turns : List Turn) → AreRoutes setting.routes → AreTurns 0 turns → Promised (run_of (new_run setting) turns).history (run_of (new_run setting) turns).world
 runs_promise setting turns routes are = promises _ _ (runs_carry (new_run setting) turns (starts setting routes) are)

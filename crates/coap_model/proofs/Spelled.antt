@@ -39,6 +39,7 @@ AreOptions-map : (low number : ℕ) (values : List (List ℕ)) (os : List Opt) �
 AreOptions-map low number [] os le small short are = AreOptions-lower low number os le are
 AreOptions-map low number (v ∷ values) os le small short are = (le, small, omega (arith, short.0), AreOptions-map number number values os (omega arith) small short.1 are)
 
+-- the options of a target are in order and fit
 target-options : (t : Target) → IsTarget t → AreOptions 0 (target_options t)
 unfolding target_options
 target-options t is = go t.host is.host
@@ -53,32 +54,40 @@ target-options t is = go t.host is.host
     go None short = path 0 (omega arith)
     go (Some h) short = (omega arith, omega arith, omega (arith, short), path 3 (omega arith))
 
+-- without zeros at the head a number is no longer
 length-without_zeros : (bytes : List ℕ) → length (without_zeros bytes) ≤ length bytes
 length-without_zeros [] = omega arith
 length-without_zeros (zero ∷ bytes) = let i = length-without_zeros bytes in omega arith
 length-without_zeros (suc b ∷ bytes) = omega arith
 
+-- a number takes at most eight bytes
 pub length-uint_spelling : (n : ℕ) → length (uint_spelling n) ≤ 8
 unfolding uint_spelling
 length-uint_spelling n = length-without_zeros (to_be_bytes w64 n)
 
+-- a Max-Age is an option in order
 max_age-options : (seconds : ℕ) → AreOptions 0 (max_age_option seconds ∷ [])
 max_age-options seconds = (omega arith, omega arith, omega (arith, length-uint_spelling seconds), tt)
 
 -- ---- the messages
 
+-- a Reset is a message
 pub reset-is : (id : ℕ) → IsMessage (reset id)
 reset-is id = record { token = omega arith; options = tt; bare = record { token = λ _. refl; options = λ _. refl; payload = λ _. refl } }
 
+-- a reply of the proxy's own is one
 pub own_reply-is : (code : Code) (options : List Opt) (id : ℕ) (token : List ℕ) → code.0 ≢ 0 → AreOptions 0 options → length token ≤ 8 → IsMessage (own_reply code options id token)
 own_reply-is code options id token some are short = record { token = short; options = are; bare = record { token = λ e. absurd (some e); options = λ e. absurd (some e); payload = λ e. absurd (some e) } }
 
+-- and so is one that says when to try again
 pub busy_reply-is : (seconds id : ℕ) (token : List ℕ) → length token ≤ 8 → IsMessage (busy_reply seconds id token)
 busy_reply-is seconds id token short = own_reply-is _ (max_age_option seconds ∷ []) id token (λ e. absurd (omega arith)) (max_age-options seconds) short
 
+-- the request that is sent on is one
 pub forwarded-is : (token : List ℕ) (t : Target) (id : ℕ) → IsTarget t → length token ≤ 8 → IsMessage (forwarded token t id)
 forwarded-is token t id is short = record { token = short; options = target-options t is; bare = record { token = λ e. absurd (omega arith); options = λ e. absurd (omega arith); payload = λ e. absurd (omega arith) } }
 
+-- the code of a response isn't 0.00
 response-code : (code : Code) → is_response code ≡ true → code.0 ≢ 0
 response-code code e zero_code = let f : is_response (record { 0 = 0 }) ≡ true = subst (λ (n : ℕ). is_response (record { 0 = n }) ≡ true) zero_code e in cc
 
@@ -105,6 +114,7 @@ shown-is most now got m id token is response short = answered (is_passed_on most
 
 -- ---- tokens and ids
 
+-- a token has eight bytes
 pub length-token_of : (salt number : ℕ) → length (token_of salt number) ≡ 8
 unfolding token_of
 length-token_of salt number = refl
@@ -125,14 +135,17 @@ with_id-forwarded id token t = refl
 
 -- ---- the target, read off the request
 
+-- the values of a number are read back
 values-here : (number : ℕ) (values : List (List ℕ)) (os : List Opt) → eqb number number ≡ true → values_of number (map (option_of number) values ++ os) ≡ values ++ values_of number os
 values-here number [] os same = refl
 values-here number (v ∷ values) os same = rw same (ap (λ (l : List (List ℕ)). v ∷ l) (values-here number values os same))
 
+-- and options of another number don't count
 values-other : (number other : ℕ) (values : List (List ℕ)) (os : List Opt) → eqb other number ≡ false → values_of number (map (option_of other) values ++ os) ≡ values_of number os
 values-other number other [] os differ = refl
 values-other number other (v ∷ values) os differ = rw differ (values-other number other values os differ)
 
+-- so the target is read back off the request
 pub target_sent-forwarded : (token : List ℕ) (t : Target) (id : ℕ) → target_sent t.at (forwarded token t id) ≡ t
 unfolding target_sent target_options
 target_sent-forwarded token t id = made (host t.host) (path t.host) (query t.host)

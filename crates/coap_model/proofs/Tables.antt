@@ -36,6 +36,7 @@ least-holds P (j ∷ items) i all e = go (least items) (λ k f. least-holds P it
         test true g = subst P (same_Some j i g) all.0
         test false g = subst P (same_Some k i g) (rest k is)
 
+-- what is due at a moment is the item, and its moment has come
 pub if_due-is : (now : ℕ) (o : Option Item) (i : Item) → if_due now o ≡ Some i → (o ≡ Some i) × (due_of i ≤ now)
 if_due-is now None i e = absurd cc
 if_due-is now (Some j) i e = go (leb (due_of j) now) refl e
@@ -49,6 +50,7 @@ abbrev pub IsDueOf : (Numbered Exchange → Type 0) → (Numbered Waiter → Typ
 IsDueOf P Q exchanges (sending x) = P x × (is_queued x.1.state ≡ true)
 IsDueOf P Q exchanges (serving v a) = Q v × (answer_in v.1.exchange exchanges ≡ Some a)
 
+-- items of exchanges are queued exchanges
 exchange_items-are : (P : Numbered Exchange → Type 0) (Q : Numbered Waiter → Type 0) (all xs : List (Numbered Exchange)) → AllByRecursion P xs → AllByRecursion (IsDueOf P Q all) (exchange_items xs)
 exchange_items-are P Q all [] p = tt
 exchange_items-are P Q all (x ∷ xs) p = go (is_queued x.1.state) refl (exchange_items-are P Q all xs p.1)
@@ -57,6 +59,7 @@ exchange_items-are P Q all (x ∷ xs) p = go (is_queued x.1.state) refl (exchang
     go true t rest = ((p.0, t), rest)
     go false t rest = rest
 
+-- items of waiters are waiters whose exchange has its answer
 waiter_items-are : (P : Numbered Exchange → Type 0) (Q : Numbered Waiter → Type 0) (all : List (Numbered Exchange)) (vs : List (Numbered Waiter)) → AllByRecursion Q vs → AllByRecursion (IsDueOf P Q all) (waiter_items all vs)
 waiter_items-are P Q all [] q = tt
 waiter_items-are P Q all (v ∷ vs) q = go (answer_in v.1.exchange all) refl (waiter_items-are P Q all vs q.1)
@@ -65,14 +68,17 @@ waiter_items-are P Q all (v ∷ vs) q = go (answer_in v.1.exchange all) refl (wa
     go None e rest = rest
     go (Some a) e rest = ((q.0, e), rest)
 
+-- so are all items
 pub items-are : (P : Numbered Exchange → Type 0) (Q : Numbered Waiter → Type 0) (xs : List (Numbered Exchange)) (vs : List (Numbered Waiter)) → AllByRecursion P xs → AllByRecursion Q vs → AllByRecursion (IsDueOf P Q xs) (exchange_items xs ++ waiter_items xs vs)
 items-are P Q xs vs p q = All-append (IsDueOf P Q xs) (exchange_items xs) (waiter_items xs vs) (exchange_items-are P Q xs xs p) (waiter_items-are P Q xs vs q)
 
+-- an exchange that is due is queued
 pub due-sending : (P : Numbered Exchange → Type 0) (Q : Numbered Waiter → Type 0) (xs : List (Numbered Exchange)) (vs : List (Numbered Waiter)) (now : ℕ) (x : Numbered Exchange) → AllByRecursion P xs → AllByRecursion Q vs
     → if_due now (least (exchange_items xs ++ waiter_items xs vs)) ≡ Some (sending x) → P x × (is_queued x.1.state ≡ true)
 due-sending P Q xs vs now x p q e =
     least-holds (IsDueOf P Q xs) (exchange_items xs ++ waiter_items xs vs) (sending x) (items-are P Q xs vs p q) (if_due-is now _ (sending x) e).0
 
+-- a waiter that is due waits for an exchange with the answer
 pub due-serving : (P : Numbered Exchange → Type 0) (Q : Numbered Waiter → Type 0) (xs : List (Numbered Exchange)) (vs : List (Numbered Waiter)) (now : ℕ) (v : Numbered Waiter) (a : Answer) → AllByRecursion P xs → AllByRecursion Q vs
     → if_due now (least (exchange_items xs ++ waiter_items xs vs)) ≡ Some (serving v a) → Q v × (answer_in v.1.exchange xs ≡ Some a)
 due-serving P Q xs vs now v a p q e =
@@ -92,6 +98,7 @@ answer-holds P (x ∷ xs) n a all e = go (eqb x.0 n) refl (λ f. answer-holds P 
     go true t rest f = (x, all.0, eqb-true x.0 n t, state x.1.state f)
     go false t rest f = rest f
 
+-- and the exchange is there
 pub answer-number : (xs : List (Numbered Exchange)) (n : ℕ) (a : Answer) → answer_in n xs ≡ Some a → HasNumber n xs
 answer-number [] n a e = absurd cc
 answer-number (x ∷ xs) n a e = go (eqb x.0 n) refl (λ f. answer-number xs n a f) e
@@ -102,18 +109,21 @@ answer-number (x ∷ xs) n a e = go (eqb x.0 n) refl (λ f. answer-number xs n a
 
 -- ---- one exchange comes to another state
 
+-- pairs stay
 pub ArePaired-with_state : (n : ℕ) (s : ExchangeState) (xs : List (Numbered Exchange)) (vs : List (Numbered Waiter)) → ArePaired xs vs → ArePaired (with_state n s xs) vs
 ArePaired-with_state n s [] [] p = tt
 ArePaired-with_state n s [] (v ∷ vs) p = absurd p
 ArePaired-with_state n s (x ∷ xs) [] p = absurd p
 ArePaired-with_state n s (x ∷ xs) (v ∷ vs) p = (moved-number n s x ∙ p.0, ArePaired-with_state n s xs vs p.1)
 
+-- and so do numbers
 pub HasNumber-with_state : (n m : ℕ) (s : ExchangeState) (xs : List (Numbered Exchange)) → HasNumber m xs → HasNumber m (with_state n s xs)
 HasNumber-with_state n m s [] h = h
 HasNumber-with_state n m s (x ∷ xs) h = ⊎_elim (λ (e : m ≡ x.0). inl (e ∙ sym (moved-number n s x))) (λ (t : HasNumber m xs). inr (HasNumber-with_state n m s xs t)) h
 
 -- ---- one element is closed
 
+-- pairs stay without one
 pub ArePaired-without : (n : ℕ) (xs : List (Numbered Exchange)) (vs : List (Numbered Waiter)) → ArePaired xs vs → ArePaired (without n xs) (without n vs)
 ArePaired-without n [] [] p = tt
 ArePaired-without n [] (v ∷ vs) p = absurd p
@@ -126,6 +136,7 @@ ArePaired-without n (x ∷ xs) (v ∷ vs) p = go (eqb x.0 n) (eqb v.0 n) (ap (λ
     go false true e rest = absurd cc
     go false false e rest = (p.0, rest)
 
+-- there are as many waiters as exchanges
 pub length-paired : (xs : List (Numbered Exchange)) (vs : List (Numbered Waiter)) → ArePaired xs vs → length vs ≡ length xs
 length-paired [] [] p = refl
 length-paired [] (v ∷ vs) p = absurd p
@@ -141,6 +152,7 @@ length-without {A} n least (x ∷ xs) h r = go (eqb x.0 n) refl (λ there. lengt
     go true e rest = let same = eqb-true x.0 n e in rw (none-below n x.0 xs (omega arith) r.1) (omega arith)
     go false e rest = ⊎_elim (λ (same : n ≡ x.0). absurd (eqb-false x.0 n e (sym same))) (λ (there : HasNumber n xs). let i = rest there in omega arith) h
 
+-- other numbers stay
 pub HasNumber-without : {A : Type 0} (n m : ℕ) (xs : List (Numbered A)) → m ≢ n → HasNumber m xs → HasNumber m (without n xs)
 HasNumber-without n m [] other h = h
 HasNumber-without {A} n m (x ∷ xs) other h = go (eqb x.0 n) refl (λ there. HasNumber-without n m xs other there)
@@ -149,6 +161,7 @@ HasNumber-without {A} n m (x ∷ xs) other h = go (eqb x.0 n) refl (λ there. Ha
     go true e rest = ⊎_elim (λ (same : m ≡ x.0). absurd (other (same ∙ eqb-true x.0 n e))) rest h
     go false e rest = ⊎_elim (λ (same : m ≡ x.0). inl same) (λ (there : HasNumber m xs). inr (rest there)) h
 
+-- the waiter of an exchange is there
 pub HasNumber-paired : (n : ℕ) (xs : List (Numbered Exchange)) (vs : List (Numbered Waiter)) → ArePaired xs vs → HasNumber n xs → HasNumber n vs
 HasNumber-paired n [] vs p h = absurd h
 HasNumber-paired n (x ∷ xs) [] p h = absurd p
@@ -156,16 +169,19 @@ HasNumber-paired n (x ∷ xs) (v ∷ vs) p h = ⊎_elim (λ (e : n ≡ x.0). inl
 
 -- ---- one is added at the end
 
+-- pairs stay with one more
 pub ArePaired-push : (n : ℕ) (xs : List (Numbered Exchange)) (vs : List (Numbered Waiter)) (x : Exchange) (v : Waiter) → ArePaired xs vs → ArePaired (xs ++ (n, x) ∷ []) (vs ++ (n, v) ∷ [])
 ArePaired-push n [] [] x v p = (refl, tt)
 ArePaired-push n [] (u ∷ us) x v p = absurd p
 ArePaired-push n (y ∷ ys) [] x v p = absurd p
 ArePaired-push n (y ∷ ys) (u ∷ us) x v p = (p.0, ArePaired-push n ys us x v p.1)
 
+-- and so do numbers
 pub HasNumber-push : {A : Type 0} (m : ℕ) (xs ys : List (Numbered A)) → HasNumber m xs → HasNumber m (xs ++ ys)
 HasNumber-push m [] ys h = absurd h
 HasNumber-push m (x ∷ xs) ys h = ⊎_elim (λ (e : m ≡ x.0). inl e) (λ (t : HasNumber m xs). inr (HasNumber-push m xs ys t)) h
 
+-- and the last one is there
 pub HasNumber-last : {A : Type 0} (n : ℕ) (xs : List (Numbered A)) (a : A) → HasNumber n (xs ++ (n, a) ∷ [])
 HasNumber-last n [] a = inl refl
 HasNumber-last n (x ∷ xs) a = inr (HasNumber-last n xs a)

@@ -22,6 +22,7 @@ pub record IsOpenable (routes : Routes) (most : ℕ) (m : Message) (t : Target) 
   pub sound : IsTarget t
   pub short : (token : List ℕ) → length token ≡ 8 → length (spelling (forwarded token t 0)) ≤ most
 
+-- values of such options are short
 values-short : (n : ℕ) (os : List Opt) → list_all is_path_option os ≡ true → AllByRecursion IsShort (values_of n os)
 values-short n [] e = tt
 values-short n (o ∷ os) e = let both = and_parts (is_path_option o) (list_all is_path_option os) e in go (eqb o.number n) (values-short n os both.1)
@@ -39,10 +40,12 @@ values-short n (o ∷ os) e = let both = and_parts (is_path_option o) (list_all 
 pub form-length : (token : List ℕ) (t : Target) → length (spelling (forwarded token t 0)) + 8 ≡ length (spelling (forwarded eight_zeros t 0)) + length token
 form-length token t = omega (arith, spelling-length (forwarded token t 0), spelling-length (forwarded eight_zeros t 0))
 
+-- a verdict is right: a refusal has a code, and what may be opened is openable
 abbrev Right : Routes → ℕ → Message → Verdict → Type 0
 Right routes most m (refused_with code) = code.0 ≢ 0
 Right routes most m (may_open t) = IsOpenable routes most m t
 
+-- the verdict on a target is
 target-right : (routes : Routes) (most : ℕ) (m : Message) → AreRoutes routes → AllByRecursion IsShort (path_of m) → AllByRecursion IsShort (query_of m) → (o : Option Target) → mapped_target routes m ≡ o → Right routes most m (verdict_of_target most o)
 target-right routes most m are path query None e = λ z. absurd (omega arith)
 target-right routes most m are path query (Some t) e = go (leb (length (spelling (forwarded eight_zeros t 0))) most) refl
@@ -51,6 +54,7 @@ target-right routes most m are path query (Some t) e = go (leb (length (spelling
     go true fits = record { target_is = e; sound = target-is routes m t are path query e; short = λ token eight. omega (arith, form-length token t, eight, leb-true _ _ fits) }
     go false fits = λ z. absurd (omega arith)
 
+-- so is that on a request
 verdict-right : (routes : Routes) (most : ℕ) (m : Message) → AreRoutes routes → Right routes most m (verdict_of routes most m)
 unfolding verdict_of
 verdict-right routes most m are = method (is_code m.code GET)
@@ -67,5 +71,6 @@ verdict-right routes most m are = method (is_code m.code GET)
 pub refused-code : (routes : Routes) (most : ℕ) (m : Message) (code : Code) → AreRoutes routes → verdict_of routes most m ≡ refused_with code → code.0 ≢ 0
 refused-code routes most m code are e = subst (Right routes most m) e (verdict-right routes most m are)
 
+-- what may be opened is openable
 pub openable : (routes : Routes) (most : ℕ) (m : Message) (t : Target) → AreRoutes routes → verdict_of routes most m ≡ may_open t → IsOpenable routes most m t
 openable routes most m t are e = subst (Right routes most m) e (verdict-right routes most m are)
