@@ -35,7 +35,7 @@ unfolding four
 groups_text-joined segments front back all first last =
     subst (λ (xs : List ℕ). codes "[" ++ front ++ codes ":" ++ back ++ codes "]" ≡ groups_text xs) (sym (eight segments all)) (rw (first, last) (eight_joined _ _ _ _ _ _ _ _))
 
--- brackets, four groups, a colon and four groups that were added one after the other
+-- eight groups in brackets are written by adding the parts one after the other
 pub groups_text-added : (segments held front back one two three four' five : List ℕ) → length segments ≡ 8
     → one ≡ held ++ codes "["
     → two ≡ one ++ front

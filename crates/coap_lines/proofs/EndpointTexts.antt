@@ -62,7 +62,7 @@ begins_v4 (b ∷ address) rest clear =
     let parts = or_parts (b == 91) (has 91 address) clear in
     ap (λ t. cond t (v6_endpoint (address ++ 58 ∷ rest)) (v4_endpoint (b ∷ address ++ 58 ∷ rest))) parts.0
 
--- what is written is read
+-- an address and a port that are written are read
 written : (text : List ℕ) (ip : Ip) (n : ℕ) (address port : List ℕ) → text ≡ address ++ 58 ∷ port → IsAddress address ip → IsNumber 65535 port n → endpoint_of text ≡ Some (endpoint_at ip n)
 written text (V4 octets) n address port split is number =
     let clear = has-dotted 91 (λ x low high. ne_eqb x 91 (λ same. omega arith)) address octets is in
@@ -71,6 +71,7 @@ written text (V6 octets) n address port split (inner, segments, spelled, groups,
     let moved : text ≡ 91 ∷ (inner ++ 93 ∷ 58 ∷ port) = split ∙ ap (λ a. a ++ 58 ∷ port) spelled ∙ ap (λ t. 91 ∷ t) (append_assoc inner (93 ∷ []) (58 ∷ port)) in
     rw (moved, value) (v6-written inner port segments n groups number)
 
+-- an endpoint that is written is read
 pub endpoint_of-written : (text : List ℕ) (endpoint : Endpoint) → IsEndpoint text endpoint → endpoint_of text ≡ Some endpoint
 endpoint_of-written text endpoint (address, port, split, is, number) = written text endpoint.ip endpoint.port address port split is number
 

@@ -14,20 +14,20 @@ only turns n acc small =
     let same : n % 16 ≡ n = omega arith in
     rw (eq-eqb (n / 16) 0 none, same) refl
 
--- the digits of a number that has three
-pub three_digits : (n : ℕ) → 256 ≤ n → n < 4096 → digits 16 false n ≡ digit_glyph false (n / 256) ∷ digit_glyph false (n / 16 % 16) ∷ digit_glyph false (n % 16) ∷ []
+-- a number that has three digits
+pub digits-three : (n : ℕ) → 256 ≤ n → n < 4096 → digits 16 false n ≡ digit_glyph false (n / 256) ∷ digit_glyph false (n / 16 % 16) ∷ digit_glyph false (n % 16) ∷ []
 unfolding digits
-three_digits n large small =
+digits-three n large small =
     let first : n / 16 / 16 ≡ n / 256 = omega arith in
     last_of_more 63 n [] (omega arith)
     ∙ last_of_more 62 (n / 16) (digit_glyph false (n % 16) ∷ []) (omega arith)
     ∙ only 61 (n / 16 / 16) (digit_glyph false (n / 16 % 16) ∷ digit_glyph false (n % 16) ∷ []) (omega arith)
     ∙ ap (λ (d : ℕ). digit_glyph false d ∷ digit_glyph false (n / 16 % 16) ∷ digit_glyph false (n % 16) ∷ []) first
 
--- the digits of a number that has four: the first, and those of the rest
-pub four_digits : (n : ℕ) → 4096 ≤ n → n < 65536 → digits 16 false n ≡ digit_glyph false (n / 4096) ∷ digit_glyph false (n % 4096 / 256) ∷ digit_glyph false (n % 4096 / 16 % 16) ∷ digit_glyph false (n % 4096 % 16) ∷ []
+-- a number that has four digits: the first, and those of the rest
+pub digits-four : (n : ℕ) → 4096 ≤ n → n < 65536 → digits 16 false n ≡ digit_glyph false (n / 4096) ∷ digit_glyph false (n % 4096 / 256) ∷ digit_glyph false (n % 4096 / 16 % 16) ∷ digit_glyph false (n % 4096 % 16) ∷ []
 unfolding digits
-four_digits n large small =
+digits-four n large small =
     let first : n / 16 / 16 / 16 ≡ n / 4096 = omega arith in
     let second : n / 16 / 16 % 16 ≡ n % 4096 / 256 = omega arith in
     let third : n / 16 % 16 ≡ n % 4096 / 16 % 16 = omega arith in

@@ -25,6 +25,7 @@ use Rattle.coap_lines.specs.Numbers.{group_of}
 use Rattle.coap_lines.specs.Texts.{colon, has}
 use Rattle.coap_lines.proofs.Cuts.{All-others}
 
+-- at most four hexadecimal digits
 abbrev pub are_few : List ℕ → Bool
 are_few text = leb (length text) 4 && list_all (λ b. is_digit b 16) text
 
@@ -120,6 +121,7 @@ pub other-none : (text segments : List ℕ) → all_of (map group_of (slice_spli
 unfolding segments_read
 other-none text segments all other = rw (all, ne_eqb (length segments) 8 other) refl
 
+-- a group that is none
 pub bad-none : (text : List ℕ) → all_of (map group_of (slice_split (λ b. b == colon) text)) ≡ None → segments_read text ≡ None
 unfolding segments_read
 bad-none text bad = rw bad refl

@@ -73,6 +73,7 @@ starts_odd n text bound spelled odd =
     zero_first n bound nought long)
     (cases_Bool (get_or text 0 0 == 43))
 
+-- so none is read of it
 pub odd-none : (most : ℕ) (text : List ℕ) → most < 2 ^ 64 → has_needless_start text ≡ true → number_of most text ≡ None
 odd-none most text bound odd = number_of-none most text (λ n spelled within. starts_odd n text (omega arith) spelled odd)
 
@@ -96,6 +97,7 @@ parsed n text plain reads =
     let spelled = decimal-digits_value own text read.0.0 some (λ nought. let short = start.1 nought in omega arith) read.0.2 in
     (rw (read.1) (sym spelled), sym read.1)
 
+-- so that number is read
 pub parsed-some : (most n : ℕ) (text : List ℕ) → has_needless_start text ≡ false → ParsesUnsigned {E = ℕ} 64 10 text (Ok n) → n ≤ most → number_of most text ≡ Some n
 parsed-some most n text plain reads within =
     let is = parsed n text plain reads in

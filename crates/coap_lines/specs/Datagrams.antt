@@ -7,7 +7,8 @@ use Rattle.hex.specs.Hex.{decode_of, encode_upper, is_hex_digit}
 
 -- a text writes the bytes: an even number of digits in either case, at least two, or a hyphen for none
 abbrev pub IsHex : List ℕ → List ℕ → Type 0
-IsHex text bytes = ((text ≡ codes "-") × (bytes ≡ [])) ⊎ ((2 ≤ length text) × (decode_of text ≡ Ok bytes))
+IsHex text bytes =
+    ((text ≡ codes "-") × (bytes ≡ [])) ⊎ ((2 ≤ length text) × (decode_of text ≡ Ok bytes))
 
 -- an even number of digits, at least two
 abbrev pub is_hex : List ℕ → Bool

@@ -1,6 +1,6 @@
 -- Endpoints as texts: `a.b.c.d:port`, and `[g:g:g:g:g:g:g:g]:port`.
-use Rattle.std.specs.Prelude.{◌≡◌, ◌==◌, ◌<◌, ℕ, false, List, [], ◌∷◌, ◌++◌, length, map, codes, Option, Some, None, option_map, if◌then◌else◌}
-use Rattle.std.specs.Fmt.{decimal, digits}
+use Rattle.std.specs.Prelude.{◌≡◌, ◌==◌, ◌<◌, ◌/◌, ◌%◌, ℕ, false, List, [], ◌∷◌, ◌++◌, length, map, codes, Option, Some, None, option_map, if◌then◌else◌}
+use Rattle.std.specs.Fmt.{decimal, digit_glyph, digits}
 use Rattle.std.specs.List.{AllByRecursion, AllZip, join_with_byte, slice_split}
 use Rattle.std.specs.Net.Addr.{octets_of, segments_of}
 use Rattle.std.specs.Net.Grammar.{IsDotted, IsGroup}
@@ -16,17 +16,21 @@ use Rattle.coap_lines.specs.Numbers.{IsNumber, group_of, number_of}
 
 -- eight groups of one to four hexadecimal digits each, with colons between them
 abbrev pub AreGroups : List ℕ → List ℕ → Type 0
-AreGroups text segments = (groups : List (List ℕ)) × (text ≡ join_with_byte colon groups) × AllZip IsGroup groups segments × (length segments ≡ 8)
+AreGroups text segments = (groups : List (List ℕ)) × (text ≡ join_with_byte colon groups)
+    × AllZip IsGroup groups segments × (length segments ≡ 8)
 
 -- a text writes an address: four numbers of 0 to 255 without leading zeros, with dots between them, or
 -- eight groups in brackets
 abbrev pub IsAddress : List ℕ → Ip → Type 0
 IsAddress text (V4 octets) = IsDotted text octets
-IsAddress text (V6 octets) = (inner segments : List ℕ) × (text ≡ left_bracket ∷ inner ++ right_bracket ∷ []) × AreGroups inner segments × (octets ≡ octets_of segments)
+IsAddress text (V6 octets) = (inner segments : List ℕ)
+    × (text ≡ left_bracket ∷ inner ++ right_bracket ∷ []) × AreGroups inner segments
+    × (octets ≡ octets_of segments)
 
 -- a text writes an endpoint: an address, a colon, and a port of 0 to 65,535 without leading zeros
 abbrev pub IsEndpoint : List ℕ → Endpoint → Type 0
-IsEndpoint text endpoint = (address port : List ℕ) × (text ≡ address ++ colon ∷ port) × IsAddress address endpoint.ip × IsNumber 65535 port endpoint.port
+IsEndpoint text endpoint = (address port : List ℕ) × (text ≡ address ++ colon ∷ port)
+    × IsAddress address endpoint.ip × IsNumber 65535 port endpoint.port
 
 abbrev pub endpoint_at : Ip → ℕ → Endpoint
 endpoint_at ip port = record { ip = ip; port = port }
@@ -71,9 +75,23 @@ abbrev pub IsIp : Ip → Type 0
 IsIp (V4 octets) = (length octets ≡ 4) × AllByRecursion (λ b. b < 256) octets
 IsIp (V6 octets) = (length octets ≡ 16) × AllByRecursion (λ b. b < 256) octets
 
+-- the last three hexadecimal digits of a number, in lower case
+abbrev pub three_digits : ℕ → List ℕ
+three_digits n =
+    digit_glyph false (n / 256) ∷ digit_glyph false (n / 16 % 16) ∷ digit_glyph false (n % 16) ∷ []
+
+-- the text of a group, in lower case without leading zeros
+abbrev pub group_text : ℕ → List ℕ
+group_text n = digits 16 false n
+
+-- the texts of four groups, with colons between them
+abbrev pub four_groups : ℕ → ℕ → ℕ → ℕ → List ℕ
+four_groups a b c d =
+    group_text a ++ codes ":" ++ group_text b ++ codes ":" ++ group_text c ++ codes ":" ++ group_text d
+
 -- the groups in brackets
 abbrev pub groups_text : List ℕ → List ℕ
-groups_text segments = codes "[" ++ join_with_byte colon (map (digits 16 false) segments) ++ codes "]"
+groups_text segments = codes "[" ++ join_with_byte colon (map group_text segments) ++ codes "]"
 
 -- the text of an address: groups in lower case without leading zeros
 abbrev pub address_text : Ip → List ℕ

@@ -11,7 +11,9 @@ abbrev pub eight : Endpoint
 eight = endpoint_at (V6 (0 ∷ 1 ∷ 0 ∷ 2 ∷ 0 ∷ 3 ∷ 0 ∷ 4 ∷ 0 ∷ 5 ∷ 0 ∷ 6 ∷ 0 ∷ 7 ∷ 0 ∷ 8 ∷ [])) 5683
 
 abbrev pub sixth : Endpoint
-sixth = endpoint_at (V6 (0x20 ∷ 0x01 ∷ 0x0D ∷ 0xB8 ∷ 0 ∷ 0 ∷ 0 ∷ 0 ∷ 0 ∷ 0 ∷ 0 ∷ 0 ∷ 0xAB ∷ 0xCD ∷ 0 ∷ 0xEF ∷ [])) 0
+sixth = endpoint_at
+    (V6 (0x20 ∷ 0x01 ∷ 0x0D ∷ 0xB8 ∷ 0 ∷ 0 ∷ 0 ∷ 0 ∷ 0 ∷ 0 ∷ 0 ∷ 0 ∷ 0xAB ∷ 0xCD ∷ 0 ∷ 0xEF ∷ []))
+    0
 
 -- a GET without a token, of the path `t`
 abbrev pub get : List ℕ

@@ -48,11 +48,14 @@ is_skipped (b ∷ line) = b == number_sign
 
 -- an input begins with a line: its line feed comes after it, or nothing at all
 abbrev pub BeginsWith : List ℕ → List ℕ → List ℕ → Type 0
-BeginsWith input line rest = ((has line_feed line ≡ false) × (input ≡ line ++ line_feed ∷ rest)) ⊎ ((input ≡ line) × (rest ≡ []))
+BeginsWith input line rest =
+    ((has line_feed line ≡ false) × (input ≡ line ++ line_feed ∷ rest))
+    ⊎ ((input ≡ line) × (rest ≡ []))
 
 -- the first line of an input, which isn't too long, was read
 abbrev pub IsLine : List ℕ → List ℕ → List ℕ → Type 0
-IsLine input rest line = (lines_of input ≡ line ∷ lines_of rest) × (is_too_long line ≡ false) × BeginsWith input line rest
+IsLine input rest line = (lines_of input ≡ line ∷ lines_of rest)
+    × (is_too_long line ≡ false) × BeginsWith input line rest
 
 -- the first line of an input is too long, and no more was taken of it than is held
 abbrev pub IsTooLong : List ℕ → List ℕ → List ℕ → Type 0
@@ -78,4 +81,5 @@ taken Last line = line
 
 -- the line of a datagram that is sent
 unfoldable pub line_of : ℕ → Endpoint → List ℕ → List ℕ
-line_of now to bytes = decimal now ++ codes " " ++ endpoint_text to ++ codes " " ++ hex_text bytes ++ line_feed ∷ []
+line_of now to bytes =
+    decimal now ++ codes " " ++ endpoint_text to ++ codes " " ++ hex_text bytes ++ line_feed ∷ []

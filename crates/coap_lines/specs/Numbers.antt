@@ -19,4 +19,6 @@ number_of most text =
 -- the number of a group of an IPv6 address, which has one to four hexadecimal digits in either case
 unfoldable pub group_of : List ℕ → Option ℕ
 group_of text =
-    if nat_lt 0 (length text) && (nat_le (length text) 4 && list_all (λ b. is_digit b 16) text) then Some (digits_value 16 text) else None
+    if nat_lt 0 (length text) && (nat_le (length text) 4 && list_all (λ b. is_digit b 16) text)
+    then Some (digits_value 16 text)
+    else None

@@ -8,7 +8,8 @@ HasRoom buffer count = vec_len buffer + count ≤ vec_capacity buffer
 
 -- a text of at most so many bytes was added after what a buffer held, and no room was lost
 abbrev pub Adds : Vec ℕ → Vec ℕ → List ℕ → ℕ → Type 0
-Adds old new text most = (new.items ≡ old.items ++ text) × (vec_len new ≤ vec_len old + most) × (vec_capacity old ≤ vec_capacity new)
+Adds old new text most = (new.items ≡ old.items ++ text)
+    × (vec_len new ≤ vec_len old + most) × (vec_capacity old ≤ vec_capacity new)
 
 -- The most bytes of the line of a datagram of so many bytes: 20 digits of a moment, 47 bytes of an endpoint, two
 -- digits for each byte, or a hyphen where there are none, two spaces and a line feed.

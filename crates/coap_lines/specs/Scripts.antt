@@ -22,7 +22,8 @@ with_turn turn script = record { turns = turn ∷ script.turns; bad = script.bad
 -- the moment of that event. A proxy does 2^63 events, and no more.
 abbrev pub with_event : ℕ → ℕ → Option Turn → (ℕ → Script) → Script
 with_event number events None rest = bad_at number
-with_event number events (Some turn) rest = if nat_lt events (2 ^ 63) then with_turn turn (rest turn.now) else bad_at number
+with_event number events (Some turn) rest =
+    if nat_lt events (2 ^ 63) then with_turn turn (rest turn.now) else bad_at number
 
 -- what lines ask for from a number on, after a moment and so many events
 unfoldable pub script_from : ℕ → ℕ → ℕ → List (List ℕ) → Script
@@ -30,13 +31,15 @@ script_from number last events [] = all_done
 script_from number last events (line ∷ lines) =
     if is_too_long line || nat_lt greatest number then bad_at number
     else if is_skipped line then script_from (number + 1) last events lines
-    else with_event number events (turn_of last line) (λ now. script_from (number + 1) now (events + 1) lines)
+    else with_event number events (turn_of last line)
+    (λ now. script_from (number + 1) now (events + 1) lines)
 
 -- the first of these lines isn't skipped, and asks for this turn
 abbrev pub AsksFor : ℕ → ℕ → ℕ → List (List ℕ) → Turn → Type 0
 AsksFor number last events [] turn = ⊥
 AsksFor number last events (line ∷ lines) turn = (is_skipped line ≡ false)
-    × (script_from number last events (line ∷ lines) ≡ with_turn turn (script_from (number + 1) turn.now (events + 1) lines))
+    × (script_from number last events (line ∷ lines)
+    ≡ with_turn turn (script_from (number + 1) turn.now (events + 1) lines))
 
 -- what an input asks of a new proxy, its lines numbered from 1
 abbrev pub script_of : List ℕ → Script

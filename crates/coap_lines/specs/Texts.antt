@@ -32,7 +32,8 @@ with_front b parts = (b ∷ parts.0, parts.1)
 -- what stands before the first such byte and what stands after it, if there is one
 abbrev pub cut : ℕ → List ℕ → Option (List ℕ × List ℕ)
 cut byte [] = None
-cut byte (b ∷ text) = if b == byte then Some ([], text) else option_map (with_front b) (cut byte text)
+cut byte (b ∷ text) =
+    if b == byte then Some ([], text) else option_map (with_front b) (cut byte text)
 
 -- a second step, where the first gave something
 infixl 10 ◌>>=◌

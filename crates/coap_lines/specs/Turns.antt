@@ -19,13 +19,16 @@ greatest = 2 ^ 62
 -- a text says what happened: a tick, or a datagram with its source
 abbrev pub IsHappening : List ℕ → Event → Type 0
 IsHappening text tick = text ≡ codes "tick"
-IsHappening text (arrival from bytes) = (source hex : List ℕ) × (text ≡ source ++ space ∷ hex) × IsEndpoint source from × IsHex hex bytes
+IsHappening text (arrival from bytes) = (source hex : List ℕ)
+    × (text ≡ source ++ space ∷ hex) × IsEndpoint source from × IsHex hex bytes
 
 -- A line says a turn after the last moment: a moment, a draw and what happened, with one space between
 -- two of them.
 abbrev pub IsTurnLine : ℕ → List ℕ → Turn → Type 0
-IsTurnLine last line turn = (moment draw what : List ℕ) × (line ≡ moment ++ space ∷ draw ++ space ∷ what)
-    × IsNumber greatest moment turn.now × (last ≤ turn.now) × IsNumber 1000 draw turn.draw × IsHappening what turn.event
+IsTurnLine last line turn = (moment draw what : List ℕ)
+    × (line ≡ moment ++ space ∷ draw ++ space ∷ what)
+    × IsNumber greatest moment turn.now × (last ≤ turn.now)
+    × IsNumber 1000 draw turn.draw × IsHappening what turn.event
 
 -- the datagram that a text says
 unfoldable pub arrival_of : List ℕ → Option Event

@@ -9,11 +9,15 @@ ghost use Rattle.coap_lines.specs.Turns.{turn_at, turn_of};
 
 /// Lines that are events.
 pub fn events()
-    ensures datagram { turn_of 0 (codes "0 0 127.0.0.1:40001 50010007B174") ≡ Some (turn_at 0 0 (arrival home get)) }
-    ensures lower_case { turn_of 0 (codes "0 0 127.0.0.1:40001 50010007b174") ≡ Some (turn_at 0 0 (arrival home get)) }
-    ensures nothing { turn_of 7 (codes "12 1000 127.0.0.1:40001 -") ≡ Some (turn_at 12 1000 (arrival home [])) }
+    ensures datagram { turn_of 0 (codes "0 0 127.0.0.1:40001 50010007B174")
+        ≡ Some (turn_at 0 0 (arrival home get)) }
+    ensures lower_case { turn_of 0 (codes "0 0 127.0.0.1:40001 50010007b174")
+        ≡ Some (turn_at 0 0 (arrival home get)) }
+    ensures nothing { turn_of 7 (codes "12 1000 127.0.0.1:40001 -")
+        ≡ Some (turn_at 12 1000 (arrival home [])) }
     ensures ticks { turn_of 0 (codes "0 0 tick") ≡ Some (turn_at 0 0 tick) }
-    ensures latest { turn_of 0 (codes "4611686018427387904 0 tick") ≡ Some (turn_at 4611686018427387904 0 tick) }
+    ensures latest { turn_of 0 (codes "4611686018427387904 0 tick")
+        ≡ Some (turn_at 4611686018427387904 0 tick) }
 {}
 
 /// Lines that are none.
@@ -78,7 +82,10 @@ pub fn inputs()
     ensures last { lines_of (codes "a\n\nb") ≡ codes "a" ∷ [] ∷ codes "b" ∷ [] }
     ensures feed { lines_of (codes "a\n\n") ≡ codes "a" ∷ [] ∷ [] }
     ensures nothing { script_of [] ≡ record { turns = []; bad = None } }
-    ensures skipped { script_of (codes "# two ticks\n\n0 0 tick\n5 9 tick\n") ≡ record { turns = turn_at 0 0 tick ∷ turn_at 5 9 tick ∷ []; bad = None } }
-    ensures bad { script_of (codes "0 0 tick\n\nbogus\n1 0 tick") ≡ record { turns = turn_at 0 0 tick ∷ []; bad = Some 3 } }
-    ensures back { script_of (codes "3 0 tick\n2 0 tick\n") ≡ record { turns = turn_at 3 0 tick ∷ []; bad = Some 2 } }
+    ensures skipped { script_of (codes "# two ticks\n\n0 0 tick\n5 9 tick\n")
+        ≡ record { turns = turn_at 0 0 tick ∷ turn_at 5 9 tick ∷ []; bad = None } }
+    ensures bad { script_of (codes "0 0 tick\n\nbogus\n1 0 tick")
+        ≡ record { turns = turn_at 0 0 tick ∷ []; bad = Some 3 } }
+    ensures back { script_of (codes "3 0 tick\n2 0 tick\n")
+        ≡ record { turns = turn_at 3 0 tick ∷ []; bad = Some 2 } }
 {}

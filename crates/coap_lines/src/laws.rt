@@ -15,8 +15,10 @@ ghost use Rattle.coap_lines.specs.declared.reading.input.Next.{Next};
 
 /// A number is read exactly where a text writes one.
 pub fn numbers_are_read()
-    ensures read { (most n : ℕ) (text : List ℕ) → most < 2 ^ 64 → IsNumber most text n → number_of most text ≡ Some n }
-    ensures only { (most n : ℕ) (text : List ℕ) → number_of most text ≡ Some n → IsNumber most text n }
+    ensures read { (most n : ℕ) (text : List ℕ) → most < 2 ^ 64 → IsNumber most text n
+        → number_of most text ≡ Some n }
+    ensures only { (most n : ℕ) (text : List ℕ) → number_of most text ≡ Some n
+        → IsNumber most text n }
 {}
 
 /// Bytes are read exactly where a text writes them.
@@ -27,42 +29,69 @@ pub fn datagrams_are_read()
 
 /// An endpoint is read exactly where a text writes one.
 pub fn endpoints_are_read()
-    ensures read { (text : List ℕ) (endpoint : Endpoint) → IsEndpoint text endpoint → endpoint_of text ≡ Some endpoint }
-    ensures only { (text : List ℕ) (endpoint : Endpoint) → endpoint_of text ≡ Some endpoint → IsEndpoint text endpoint }
+    ensures read { (text : List ℕ) (endpoint : Endpoint) → IsEndpoint text endpoint
+        → endpoint_of text ≡ Some endpoint }
+    ensures only { (text : List ℕ) (endpoint : Endpoint) → endpoint_of text ≡ Some endpoint
+        → IsEndpoint text endpoint }
 {}
 
 /// A turn is read exactly where a line says one.
 pub fn turns_are_read()
-    ensures read { (last : ℕ) (line : List ℕ) (turn : Turn) → IsTurnLine last line turn → turn_of last line ≡ Some turn }
-    ensures only { (last : ℕ) (line : List ℕ) (turn : Turn) → turn_of last line ≡ Some turn → IsTurnLine last line turn }
+    ensures read { (last : ℕ) (line : List ℕ) (turn : Turn) → IsTurnLine last line turn
+        → turn_of last line ≡ Some turn }
+    ensures only { (last : ℕ) (line : List ℕ) (turn : Turn) → turn_of last line ≡ Some turn
+        → IsTurnLine last line turn }
 {}
 
 /// The lines of an input are those that it has, and it has no others.
 pub fn inputs_have_one_list_of_lines()
     ensures has { (input : List ℕ) → AreLines input (lines_of input) }
-    ensures only { (input : List ℕ) (lines : List (List ℕ)) → AreLines input lines → lines ≡ lines_of input }
+    ensures only { (input : List ℕ) (lines : List (List ℕ)) → AreLines input lines
+        → lines ≡ lines_of input }
 {}
 
 /// The turns of an input follow each other: no moment is below the one before it, and none above 2^62; draws
 /// are at most 1,000, and datagrams are bytes.
 pub fn turns_follow_each_other()
     ensures follow { (input : List ℕ) → AreTurns 0 (script_of input).turns }
-    ensures within { (input : List ℕ) → AllByRecursion (λ turn. (turn.now ≤ 2 ^ 62) × (turn.draw ≤ 1000)) (script_of input).turns }
+    ensures within { (input : List ℕ)
+        → AllByRecursion (λ turn. (turn.now ≤ 2 ^ 62) × (turn.draw ≤ 1000)) (script_of input).turns }
 {}
 
 /// What is written of a datagram and of an endpoint is read again.
 pub fn written_is_read()
-    ensures datagrams { (bytes : List ℕ) → IsBytes bytes → bytes_read (hex_text bytes) ≡ Some bytes }
-    ensures endpoints { (ip : Ip) (port : ℕ) → IsIp ip → port ≤ 65535 → endpoint_of (endpoint_text (endpoint_at ip port)) ≡ Some (endpoint_at ip port) }
+    ensures datagrams { (bytes : List ℕ) → IsBytes bytes
+        → bytes_read (hex_text bytes) ≡ Some bytes }
+    ensures endpoints { (ip : Ip) (port : ℕ) → IsIp ip → port ≤ 65535
+        → endpoint_of (endpoint_text (endpoint_at ip port)) ≡ Some (endpoint_at ip port) }
 {}
 
 /// What an input asks for from a line on, by what comes next of it.
 pub fn an_input_is_done_line_by_line()
-    ensures end { (number last events : ℕ) (input left line : List ℕ) → IsNext input (Some left) line Next.End → script_from number last events (lines_of input) ≡ all_done }
-    ensures long { (number last events : ℕ) (input left line : List ℕ) → IsNext input (Some left) line Next.TooLong → script_from number last events (lines_of input) ≡ bad_at number }
-    ensures many { (number last events : ℕ) (input left line : List ℕ) → IsNext input (Some left) line Next.Line → greatest < number → script_from number last events (lines_of input) ≡ bad_at number }
-    ensures skip { (number last events : ℕ) (input left line : List ℕ) → IsNext input (Some left) line Next.Line → number ≤ greatest → is_skipped line ≡ true → script_from number last events (lines_of input) ≡ script_from (number + 1) last events (lines_of left) }
-    ensures bad { (number last events : ℕ) (input left line : List ℕ) → IsNext input (Some left) line Next.Line → number ≤ greatest → is_skipped line ≡ false → turn_of last line ≡ None → script_from number last events (lines_of input) ≡ bad_at number }
-    ensures turn { (number last events : ℕ) (input left line : List ℕ) (turn : Turn) → IsNext input (Some left) line Next.Line → number ≤ greatest → is_skipped line ≡ false → turn_of last line ≡ Some turn → events < 2 ^ 63 → script_from number last events (lines_of input) ≡ with_turn turn (script_from (number + 1) turn.now (events + 1) (lines_of left)) }
-    ensures full { (number last events : ℕ) (input left line : List ℕ) (turn : Turn) → IsNext input (Some left) line Next.Line → number ≤ greatest → is_skipped line ≡ false → turn_of last line ≡ Some turn → 2 ^ 63 ≤ events → script_from number last events (lines_of input) ≡ bad_at number }
+    ensures end { (number last events : ℕ) (input left line : List ℕ)
+        → IsNext input (Some left) line Next.End
+        → script_from number last events (lines_of input) ≡ all_done }
+    ensures long { (number last events : ℕ) (input left line : List ℕ)
+        → IsNext input (Some left) line Next.TooLong
+        → script_from number last events (lines_of input) ≡ bad_at number }
+    ensures many { (number last events : ℕ) (input left line : List ℕ)
+        → IsNext input (Some left) line Next.Line → greatest < number
+        → script_from number last events (lines_of input) ≡ bad_at number }
+    ensures skip { (number last events : ℕ) (input left line : List ℕ)
+        → IsNext input (Some left) line Next.Line → number ≤ greatest → is_skipped line ≡ true
+        → script_from number last events (lines_of input)
+        ≡ script_from (number + 1) last events (lines_of left) }
+    ensures bad { (number last events : ℕ) (input left line : List ℕ)
+        → IsNext input (Some left) line Next.Line → number ≤ greatest → is_skipped line ≡ false
+        → turn_of last line ≡ None
+        → script_from number last events (lines_of input) ≡ bad_at number }
+    ensures turn { (number last events : ℕ) (input left line : List ℕ) (turn : Turn)
+        → IsNext input (Some left) line Next.Line → number ≤ greatest → is_skipped line ≡ false
+        → turn_of last line ≡ Some turn → events < 2 ^ 63
+        → script_from number last events (lines_of input)
+        ≡ with_turn turn (script_from (number + 1) turn.now (events + 1) (lines_of left)) }
+    ensures full { (number last events : ℕ) (input left line : List ℕ) (turn : Turn)
+        → IsNext input (Some left) line Next.Line → number ≤ greatest → is_skipped line ≡ false
+        → turn_of last line ≡ Some turn → 2 ^ 63 ≤ events
+        → script_from number last events (lines_of input) ≡ bad_at number }
 {}

@@ -17,6 +17,7 @@ use Rattle.coap_lines.proofs.LineByLine.{step-bad, step-end, step-full, step-lon
 use Rattle.coap_lines.proofs.TurnTexts.{turn_of-is}
 
 module _ (number last events : ℕ) (old left : Option (List ℕ)) (line : List ℕ) where
+  -- what comes next of an input that is known
   abbrev Comes : Next → Type 0
   Comes n = IfSome old (λ input. IsNext input left line n)
 

@@ -96,9 +96,9 @@ at-start w input old = record { turns = []; done = done-nothing w; written = not
 pub ends-at-start : (w : World) (input old : Option (List ℕ)) → IsReplayed w w input input old old (Err (OutOfMemory 1))
 ends-at-start w input old = record { turns = []; done = done-nothing w; ends = (nothing-written old, of-any input) }
   where
-    of-any : (i : Option (List ℕ)) → IfSome i (λ i. IsAtStart [] 1 ⊎ IsAtEvent w i [] 1)
+    of-any : (o : Option (List ℕ)) → IfSome o (λ i. IsAtStart i o [] 1 ⊎ IsAtEvent w i [] 1)
     of-any None = tt
-    of-any (Some i) = inl (refl, refl)
+    of-any (Some i) = inl (refl, refl, refl)
 
 -- the lines that were read are those before the next one
 up-to-next : (w v : World) (i rest : List ℕ) (turns : List Turn) (lines : ℕ) → v ≡ world_after w turns → StillAsks w i (Some rest) turns lines v → IsUpTo w i turns (lines + 1) (lines_of rest)
@@ -179,7 +179,7 @@ module _ (w v : World) (input left left' old new : Option (List ℕ)) (lines cou
       record {
         turns = at.turns;
         done = at.done;
-        ends = (at.written, of-known (λ i. IsAtStart at.turns line ⊎ IsAtEvent w i at.turns line) (λ rest. AsksNext (lines + 1) v.last v.events rest left' (Err (OutOfMemory line))) asks (λ i rest s a. inr (missing i rest s left' a)));
+        ends = (at.written, of-known (λ i. IsAtStart i left' at.turns line ⊎ IsAtEvent w i at.turns line) (λ rest. AsksNext (lines + 1) v.last v.events rest left' (Err (OutOfMemory line))) asks (λ i rest s a. inr (missing i rest s left' a)));
       }
     where
       missing : (i rest : List ℕ) → StillAsks w i (Some rest) at.turns lines v → (l' : Option (List ℕ)) → AsksNext (lines + 1) v.last v.events rest l' (Err (OutOfMemory line)) → IsAtEvent w i at.turns line
@@ -261,7 +261,7 @@ module _ (w v : World) (input left left' old new : Option (List ℕ)) (lines cou
         wrote : Appends old new' (output_of w at.turns)
         wrote = subst (λ (l : List ℕ). Appends old new' l) (append-nil (output_of w at.turns)) (Appends-trans old new new' (output_of w at.turns) [] at.written nothing)
 
-        go : (o l : Option (List ℕ)) → IfSome o (λ i. StillAsks w i l at.turns lines v) → (l' : Option (List ℕ)) → IfSome l (λ rest. AsksNext (lines + 1) v.last v.events rest l' (Ok (Do turn))) → IfSome o (λ i. IsAtStart at.turns line ⊎ IsAtEvent w i at.turns line)
+        go : (o l : Option (List ℕ)) → IfSome o (λ i. StillAsks w i l at.turns lines v) → (l' : Option (List ℕ)) → IfSome l (λ rest. AsksNext (lines + 1) v.last v.events rest l' (Ok (Do turn))) → IfSome o (λ i. IsAtStart i left' at.turns line ⊎ IsAtEvent w i at.turns line)
         go None l s l' a = tt
         go (Some i) None s l' a = absurd s
         go (Some i) (Some rest) s None a = absurd a

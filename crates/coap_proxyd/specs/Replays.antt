@@ -49,7 +49,8 @@ world_after w turns = (run_of (run_at w []) turns).world
 pub record HasDone (w : World) (turns : List Turn) (v : World) : Type 0 where
   pub are : AreTurns w.last turns
   pub world : v ≡ world_after w turns
-  pub carries : (history : List Entry) → Carries history w → Carries (run_of (run_at w history) turns).history v
+  pub carries : (history : List Entry) → Carries history w
+      → Carries (run_of (run_at w history) turns).history v
 
 -- ---- what was asked for
 
@@ -63,11 +64,13 @@ with_turns turns script = record { turns = turns ++ script.turns; bad = script.b
 
 -- what lines ask for, from a number on, of a proxy that did these turns
 abbrev pub script_after : World → List Turn → ℕ → List (List ℕ) → Script
-script_after w turns line left = script_from line (world_after w turns).last (world_after w turns).events left
+script_after w turns line left =
+    script_from line (world_after w turns).last (world_after w turns).events left
 
 -- These turns are those of the lines of an input before the one of this number, and these lines are left: that
 -- one, if there is one, and those after it.
-pub record IsUpTo (w : World) (input : List ℕ) (turns : List Turn) (line : ℕ) (left : List (List ℕ)) : Type 0 where
+pub record IsUpTo (w : World) (input : List ℕ) (turns : List Turn) (line : ℕ) (left : List (List ℕ))
+    : Type 0 where
   pub front : List (List ℕ)
   pub split : lines_of input ≡ front ++ left
   pub number : line ≡ length front + 1
@@ -75,18 +78,20 @@ pub record IsUpTo (w : World) (input : List ℕ) (turns : List Turn) (line : ℕ
 
 -- the line of this number exists, and says an event that may follow these turns
 abbrev pub IsAtEvent : World → List ℕ → List Turn → ℕ → Type 0
-IsAtEvent w input turns line = (left : List (List ℕ)) × (turn : Turn) × IsUpTo w input turns line left
+IsAtEvent w input turns line = (left : List (List ℕ)) × (turn : Turn)
+    × IsUpTo w input turns line left
     × AsksFor line (world_after w turns).last (world_after w turns).events left turn
 
--- nothing was done yet
-abbrev pub IsAtStart : List Turn → ℕ → Type 0
-IsAtStart turns line = (turns ≡ []) × (line ≡ 1)
+-- nothing was read and done yet
+abbrev pub IsAtStart : List ℕ → Option (List ℕ) → List Turn → ℕ → Type 0
+IsAtStart input left turns line = (left ≡ Some input) × (turns ≡ []) × (line ≡ 1)
 
 -- Of the line after these turns a part was taken, perhaps nothing, and not its line feed: `rest` is what the reader
 -- has left, `done` are the lines before it.
 abbrev pub IsBroken : World → List ℕ → Option (List ℕ) → List Turn → Type 0
 IsBroken w input None turns = ⊥
-IsBroken w input (Some rest) turns = (done part : List ℕ) × (input ≡ done ++ part ++ rest) × (has line_feed part ≡ false)
+IsBroken w input (Some rest) turns = (done part : List ℕ)
+    × (input ≡ done ++ part ++ rest) × (has line_feed part ≡ false)
     × IsUpTo w input turns (length (lines_of done) + 1) (lines_of (part ++ rest))
 
 -- what is written is all lines of these turns but the last, and a beginning of that
@@ -100,24 +105,26 @@ IsWrittenInPart w old new turns = (before : List Turn) × (turn : Turn) × (fron
 --   Ok: all lines were done, and their lines written.
 --   A bad line: the lines before it were done, and their lines written.
 --   Want of memory at a line: the lines before it were done, and their lines written. Its event was not done; or
---   nothing was done at all, and the number is 1.
+--   nothing was read at all, and the number is 1.
 --   `Read`: some lines were done, perhaps none, and their lines written. The next one was not read whole, but for
 --   its line feed. That the reader failed isn't said.
 --   `Write`: some lines were done, at least one, and their lines written but for an end of the last. That the
 --   writer failed isn't said.
-abbrev pub Ends : World → Option (List ℕ) → Option (List ℕ) → Option (List ℕ) → Option (List ℕ) → List Turn → Result ℕ ReplayError → Type 0
+abbrev pub Ends : World → Option (List ℕ) → Option (List ℕ) → Option (List ℕ) → Option (List ℕ)
+    → List Turn → Result ℕ ReplayError → Type 0
 Ends w input left old new turns (Ok n) = (n ≡ length turns) × Appends old new (output_of w turns)
     × IfSome input (λ i. script_for w i ≡ record { turns = turns; bad = None })
 Ends w input left old new turns (Err (BadEvent line)) = Appends old new (output_of w turns)
     × IfSome input (λ i. script_for w i ≡ record { turns = turns; bad = Some line })
 Ends w input left old new turns (Err (OutOfMemory line)) = Appends old new (output_of w turns)
-    × IfSome input (λ i. IsAtStart turns line ⊎ IsAtEvent w i turns line)
+    × IfSome input (λ i. IsAtStart i left turns line ⊎ IsAtEvent w i turns line)
 Ends w input left old new turns (Err Read) = Appends old new (output_of w turns)
     × IfSome input (λ i. IsBroken w i left turns)
 Ends w input left old new turns (Err Write) = IsWrittenInPart w old new turns
     × IfSome input (λ i. (line : ℕ) × (lines : List (List ℕ)) × IsUpTo w i turns line lines)
 
-pub record IsReplayed (w v : World) (input left old new : Option (List ℕ)) (result : Result ℕ ReplayError) : Type 0 where
+pub record IsReplayed (w v : World) (input left old new : Option (List ℕ))
+    (result : Result ℕ ReplayError) : Type 0 where
   pub turns : List Turn
   pub done : HasDone w turns v
   pub ends : Ends w input left old new turns result
@@ -126,16 +133,20 @@ pub record IsReplayed (w v : World) (input left old new : Option (List ℕ)) (re
 
 -- what the next line asks for, and what is left
 abbrev pub AsksNext : ℕ → ℕ → ℕ → List ℕ → Option (List ℕ) → Result Asked ReplayError → Type 0
-AsksNext number last events input left (Ok End) = script_from number last events (lines_of input) ≡ all_done
+AsksNext number last events input left (Ok End) =
+    script_from number last events (lines_of input) ≡ all_done
 AsksNext number last events input None (Ok Skip) = ⊥
 AsksNext number last events input (Some rest) (Ok Skip) = (line : List ℕ) × IsLine input rest line
-    × (script_from number last events (lines_of input) ≡ script_from (number + 1) last events (lines_of rest))
+    × (script_from number last events (lines_of input)
+    ≡ script_from (number + 1) last events (lines_of rest))
 AsksNext number last events input None (Ok (Do turn)) = ⊥
-AsksNext number last events input (Some rest) (Ok (Do turn)) = (line : List ℕ) × IsLine input rest line
-    × AsksFor number last events (line ∷ lines_of rest) (turn_seen turn)
-AsksNext number last events input left (Err (BadEvent line)) = (line ≡ number) × (script_from number last events (lines_of input) ≡ bad_at number)
+AsksNext number last events input (Some rest) (Ok (Do turn)) = (line : List ℕ)
+    × IsLine input rest line × AsksFor number last events (line ∷ lines_of rest) (turn_seen turn)
+AsksNext number last events input left (Err (BadEvent line)) = (line ≡ number)
+    × (script_from number last events (lines_of input) ≡ bad_at number)
 AsksNext number last events input None (Err (OutOfMemory line)) = ⊥
-AsksNext number last events input (Some rest) (Err (OutOfMemory line)) = (line ≡ number) × ((turn : Turn) × AsksFor number last events (lines_of input) turn)
+AsksNext number last events input (Some rest) (Err (OutOfMemory line)) = (line ≡ number)
+    × ((turn : Turn) × AsksFor number last events (lines_of input) turn)
 AsksNext number last events input left (Err Read) = IsBegun (Some input) left
 AsksNext number last events input left (Err Write) = ⊥
 
@@ -158,9 +169,12 @@ IfDo P (Err Write) = ⊥
 
 -- A turn was done, and its line written. Or memory was missing, and nothing was done or written; or the writer failed
 -- at its line.
-abbrev pub DoesTurn : World → World → Turn → Option (List ℕ) → Option (List ℕ) → ℕ → Result (Unit {0}) ReplayError → Type 0
+abbrev pub DoesTurn : World → World → Turn → Option (List ℕ) → Option (List ℕ) → ℕ
+    → Result (Unit {0}) ReplayError → Type 0
 DoesTurn w v t old new number (Ok u) = (v ≡ (step_at w t).world) × Appends old new (line_sent w t)
 DoesTurn w v t old new number (Err (BadEvent line)) = ⊥
-DoesTurn w v t old new number (Err (OutOfMemory line)) = (line ≡ number) × Appends old new [] × (v ≡ w)
+DoesTurn w v t old new number (Err (OutOfMemory line)) =
+    (line ≡ number) × Appends old new [] × (v ≡ w)
 DoesTurn w v t old new number (Err Read) = ⊥
-DoesTurn w v t old new number (Err Write) = (v ≡ (step_at w t).world) × ((front back : List ℕ) × (line_sent w t ≡ front ++ back) × Appends old new front)
+DoesTurn w v t old new number (Err Write) = (v ≡ (step_at w t).world)
+    × ((front back : List ℕ) × (line_sent w t ≡ front ++ back) × Appends old new front)

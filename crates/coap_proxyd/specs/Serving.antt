@@ -12,7 +12,8 @@ use Rattle.coap_proxyd.specs.Replays.{IsReplayed}
 
 -- the proxy of the first path: the default limits, the one map, message ids from 1 on, tokens without salt
 abbrev pub first_proxy : World
-first_proxy = new_world (record { limits = default_limits; routes = fixed_routes; first_id = 1; salt = 0 })
+first_proxy = new_world
+    (record { limits = default_limits; routes = fixed_routes; first_id = 1; salt = 0 })
 
 -- how the program ends after a replay
 abbrev pub ended_as : Result ℕ ReplayError → Result (Unit {0}) Fault
@@ -20,7 +21,8 @@ ended_as (Ok count) = Ok tt
 ended_as (Err e) = Err (fault_of e)
 
 -- a replay by the proxy of the first path; or there was no memory for the proxy, and nothing was written
-abbrev pub IsServed : Option (List ℕ) → Option (List ℕ) → Option (List ℕ) → Result (Unit {0}) Fault → Type 0
+abbrev pub IsServed : Option (List ℕ) → Option (List ℕ) → Option (List ℕ) → Result (Unit {0}) Fault
+    → Type 0
 IsServed input old new result = ((result ≡ Err OutOfMemory) × Appends old new [])
     ⊎ ((after : World) × (left : Option (List ℕ)) × (replayed : Result ℕ ReplayError)
     × IsReplayed first_proxy after input left old new replayed × (result ≡ ended_as replayed))

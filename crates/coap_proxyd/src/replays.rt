@@ -42,7 +42,8 @@ fn next_asked<R: BufRead>(
     events: u64,
 ) -> Result<Asked, ReplayError>
     requires { 16385 ≤ vec_capacity line.old }
-    ensures asked { IfSome (R.remaining reader.old) (λ input. AsksNext number last events input (R.remaining reader.new) result) }
+    ensures asked { IfSome (R.remaining reader.old)
+        (λ input. AsksNext number last events input (R.remaining reader.new) result) }
     ensures may { IfDo (MayBeDone last events) result }
     ensures room { vec_capacity line.old ≤ vec_capacity line.new }
 {
@@ -107,7 +108,8 @@ fn do_turn<W: Write>(
     requires may { MayBeDone core.old.last core.old.events (turn_seen turn) }
     requires room { core.old.setting.limits.datagram ≤ out.old.room }
     requires text { longest_line core.old.setting.limits.datagram ≤ vec_capacity text.old }
-    ensures does { DoesTurn core.old core.new (turn_seen turn) (W.contents writer.old) (W.contents writer.new) number result }
+    ensures does { DoesTurn core.old core.new (turn_seen turn)
+        (W.contents writer.old) (W.contents writer.new) number result }
     ensures kept { out.new.room ≡ out.old.room }
     ensures text { vec_capacity text.old ≤ vec_capacity text.new }
     ensures setting { core.new.setting ≡ core.old.setting }
@@ -137,7 +139,8 @@ pub fn replay<R: BufRead, W: Write>(
     writer: &mut W,
     core: &mut Core,
 ) -> Result<u64, ReplayError>
-    ensures replayed { IsReplayed core.old core.new (R.remaining reader.old) (R.remaining reader.new) (W.contents writer.old) (W.contents writer.new) result }
+    ensures replayed { IsReplayed core.old core.new (R.remaining reader.old) (R.remaining reader.new)
+        (W.contents writer.old) (W.contents writer.new) result }
 {
     let (Ok(mut line), Ok(mut text), Ok(mut out)) = (
         Vec::with_capacity(alloc, LONGEST + 1),

@@ -35,8 +35,10 @@ pub fn serve<R: Read + Drop, W: Write>(
     input: R,
     output: &mut W,
 ) -> Result<(), Fault>
-    ensures known { map string_bytes words.now ≡ known_words → IsServed (R.remaining input) (W.contents output.old) (W.contents output.new) result }
-    ensures other { map string_bytes words.now ≢ known_words → (result ≡ Err Fault.Arguments) × Appends (W.contents output.old) (W.contents output.new) [] }
+    ensures known { map string_bytes words.now ≡ known_words
+        → IsServed (R.remaining input) (W.contents output.old) (W.contents output.new) result }
+    ensures other { map string_bytes words.now ≢ known_words → (result ≡ Err Fault.Arguments)
+        × Appends (W.contents output.old) (W.contents output.new) [] }
 {
     if !are_known(words) {
         return Err(Fault::Arguments);

@@ -24,7 +24,8 @@ fn read_port(text: &[u8]) -> Option<u16>
 
 /// The first group of a text, and what stands after its colon, if it has one.
 fn first_group(text: &[u8]) -> (&[u8], Option<&[u8]>)
-    ensures { slice_split (λ b. b == 58) text.now ≡ result.0.now ∷ parts_left (option_copied result.1) }
+    ensures { slice_split (λ b. b == 58) text.now
+        ≡ result.0.now ∷ parts_left (option_copied result.1) }
 {
     match cut(text, b':') {
         Some((group, rest)) => (group, Some(rest)),

@@ -40,7 +40,8 @@ fn line_part(bytes: &[u8]) -> (usize, bool)
     ensures within { result.0 ≤ length bytes.now }
     ensures none { has 10 (take result.0 bytes.now) ≡ false }
     ensures ended { result.1 ≡ true → result.0 < length bytes.now }
-    ensures feed { result.1 ≡ true → take (result.0 + 1) bytes.now ≡ take result.0 bytes.now ++ 10 ∷ [] }
+    ensures feed { result.1 ≡ true
+        → take (result.0 + 1) bytes.now ≡ take result.0 bytes.now ++ 10 ∷ [] }
     ensures whole { result.1 ≡ false → result.0 ≡ length bytes.now }
 {
     match cut(bytes, b'\n') {
@@ -56,11 +57,13 @@ fn read_piece<R: BufRead>(reader: &mut R, line: &mut Vec<u8>) -> io::Result<Piec
     ensures within { vec_len line.new ≤ 16385 }
     ensures room { vec_capacity line.old ≤ vec_capacity line.new }
     ensures none { OnOk result (has 10 line.new.items ≡ false) }
-    ensures bytes { IfOk result (λ piece. Consumes (R.remaining reader.old) (R.remaining reader.new) (taken piece line.new.items)) }
+    ensures bytes { IfOk result (λ piece. Consumes
+        (R.remaining reader.old) (R.remaining reader.new) (taken piece line.new.items)) }
     ensures feed { IfOk result (λ piece. piece ≡ Feed → vec_len line.new ≤ 16384) }
     ensures full { IfOk result (λ piece. piece ≡ Full → vec_len line.new ≡ 16385) }
     ensures last { IfOk result (λ piece. piece ≡ Last → vec_len line.new ≤ 16384) }
-    ensures end { IfOk result (λ piece. piece ≡ Last → IfSome (R.remaining reader.old) (λ _. IsAtEnd (R.remaining reader.new))) }
+    ensures end { IfOk result (λ piece. piece ≡ Last
+        → IfSome (R.remaining reader.old) (λ _. IsAtEnd (R.remaining reader.new))) }
     ensures begun { OnErr result (IsBegun (R.remaining reader.old) (R.remaining reader.new)) }
 {
     line.clear();
@@ -96,7 +99,8 @@ pub fn next_line<R: BufRead>(reader: &mut R, line: &mut Vec<u8>) -> io::Result<N
     requires { 16385 ≤ vec_capacity line.old }
     ensures within { vec_len line.new ≤ 16385 }
     ensures room { vec_capacity line.old ≤ vec_capacity line.new }
-    ensures read { IfSome (R.remaining reader.old) (λ input. IfOk result (IsNext input (R.remaining reader.new) line.new.items)) }
+    ensures read { IfSome (R.remaining reader.old)
+        (λ input. IfOk result (IsNext input (R.remaining reader.new) line.new.items)) }
     ensures begun { OnErr result (IsBegun (R.remaining reader.old) (R.remaining reader.new)) }
 {
     match read_piece(reader, line)? {

@@ -6,7 +6,8 @@ ghost use Rattle.coap_lines.specs.Numbers.{group_of, number_of};
 
 /// Whether a text begins with a plus, or with a zero before another byte.
 fn has_needless_start(text: &[u8]) -> bool
-    ensures { result ≡ ((slice_index text.now 0 == 43) || ((slice_index text.now 0 == 48) && nat_lt 1 (length text.now))) }
+    ensures { result ≡ ((slice_index text.now 0 == 43)
+        || ((slice_index text.now 0 == 48) && nat_lt 1 (length text.now))) }
 {
     match text {
         [b'+', ..] | [b'0', _, ..] => true,

@@ -11,7 +11,8 @@ const DIGITS: &[u8; 16] = b"0123456789ABCDEF";
 
 /// The two hexadecimal digits of a byte, in upper case.
 fn digits_of(byte: u8) -> [u8; 2]
-    ensures { result ≡ slice_index upper_digits (byte / 16) ∷ slice_index upper_digits (byte % 16) ∷ [] }
+    ensures { result
+        ≡ slice_index upper_digits (byte / 16) ∷ slice_index upper_digits (byte % 16) ∷ [] }
 {
     [
         DIGITS[usize::from(byte / 16)],

@@ -1,8 +1,7 @@
 //! Endpoints as they are written.
-ghost use Rattle.std.specs.Prelude.{◌≡◌, ◌++◌, false, codes, length};
-ghost use Rattle.std.specs.Fmt.{digits};
+ghost use Rattle.std.specs.Prelude.{◌≡◌, length};
 ghost use Rattle.std.specs.Net.Text.{ipv4_text};
-ghost use Rattle.coap_lines.specs.Endpoints.{address_text, endpoint_text, groups_text};
+ghost use Rattle.coap_lines.specs.Endpoints.{address_text, endpoint_text, four_groups, groups_text};
 ghost use Rattle.coap_lines.specs.Room.{Adds, HasRoom};
 
 use crate::room::put;
@@ -28,7 +27,7 @@ fn put_octets(out: &mut Vec<u8>, octets: [u8; 4])
 /// Adds four groups, with colons between them.
 fn put_four(out: &mut Vec<u8>, a: u16, b: u16, c: u16, d: u16)
     requires { HasRoom out.old 19 }
-    ensures { Adds out.old out.new (digits 16 false a ++ codes ":" ++ digits 16 false b ++ codes ":" ++ digits 16 false c ++ codes ":" ++ digits 16 false d) 19 }
+    ensures { Adds out.old out.new (four_groups a b c d) 19 }
 {
     put_group(out, a);
     put(out, b":");

@@ -1,6 +1,7 @@
 //! Numbers as they are written.
-ghost use Rattle.std.specs.Prelude.{◌≡◌, ◌<◌, ◌/◌, ◌%◌, ◌∷◌, [], false};
+ghost use Rattle.std.specs.Prelude.{◌≡◌, ◌<◌, false};
 ghost use Rattle.std.specs.Fmt.{digit_glyph, digits};
+ghost use Rattle.coap_lines.specs.Endpoints.{three_digits};
 ghost use Rattle.coap_lines.specs.Room.{Adds, HasRoom};
 
 use crate::room::put;
@@ -29,7 +30,7 @@ fn digit(value: u16) -> u8
 fn put_three(out: &mut Vec<u8>, number: u16)
     requires room { HasRoom out.old 3 }
     requires within { number < 4096 }
-    ensures { Adds out.old out.new (digit_glyph false (number / 256) ∷ digit_glyph false (number / 16 % 16) ∷ digit_glyph false (number % 16) ∷ []) 3 }
+    ensures { Adds out.old out.new (three_digits number) 3 }
 {
     put(
         out,

@@ -14,7 +14,8 @@ use std::io::{ErrorKind, Write};
 pub fn write_bytes<W: Write>(writer: &mut W, bytes: &[u8]) -> io::Result<()>
     ensures all { OnOk result (Appends (W.contents writer.old) (W.contents writer.new) bytes.now) }
     ensures retried { IfErr result (λ e. error_kind e ≢ ErrorKind.Interrupted) }
-    ensures front { OnErr result ((done rest : List ℕ) × (bytes.now ≡ done ++ rest) × Appends (W.contents writer.old) (W.contents writer.new) done) }
+    ensures front { OnErr result ((done rest : List ℕ) × (bytes.now ≡ done ++ rest)
+        × Appends (W.contents writer.old) (W.contents writer.new) done) }
 {
     let mut rest = bytes;
     for _ in 0..u64::MAX {
