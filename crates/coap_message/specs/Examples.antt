@@ -5,9 +5,14 @@ use Rattle.coap_message.specs.declared.error.ReadError.TheVariants.{Format}
 use Rattle.coap_message.specs.declared.kind.Kind.{Kind}
 use Rattle.coap_message.specs.declared.kind.Kind.TheVariants.{Con, Non, Ack}
 use Rattle.coap_message.specs.declared.message.Head.{Head}
-use Rattle.coap_message.specs.Message.{Message}
+use Rattle.coap_message.specs.Message.{Message, message_of}
+use Rattle.coap_message.specs.Options.{option_of}
 use Rattle.coap_message.specs.Reading.{read_message}
 use Rattle.coap_message.specs.Spelling.{bits_of, more_of}
+
+-- what the first four bytes say
+abbrev pub head : Kind → ℕ → ℕ → Head
+head kind code id = record { kind = kind; code = record { 0 = code }; id = id }
 
 -- a Non-confirmable GET of the path `t`
 abbrev pub get_bytes : List ℕ
@@ -15,14 +20,7 @@ get_bytes = 0x50 ∷ 1 ∷ 0 ∷ 7 ∷ 0xB1 ∷ 0x74 ∷ []
 
 abbrev pub get_message : Message
 get_message =
-    record {
-      kind = Non;
-      code = record { 0 = 1 };
-      id = 7;
-      token = [];
-      options = record { number = 11; value = 0x74 ∷ [] } ∷ [];
-      payload = [];
-    }
+    message_of (head Non 1 7) [] (option_of 11 (0x74 ∷ []) ∷ []) []
 
 -- a Confirmable 2.05 with a token, a Max-Age of ten seconds and a payload
 abbrev pub content_bytes : List ℕ
@@ -30,14 +28,7 @@ content_bytes = 0x41 ∷ 0x45 ∷ 1 ∷ 2 ∷ 0xAA ∷ 0xD1 ∷ 1 ∷ 10 ∷ 0xF
 
 abbrev pub content_message : Message
 content_message =
-    record {
-      kind = Con;
-      code = record { 0 = 0x45 };
-      id = 258;
-      token = 0xAA ∷ [];
-      options = record { number = 14; value = 10 ∷ [] } ∷ [];
-      payload = 0x32 ∷ 0x31 ∷ [];
-    }
+    message_of (head Con 0x45 258) (0xAA ∷ []) (option_of 14 (10 ∷ []) ∷ []) (0x32 ∷ 0x31 ∷ [])
 
 -- a request for a temperature, without a token and with one, and their piggybacked responses (RFC 7252, Appendix A)
 abbrev pub asking_bytes : List ℕ
@@ -48,14 +39,7 @@ asking_by_token_bytes = 0x41 ∷ 0x01 ∷ 0x7D ∷ 0x35 ∷ 0x20 ∷ 0xBB ∷ co
 
 abbrev pub asking : ℕ → List ℕ → Message
 asking id token =
-    record {
-      kind = Con;
-      code = record { 0 = 0x01 };
-      id = id;
-      token = token;
-      options = record { number = 11; value = codes "temperature" } ∷ [];
-      payload = [];
-    }
+    message_of (head Con 1 id) token (option_of 11 (codes "temperature") ∷ []) []
 
 abbrev pub told_bytes : List ℕ
 told_bytes = 0x60 ∷ 0x45 ∷ 0x7D ∷ 0x34 ∷ 0xFF ∷ codes "22.3 C"
@@ -65,19 +49,11 @@ told_by_token_bytes = 0x61 ∷ 0x45 ∷ 0x7D ∷ 0x35 ∷ 0x20 ∷ 0xFF ∷ code
 
 abbrev pub told : ℕ → List ℕ → Message
 told id token =
-    record {
-      kind = Ack;
-      code = record { 0 = 0x45 };
-      id = id;
-      token = token;
-      options = [];
-      payload = codes "22.3 C";
-    }
+    message_of (head Ack 0x45 id) token [] (codes "22.3 C")
 
 -- an Empty message: an Acknowledgement, or a Reset (RFC 7252, 4.2 and 4.3)
 abbrev pub empty : Kind → ℕ → Message
-empty kind id =
-    record { kind = kind; code = record { 0 = 0 }; id = id; token = []; options = []; payload = [] }
+empty kind id = message_of (head kind 0 id) [] [] []
 
 -- a GET with a token of eight bytes, the most that there may be
 abbrev pub longest_token_bytes : List ℕ
@@ -85,18 +61,7 @@ longest_token_bytes = 0x58 ∷ 1 ∷ 0 ∷ 7 ∷ 1 ∷ 2 ∷ 3 ∷ 4 ∷ 5 ∷ 6
 
 abbrev pub longest_token_message : Message
 longest_token_message =
-    record {
-      kind = Non;
-      code = record { 0 = 1 };
-      id = 7;
-      token = 1 ∷ 2 ∷ 3 ∷ 4 ∷ 5 ∷ 6 ∷ 7 ∷ 8 ∷ [];
-      options = [];
-      payload = [];
-    }
-
--- what the first four bytes say
-abbrev pub head : Kind → ℕ → ℕ → Head
-head kind code id = record { kind = kind; code = record { 0 = code }; id = id }
+    message_of (head Non 1 7) (1 ∷ 2 ∷ 3 ∷ 4 ∷ 5 ∷ 6 ∷ 7 ∷ 8 ∷ []) [] []
 
 abbrev pub refused : List ℕ → ReadError → Type 0
 refused bytes error = read_message bytes ≡ Err error
@@ -129,14 +94,7 @@ last_option_bytes = 0x50 ∷ 1 ∷ 0 ∷ 7 ∷ 0xE0 ∷ 0xFE ∷ 0xF2 ∷ []
 
 abbrev pub last_option_message : Message
 last_option_message =
-    record {
-      kind = Non;
-      code = record { 0 = 1 };
-      id = 7;
-      token = [];
-      options = record { number = 65535; value = [] } ∷ [];
-      payload = [];
-    }
+    message_of (head Non 1 7) [] (option_of 65535 [] ∷ []) []
 
 -- the boundaries between the three ways to write a delta or a length
 abbrev pub Boundaries : Type 0

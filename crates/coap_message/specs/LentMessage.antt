@@ -1,14 +1,7 @@
 -- A message whose parts are lent, as contracts see it.
 use Rattle.coap_message.specs.declared.message.MessageRef.TheInside.{Inside}
-use Rattle.coap_message.specs.Message.{Message}
+use Rattle.coap_message.specs.Message.{Message, message_of}
 
 abbrev pub lent : Inside → Message
 lent m =
-    record {
-      kind = m.kind;
-      code = m.code;
-      id = m.id;
-      token = m.token;
-      options = m.options;
-      payload = m.payload.now;
-    }
+    message_of (record { kind = m.kind; code = m.code; id = m.id }) m.token m.options m.payload.now

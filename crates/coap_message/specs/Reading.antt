@@ -7,7 +7,7 @@ use Rattle.coap_message.specs.declared.error.ReadError.TheVariants as unread
 use Rattle.coap_message.specs.declared.message.Head.{Head}
 use Rattle.coap_message.specs.declared.options.Opt.{Opt}
 use Rattle.coap_message.specs.Kind.{kind_of}
-use Rattle.coap_message.specs.Message.{Message}
+use Rattle.coap_message.specs.Message.{Message, message_of}
 
 -- a second step, where the first gave something
 infixl 10 ◌>>=◌
@@ -101,14 +101,8 @@ body_behind (suc code) token_length bytes = body_at token_length bytes
 abbrev pub with_header : ℕ → ℕ → ℕ → Option Body → Result Message ReadError
 with_header first code id None = Err unread.Format
 with_header first code id (Some body) =
-    Ok (record {
-      kind = kind_of (first / 16 % 4);
-      code = record { 0 = code };
-      id = id;
-      token = body.token;
-      options = body.options;
-      payload = body.payload;
-    })
+    let head : Head = record { kind = kind_of (first / 16 % 4); code = record { 0 = code }; id = id } in
+    Ok (message_of head body.token body.options body.payload)
 
 -- the message that the bytes spell, or why there is none
 unfoldable pub read_message : List ℕ → Result Message ReadError

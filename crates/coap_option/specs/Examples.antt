@@ -2,7 +2,7 @@
 use Rattle.std.specs.Prelude.{ℕ, ◌+◌, ◌-◌, ◌==◌, ◌&&◌, ◌||◌, Bool, not, List, [], ◌∷◌, replicate}
 use Rattle.coap_message.specs.declared.kind.Kind.TheVariants.{Con}
 use Rattle.coap_message.specs.declared.options.Opt.{Opt}
-use Rattle.coap_message.specs.Message.{Message}
+use Rattle.coap_message.specs.Message.{Message, message_of}
 use Rattle.coap_option.specs.declared.side.Side.{Side}
 use Rattle.coap_option.specs.Recognition.{is_recognised}
 
@@ -13,14 +13,7 @@ zeros number length = record { number = number; value = replicate length 0 }
 -- a message with this code and these options
 abbrev pub message : ℕ → List Opt → Message
 message code options =
-    record {
-      kind = Con;
-      code = record { 0 = code };
-      id = 7;
-      token = [];
-      options = options;
-      payload = [];
-    }
+    message_of (record { kind = Con; code = record { 0 = code }; id = 7 }) [] options []
 
 -- GET, PUT and 2.05
 abbrev pub get : List Opt → Message

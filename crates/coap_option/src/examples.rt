@@ -88,8 +88,8 @@ pub fn selected()
     ensures accepts { sent_on (get (zeros 17 1 ∷ zeros 17 1 ∷ [])) ≡ zeros 17 1 ∷ zeros 17 1 ∷ [] }
     ensures used_up { sent_on
         (get
-            (zeros 3 1 ∷ zeros 6 0 ∷ zeros 7 1 ∷ zeros 11 1 ∷ zeros 14 1 ∷ zeros 15 1 ∷ zeros 35 1
-            ∷ zeros 39 1 ∷ []))
+        (zeros 3 1 ∷ zeros 6 0 ∷ zeros 7 1 ∷ zeros 11 1 ∷ zeros 14 1 ∷ zeros 15 1 ∷ zeros 35 1
+        ∷ zeros 39 1 ∷ []))
         ≡ [] }
     ensures others { sent_on (put not_used_up) ≡ not_used_up }
     ensures observe { sent_on (get (zeros 6 0 ∷ zeros 17 1 ∷ [])) ≡ zeros 17 1 ∷ [] }

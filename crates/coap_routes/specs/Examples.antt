@@ -2,7 +2,7 @@
 use Rattle.std.specs.Prelude.{ℕ, List, [], ◌∷◌, codes, Some, None}
 use Rattle.coap_message.specs.declared.kind.Kind.TheVariants.{Non}
 use Rattle.coap_message.specs.declared.options.Opt.{Opt}
-use Rattle.coap_message.specs.Message.{Message}
+use Rattle.coap_message.specs.Message.{Message, message_of}
 use Rattle.coap_target.specs.declared.endpoint.Endpoint.{Endpoint}
 use Rattle.coap_target.specs.declared.endpoint.Ip.TheVariants.{V4}
 use Rattle.coap_routes.specs.declared.map.Map.{Map}
@@ -17,14 +17,7 @@ use Rattle.url.specs.Parts.{Parts}
 -- a GET with these options
 abbrev pub get : List Opt → Message
 get options =
-    record {
-      kind = Non;
-      code = record { 0 = 1 };
-      id = 7;
-      token = [];
-      options = options;
-      payload = [];
-    }
+    message_of (record { kind = Non; code = record { 0 = 1 }; id = 7 }) [] options []
 
 abbrev pub loopback : ℕ → Endpoint
 loopback port = record { ip = V4 (127 ∷ 0 ∷ 0 ∷ 1 ∷ []); port = port }
