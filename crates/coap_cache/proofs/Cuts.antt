@@ -61,6 +61,7 @@ module _ {X : Type 0} (size : X → ℕ) where
       let next = cut-longest (bytes - size x) (count - 1) xs zs more tail (omega arith) (omega arith) in
       rw (cut-fits bytes count x xs small some) (omega arith)
 
+  -- so it is the longest beginning
   pub cut-is-longest : (bytes count : ℕ) (xs : List X) → IsLongestBeginning size bytes count xs (cut size bytes count xs)
   cut-is-longest bytes count xs =
       let splits = cut-splits bytes count xs in

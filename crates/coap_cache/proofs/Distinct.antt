@@ -18,6 +18,7 @@ all-filter p q (x ∷ xs) all =
     go true first rest = and_from (p x) (list_all p (filter q xs)) first rest
     go false first rest = rest
 
+-- each of those that are cut passes
 all-cut : {X : Type 0} (p : X → Bool) (size : X → ℕ) (bytes count : ℕ) (xs : List X) → list_all p xs ≡ true → list_all p (cut size bytes count xs) ≡ true
 all-cut p size bytes count [] all = refl
 all-cut p size bytes count (x ∷ xs) all =
@@ -37,6 +38,7 @@ all-kept p (x ∷ xs) = go (p x) refl (all-kept p xs)
     go true e rest = and_from (p x) (list_all p (filter p xs)) e rest
     go false e rest = rest
 
+-- what each element passes behind a change, each of those changed passes
 all-map : {X : Type 0} (p q : X → Bool) (f : X → X) (xs : List X) → ((x : X) → p (f x) ≡ q x) → list_all q xs ≡ true → list_all p (map f xs) ≡ true
 all-map p q f [] same all = refl
 all-map p q f (x ∷ xs) same all =
@@ -55,6 +57,7 @@ module _ {X : Type 0} (key : X → CacheKey) where
       go true apart rest = and_from (list_all (has_other_key key (key x)) (filter p xs)) (are_distinct key (filter p xs)) apart rest
       go false apart rest = rest
 
+  -- what is cut of distinct elements is distinct
   pub distinct-cut : (size : X → ℕ) (bytes count : ℕ) (xs : List X) → are_distinct key xs ≡ true → are_distinct key (cut size bytes count xs) ≡ true
   distinct-cut size bytes count [] distinct = refl
   distinct-cut size bytes count (x ∷ xs) distinct =

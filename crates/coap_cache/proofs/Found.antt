@@ -9,7 +9,7 @@ use Rattle.coap_cache.specs.Lists.{has_key, has_other_key, of_key, others, are_d
 use Rattle.coap_cache.proofs.Keys.{same_key-only}
 
 -- a list of which each element passes is kept whole
-filter-all : {X : Type 0} (p : X → Bool) (xs : List X) → list_all p xs ≡ true → filter p xs ≡ xs
+pub filter-all : {X : Type 0} (p : X → Bool) (xs : List X) → list_all p xs ≡ true → filter p xs ≡ xs
 filter-all p [] all = refl
 filter-all p (x ∷ xs) all =
     let parts = and_parts (p x) (list_all p xs) all in
@@ -24,6 +24,7 @@ find-none p (x ∷ xs) le = go (p x) refl (λ rest. find-none p xs rest)
     go true e others = let zero_le : length (x ∷ xs) ≤ 0 = rw e at le in absurd (omega arith)
     go false e others = let rest : length (x ∷ xs) ≤ 1 + position_or_len p xs = rw e at le in others (omega arith)
 
+-- so nothing is found where no place is
 pub position-none : {X : Type 0} (p : X → Bool) (xs : List X) → position p xs ≡ None → find p xs ≡ None
 position-none p xs none = go (nat_lt (position_or_len p xs) (length xs)) refl none
   where
@@ -54,6 +55,7 @@ module _ {X : Type 0} (key : X → CacheKey) (k : CacheKey) where
     pub found : of_key key k xs ≡ Some x
     pub left : remove xs i ≡ others key k xs
 
+  -- the element at the first place of the key is the one that is taken out
   taken : (xs : List X) (i : ℕ) (x : X) → are_distinct key xs ≡ true → i < length xs → x ≡ get_or xs i x → has_key key k x ≡ true → ((j : ℕ) → j < i → has_key key k (get_or xs j x) ≡ false) → IsTaken xs i x
   taken [] i x distinct within at is before = absurd (omega arith)
   taken (y ∷ ys) zero x distinct within at is before =

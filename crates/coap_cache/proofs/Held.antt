@@ -11,7 +11,7 @@ use Rattle.coap_cache.proofs.Cuts.{cut-bytes, cut-count}
 use Rattle.coap_cache.proofs.Distinct.{distinct-filter, distinct-cut, distinct-front, distinct-map, of_key-key}
 
 -- some of the elements count no more than all
-filter-total : {X : Type 0} (size : X → ℕ) (p : X → Bool) (xs : List X) → total size (filter p xs) ≤ total size xs
+pub filter-total : {X : Type 0} (size : X → ℕ) (p : X → Bool) (xs : List X) → total size (filter p xs) ≤ total size xs
 filter-total size p [] = omega arith
 filter-total size p (x ∷ xs) = go (p x) (filter-total size p xs)
   where
@@ -19,7 +19,8 @@ filter-total size p (x ∷ xs) = go (p x) (filter-total size p xs)
     go true rest = omega (arith, sum_by-cons size x xs, sum_by-cons size x (filter p xs))
     go false rest = omega (arith, sum_by-cons size x xs)
 
-filter-length : {X : Type 0} (p : X → Bool) (xs : List X) → length (filter p xs) ≤ length xs
+-- some of the elements are no more than all
+pub filter-length : {X : Type 0} (p : X → Bool) (xs : List X) → length (filter p xs) ≤ length xs
 filter-length p [] = omega arith
 filter-length p (x ∷ xs) = go (p x) (filter-length p xs)
   where
@@ -38,7 +39,8 @@ front-total key size k (y ∷ ys) x found = go (same_key (key y) k) refl (λ f. 
         rw e (omega (arith, ap size same, sum_by-cons size y ys, filter-total size (has_other_key key k) ys))
     go false e rest f = rw e (omega (arith, sum_by-cons size y ys, sum_by-cons size y (others key k ys), rest f))
 
-front-length : {X : Type 0} (key : X → CacheKey) (k : CacheKey) (xs : List X) (x : X) → of_key key k xs ≡ Some x → length (x ∷ others key k xs) ≤ length xs
+-- the element of a key and the others are no more than all
+pub front-length : {X : Type 0} (key : X → CacheKey) (k : CacheKey) (xs : List X) (x : X) → of_key key k xs ≡ Some x → length (x ∷ others key k xs) ≤ length xs
 front-length key k [] x found = absurd cc
 front-length key k (y ∷ ys) x found = go (same_key (key y) k) refl (λ f. front-length key k ys x f) found
   where
@@ -46,23 +48,26 @@ front-length key k (y ∷ ys) x found = go (same_key (key y) k) refl (λ f. fron
     go true e rest f = rw e (omega (arith, filter-length (has_other_key key k) ys))
     go false e rest f = rw e (omega (arith, rest f))
 
-map-total : {X : Type 0} (size : X → ℕ) (f : X → X) (xs : List X) → ((x : X) → size (f x) ≡ size x) → total size (map f xs) ≡ total size xs
+-- a change that keeps the sizes keeps the total
+pub map-total : {X : Type 0} (size : X → ℕ) (f : X → X) (xs : List X) → ((x : X) → size (f x) ≡ size x) → total size (map f xs) ≡ total size xs
 map-total size f [] same = refl
 map-total size f (x ∷ xs) same = omega (arith, same x, sum_by-cons size x xs, sum_by-cons size (f x) (map f xs), map-total size f xs same)
 
-map-length : {X : Type 0} (f : X → X) (xs : List X) → length (map f xs) ≡ length xs
+-- a change keeps how many there are
+pub map-length : {X : Type 0} (f : X → X) (xs : List X) → length (map f xs) ≡ length xs
 map-length f [] = refl
 map-length f (x ∷ xs) = omega (arith, map-length f xs)
 
 -- a mark changes neither key nor size
-marked-key : (target : Target) (entry : Entry) → entry_key (marked target entry) ≡ entry_key entry
+pub marked-key : (target : Target) (entry : Entry) → entry_key (marked target entry) ≡ entry_key entry
 marked-key target entry = go (is_for target entry)
   where
     go : (b : Bool) → entry_key (cond b (entry.0, record entry.1 { marked = true }) entry) ≡ entry_key entry
     go true = refl
     go false = refl
 
-marked-size : (target : Target) (entry : Entry) → entry_size (marked target entry) ≡ entry_size entry
+-- nor does it change the size
+pub marked-size : (target : Target) (entry : Entry) → entry_size (marked target entry) ≡ entry_size entry
 marked-size target entry = go (is_for target entry)
   where
     go : (b : Bool) → entry_size (cond b (entry.0, record entry.1 { marked = true }) entry) ≡ entry_size entry

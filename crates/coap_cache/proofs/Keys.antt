@@ -29,5 +29,6 @@ same_key-only a b e =
     let parts = same_key-parts a b e in
     λ i. record { target = parts.0 i; options = parts.1 i }
 
+-- so comparing keys tells whether they are equal
 pub Tells-key : Tells same_key
 Tells-key = record { only = same_key-only; itself = same_key-itself }

@@ -3,9 +3,11 @@ use Rattle.std.proofs.Common.{◌≡◌, List, sym, subst}
 use Rattle.coap_cache.specs.declared.list_store.ListStore.{ListStore}
 use Rattle.coap_cache.specs.Entries.{Entry, Limits, IsStore}
 
+-- the limits of a store
 abbrev pub limits_of : ListStore → Limits
 limits_of s = record { bytes = s.most_bytes; entries = s.most_entries }
 
+-- it keeps within its limits, and keys are distinct
 pub is_store : (s : ListStore) → IsStore (limits_of s) s.entries.items
 is_store s = record { distinct = s.distinct; within_bytes = s.within_bytes; within_entries = s.within_entries }
 

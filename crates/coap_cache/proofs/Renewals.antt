@@ -40,9 +40,11 @@ module _ (left rest : List Opt) (x : Opt) (next : left ≡ x ∷ rest) where
     pub pushed-safe : is_unsafe x.number ≡ false → more ++ safe_options rest ≡ list ++ safe_options left
     pushed-safe safe = rw (pushed, next, safe) (append_assoc list (x ∷ []) (safe_options rest))
 
+  -- an unsafe option that comes is none of the safe ones
   pub skipped-safe : is_unsafe x.number ≡ true → safe_options rest ≡ safe_options left
   skipped-safe unsafe = rw (next, unsafe) refl
 
+  -- an option below a number is none of those from it on
   pub skipped-from : (number : ℕ) → x.number < number → from number rest ≡ from number left
   skipped-from number less = rw (next, lt-leb number x.number less) refl
 
@@ -50,6 +52,7 @@ module _ (left rest : List Opt) (x : Opt) (next : left ≡ x ∷ rest) where
   pub stops-below : (number before : ℕ) → number ≤ x.number → AreOptions before left → below number left ≡ []
   stops-below number before le are = below-none number x.number left le (from-first before are)
 
+  -- from an option on, all are from a number on that is no greater
   pub stops-from : (number before : ℕ) → number ≤ x.number → AreOptions before left → from number left ≡ left
   stops-from number before le are = from-all number x.number left le (from-first before are)
 
@@ -67,14 +70,18 @@ module _ (newer rest older : List Opt) (x : Opt) (next : newer ≡ x ∷ rest) (
   pub last-before_new : last_number 0 (list ++ below x.number older) ≤ x.number
   last-before_new = rw last_number-append (last-below x.number (last_number 0 list) older (subst (AreOptions (last_number 0 list)) next in_order).0)
 
+  -- the older options from a number on are in order
   pub older-from : AreOptions x.number (from x.number older)
   older-from = AreOptions-above (λ o. nat_le x.number o.number) x.number (last_number 0 list) older (λ o holds. leb-true x.number o.number holds) older_in_order
 
+  -- what stands above a number stands above it from there on too
   pub older-above : above x.number (from x.number older) ≡ above x.number older
   older-above = above-from x.number older
 
+  -- and is in order
   pub older-above-in_order : AreOptions x.number (above x.number older)
   older-above-in_order = subst (AreOptions x.number) older-above (AreOptions-filter (λ o. nat_lt x.number o.number) x.number (from x.number older) older-from)
 
+  -- one newer option more is put in its place
   pub updated-step : list ++ updated newer older ≡ ((list ++ below x.number older) ++ x ∷ []) ++ updated rest (above x.number older)
   updated-step = rw next (sym (append_assoc (list ++ below x.number older) (x ∷ []) (updated rest (above x.number older)) ∙ append_assoc list (below x.number older) (x ∷ updated rest (above x.number older))))

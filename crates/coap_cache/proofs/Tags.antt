@@ -72,6 +72,7 @@ found-first passed (o ∷ os) none =
         let same : count_of 4 (passed ++ o ∷ []) ≡ count_of 4 passed + 0 = rw e at count in
         rw e (still (omega arith))
 
+-- the tag is that of the first ETag
 pub tag_of-first : (os : List Opt) → tag_of os ≡ first_tag os
 tag_of-first os = found-first [] os refl
 

@@ -61,4 +61,4 @@ renewed response valid = record response { options = updated (news_of valid) res
 
 -- A 2.03 validates a stored 2.05: it has the same tag (RFC 7252, 5.10.6.1). Without a tag nothing is validated.
 abbrev pub is_validated : Message → Message → Bool
-is_validated response valid = response.code.0 == 69 && option_map_or (λ tag. option_map_or (same_bytes tag) (tag_of valid.options) false) (tag_of response.options) false
+is_validated response valid = response.code.0 == 69 && valid.code.0 == 67 && option_map_or (λ tag. option_map_or (same_bytes tag) (tag_of valid.options) false) (tag_of response.options) false

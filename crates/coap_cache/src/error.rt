@@ -5,7 +5,7 @@ use thiserror::Error;
 /// Why a stored response isn't renewed. The first that applies, in this order.
 #[derive(Clone, Copy, Debug, PartialEq, Eq, Error)]
 pub enum RenewError {
-    /// It is no 2.05 whose ETag is that of the 2.03.
+    /// It is no 2.05 with a 2.03 of its ETag.
     #[error("the tag isn't that of the stored response")]
     WrongTag,
     /// The allocator had no memory for the renewed response.

@@ -105,6 +105,7 @@ pub fn validated()
     ensures wrong_tag { is_validated tagged (response 2 3 (tag (0xAC ∷ []) ∷ []) []) ≡ false }
     ensures unrecognised_tag { is_validated tagged (response 2 3 (tag (replicate 9 1) ∷ tag (0xAB ∷ []) ∷ []) []) ≡ false }
     ensures without_tags { is_validated plain (response 2 3 [] []) ≡ false }
+    ensures no_valid { is_validated tagged (response 2 5 (tag (0xAB ∷ []) ∷ []) []) ≡ false }
     ensures stored_error { is_validated (response 4 4 (tag (0xAB ∷ []) ∷ []) []) (response 2 3 (tag (0xAB ∷ []) ∷ []) []) ≡ false }
 {}
 

@@ -17,7 +17,8 @@ use std::alloc::Global;
 /// (RFC 7252, 5.9.1.3).
 ///
 /// # Errors
-/// 1. `WrongTag`: it isn't a 2.05, or its ETag isn't that of the 2.03, or one of them has none that is recognised.
+/// 1. `WrongTag`: the stored one isn't a 2.05, or the other isn't a 2.03, or their ETags differ, or one of them has none
+///    that is recognised.
 /// 2. `OutOfMemory`.
 pub fn renewed(
     alloc: Global,
@@ -36,11 +37,11 @@ pub fn renewed(
     }
 }
 
-/// Whether a 2.03 has the ETag of a stored 2.05.
+/// Whether the stored response is a 2.05 and the other a 2.03 with its ETag.
 fn is_validated(response: &Message, valid: &MessageRef<'_>) -> bool
     ensures { result ≡ is_validated response.now valid.now }
 {
-    if response.code != Code::CONTENT {
+    if response.code != Code::CONTENT || valid.code != Code::VALID {
         return false;
     }
     match tag_of(&response.options.lent()) {

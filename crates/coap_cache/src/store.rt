@@ -1,5 +1,5 @@
 //! Stores of responses (RFC 7252, 5.6).
-ghost use Rattle.std.specs.Prelude.{◌≡◌, ◌<◌, ◌≤◌, ◌^◌, [], None, IfOk, IsTrue, IsFalse, List, length, map, count_by, is_some};
+ghost use Rattle.std.specs.Prelude.{◌≡◌, ◌↔◌, ◌<◌, ◌≤◌, ◌^◌, [], None, IfOk, IsTrue, IsFalse, List, length, map, count_by, is_some};
 ghost use Rattle.std.specs.Option.{option_map};
 ghost use Rattle.coap_cache.specs.Entries.{Entry, IsStore, Limits, entry_key, entry_size, has_usable, is_for, marked, stored_for};
 ghost use Rattle.coap_cache.specs.Lists.{of_key, others, put, total, used};
@@ -58,7 +58,8 @@ pub trait Store {
         ensures { option_map (λ stored. stored.now) result ≡ stored_for key.now (entries self.now) };
 
     /// Stores a response in place of the one for its key, as the most recently used. The least recently used ones are
-    /// given up until the rest keeps within both limits. It takes no memory where the key has an entry already.
+    /// given up until the rest keeps within both limits, so that a store of no entries keeps none. It takes no memory
+    /// where the key has an entry already.
     fn put(&mut self, key: CacheKey, stored: Stored) -> Put
         ensures kept { result ≡ Put.Kept → entries self.new ≡ put entry_key entry_size (limits self.old).bytes (limits self.old).entries (key, stored) (entries self.old) }
         ensures kept_fits { result ≡ Put.Kept → size_of key stored ≤ (limits self.old).bytes }
@@ -94,4 +95,11 @@ pub trait Store {
     fn len(&self) -> usize
         ensures length { result ≡ length (entries self.now) }
         ensures valid { IsStore (limits self.now) (entries self.now) };
+
+    /// Whether there is no entry. It takes no memory.
+    fn is_empty(&self) -> bool
+        ensures { IsTrue result ↔ (entries self.now ≡ []) }
+    {
+        self.len() == 0
+    }
 }

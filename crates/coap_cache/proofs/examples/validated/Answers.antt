@@ -19,5 +19,6 @@ returns c = record {
   wrong_tag = refl;
   unrecognised_tag = refl;
   without_tags = refl;
+  no_valid = refl;
   stored_error = refl;
 }
