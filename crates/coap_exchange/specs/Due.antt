@@ -16,7 +16,7 @@ pub data Item : Type 0 where
 
 -- an exchange is due from its opening on, a waiter from the answer on
 abbrev pub due_of : Item → ℕ
-due_of (sending x) = x.1.admitted
+due_of (sending x) = x.1.since
 due_of (serving v a) = a.got
 
 abbrev pub exchange_items : List (Numbered Exchange) → List Item

@@ -71,6 +71,6 @@ pub struct Exchange {
     /// The bytes of the request that is sent on, with the message id 0.
     pub form: Seq<u8>,
     /// The moment at which it was opened, in milliseconds.
-    pub admitted: u64,
+    pub since: u64,
     pub state: ExchangeState,
 }

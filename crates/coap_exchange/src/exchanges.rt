@@ -97,7 +97,7 @@ impl Exchanges {
         ensures ok { OnOk result
             (self.new
             ≡ admitted_to
-            (record { target = target; form = form; admitted = now; state = Queued })
+            (record { target = target; form = form; since = now; state = Queued })
             self.old) }
         ensures full { IfErr result (λ error.
             (error ≡ Full) ↔ (length self.old.items ≡ self.old.limit)) }
@@ -108,7 +108,7 @@ impl Exchanges {
         let exchange = Exchange {
             target,
             form,
-            admitted: now,
+            since: now,
             state: ExchangeState::Queued,
         };
         let number = self.table.admit(exchange)?;
@@ -190,7 +190,7 @@ impl Table<Exchange> {
         for (number, exchange) in self.items.iter() {
             if exchange.state.is_queued() {
                 let due = Due {
-                    at: exchange.admitted,
+                    at: exchange.since,
                     number: *number,
                 };
                 first = Some(due.or_earlier(first));

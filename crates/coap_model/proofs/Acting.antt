@@ -191,7 +191,7 @@ queued-unsent setting history x t (Done a) state e = absurd cc
 
 -- an item of the tables is due by the history
 item-due : (w : World) (history : List Deed) (c : Bears history w) (i : Item) → IsDueOf (IsExchangeOf w.setting history) (IsWaiterOf w.setting history) w.exchanges i → IsDueAt w.setting history (act_of i) (due_of i)
-item-due w history c (sending x) d = let f = d.0 in let o = f.opened in record { opening = o.opening; was_opened = o.was_opened; opens = o.opens; unsent = queued-unsent w.setting history x.0 x.1.target x.1.state f.state d.1; at_is = f.admitted }
+item-due w history c (sending x) d = let f = d.0 in let o = f.opened in record { opening = o.opening; was_opened = o.was_opened; opens = o.opens; unsent = queued-unsent w.setting history x.0 x.1.target x.1.state f.state d.1; at_is = f.since }
 item-due w history c (serving v a) d =
     let g = d.0 in
     let found = answer-holds (IsExchangeOf w.setting history) w.exchanges v.1.exchange a c.exchanges d.1 in
@@ -274,7 +274,7 @@ send-item w history c x at d = ⊎_elim in_table was_served (c.whole.complete x 
         let queued = unsent-queued w.setting history y.0 y.1.target y.1.state f.2.state unsent in
         let o = f.2.opened in
         let place = Opens-unique history o.opening d.opening x o.was_opened d.was_opened (subst (λ (n : ℕ). Opens n o.opening) (sym f.1) o.opens) d.opens in
-        record { item = sending y; there = Has-left (sending y) (exchange_items w.exchanges) (waiter_items w.exchanges w.waiters) (sending-there y w.exchanges f.3 queued); act = ap moves (sym f.1); due = f.2.admitted ∙ ap (λ (p : Place). p.deed.entry.now) place ∙ sym d.at_is }
+        record { item = sending y; there = Has-left (sending y) (exchange_items w.exchanges) (waiter_items w.exchanges w.waiters) (sending-there y w.exchanges f.3 queued); act = ap moves (sym f.1); due = f.2.since ∙ ap (λ (p : Place). p.deed.entry.now) place ∙ sym d.at_is }
 
 -- an exchange is got at one place
 pub got-first : (setting : Setting) (history : List Deed) (x : ℕ) (p : Place) → AllJustified setting history → IsPlaceOf history p → Gets setting x p → Never (Gets setting x) p.before

@@ -36,9 +36,9 @@ state_frame setting history e x target (Done answer) unsent ungot s =
     record { getting = s.getting; was_got = inr s.was_got; gets = s.gets; asked_target = s.asked_target; answer_is = s.answer_is }
 
 -- an exchange comes to another state, which is how far the history brought it
-pub exchange_moved : (setting : Setting) (history : List Deed) (e : Deed) (x : Numbered Exchange) (next : ExchangeState) → IsState setting (e ∷ history) x.0 x.1.target next → IsExchangeOf setting history x → IsExchangeOf setting (e ∷ history) (x.0, record { target = x.1.target; form = x.1.form; admitted = x.1.admitted; state = next })
+pub exchange_moved : (setting : Setting) (history : List Deed) (e : Deed) (x : Numbered Exchange) (next : ExchangeState) → IsState setting (e ∷ history) x.0 x.1.target next → IsExchangeOf setting history x → IsExchangeOf setting (e ∷ history) (x.0, record { target = x.1.target; form = x.1.form; since = x.1.since; state = next })
 exchange_moved setting history e x next state f =
-    record { opened = opened-later e f.opened; admitted = f.admitted; target_is = f.target_is; sound = f.sound; form_is = f.form_is; form_short = f.form_short; state = state }
+    record { opened = opened-later e f.opened; since = f.since; target_is = f.target_is; sound = f.sound; form_is = f.form_is; form_short = f.form_short; state = state }
 
 -- an exchange stays for which nothing is sent or got
 pub exchange_frame : (setting : Setting) (history : List Deed) (e : Deed) (x : Numbered Exchange) → ¬ Sends setting.salt x.0 (here history e) → ¬ Gets setting x.0 (here history e) → IsExchangeOf setting history x → IsExchangeOf setting (e ∷ history) x

@@ -76,7 +76,7 @@ keeps_opening w history c now draw client bytes m t onward fits asks verdict roo
           All-append (IsExchangeOf w.setting (e ∷ history)) w.exchanges (new_exchange w now t ∷ []) (exchanges_frame w.setting history e w.exchanges unsent ungot c.exchanges) (
             record {
               opened = record { opening = here history e; client = client; request = m; was_opened = inl refl; opens = (refl, number); asked = came };
-              admitted = refl;
+              since = refl;
               target_is = may.target_is;
               sound = may.sound;
               form_is = refl;

@@ -69,7 +69,7 @@ IsState setting history x target (Done a) = WasGot setting history x target a
 pub record IsExchangeOf
     (setting : Setting) (history : List Deed) (x : Numbered Exchange) : Type 0 where
   pub opened : WasOpened setting history x.0
-  pub admitted : x.1.admitted ≡ opened.opening.deed.entry.now
+  pub since : x.1.since ≡ opened.opening.deed.entry.now
   pub target_is : mapped_target setting.routes opened.request ≡ Some x.1.target
   pub sound : IsTarget x.1.target
   pub form_is : x.1.form ≡ spelling (forwarded (token_of setting.salt x.0) x.1.target 0)

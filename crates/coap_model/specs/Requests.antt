@@ -35,7 +35,7 @@ next_token w = token_of w.setting.salt (w.opened + 1)
 
 abbrev pub new_exchange : World → ℕ → Target → Numbered Exchange
 new_exchange w now t =
-    (w.opened + 1, record { target = t; form = spelling (forwarded (next_token w) t 0); admitted = now; state = Queued })
+    (w.opened + 1, record { target = t; form = spelling (forwarded (next_token w) t 0); since = now; state = Queued })
 
 abbrev pub new_waiter : World → Endpoint → Message → Numbered Waiter
 new_waiter w client m =
