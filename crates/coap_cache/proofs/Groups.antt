@@ -15,7 +15,7 @@ use Rattle.std.proofs.lemmas.Map.Made.{length-from_same_keys}
 use Rattle.coap_message.specs.SameOptions.{same_options}
 use Rattle.coap_target.specs.declared.target.Target.{Target}
 use Rattle.coap_target.specs.Equality.{same_target}
-use Rattle.coap_routes.proofs.Same.{Tells-target}
+use Rattle.coap_target.proofs.Equality.{Tells-target}
 use Rattle.coap_cache.specs.declared.key.CacheKey.{CacheKey}
 use Rattle.coap_cache.specs.Entries.{Entry, entry_key, is_for, marked}
 use Rattle.coap_cache.specs.Indexing.{Groups, in_group, is_indexed, is_held, marked_by}

@@ -4,7 +4,7 @@ use Rattle.std.specs.HashSet.{contains}
 use Rattle.std.specs.Option.{option_map_or}
 use Rattle.coap_target.specs.declared.target.Target.{Target}
 use Rattle.coap_target.specs.Equality.{same_target}
-use Rattle.coap_routes.proofs.Same.{Tells-target}
+use Rattle.coap_target.proofs.Equality.{Tells-target}
 use Rattle.coap_cache.specs.declared.key.CacheKey.{CacheKey}
 use Rattle.coap_cache.specs.Indexing.{in_group}
 use Rattle.coap_cache.specs.Keys.{same_key}
