@@ -1,5 +1,5 @@
 -- IPv4 addresses as texts: what is read is what the grammar says.
-use Rattle.std.proofs.Common.{◌≡◌, ◌==◌, ℕ, true, false, List, [], ◌∷◌, ◌++◌, length, Option, Some, None, refl, ap, append-nil, ne_eqb, arith, lit≤, ◌<◌, Result, Ok, Err, All, ⊎_elim}
+use Rattle.std.proofs.Common.{◌≡◌, ◌==◌, ℕ, true, false, List, [], ◌∷◌, ◌++◌, length, Option, Some, None, refl, ap, append-nil, ne_eqb, arith, lit≤, ◌<◌, Result, Ok, Err, ⊎_elim}
 use Rattle.std.specs.List.{list_all}
 use Rattle.std.specs.Str.{IsUtf8}
 use Rattle.std.proofs.lemmas.Bool.{cases_Bool}
