@@ -1,6 +1,6 @@
 -- What is derived to compare keys and targets compares them part by part.
 use Rattle.std.proofs.Common.{◌≡◌, rules}
-use Rattle.coap_routes.specs.contracts.target.TargetPartialEq.TheImpl as targets
+use Rattle.coap_target.specs.contracts.target.TargetPartialEq.TheImpl as targets
 use Rattle.coap_target.specs.declared.target.Target.{Target}
 use Rattle.coap_target.specs.Equality.{same_target}
 use Rattle.coap_cache.specs.contracts.key.CacheKeyPartialEq.TheImpl as keys
