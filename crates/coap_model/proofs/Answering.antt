@@ -116,9 +116,9 @@ keeps_answering w history c now draw source bytes m x onward fits read response 
           (λ y g.
           moved-cases (IsExchangeOf w.setting (e ∷ history)) x.0 next y
           (λ same. exchange_moved w.setting history e y next (
-            subst (λ (n : ℕ). IsState w.setting (e ∷ history) n y.1.target next) (sym same) (
-                record { getting = p; was_got = inl refl; gets = gets; asked_target = a.was.asked_target ∙ same_target w history x y f g (sym same); answer_is = refl }
-                )
+          subst (λ (n : ℕ). IsState w.setting (e ∷ history) n y.1.target next) (sym same) (
+          record { getting = p; was_got = inl refl; gets = gets; asked_target = a.was.asked_target ∙ same_target w history x y f g (sym same); answer_is = refl }
+          )
           ) g)
           (λ other. exchange_frame w.setting history e y (unsent y.0) (λ h. other (number y.0 h)) g))
           c.exchanges;

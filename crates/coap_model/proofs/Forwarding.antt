@@ -76,18 +76,18 @@ keeps_forwarding w history c now draw x onward due =
           (λ y g.
           moved-cases (IsExchangeOf w.setting (e ∷ history)) x.0 next y
           (λ same. exchange_moved w.setting history e y next (
-            subst (λ (n : ℕ). IsState w.setting (e ∷ history) n y.1.target next) (sym same) (
-              record {
-                asking = p;
-                was_asked = inl refl;
-                asks = record { sends = first_is; first = state.0 };
-                asked_target = target_sent-forwarded (token_of salt x.0) x.1.target id ∙ same_target w history x y f g (sym same);
-                to = ap (λ (t : Target). t.at) (same_target w history x y f g (sym same));
-                id_is = refl;
-                number = c.clock.events;
-              },
-              (ungot x.0, state.1),
-            )
+          subst (λ (n : ℕ). IsState w.setting (e ∷ history) n y.1.target next) (sym same) (
+            record {
+              asking = p;
+              was_asked = inl refl;
+              asks = record { sends = first_is; first = state.0 };
+              asked_target = target_sent-forwarded (token_of salt x.0) x.1.target id ∙ same_target w history x y f g (sym same);
+              to = ap (λ (t : Target). t.at) (same_target w history x y f g (sym same));
+              id_is = refl;
+              number = c.clock.events;
+            },
+            (ungot x.0, state.1),
+          )
           ) g)
           (λ other. exchange_frame w.setting history e y (λ s. other (number y.0 s)) (ungot y.0) g))
           c.exchanges;

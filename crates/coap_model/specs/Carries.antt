@@ -55,7 +55,7 @@ pub record WasGot
   pub gets : Gets setting x getting
   pub asked_target : target_sent gets.meets.asks.sends.to gets.meets.asks.sends.message ≡ target
   pub answer_is :
-    answer ≡ answer_of setting.limits.datagram getting.deed.entry.now gets.meets.response
+      answer ≡ answer_of setting.limits.datagram getting.deed.entry.now gets.meets.response
 
 -- the state is how far the history brought the exchange
 abbrev pub IsState : Setting → List Deed → ℕ → Target → ExchangeState → Type 0
@@ -107,7 +107,7 @@ pub record AreWhole (history : List Deed) (w : World) : Type 0 where
   pub rising : IsRising 0 w.exchanges
   pub paired : ArePaired w.exchanges w.waiters
   pub complete :
-    (n : ℕ) → 0 < n → n ≤ opened_in history → HasNumber n w.exchanges ⊎ Somewhere (Serves n) history
+      (n : ℕ) → 0 < n → n ≤ opened_in history → HasNumber n w.exchanges ⊎ Somewhere (Serves n) history
   pub under_way : length w.exchanges + served_in history ≡ opened_in history
   pub unsent : count_where is_queued w.exchanges + sent_in history ≡ opened_in history
 

@@ -143,7 +143,7 @@ pub record IsDelivery (setting : Setting) (past : List Deed) (d : Deed) : Type 0
   pub asked_target : target_sent gets.meets.asks.sends.to gets.meets.asks.sends.message ≡ target
   pub acting : IsActing setting past d
   pub tells :
-    Tells opened.client
+      Tells opened.client
       (shown d.entry.now (answer_of setting.limits.datagram getting.deed.entry.now gets.meets.response) id opened.request.token) d.entry
 
 -- ---- what isn't processed
@@ -158,7 +158,7 @@ pub record IsAwaited
 -- exchange awaits.
 pub record IsUnprocessable (setting : Setting) (past : List Deed) (event : Event) : Type 0 where
   pub no_request :
-    (client : Endpoint) (request : Message) → ¬ IsRequestOf setting client request event
+      (client : Endpoint) (request : Message) → ¬ IsRequestOf setting client request event
   pub no_answer : (exchange : ℕ) → ¬ IsAwaited setting past exchange event
 
 -- a Reset of a confirmable datagram that can't be processed, with its id
@@ -219,7 +219,7 @@ AllJustified setting (d ∷ past) =
 pub record MayFollow (setting : Setting) (past : List Deed) (d : Deed) : Type 0 where
   pub justified : JustifiedBy d.entry.report.outcome setting past d
   pub id :
-    gives_id d.entry.report.outcome ≡ 1 → Gives ((setting.first_id + ids_in past) % 65536) d.entry
+      gives_id d.entry.report.outcome ≡ 1 → Gives ((setting.first_id + ids_in past) % 65536) d.entry
 
 -- two entries of one event, at one moment and with one draw
 pub record AreOfOneTurn (d e : Entry) : Type 0 where

@@ -49,7 +49,7 @@ AreLimits limits = (limit : Limit) → MayBe limit (value_of limits limit)
 abbrev pub is_out : Limits → Limit → Bool
 is_out l limit =
     not
-      (nat_le (range_of limit).0 (value_of l limit) && nat_le (value_of l limit) (range_of limit).1)
+    (nat_le (range_of limit).0 (value_of l limit) && nat_le (value_of l limit) (range_of limit).1)
 
 -- in the order in which they are checked
 abbrev pub all_limits : List Limit

@@ -110,15 +110,16 @@ verdict_of_target most (Some t) =
     then may_open t
     else refused_with REQUEST_ENTITY_TOO_LARGE
 
+abbrev pub verdict_of_options : Routes → ℕ → Message → Verdict
+verdict_of_options routes most m =
+    if list_all is_path_option m.options
+    then verdict_of_target most (mapped_target routes m)
+    else refused_with BAD_OPTION
+
 -- the method, the options, the target, the length: the first that is at fault decides
 unfoldable pub verdict_of : Routes → ℕ → Message → Verdict
 verdict_of routes most m =
-    if is_code m.code GET
-    then (
-        if list_all is_path_option m.options
-        then verdict_of_target most (mapped_target routes m)
-        else refused_with BAD_OPTION)
-    else refused_with METHOD_NOT_ALLOWED
+    if is_code m.code GET then verdict_of_options routes most m else refused_with METHOD_NOT_ALLOWED
 
 -- ---- answers
 

@@ -21,13 +21,13 @@ lacks_id w now = silent NoId (later w now)
 abbrev pub refuses : World → ℕ → Endpoint → Message → Code → Step
 refuses w now client m code =
     says (Refused code) client (own_reply code [] (next_id w) m.token)
-      (record (later w now) { given = w.given + 1 })
+    (record (later w now) { given = w.given + 1 })
 
 -- there is no room for the client: try again later
 abbrev pub overloads : World → ℕ → Endpoint → Message → Step
 overloads w now client m =
     says Overloaded client (busy_reply w.setting.limits.retry_s (next_id w) m.token)
-      (record (later w now) { given = w.given + 1 })
+    (record (later w now) { given = w.given + 1 })
 
 -- the token of the request of the exchange that is opened next
 abbrev pub next_token : World → List ℕ
@@ -51,13 +51,15 @@ opens w now client m t =
       admitted = w.admitted + 1;
     })
 
+-- there is no room for what could be opened
+abbrev pub turns_away : World → ℕ → Endpoint → Message → Step
+turns_away w now client m = if has_ids 1 w then overloads w now client m else lacks_id w now
+
 abbrev pub on_verdict : World → ℕ → Endpoint → Message → Verdict → Step
 on_verdict w now client m (refused_with code) =
     if has_ids 1 w then refuses w now client m code else lacks_id w now
 on_verdict w now client m (may_open t) =
-    if has_room w
-    then opens w now client m t
-    else (if has_ids 1 w then overloads w now client m else lacks_id w now)
+    if has_room w then opens w now client m t else turns_away w now client m
 
 abbrev pub on_request : World → ℕ → Endpoint → Message → Step
 on_request w now client m =

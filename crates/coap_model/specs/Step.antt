@@ -23,15 +23,18 @@ rejects w now source id = says Rejected source (reset id) (later w now)
 abbrev pub unprocessed : World → ℕ → Endpoint → Kind → ℕ → Step
 unprocessed w now source kind id = if is_con kind then rejects w now source id else ignores w now
 
+abbrev pub on_no_request : World → ℕ → Endpoint → Message → Step
+on_no_request w now source m =
+    if is_ack m.kind && is_response m.code
+    then on_response w now source m
+    else unprocessed w now source m.kind m.id
+
 -- Non-confirmable requests, and responses in acknowledgements, are what is processed so far.
 abbrev pub on_message : World → ℕ → Endpoint → Message → Step
 on_message w now source m =
     if is_non m.kind && is_request m.code
     then on_request w now source m
-    else (
-        if is_ack m.kind && is_response m.code
-        then on_response w now source m
-        else unprocessed w now source m.kind m.id)
+    else on_no_request w now source m
 
 -- the message that a datagram spells, if it isn't too long
 unfoldable pub message_in : ℕ → List ℕ → Option Message

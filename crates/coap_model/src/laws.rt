@@ -61,8 +61,7 @@ pub fn examples_at_limits()
     ensures one_exchange { play one_exchange until_served ≡ until_served_sent }
     ensures one_waiter { play one_waiter until_served ≡ until_served_sent }
     ensures at_once { play (retries_after 0) two_requests ≡ second_is_told (0xD0 ∷ 1 ∷ []) }
-    ensures in_an_hour {
-        play (retries_after 3600) two_requests ≡ second_is_told (0xD2 ∷ 1 ∷ 0x0E ∷ 0x10 ∷ []) }
+    ensures in_an_hour { play (retries_after 3600) two_requests ≡ second_is_told (0xD2 ∷ 1 ∷ 0x0E ∷ 0x10 ∷ []) }
     ensures long_datagrams { play narrow long_datagrams ≡ long_datagrams_sent }
     ensures counted_on { play later_proxy counted_on ≡ counted_on_sent }
     ensures last_refusal { play (after_ids 32767) last_refusal ≡ last_refusal_sent }
@@ -91,18 +90,17 @@ pub fn examples_at_edges()
     ensures held_when_opened { held (after proxy (asks_at 0 1 ∷ [])) ≡ 22 }
     ensures held_with_token { held (after proxy (from 0 (client 1) (with_token 0x74) ∷ [])) ≡ 24 }
     ensures held_with_host { target_bytes named ≡ 11 }
-    ensures held_when_answered {
-        held (after proxy (asks_at 0 1 ∷ tick_at 0 ∷ from 0 origin (got 1 1) ∷ [])) ≡ 27 }
+    ensures held_when_answered { held (after proxy (asks_at 0 1 ∷ tick_at 0 ∷ from 0 origin (got 1 1) ∷ [])) ≡ 27 }
     ensures bound { most_held default_limits ≡ 16998400 }
     ensures counted { counts (after proxy (asks_at 0 1 ∷ asks_at 0 2 ∷ []))
         ≡ record {
-            cached_bytes = 0;
-            entries = 0;
-            con_records = 0;
-            non_records = 0;
-            exchanges = 2;
-            waiters = 2;
-          } }
+          cached_bytes = 0;
+          entries = 0;
+          con_records = 0;
+          non_records = 0;
+          exchanges = 2;
+          waiters = 2;
+        } }
     ensures none_due { next_due proxy ≡ None }
     ensures due_at_opening { next_due (after proxy (asks_at 5 1 ∷ [])) ≡ Some 5 }
 {}
@@ -134,19 +132,17 @@ pub fn ticks_are_idle_where_nothing_is_due()
 
 /// Deliveries that are right but for one thing are not justified.
 pub fn forged_deliveries_are_refused()
-    ensures for_nobody {
-        ¬ IsDelivery forged.setting forged.past (delivery (client 1) (content_for_client 7) no_item)
-    }
+    ensures for_nobody { ¬ IsDelivery forged.setting forged.past (delivery (client 1) (content_for_client 7) no_item) }
     ensures for_another { ¬ IsDelivery forged.setting forged.past
-          (delivery (client 1) (content_for_client 7) (serves 2)) }
+        (delivery (client 1) (content_for_client 7) (serves 2)) }
     ensures again { ¬ IsDelivery forged.setting (right ∷ forged.past) right }
     ensures nothing_got { ¬ IsDelivery forged.setting (asked ∷ forged.opened ∷ []) right }
     ensures to_another { ¬ IsDelivery forged.setting forged.past
-          (delivery (client 2) (content_for_client 7) (serves 1)) }
+        (delivery (client 2) (content_for_client 7) (serves 1)) }
     ensures untimely { ¬ IsDelivery forged.setting forged.past (at_an_arrival right) }
     ensures out_of_turn { ¬ IsDelivery forged.setting (forged.opened ∷ forged.past) right }
     ensures another_age { ¬ IsDelivery forged.setting forged.past
-          (delivery (client 1) (content_for_client 10) (serves 1)) }
+        (delivery (client 1) (content_for_client 10) (serves 1)) }
 {}
 
 /// Each step of a proxy that carries a history leaves a proxy that carries the history with the
@@ -157,13 +153,12 @@ pub fn steps_are_carried()
         → w.last ≤ now
         → IsEvent event
         → Carries (entry_of now draw event (step_of w now draw event) ∷ history)
-            (step_of w now draw event).world }
+        (step_of w now draw event).world }
 {}
 
 /// A proxy that has done nothing carries the empty history.
 pub fn new_proxies_carry_nothing()
-    ensures carried {
-        (setting : Setting) → AreRoutes setting.routes → Carries [] (new_world setting) }
+    ensures carried { (setting : Setting) → AreRoutes setting.routes → Carries [] (new_world setting) }
 {}
 
 /// No step changes the limits, the routes, the first message id and the salt, where datagrams are
@@ -186,8 +181,7 @@ pub fn what_is_carried_is_promised()
 /// confirmable datagram is rejected where it isn't processed, which is always so far; and a tick at
 /// which something is due does what is due first.
 pub fn what_is_owed_is_given()
-    ensures opened {
-        (setting : Setting) (past : List Deed) (d : Deed) (client : Endpoint) (request : Message)
+    ensures opened { (setting : Setting) (past : List Deed) (d : Deed) (client : Endpoint) (request : Message)
         (target : Target)
         → JustifiedBy d.entry.report.outcome setting past d
         → IsRequestOf setting client request d.entry.event
@@ -198,8 +192,7 @@ pub fn what_is_owed_is_given()
         → JustifiedBy d.entry.report.outcome setting past d
         → IsAwaited setting past exchange d.entry.event
         → d.entry.report.outcome ≡ Answered NotStored }
-    ensures rejected {
-        (setting : Setting) (past : List Deed) (d : Deed) (source : Endpoint) (bytes : List ℕ)
+    ensures rejected { (setting : Setting) (past : List Deed) (d : Deed) (source : Endpoint) (bytes : List ℕ)
         (head : Head)
         → JustifiedBy d.entry.report.outcome setting past d
         → d.entry.event ≡ arrival source bytes
