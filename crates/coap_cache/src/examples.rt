@@ -47,6 +47,7 @@ pub fn counted()
     ensures tagged_again { size_of temp (kept tagged_again) ≡ 77 }
     ensures host { size_of sensor (kept (response 2 5 [] (codes "1"))) ≡ 77 }
     ensures empty { size_of (key_at [] []) (kept (response 2 5 [] [])) ≡ 64 }
+    ensures query { size_of (record temp { target = record (at (codes "temp" ∷ [])) { query = codes "u=C" ∷ [] } }) (kept plain) ≡ 77 }
     ensures key_options { size_of (accepting 1).0 (kept plain) ≡ 75 }
     ensures empty_options { size_of temp (kept (response 2 5 (replicate 9 (tag [])) [])) ≡ 78 }
 {}
@@ -54,6 +55,7 @@ pub fn counted()
 /// What stores keep of elements of 80, 90 and 100 bytes.
 pub fn cut_to_size()
     ensures grown { put_within 300 1024 (z 230) three ≡ z 230 ∷ [] }
+    ensures replaced { put_within 300 1024 (z 20) three ≡ z 20 ∷ x ∷ y ∷ [] }
     ensures shrunk { put_within 300 1024 (z 200) three ≡ z 200 ∷ x ∷ [] }
     ensures exact { put_within 370 1024 (z 200) three ≡ z 200 ∷ x ∷ y ∷ [] }
     ensures one_byte_less { put_within 369 1024 (z 200) three ≡ z 200 ∷ x ∷ [] }
@@ -95,6 +97,7 @@ pub fn validated()
     ensures two_kinds { renewed tagged_again (response 2 3 (tag (0xAB ∷ []) ∷ format 42 ∷ max_age 0 ∷ option_of 60 (7 ∷ []) ∷ []) []) ≡ response 2 5 (tag (0xAB ∷ []) ∷ format 42 ∷ option_of 14 [] ∷ option_of 60 (7 ∷ []) ∷ []) (codes "21") }
     ensures nothing_new { renewed tagged_again (response 2 3 (tag (0xAB ∷ []) ∷ []) []) ≡ tagged_again }
     ensures many_of_a_kind { renewed (response 2 5 (option_of 8 (1 ∷ []) ∷ option_of 20 (2 ∷ []) ∷ []) []) (response 2 3 (option_of 8 (3 ∷ []) ∷ option_of 8 (4 ∷ []) ∷ max_age 9 ∷ []) []) ≡ response 2 5 (option_of 8 (3 ∷ []) ∷ option_of 8 (4 ∷ []) ∷ max_age 9 ∷ option_of 20 (2 ∷ []) ∷ []) [] }
+    ensures nothing_unsafe { renewed tagged_again (response 2 3 (tag (0xAB ∷ []) ∷ option_of 18 (7 ∷ []) ∷ []) []) ≡ tagged_again }
     ensures leading_zeros { renewed plain (response 2 3 (option_of 14 (0 ∷ 9 ∷ []) ∷ []) []) ≡ response 2 5 (max_age 9 ∷ []) (codes "21") }
     ensures the_tag { tag_of tagged.options ≡ Some (0xAB ∷ []) }
     ensures other_tag { tag_of (tag (0xAC ∷ []) ∷ []) ≡ Some (0xAC ∷ []) }

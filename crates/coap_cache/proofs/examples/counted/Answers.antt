@@ -8,6 +8,7 @@ returns c = record {
   tagged_again = refl;
   host = refl;
   empty = refl;
+  query = refl;
   key_options = refl;
   empty_options = refl;
 }

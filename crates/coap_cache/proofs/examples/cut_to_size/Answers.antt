@@ -4,6 +4,7 @@ use Rattle.coap_cache.proofs.examples.cut_to_size.Goals as goal
 pub returns : goal.returns
 returns c = record {
   grown = refl;
+  replaced = refl;
   shrunk = refl;
   exact = refl;
   one_byte_less = refl;

@@ -9,6 +9,7 @@ returns c = record {
   two_kinds = refl;
   nothing_new = refl;
   many_of_a_kind = refl;
+  nothing_unsafe = refl;
   leading_zeros = refl;
   the_tag = refl;
   other_tag = refl;
