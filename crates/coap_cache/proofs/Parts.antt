@@ -11,7 +11,8 @@ use Rattle.coap_cache.specs.declared.show.Part.{Part}
 use Rattle.coap_cache.specs.declared.show.Part.TheVariants.{Before, Behind}
 use Rattle.coap_cache.specs.Renewing.{max_age_option, with_max_age}
 use Rattle.coap_cache.specs.Writing.{floor_of, is_in, part_of}
-use Rattle.coap_cache.proofs.Picked.{AreOptions-above, last-below, options_spelling-append}
+use Rattle.coap_message.proofs.OptionSpellings.{options_spelling-append}
+use Rattle.coap_cache.proofs.Picked.{AreOptions-above, last-below}
 
 -- the options of a part are in order behind what may stand before it
 pub AreOptions-part : (part : Part) (before : ℕ) (os : List Opt) → before ≤ floor_of part → AreOptions 0 os → AreOptions before (part_of part os)

@@ -6,12 +6,6 @@ use Rattle.coap_message.specs.Options.{AreOptions, last_number}
 use Rattle.coap_message.specs.Spelling.{option_spelling, options_spelling}
 use Rattle.coap_cache.specs.Renewing.{above, below, from}
 
--- options in two parts are spelled one part behind the other
-pub options_spelling-append : (before : ℕ) (xs ys : List Opt) → options_spelling before (xs ++ ys) ≡ options_spelling before xs ++ options_spelling (last_number before xs) ys
-options_spelling-append before [] ys = refl
-options_spelling-append before (x ∷ xs) ys =
-    ap (λ (l : List ℕ). option_spelling before x ++ l) (options_spelling-append x.number xs ys) ∙ sym (append_assoc (option_spelling before x) (options_spelling x.number xs) (options_spelling (last_number x.number xs) ys))
-
 -- options in order are so behind any lower number
 pub AreOptions-weaken : (before least : ℕ) (os : List Opt) → before ≤ least → AreOptions least os → AreOptions before os
 AreOptions-weaken before least [] le are = tt

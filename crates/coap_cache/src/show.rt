@@ -5,7 +5,9 @@ ghost use Rattle.coap_message.specs.Options.{last_number, option_of};
 ghost use Rattle.coap_message.specs.Spelling.{options_spelling, spelling};
 ghost use Rattle.coap_cache.specs.Renewing.{max_age_option, with_max_age};
 ghost use Rattle.coap_cache.specs.Showing.{addressed, shown, tells_age, told};
-ghost use Rattle.coap_cache.specs.Writing.{floor_of, is_in, message_of, part_of, unit_of};
+ghost use Rattle.coap_message.specs.Message.{message_of};
+ghost use Rattle.coap_message.specs.Datagram.{unit_of};
+ghost use Rattle.coap_cache.specs.Writing.{floor_of, is_in, part_of};
 
 use crate::tag::held_tag;
 use coap_message::{

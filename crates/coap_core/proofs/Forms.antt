@@ -12,6 +12,8 @@ use Rattle.coap_message.specs.Spelling.{head_spelling, option_spelling, options_
 use Rattle.coap_message.proofs.Appending.{Appends-full, Appends-behind}
 use Rattle.coap_target.specs.declared.target.Target.{Target}
 use Rattle.coap_message.specs.Options.{option_of}
+use Rattle.coap_message.proofs.OptionSpellings.{options_spelling-append}
+use Rattle.coap_message.proofs.Counting.{last_number-append}
 use Rattle.coap_model.specs.Messages.{host_options, target_options, forwarded}
 
 -- after a write there is the same room, and no more than that is held
@@ -25,17 +27,6 @@ written old new room bytes within a = record {
   room = omega (arith, within, ap (λ (d : Datagram). d.room) a.0);
   held = omega (arith, ap (λ (d : Datagram). length d.bytes) a.0, length-append old.bytes bytes, a.1);
 }
-
--- options in two parts are spelled one part behind the other
-options_spelling-append : (before : ℕ) (xs ys : List Opt) → options_spelling before (xs ++ ys) ≡ options_spelling before xs ++ options_spelling (last_number before xs) ys
-options_spelling-append before [] ys = refl
-options_spelling-append before (x ∷ xs) ys =
-    ap (λ (l : List ℕ). option_spelling before x ++ l) (options_spelling-append x.number xs ys) ∙ sym (append_assoc (option_spelling before x) (options_spelling x.number xs) (options_spelling (last_number x.number xs) ys))
-
--- the last number of two parts
-last_number-append : (before : ℕ) (xs ys : List Opt) → last_number before (xs ++ ys) ≡ last_number (last_number before xs) ys
-last_number-append before [] ys = refl
-last_number-append before (x ∷ xs) ys = last_number-append x.number xs ys
 
 -- values in two parts are spelled one part behind the other
 pub values-parts : (before number : ℕ) (xs ys : List (List ℕ)) → options_spelling before (map (option_of number) xs) ++ options_spelling (last_number before (map (option_of number) xs)) (map (option_of number) ys) ≡ options_spelling before (map (option_of number) (xs ++ ys))

@@ -1,4 +1,3 @@
 pub mod Events
 pub mod Steps
-pub mod Writing
 pub mod WorldView

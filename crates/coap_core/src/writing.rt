@@ -2,14 +2,14 @@
 //! memory.
 ghost use Rattle.std.specs.Prelude.{◌≡◌, ◌≤◌, ◌<◌, ◌∷◌, ◌^◌, [], true, length, map, IfOk, IfSome};
 ghost use Rattle.std.specs.List.{AllByRecursion};
-ghost use Rattle.coap_message.specs.Datagram.{Appends, holding};
+ghost use Rattle.coap_message.specs.Datagram.{Appends, holding, unit_of};
+ghost use Rattle.coap_message.specs.Message.{message_of};
 ghost use Rattle.coap_message.specs.Options.{last_number, option_of};
 ghost use Rattle.coap_message.specs.Spelling.{spelling, options_spelling};
 ghost use Rattle.coap_target.specs.Target.{IsTarget, IsShort};
 ghost use Rattle.coap_routes.specs.MappedTarget.{seen};
 ghost use Rattle.coap_model.specs.Messages.{max_age_option, host_options, target_options, forwarded, are_understood, shown};
 ghost use Rattle.coap_model.specs.Ticks.{with_id};
-ghost use Rattle.coap_core.specs.Writing.{message_of, unit_of};
 
 use crate::answers::{carries_max_age, left_of};
 use coap_exchange::Answer;

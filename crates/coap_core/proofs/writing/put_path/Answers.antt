@@ -8,7 +8,7 @@ use Rattle.coap_message.proofs.Appending.{Appends-full, Appends-behind}
 use Rattle.coap_target.specs.Target.{IsShort}
 use Rattle.coap_target.proofs.Lists.{All-parts}
 use Rattle.coap_core.proofs.Forms.{IsWritten, written, values-parts, last-parts, last-values}
-use Rattle.coap_core.specs.Writing.{unit_of}
+use Rattle.coap_message.specs.Datagram.{unit_of}
 use Rattle.coap_core.proofs.writing.put_path.Goals as goal
 
 pub returns-in_err-last-clause-written : goal.returns-in_err-last-clause-written
