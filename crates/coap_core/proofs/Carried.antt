@@ -4,16 +4,14 @@ use Rattle.std.specs.Prelude.{◌&&◌, not, IfOk, OnErr}
 use Rattle.std.proofs.lemmas.Bool.{and_parts}
 use Rattle.coap_message.specs.Message.{Message}
 use Rattle.coap_exchange.specs.declared.exchange.Answer.{Answer}
-use Rattle.coap_exchange.specs.declared.exchange.Exchange.{Exchange}
 use Rattle.coap_exchange.specs.declared.exchange.ExchangeState.{ExchangeState}
 use Rattle.coap_exchange.specs.declared.exchange.ExchangeState.TheVariants.{Queued, Sent, Done}
-use Rattle.coap_exchange.specs.declared.waiter.Waiter.{Waiter}
-use Rattle.coap_exchange.specs.Table.{Numbered, IsRising}
-use Rattle.coap_target.specs.declared.target.Target.{Target}
+use Rattle.coap_cache.specs.declared.key.CacheKey.{CacheKey}
 use Rattle.coap_target.proofs.Lists.{All-weaken}
 use Rattle.coap_message.specs.declared.code.TheConstants.Code.{VALID}
 use Rattle.coap_message.specs.Codes.{is_code}
-use Rattle.coap_model.specs.Messages.{are_understood, is_passed_on, fits, bad_gateway, answer_of}
+use Rattle.coap_model.specs.Answers.{are_understood, is_passed_on, fits, bad_gateway, answer_of}
+use Rattle.coap_model.specs.Forms.{request_key}
 use Rattle.coap_model.specs.Setting.{Setting}
 use Rattle.coap_message.specs.declared.error.OutOfMemory.{OutOfMemory}
 use Rattle.coap_message.specs.Datagram.{Datagram, holding}
@@ -23,7 +21,7 @@ use Rattle.coap_model.specs.Events.{Event, IsEvent}
 use Rattle.coap_model.specs.Step.{step_of}
 use Rattle.coap_model.specs.History.{Entry, Deed}
 use Rattle.coap_model.specs.Runs.{entry_of}
-use Rattle.coap_model.specs.Carries.{IsState, IsExchangeOf, ArePaired, Carries}
+use Rattle.coap_model.specs.Carries.{IsState, IsExchangeOf, Carries}
 use Rattle.coap_model.proofs.Acting.{rising-paired}
 use Rattle.coap_model.proofs.Carrying.{keeps_step}
 use Rattle.coap_model.proofs.Frames.{opened-few}
@@ -40,10 +38,10 @@ answer-shown most now m = go (is_passed_on most m) refl
     go false e = refl
 
 -- what an exchange was got as can be shown
-state-shown : (setting : Setting) (history : List Deed) (x : ℕ) (t : Target) (s : ExchangeState) → IsState setting history x t s → IsUnderstood s
-state-shown setting history x t Queued is = tt
-state-shown setting history x t (Sent s) is = tt
-state-shown setting history x t (Done a) is = subst (λ (b : Answer). are_understood b.message.options ≡ true) (sym is.answer_is) (answer-shown setting.limits.datagram is.getting.deed.entry.now is.gets.meets.response)
+state-shown : (setting : Setting) (history : List Deed) (x : ℕ) (k : CacheKey) (s : ExchangeState) → IsState setting history x k s → IsUnderstood s
+state-shown setting history x k Queued is = tt
+state-shown setting history x k (Sent s) is = tt
+state-shown setting history x k (Done a) is = subst (λ (b : Answer). are_understood b.message.options ≡ true) (sym is.answer_is) (answer-shown setting.limits.datagram is.getting.deed.entry.now is.gets.meets.response)
 
 -- what is carried is what a step needs
 pub can_go_on : (history : List Entry) (w : World) → Carries history w → w.events < 2 ^ 63 → CanGoOn w
@@ -51,13 +49,14 @@ can_go_on history w c few =
     let b = c.bears in
     let opened = opened-few c.deeds w b in
     record {
+      routes = b.routes;
       exchanges = b.whole.rising;
       waiters = rising-paired 0 w.exchanges w.waiters b.whole.rising b.whole.paired;
       events = few;
       opened = omega (arith, opened, b.numbers.opened);
       admitted = omega (arith, opened, b.numbers.admitted);
       ids = b.within.ids;
-      answers = All-weaken (IsExchangeOf w.setting c.deeds) (λ x. IsUnderstood x.1.state) w.exchanges (λ x f. state-shown w.setting c.deeds x.0 x.1.target x.1.state f.state) b.exchanges;
+      answers = All-weaken (IsExchangeOf w.setting c.deeds) (λ x. IsUnderstood x.1.state) w.exchanges (λ x f. state-shown w.setting c.deeds x.0 (request_key x.1.target f.opened.request) x.1.state f.state) b.exchanges;
     }
 
 -- ---- what the step in code leaves

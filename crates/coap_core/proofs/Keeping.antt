@@ -6,7 +6,7 @@ use Rattle.coap_exchange.specs.declared.exchange.Exchange.{Exchange}
 use Rattle.coap_exchange.specs.Due.{answer_in}
 use Rattle.coap_exchange.specs.Exchanges.{is_queued, count_where}
 use Rattle.coap_exchange.specs.Table.{Numbered, item_at}
-use Rattle.coap_model.specs.Messages.{are_understood}
+use Rattle.coap_model.specs.Answers.{are_understood}
 use Rattle.coap_model.specs.World.{World}
 use Rattle.coap_model.proofs.Tables.{answer-holds}
 use Rattle.coap_core.specs.Steps.{IsUnderstood, CanGoOn}

@@ -1,9 +1,8 @@
 -- A datagram in which a message is read: its head is that of the message.
-use Rattle.std.proofs.Common.{◌≡◌, ℕ, leb, cond, Bool, true, false, List, length, Option, Some, None, Result, Ok, Err, refl, sym, ap, ◌∙◌}
+use Rattle.std.proofs.Common.{◌≡◌, ℕ, leb, cond, Bool, true, false, List, length, Some, None, Result, Ok, Err, refl, ◌∙◌}
 use Rattle.std.specs.Result.{result_ok}
 use Rattle.std.proofs.lemmas.Option.{same_Some}
 use Rattle.coap_message.specs.declared.error.ReadError.{ReadError}
-use Rattle.coap_message.specs.declared.message.Head.{Head}
 use Rattle.coap_message.specs.Message.{Message}
 use Rattle.coap_message.specs.Reading.{read_message, head_at}
 use Rattle.coap_message.proofs.WholeMessages.{head_read}

@@ -1,10 +1,18 @@
 -- How many bytes messages take.
-use Rattle.std.proofs.Common.{◌≡◌, ℕ, ◌+◌, ◌-◌, Bool, true, false, cond, eqb, leb, ltb, List, [], ◌∷◌, length, refl, sym, ap, arith}
-use Rattle.std.proofs.lemmas.Bool.{eqb-true, leb-true, leb-false, lt-ltb, le-ltb}
+use Rattle.std.proofs.Common.{◌≡◌, ℕ, ◌+◌, ◌-◌, Bool, true, false, cond, eqb, leb, ltb, List, [], ◌∷◌, length, Result, Ok, Err, refl, sym, ap, arith}
+use Rattle.std.specs.Result.{is_ok}
+use Rattle.std.proofs.lemmas.Bool.{eqb-true, leb-true, leb-false, le-leb, lt-leb, lt-ltb, le-ltb}
+use Rattle.coap_message.specs.declared.error.Full.{Full}
+use Rattle.coap_message.specs.declared.options.Opt.{Opt}
+use Rattle.coap_message.specs.Datagram.{Datagram, Appends, holding}
 use Rattle.coap_message.specs.Message.{Message}
 use Rattle.coap_message.specs.Spelling.{spelling, payload_length}
 use Rattle.coap_message.proofs.Spellings.{spelling-length}
-use Rattle.coap_model.specs.Messages.{widest, fits}
+use Rattle.coap_target.specs.declared.target.Target.{Target}
+use Rattle.coap_model.specs.Messages.{eight_zeros}
+use Rattle.coap_model.specs.Forms.{forwarded}
+use Rattle.coap_model.specs.Answers.{widest, fits}
+use Rattle.coap_model.proofs.Verdicts.{form-length}
 
 -- eighteen bytes stand beside the payload of the widest form, and its marker
 width : (m : Message) → length (spelling (widest m)) ≡ 18 + payload_length m.payload
@@ -31,3 +39,8 @@ fits-payload most m some = go (leb (length (spelling (widest m))) most) refl
     go : (b : Bool) → leb (length (spelling (widest m))) most ≡ b → ltb (length m.payload) (most - 18) ≡ b
     go true e = lt-ltb _ _ (omega (arith, leb-true _ _ e, beside m false some))
     go false e = le-ltb _ _ (omega (arith, leb-false _ _ e, beside m false some))
+
+-- a form fits with any token of eight bytes where it does with zeros
+pub form-fits : (old new : Datagram) (room : ℕ) (token : List ℕ) (t : Target) (others : List Opt) (r : Result (Unit {0}) Full) → length token ≡ 8 → Appends (holding old []) new room (spelling (forwarded token t others 0)) r → is_ok r ≡ leb (length (spelling (forwarded eight_zeros t others 0))) room
+form-fits old new room token t others (Ok u) eight a = sym (le-leb _ _ (omega (arith, a.1, form-length token t others, eight)))
+form-fits old new room token t others (Err e) eight a = sym (lt-leb _ _ (omega (arith, a.1, form-length token t others, eight)))

@@ -1,9 +1,11 @@
 -- What the calls of a core answer and leave.
-use Rattle.std.specs.Prelude.{◌≡◌, ℕ, ◌+◌, ◌<◌, ◌≤◌, ◌^◌, true, List, ◌∷◌, Option, Some, None, IfSome, option_map}
+use Rattle.std.specs.Prelude.{◌≡◌, ℕ, ◌+◌, ◌<◌, ◌≤◌, ◌^◌, true, false, List, ◌∷◌, Option, Some, None, IfSome, option_map}
 use Rattle.std.specs.List.{AllByRecursion}
 use Rattle.coap_message.specs.Datagram.{Datagram, holding}
 use Rattle.coap_message.specs.Spelling.{spelling}
-use Rattle.coap_routes.specs.MappedTarget.{seen}
+use Rattle.coap_message.specs.declared.code.Code.{Code}
+use Rattle.coap_message.specs.Message.{Message}
+use Rattle.coap_option.specs.Selection.{sent_on}
 use Rattle.coap_exchange.specs.declared.exchange.ExchangeState.{ExchangeState}
 use Rattle.coap_exchange.specs.declared.exchange.ExchangeState.TheVariants.{Queued, Sent, Done}
 use Rattle.coap_exchange.specs.declared.exchange.Exchange.{Exchange}
@@ -12,14 +14,20 @@ use Rattle.coap_exchange.specs.Table.{Numbered, IsRising, item_at}
 use Rattle.coap_exchange.specs.declared.waiter.Waiter.{Waiter}
 use Rattle.coap_exchange.specs.Due.{Item, sending, serving, due_as, answer_in}
 use Rattle.coap_model.specs.declared.report.Report.{Report}
-use Rattle.coap_model.specs.Messages as messages
+use Rattle.coap_model.specs.Answers as answers
+use Rattle.coap_model.specs.Forms.{forwarded}
+use Rattle.coap_model.specs.Memory.{says_uri, is_before_target}
+use Rattle.coap_model.specs.Verdicts as verdicts
+use Rattle.coap_model.specs.Verdicts.{verdict_of}
+use Rattle.coap_routes.specs.MappedTarget.{seen}
+use Rattle.coap_routes.specs.Routes.{AreRoutes}
 use Rattle.coap_model.specs.Events.{Event}
 use Rattle.coap_model.specs.History.{Entry}
 use Rattle.coap_model.specs.Carries.{Carries}
 use Rattle.coap_model.specs.Promised.{Promised}
 use Rattle.coap_model.specs.World.{World, Step, reserved}
 use Rattle.coap_core.specs.declared.requests.Verdict.{Verdict}
-use Rattle.coap_core.specs.declared.requests.Verdict.TheVariants.{RefusedWith, MayOpen}
+use Rattle.coap_core.specs.declared.requests.Verdict.TheVariants.{RefusedWith, MayOpen, MayOpenNamed, NoMemory}
 use Rattle.coap_model.specs.Ticks.{sends, delivers}
 use Rattle.coap_core.specs.declared.ticks.DueItem.{DueItem}
 use Rattle.coap_core.specs.declared.ticks.DueItem.TheVariants.{ToSend, ToServe}
@@ -45,11 +53,12 @@ PromisesOn before e after = (history : List Entry) → Carries history before �
 abbrev pub IsUnderstood : ExchangeState → Type 0
 IsUnderstood Queued = Unit {0}
 IsUnderstood (Sent s) = Unit {0}
-IsUnderstood (Done a) = messages.are_understood a.message.options ≡ true
+IsUnderstood (Done a) = answers.are_understood a.message.options ≡ true
 
--- What a step needs of the tables before it: they are in order of number, there are numbers left to
+-- What a step needs of the tables before it: origins are targets, the tables are in order of number, there are numbers left to
 -- count with, an id is left for whoever it is kept for, and answers can be shown.
 pub record CanGoOn (w : World) : Type 0 where
+  pub routes : AreRoutes w.setting.routes
   pub exchanges : IsRising 0 w.exchanges
   pub waiters : IsRising 0 w.waiters
   pub events : w.events < 2 ^ 63
@@ -64,14 +73,39 @@ IsSentAt number exchanges = IfSome (item_at number exchanges) (λ x. is_sent x.s
 
 -- ---- values of the program as the model sees them
 
-abbrev pub verdict_seen : Verdict → messages.Verdict
-verdict_seen (RefusedWith code) = messages.refused_with code
-verdict_seen (MayOpen target) = messages.may_open (seen target)
+-- a verdict is this one of the model; where there is no memory, there is none
+abbrev pub IsVerdict : Verdict → verdicts.Verdict → Type 0
+IsVerdict (RefusedWith code) v = v ≡ verdicts.refused_with code
+IsVerdict (MayOpen target) v = v ≡ verdicts.may_open (seen target)
+IsVerdict (MayOpenNamed target) v = v ≡ verdicts.may_open target
+IsVerdict NoMemory v = ⊥
 
 -- where an exchange may be opened, the bytes are those of the request that is sent on
-abbrev pub FormIs : List ℕ → Verdict → List ℕ → Type 0
-FormIs token (RefusedWith code) bytes = Unit {0}
-FormIs token (MayOpen target) bytes = bytes ≡ spelling (messages.forwarded token (seen target) 0)
+abbrev pub FormIs : List ℕ → Message → Verdict → List ℕ → Type 0
+FormIs token request (RefusedWith code) bytes = Unit {0}
+FormIs token request NoMemory bytes = Unit {0}
+FormIs token request (MayOpen target) bytes =
+    bytes ≡ spelling (forwarded token (seen target) (sent_on request) 0)
+FormIs token request (MayOpenNamed target) bytes =
+    bytes ≡ spelling (forwarded token target (sent_on request) 0)
+
+-- The request says its target by a URI, and isn't refused before that is read.
+pub record IsByUri (w : World) (request : Message) : Type 0 where
+  pub says : says_uri request ≡ true
+  pub judged :
+      (code : Code)
+      → verdict_of w.setting.routes w.setting.limits.datagram request ≡ verdicts.refused_with code
+      → is_before_target code ≡ false
+
+-- the verdict on a request; where there is no memory, a URI was to be read
+abbrev pub IsVerdictOn : World → Message → Verdict → Type 0
+IsVerdictOn w request (RefusedWith code) =
+    IsVerdict (RefusedWith code) (verdict_of w.setting.routes w.setting.limits.datagram request)
+IsVerdictOn w request (MayOpen target) =
+    IsVerdict (MayOpen target) (verdict_of w.setting.routes w.setting.limits.datagram request)
+IsVerdictOn w request (MayOpenNamed target) =
+    IsVerdict (MayOpenNamed target) (verdict_of w.setting.routes w.setting.limits.datagram request)
+IsVerdictOn w request NoMemory = IsByUri w request
 
 -- an item by its moment and its number
 abbrev pub item_as : Item → DueItem

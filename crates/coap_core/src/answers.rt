@@ -1,7 +1,7 @@
 //! What a proxy makes of a response: the answer that it keeps, and how long that is fresh.
 ghost use Rattle.std.specs.Prelude.{◌≡◌, ◌<◌, ◌^◌, true, IfOk};
 ghost use Rattle.coap_message.specs.Message.{Message};
-ghost use Rattle.coap_model.specs.Messages.{are_understood, fits, is_passed_on, answer_of, max_age_of, left_of, carries_max_age, bad_gateway};
+ghost use Rattle.coap_model.specs.Answers.{are_understood, fits, is_passed_on, answer_of, max_age_of, left_of, carries_max_age, bad_gateway};
 
 use coap_exchange::Answer;
 use coap_message::{
@@ -60,7 +60,7 @@ fn bad_gateway(alloc: Global) -> Message
 }
 
 /// The answer that a response gives. What is passed on is copied here.
-#[tactic(auto, unfolding(coap_model::specs::Messages::answer_of))]
+#[tactic(auto, unfolding(coap_model::specs::Answers::answer_of))]
 pub(crate) fn answer_of(
     alloc: Global,
     most: usize,

@@ -3,7 +3,9 @@
 
 mod answers;
 mod event;
+mod form;
 mod proxy;
+mod request_target;
 mod requests;
 mod responses;
 mod step;

@@ -3,7 +3,7 @@ ghost use Rattle.std.specs.Prelude.{◌≡◌, ◌≤◌, ◌<◌, ◌^◌, [], 
 ghost use Rattle.coap_message.specs.Datagram.{holding};
 ghost use Rattle.coap_model.specs.Events.{tick};
 ghost use Rattle.coap_model.specs.Held.{held, most_held};
-ghost use Rattle.coap_model.specs.Memory.{takes_memory};
+ghost use Rattle.coap_model.specs.Memory.{brings_uri, takes_memory};
 ghost use Rattle.coap_model.specs.Setting.{setting_of};
 ghost use Rattle.coap_model.specs.World.{new_world, counts};
 ghost use Rattle.coap_model.specs.Ticks.{next_due};
@@ -79,7 +79,7 @@ impl Core {
     ///
     /// # Errors
     /// Want of memory, which changes nothing. It is answered only where an exchange was to be
-    /// opened or an answer to be kept.
+    /// opened, an answer to be kept, or a request to be judged by its Proxy-Uri or Proxy-Scheme.
     pub fn step(
         &mut self,
         now: u64,
@@ -118,10 +118,13 @@ impl Core {
         ensures err { OnErr result (self.new ≡ self.old) }
         ensures none { OnErr result (out.new ≡ holding out.old []) }
 
-        // It can be missing only where an exchange is opened or an answer is kept: whatever else is
-        // done needs none. So a tick needs none, nor does a datagram without a message.
+        // It can be missing only where an exchange is opened, an answer is kept, or a request is
+        // judged by a URI: whatever else is done needs none. So a tick needs none, nor does a
+        // datagram without a message.
         ensures memory { OnErr result
-            (takes_memory (step_of self.old now draw (seen event.entry)).report.outcome ≡ true) }
+            (takes_memory (brings_uri self.old.setting.limits.datagram (seen event.entry))
+            (step_of self.old now draw (seen event.entry)).report.outcome
+            ≡ true) }
         ensures ticks { seen event.entry ≡ tick → IsOk result }
         ensures unread { IsUnread self.old.setting.limits.datagram (seen event.entry) → IsOk result }
     {

@@ -1,26 +1,34 @@
 //! The step of a request (RFC 7252, 5.7.3).
-ghost use Rattle.std.specs.Prelude.{◌≡◌, ◌+◌, ◌≤◌, true, length, Some, IfOk, IfSome, OnErr, option_map};
-ghost use Rattle.std.specs.List.{list_all};
+ghost use Rattle.std.specs.Prelude.{◌≡◌, ◌⊎◌, ◌+◌, ◌≤◌, true, nat_le, length, None, Ok, Err, IfOk, IfErr, OnErr};
+ghost use Rattle.coap_message.specs.declared.code.TheConstants.Code.{GET};
 ghost use Rattle.coap_message.specs.Spelling.{spelling};
 ghost use Rattle.coap_message.specs.declared.kind.Kind.{Kind};
-ghost use Rattle.coap_routes.specs.MappedTarget.{seen};
-ghost use Rattle.coap_routes.specs.Routes.{mapped_target};
+ghost use Rattle.coap_option.specs.declared.side.Side.{Side};
+ghost use Rattle.coap_option.specs.Screening.{first_refused};
+ghost use Rattle.coap_option.specs.Selection.{sent_on};
 ghost use Rattle.coap_target.specs.Target.{IsTarget};
-ghost use Rattle.coap_model.specs.Memory.{takes_memory};
-ghost use Rattle.coap_model.specs.Messages.{is_path_option, forwarded, verdict_of, verdict_of_target};
-ghost use Rattle.coap_model.specs.Requests.{lacks_id, refuses, overloads, opens, next_token, on_request};
+ghost use Rattle.coap_routes.specs.declared.error.TargetError.TheVariants as errors;
+ghost use Rattle.coap_routes.specs.Request.{request_target};
+ghost use Rattle.coap_model.specs.Memory.{says_uri, takes_memory};
+ghost use Rattle.coap_model.specs.Messages.{eight_zeros};
+ghost use Rattle.coap_model.specs.Forms.{forwarded};
+ghost use Rattle.coap_model.specs.Verdicts.{verdict_of_target};
+ghost use Rattle.coap_model.specs.Requests.{lacks_id, refuses, overloads, opens, turns_away, next_token, on_request};
 ghost use Rattle.coap_model.specs.World.{has_ids};
-ghost use Rattle.coap_core.specs.Steps.{Does, CanGoOn, FormIs, verdict_seen};
+ghost use Rattle.coap_core.specs.Forms.{seen};
+ghost use Rattle.coap_core.specs.Steps.{Does, CanGoOn, FormIs, IsVerdict, IsVerdictOn};
 
+use crate::form::put_forwarded;
+use crate::request_target::RequestTarget;
 use crate::token::token_of;
 use crate::world::{World, silent};
-use crate::writing::{put_forwarded, put_message, put_with_max_age};
+use crate::writing::{put_message, put_with_max_age};
 use coap_exchange::Waiter;
 use coap_message::{Code, Datagram, Head, Kind, MessageRef, Options, OutOfMemory, Seq};
 use coap_model::{Outcome, Report};
-use coap_option::numbers;
-use coap_routes::MappedTarget;
+use coap_option::{numbers, screen_request};
 use coap_routes::laws::{requests_to_the_proxy_are_mapped, targets_fit_options};
+use coap_routes::{MappedTarget, TargetError};
 use coap_target::{Endpoint, Target};
 
 /// What becomes of a request.
@@ -28,20 +36,24 @@ use coap_target::{Endpoint, Target};
 pub(crate) enum Verdict<'m, 'a> {
     /// It is refused with this code.
     RefusedWith(Code),
-    /// An exchange may be opened for this target.
+    /// An exchange may be opened for this target, which is lent: the request was mapped.
     MayOpen(MappedTarget<'m, 'a>),
+    /// An exchange may be opened for this target, which the request said by a URI.
+    MayOpenNamed(Target),
+    /// It says its target by a URI, for which there is no memory.
+    NoMemory,
 }
 
-/// A Uri-Path of at most 255 bytes is the one option that is understood so far.
-fn are_path_options(options: &Options<'_>) -> bool
-    ensures { result ≡ list_all is_path_option options.now }
+/// Whether a request says its target by a URI (RFC 7252, 5.10.2).
+fn says_uri(request: &MessageRef<'_>) -> bool
+    ensures { result ≡ says_uri request.now }
 {
-    for option in options.iter() {
-        if option.number != numbers::URI_PATH || option.value.len() > 255 {
-            return false;
+    for option in request.options.iter() {
+        if option.number == numbers::PROXY_URI || option.number == numbers::PROXY_SCHEME {
+            return true;
         }
     }
-    true
+    false
 }
 
 /// The head of a reply of the proxy's own.
@@ -71,18 +83,22 @@ impl World {
         ensures err { OnErr result (self.new ≡ self.old) }
         ensures kept { out.new.room ≡ out.old.room }
         ensures memory { OnErr result
-            (takes_memory (on_request self.old now client request.now).report.outcome ≡ true) }
+            (takes_memory (says_uri request.now) (on_request self.old now client request.now).report.outcome
+            ≡ true) }
     {
         match self.verdict_of(request, out) {
             Verdict::MayOpen(target) => {
-                if self.has_room() {
-                    let target = target.to_target(self.alloc)?;
-                    self.open(now, client, request, target, out)
-                } else if self.has_ids(1) {
-                    Ok(self.overload(now, client, request, out))
-                } else {
-                    Ok(self.lack_id(now, out))
+                if !self.has_room() {
+                    return Ok(self.turn_away(now, client, request, out));
                 }
+                let target = target.to_target(self.alloc)?;
+                self.open(now, client, request, target, out)
+            }
+            Verdict::MayOpenNamed(target) => {
+                if !self.has_room() {
+                    return Ok(self.turn_away(now, client, request, out));
+                }
+                self.open(now, client, request, target, out)
             }
             Verdict::RefusedWith(code) => {
                 if self.has_ids(1) {
@@ -91,64 +107,110 @@ impl World {
                     Ok(self.lack_id(now, out))
                 }
             }
+            Verdict::NoMemory => Err(OutOfMemory),
         }
     }
 
     /// What becomes of a request: the method, the options, the target, the length of what is sent
     /// on; the first that is at fault decides. Where an exchange may be opened, `out` holds what is
     /// sent on.
-    #[tactic(auto, unfolding(coap_model::specs::Messages::verdict_of))]
+    #[tactic(auto, unfolding(coap_model::specs::Verdicts::verdict_of))]
     fn verdict_of<'m, 'a>(&'m self, request: &MessageRef<'a>, out: &mut Datagram) -> Verdict<'m, 'a>
         requires can { CanGoOn self.now }
         requires room { self.now.setting.limits.datagram ≤ out.old.room }
-        ensures exact { verdict_seen result
-            ≡ verdict_of self.now.setting.routes self.now.setting.limits.datagram request.now }
-        ensures form { FormIs (next_token self.now) result out.new.bytes }
+        ensures exact { IsVerdictOn self.now request.now result }
+        ensures form { FormIs (next_token self.now) request.now result out.new.bytes }
         ensures kept { out.new.room ≡ out.old.room }
     {
         if request.code != Code::GET {
             return Verdict::RefusedWith(Code::METHOD_NOT_ALLOWED);
         }
-        if !are_path_options(&request.options) {
+        if screen_request(request).is_err() {
             return Verdict::RefusedWith(Code::BAD_OPTION);
         }
-        match self.mapped(request) {
-            Some(target) => self.verdict_of_target(target, out),
-            None => Verdict::RefusedWith(Code::NOT_FOUND),
+        match self.target_of(request) {
+            Ok(target) => self.verdict_of_target(request, target, out),
+            Err(TargetError::BadUri) => Verdict::RefusedWith(Code::BAD_REQUEST),
+            Err(TargetError::NotProxied) => Verdict::RefusedWith(Code::PROXYING_NOT_SUPPORTED),
+            Err(TargetError::NotFound) => Verdict::RefusedWith(Code::NOT_FOUND),
+            Err(TargetError::OutOfMemory) => Verdict::NoMemory,
         }
     }
 
-    /// What a request is mapped to, if one of the maps has its path.
-    fn mapped<'m, 'a>(&'m self, request: &MessageRef<'a>) -> Option<MappedTarget<'m, 'a>>
-        requires { list_all is_path_option request.now.options ≡ true }
-        ensures exact { option_map seen result ≡ mapped_target self.now.setting.routes request.now }
-        ensures sound { IfSome result (λ target. IsTarget (seen target)) }
+    /// The target of a request that passed the screening. What is mapped is lent, so that it takes
+    /// no memory.
+    fn target_of<'m, 'a>(
+        &'m self,
+        request: &MessageRef<'a>,
+    ) -> Result<RequestTarget<'m, 'a>, TargetError>
+        requires can { CanGoOn self.now }
+        requires screened { first_refused Side.Request request.now.options ≡ None }
+        ensures ok { IfOk result (λ t. request_target self.now.setting.routes request.now ≡ Ok (seen t)) }
+        ensures sound { IfOk result (λ t. IsTarget (seen t)) }
+        ensures err { IfErr result (λ error.
+            (error ≡ errors.OutOfMemory) ⊎ (request_target self.now.setting.routes request.now ≡ Err error)) }
+        ensures memory { IfErr result (λ error. error ≡ errors.OutOfMemory → says_uri request.now ≡ true) }
     {
         targets_fit_options();
         requests_to_the_proxy_are_mapped();
-        self.routes.mapped(request)
+        if says_uri(request) {
+            let target = self.routes.target_of(self.alloc, request)?;
+            return Ok(RequestTarget::Named(target));
+        }
+        match self.routes.mapped(request) {
+            Some(target) => Ok(RequestTarget::Mapped(target)),
+            None => Err(TargetError::NotFound),
+        }
     }
 
     /// A form that is too long for a datagram isn't sent on.
     fn verdict_of_target<'m, 'a>(
         &self,
-        target: MappedTarget<'m, 'a>,
+        request: &MessageRef<'a>,
+        target: RequestTarget<'m, 'a>,
         out: &mut Datagram,
     ) -> Verdict<'m, 'a>
         requires can { CanGoOn self.now }
         requires room { self.now.setting.limits.datagram ≤ out.old.room }
+        requires get { request.now.code ≡ GET }
+        requires screened { first_refused Side.Request request.now.options ≡ None }
         requires target { IsTarget (seen target) }
-        ensures exact { verdict_seen result
-            ≡ verdict_of_target self.now.setting.limits.datagram (Some (seen target.entry)) }
-        ensures form { FormIs (next_token self.now) result out.new.bytes }
+        ensures exact { IsVerdict result
+            (verdict_of_target self.now.setting.limits.datagram request.now (Ok (seen target.entry))) }
+        ensures form { FormIs (next_token self.now) request.now result out.new.bytes }
+        ensures kept { out.new.room ≡ out.old.room }
+    {
+        if !self.fits(request, &target, out) {
+            return Verdict::RefusedWith(Code::REQUEST_ENTITY_TOO_LARGE);
+        }
+        match target {
+            RequestTarget::Mapped(target) => Verdict::MayOpen(target),
+            RequestTarget::Named(target) => Verdict::MayOpenNamed(target),
+        }
+    }
+
+    /// Whether the form that is sent on fits a datagram. Then `out` holds it.
+    fn fits(
+        &self,
+        request: &MessageRef<'_>,
+        target: &RequestTarget<'_, '_>,
+        out: &mut Datagram,
+    ) -> bool
+        requires can { CanGoOn self.now }
+        requires room { self.now.setting.limits.datagram ≤ out.old.room }
+        requires get { request.now.code ≡ GET }
+        requires screened { first_refused Side.Request request.now.options ≡ None }
+        requires target { IsTarget (seen target.now) }
+        ensures exact { result
+            ≡ nat_le (length (spelling (forwarded eight_zeros (seen target.now) (sent_on request.now) 0)))
+            self.now.setting.limits.datagram }
+        ensures form { result ≡ true
+            → out.new.bytes ≡ spelling (forwarded (next_token self.now) (seen target.now) (sent_on request.now) 0) }
         ensures kept { out.new.room ≡ out.old.room }
     {
         let token = token_of(self.salt, self.exchanges.admitted() + 1);
         let room = self.limits.values().datagram as usize;
-        match put_forwarded(out, room, &token, &target) {
-            Ok(()) => Verdict::MayOpen(target),
-            Err(_) => Verdict::RefusedWith(Code::REQUEST_ENTITY_TOO_LARGE),
-        }
+        put_forwarded(out, room, &token, request, target).is_ok()
     }
 
     /// The client is refused with a code.
@@ -177,6 +239,25 @@ impl World {
         Report {
             send: Some(client),
             outcome: Outcome::Refused(code),
+        }
+    }
+
+    /// There is no room for what could be opened.
+    fn turn_away(
+        &mut self,
+        now: u64,
+        client: Endpoint,
+        request: &MessageRef<'_>,
+        out: &mut Datagram,
+    ) -> Report
+        requires can { CanGoOn self.old }
+        requires fits { length (turns_away self.old now client request.now).bytes ≤ out.old.room }
+        ensures { Does (turns_away self.old now client request.now) result out.old out.new self.new }
+    {
+        if self.has_ids(1) {
+            self.overload(now, client, request, out)
+        } else {
+            self.lack_id(now, out)
         }
     }
 
@@ -224,7 +305,7 @@ impl World {
         out: &mut Datagram,
     ) -> Result<Report, OutOfMemory>
         requires can { CanGoOn self.old }
-        requires form { out.old.bytes ≡ spelling (forwarded (next_token self.old) target 0) }
+        requires form { out.old.bytes ≡ spelling (forwarded (next_token self.old) target (sent_on request.now) 0) }
         ensures exact { IfOk result (λ report.
             Does (opens self.old now client request.now target) report out.old out.new self.new) }
         ensures err { OnErr result (self.new ≡ self.old) }

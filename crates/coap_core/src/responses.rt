@@ -1,5 +1,5 @@
 //! The step of a response that comes in an acknowledgement (RFC 7252, 5.2.1 and 5.3.2).
-ghost use Rattle.std.specs.Prelude.{◌≡◌, ◌&&◌, true, option_map, IfOk, IfSome, OnErr};
+ghost use Rattle.std.specs.Prelude.{◌≡◌, ◌&&◌, true, false, option_map, IfOk, IfSome, OnErr};
 ghost use Rattle.coap_target.specs.Endpoint.{same_endpoint};
 ghost use Rattle.coap_exchange.specs.declared.exchange.Exchange.{Exchange};
 ghost use Rattle.coap_model.specs.Memory.{takes_memory};
@@ -45,7 +45,7 @@ impl World {
         ensures err { OnErr result (self.new ≡ self.old) }
         ensures kept { out.new.room ≡ out.old.room }
         ensures memory { OnErr result
-            (takes_memory (on_response self.old now source response.now).report.outcome ≡ true) }
+            (takes_memory false (on_response self.old now source response.now).report.outcome ≡ true) }
     {
         match self.awaiting(source, response) {
             Some(number) => self.answer(now, number, response, out),

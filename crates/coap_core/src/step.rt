@@ -1,9 +1,9 @@
 //! One step: a datagram or a tick at a moment.
 ghost use Rattle.std.specs.Prelude.{◌≡◌, ◌≤◌, ◌<◌, ◌^◌, [], true, length, None, IfOk, IsOk, OnErr};
-ghost use Rattle.coap_model.specs.Events.{tick};
+ghost use Rattle.coap_model.specs.Events.{arrival, tick};
 ghost use Rattle.coap_message.specs.declared.kind.Kind.{Kind};
 ghost use Rattle.coap_message.specs.Datagram.{holding};
-ghost use Rattle.coap_model.specs.Memory.{takes_memory};
+ghost use Rattle.coap_model.specs.Memory.{brings_uri, says_uri, takes_memory};
 ghost use Rattle.coap_model.specs.World.{ignores};
 ghost use Rattle.coap_model.specs.Step.{rejects, unprocessed, message_in, on_message, on_datagram, step_of};
 ghost use Rattle.coap_core.specs.Events.{IsUnread, seen};
@@ -33,7 +33,9 @@ impl World {
         ensures err { OnErr result (self.new ≡ self.old) }
         ensures none { OnErr result (out.new ≡ holding out.old []) }
         ensures memory { OnErr result
-            (takes_memory (step_of self.old now 0 (seen event.entry)).report.outcome ≡ true) }
+            (takes_memory (brings_uri self.old.setting.limits.datagram (seen event.entry))
+            (step_of self.old now 0 (seen event.entry)).report.outcome
+            ≡ true) }
         ensures ticks { seen event.entry ≡ tick → IsOk result }
         ensures unread { IsUnread self.old.setting.limits.datagram (seen event.entry) → IsOk result }
     {
@@ -62,7 +64,9 @@ impl World {
         ensures err { OnErr result (self.new ≡ self.old) }
         ensures kept { out.new.room ≡ out.old.room }
         ensures memory { OnErr result
-            (takes_memory (on_datagram self.old now source bytes.now).report.outcome ≡ true) }
+            (takes_memory (brings_uri self.old.setting.limits.datagram (arrival source bytes.now))
+            (on_datagram self.old now source bytes.now).report.outcome
+            ≡ true) }
         ensures unread { message_in self.old.setting.limits.datagram bytes.now ≡ None → IsOk result }
     {
         if let Some(message) = self.message_in(bytes) {
@@ -101,7 +105,7 @@ impl World {
         ensures err { OnErr result (self.new ≡ self.old) }
         ensures kept { out.new.room ≡ out.old.room }
         ensures memory { OnErr result
-            (takes_memory (on_message self.old now source message.now).report.outcome ≡ true) }
+            (takes_memory (says_uri message.now) (on_message self.old now source message.now).report.outcome ≡ true) }
     {
         match message.kind {
             Kind::Non if message.code.is_request() => self.on_request(now, source, message, out),

@@ -5,7 +5,7 @@ use Rattle.std.specs.List.{AllByRecursion}
 use Rattle.std.proofs.lemmas.Option.{same_Some}
 use Rattle.std.proofs.lemmas.Bool.{eq-eqb, ne_eqb, leb-true, leb-false}
 use Rattle.coap_message.specs.Message.{Message}
-use Rattle.coap_target.specs.declared.target.Target.{Target}
+use Rattle.coap_cache.specs.declared.key.CacheKey.{CacheKey}
 use Rattle.coap_target.proofs.Lists.{All-append, All-weaken}
 use Rattle.coap_exchange.specs.declared.exchange.Answer.{Answer}
 use Rattle.coap_exchange.specs.declared.exchange.ExchangeState.{ExchangeState}
@@ -15,11 +15,12 @@ use Rattle.coap_exchange.specs.declared.waiter.Waiter.{Waiter}
 use Rattle.coap_exchange.specs.Table.{Numbered, IsRising}
 use Rattle.coap_exchange.specs.Exchanges.{is_queued}
 use Rattle.coap_exchange.specs.Due.{Item, sending, serving, due_of, exchange_items, answer_at, answer_in, with_item, waiter_items, earlier, least}
+use Rattle.coap_model.specs.Forms.{request_key}
 use Rattle.coap_model.specs.declared.report.Outcome.TheVariants.{Answered}
 use Rattle.coap_model.specs.declared.report.Storing.TheVariants.{NotStored}
 use Rattle.coap_model.specs.Setting.{Setting}
 use Rattle.coap_model.specs.Events.{tick}
-use Rattle.coap_model.specs.Messages.{is_passed_on, bad_gateway, answer_of}
+use Rattle.coap_model.specs.Answers.{is_passed_on, bad_gateway, answer_of}
 use Rattle.coap_model.specs.World.{World}
 use Rattle.coap_model.specs.Ticks.{items_of, if_due, next_due}
 use Rattle.coap_model.specs.History.{Act, no_item, admits, moves, serves, Deed, Place, IsPlaceOf, Never, Somewhere, opened_in, Opens, Sends, Gets, Serves}
@@ -184,19 +185,19 @@ got-is most now m = go (is_passed_on most m)
     go false = refl
 
 -- what is queued was never sent
-queued-unsent : (setting : Setting) (history : List Deed) (x : ℕ) (t : Target) (s : ExchangeState) → IsState setting history x t s → is_queued s ≡ true → Never (Sends setting.salt x) history
+queued-unsent : (setting : Setting) (history : List Deed) (x : ℕ) (k : CacheKey) (s : ExchangeState) → IsState setting history x k s → is_queued s ≡ true → Never (Sends setting.salt x) history
 queued-unsent setting history x t Queued state e = state.0
 queued-unsent setting history x t (Sent s) state e = absurd cc
 queued-unsent setting history x t (Done a) state e = absurd cc
 
 -- an item of the tables is due by the history
 item-due : (w : World) (history : List Deed) (c : Bears history w) (i : Item) → IsDueOf (IsExchangeOf w.setting history) (IsWaiterOf w.setting history) w.exchanges i → IsDueAt w.setting history (act_of i) (due_of i)
-item-due w history c (sending x) d = let f = d.0 in let o = f.opened in record { opening = o.opening; was_opened = o.was_opened; opens = o.opens; unsent = queued-unsent w.setting history x.0 x.1.target x.1.state f.state d.1; at_is = f.since }
+item-due w history c (sending x) d = let f = d.0 in let o = f.opened in record { opening = o.opening; was_opened = o.was_opened; opens = o.opens; unsent = queued-unsent w.setting history x.0 (request_key x.1.target o.request) x.1.state f.state d.1; at_is = f.since }
 item-due w history c (serving v a) d =
     let g = d.0 in
     let found = answer-holds (IsExchangeOf w.setting history) w.exchanges v.1.exchange a c.exchanges d.1 in
     let x = found.0 in
-    let state = subst (IsState w.setting history x.0 x.1.target) found.3 found.1.state in
+    let state = subst (IsState w.setting history x.0 (request_key x.1.target found.1.opened.request)) found.3 found.1.state in
     record {
       admission = g.opened.opening;
       was_admitted = g.opened.was_opened;
@@ -249,7 +250,7 @@ serving-there v a all (u ∷ us) h e = go (answer_in u.1.exchange all) refl h (�
     go (Some b) is at rest = ⊎_elim (λ (same : v ≡ u). inl (let f = same_Some a b (answer (Some b) is same) in cc)) (λ (t : Has v us). inr (rest t)) at
 
 -- what was never sent is queued
-unsent-queued : (setting : Setting) (history : List Deed) (x : ℕ) (t : Target) (s : ExchangeState) → IsState setting history x t s → Never (Sends setting.salt x) history → is_queued s ≡ true
+unsent-queued : (setting : Setting) (history : List Deed) (x : ℕ) (k : CacheKey) (s : ExchangeState) → IsState setting history x k s → Never (Sends setting.salt x) history → is_queued s ≡ true
 unsent-queued setting history x t Queued state unsent = refl
 unsent-queued setting history x t (Sent s) state unsent = absurd (Never-at (Sends setting.salt x) history state.0.asking unsent state.0.was_asked state.0.asks.sends)
 unsent-queued setting history x t (Done a) state unsent = absurd (Never-at (Sends setting.salt x) history state.gets.meets.asking unsent (place-before history state.getting state.gets.meets.asking state.was_got state.gets.meets.was_asked) state.gets.meets.asks.sends)
@@ -271,7 +272,7 @@ send-item w history c x at d = ⊎_elim in_table was_served (c.whole.complete x 
         let f = at-number (IsExchangeOf w.setting history) (λ y. Has y w.exchanges) x w.exchanges there c.exchanges (Has-all w.exchanges) in
         let y = f.0 in
         let unsent = subst (λ (n : ℕ). Never (Sends w.setting.salt n) history) f.1 d.unsent in
-        let queued = unsent-queued w.setting history y.0 y.1.target y.1.state f.2.state unsent in
+        let queued = unsent-queued w.setting history y.0 (request_key y.1.target f.2.opened.request) y.1.state f.2.state unsent in
         let o = f.2.opened in
         let place = Opens-unique history o.opening d.opening x o.was_opened d.was_opened (subst (λ (n : ℕ). Opens n o.opening) (sym f.1) o.opens) d.opens in
         record { item = sending y; there = Has-left (sending y) (exchange_items w.exchanges) (waiter_items w.exchanges w.waiters) (sending-there y w.exchanges f.3 queued); act = ap moves (sym f.1); due = f.2.since ∙ ap (λ (p : Place). p.deed.entry.now) place ∙ sym d.at_is }
@@ -306,10 +307,10 @@ serve-item w history c v at d = ⊎_elim in_table was_served (c.whole.complete v
     was_served : Somewhere (Serves v) history → IsItem (items_of w) (serves v) at
     was_served s = absurd (Never-at (Serves v) history s.place d.unserved s.is_there s.holds)
 
-    with_answer : (u : Numbered Waiter) → v ≡ u.0 → IsWaiterOf w.setting history u → Has u w.waiters → (target : Target) (s : ExchangeState) → IsState w.setting history v target s → answer_in v w.exchanges ≡ answer_at s → IsItem (items_of w) (serves v) at
-    with_answer u same g there target Queued state own = absurd (Never-at (Gets w.setting v) history d.getting state.1 d.was_got d.gets)
-    with_answer u same g there target (Sent s) state own = absurd (Never-at (Gets w.setting v) history d.getting state.1 d.was_got d.gets)
-    with_answer u same g there target (Done a) state own =
+    with_answer : (u : Numbered Waiter) → v ≡ u.0 → IsWaiterOf w.setting history u → Has u w.waiters → (key : CacheKey) (s : ExchangeState) → IsState w.setting history v key s → answer_in v w.exchanges ≡ answer_at s → IsItem (items_of w) (serves v) at
+    with_answer u same g there key Queued state own = absurd (Never-at (Gets w.setting v) history d.getting state.1 d.was_got d.gets)
+    with_answer u same g there key (Sent s) state own = absurd (Never-at (Gets w.setting v) history d.getting state.1 d.was_got d.gets)
+    with_answer u same g there key (Done a) state own =
         let answer : answer_in u.1.exchange w.exchanges ≡ Some a = ap (λ (n : ℕ). answer_in n w.exchanges) (g.exchange ∙ sym same) ∙ own in
         let place = first-once (Gets w.setting v) history state.getting d.getting state.was_got d.was_got state.gets d.gets (got-first w.setting history v state.getting c.past state.was_got state.gets) (got-first w.setting history v d.getting c.past d.was_got d.gets) in
         record {
@@ -324,7 +325,7 @@ serve-item w history c v at d = ⊎_elim in_table was_served (c.whole.complete v
         let f = at-number (IsExchangeOf w.setting history) (λ y. answer_in y.0 w.exchanges ≡ answer_at y.1.state) v w.exchanges there c.exchanges (answers-own 0 w.exchanges c.whole.rising) in
         let y = f.0 in
         let g = at-number (IsWaiterOf w.setting history) (λ u. Has u w.waiters) v w.waiters (HasNumber-paired v w.exchanges w.waiters c.whole.paired there) c.waiters (Has-all w.waiters) in
-        with_answer g.0 g.1 g.2 g.3 y.1.target y.1.state (subst (λ (n : ℕ). IsState w.setting history n y.1.target y.1.state) (sym f.1) f.2.state) (ap (λ (n : ℕ). answer_in n w.exchanges) f.1 ∙ f.3)
+        with_answer g.0 g.1 g.2 g.3 (request_key y.1.target f.2.opened.request) y.1.state (subst (λ (n : ℕ). IsState w.setting history n (request_key y.1.target f.2.opened.request) y.1.state) (sym f.1) f.2.state) (ap (λ (n : ℕ). answer_in n w.exchanges) f.1 ∙ f.3)
 
 -- whatever is due by the history is an item
 item-of : (w : World) (history : List Deed) (c : Bears history w) (a : Act) (at : ℕ) → IsDueAt w.setting history a at → IsItem (items_of w) a at

@@ -21,7 +21,9 @@ use Rattle.coap_exchange.proofs.Counts.{one_if}
 use Rattle.coap_exchange.proofs.States.{moved-cases, length-with_state, IsRising-with_state}
 use Rattle.coap_model.specs.Events.{arrival}
 use Rattle.coap_message.specs.Codes.{is_response}
-use Rattle.coap_model.specs.Messages.{is_ack, token_of, answer_of}
+use Rattle.coap_model.specs.Messages.{is_ack, token_of}
+use Rattle.coap_model.specs.Forms.{request_key}
+use Rattle.coap_model.specs.Answers.{answer_of}
 use Rattle.coap_model.specs.World.{World}
 use Rattle.coap_model.specs.Step.{message_in}
 use Rattle.coap_model.specs.Responses.{has_id, awaits, awaiting, answers}
@@ -33,7 +35,7 @@ use Rattle.coap_model.proofs.Places.{here, doing, same_moves, opened-number}
 use Rattle.coap_model.proofs.Spelled.{message_in-is}
 use Rattle.coap_model.proofs.Tables.{ArePaired-with_state, HasNumber-with_state, count-moved}
 use Rattle.coap_model.proofs.Frames.{clock_frame, numbers_frame, exchange_moved, exchange_frame, waiters_frame, fresh_frame, later_served, sends-not, serves-not}
-use Rattle.coap_model.proofs.Forwarding.{same_target}
+use Rattle.coap_model.proofs.Forwarding.{same_key}
 
 -- ---- what was awaited
 
@@ -56,7 +58,7 @@ record IsAwaited (w : World) (history : List Deed) (source : Endpoint) (m : Mess
   pub there : Has x w.exchanges
   pub sending : Sending
   pub state_is : x.1.state ≡ Sent sending
-  pub was : WasAsked w.setting history x.0 x.1.target sending.id sending.asked
+  pub was : WasAsked w.setting history x.0 (request_key x.1.target exchange.opened.request) sending.id sending.asked
   pub ungot : Never (Gets w.setting x.0) history
   pub source_is : x.1.target.at ≡ source
   pub id_is : sending.id ≡ m.id
@@ -69,7 +71,8 @@ awaited w history c source m x found =
     let parts = and_parts (has_id m.id x.1.state) (same_endpoint x.1.target.at source && same_bytes (token_of w.setting.salt x.0) m.token) f.1 in
     let more = and_parts (same_endpoint x.1.target.at source) (same_bytes (token_of w.setting.salt x.0) m.token) parts.1 in
     let sent = sent_with m.id x.1.state parts.0 in
-    let state : IsState w.setting history x.0 x.1.target (Sent sent.0) = subst (IsState w.setting history x.0 x.1.target) sent.1 f.0.0.state in
+    let key = request_key x.1.target f.0.0.opened.request in
+    let state : IsState w.setting history x.0 key (Sent sent.0) = subst (IsState w.setting history x.0 key) sent.1 f.0.0.state in
     record { exchange = f.0.0; there = f.0.1; sending = sent.0; state_is = sent.1; was = state.0; ungot = state.1; source_is = Tells-endpoint.only x.1.target.at source more.0; id_is = sent.2; token_is = sym (same_text _ _ (sym more.1)) }
 
 -- ---- the rule
@@ -115,11 +118,11 @@ keeps_answering w history c now draw source bytes m x onward fits read response 
           All-map (IsExchangeOf w.setting history) (IsExchangeOf w.setting (e ∷ history)) (moved x.0 next) w.exchanges
           (λ y g.
           moved-cases (IsExchangeOf w.setting (e ∷ history)) x.0 next y
-          (λ same. exchange_moved w.setting history e y next (
-          subst (λ (n : ℕ). IsState w.setting (e ∷ history) n y.1.target next) (sym same) (
-          record { getting = p; was_got = inl refl; gets = gets; asked_target = a.was.asked_target ∙ same_target w history x y f g (sym same); answer_is = refl }
+          (λ same. exchange_moved w.setting history e y next g (
+          subst (λ (n : ℕ). IsState w.setting (e ∷ history) n (request_key y.1.target g.opened.request) next) (sym same) (
+          record { getting = p; was_got = inl refl; gets = gets; asked_key = a.was.asked_key ∙ same_key w history x y f g (sym same); answer_is = refl }
           )
-          ) g)
+          ))
           (λ other. exchange_frame w.setting history e y (unsent y.0) (λ h. other (number y.0 h)) g))
           c.exchanges;
       waiters = waiters_frame w.setting history e w.waiters (serves-not history e (λ o. cc)) c.waiters;

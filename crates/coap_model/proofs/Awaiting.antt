@@ -9,7 +9,7 @@ use Rattle.coap_message.specs.Spelling.{Spells}
 use Rattle.coap_message.specs.Reading.{read_message}
 use Rattle.coap_message.proofs.WholeMessages.{read_again, one_message}
 use Rattle.coap_target.specs.declared.endpoint.Endpoint.{Endpoint}
-use Rattle.coap_target.specs.declared.target.Target.{Target}
+use Rattle.coap_cache.specs.declared.key.CacheKey.{CacheKey}
 use Rattle.coap_target.specs.Endpoint.{same_endpoint}
 use Rattle.coap_target.specs.Equality.{same_bytes}
 use Rattle.coap_target.proofs.Equality.{Tells-both, Tells-endpoint}
@@ -20,6 +20,7 @@ use Rattle.coap_model.specs.Setting.{Setting}
 use Rattle.coap_model.specs.Events.{Event, arrival}
 use Rattle.coap_message.specs.Codes.{is_response}
 use Rattle.coap_model.specs.Messages.{is_ack, token_of}
+use Rattle.coap_model.specs.Forms.{request_key}
 use Rattle.coap_model.specs.World.{World}
 use Rattle.coap_model.specs.Responses.{has_id, awaits, awaiting}
 use Rattle.coap_model.specs.History.{Deed, Place, IsPlaceOf, Somewhere, opened_in, Opens, Sends, Meets, Gets, Serves}
@@ -57,10 +58,10 @@ at-number P Q n (x ∷ xs) h p q = ⊎_elim (λ (same : n ≡ x.0). (x, same, p.
 -- ---- what is awaited is found
 
 -- an exchange that the history asked and didn't get passes the test
-passes : (setting : Setting) (history : List Deed) (x : ℕ) (event : Event) (a : IsAwaited setting history x event) (target : Target) (s : ExchangeState) → IsState setting history x target s → (has_id a.meets.response.id s ≡ true) × (target.at ≡ a.meets.asks.sends.to)
-passes setting history x event a target Queued state = absurd (Never-at (Sends setting.salt x) history a.meets.asking state.0 a.meets.was_asked a.meets.asks.sends)
-passes setting history x event a target (Done answer) state = absurd (Never-at (Gets setting x) history state.getting a.ungot state.was_got state.gets)
-passes setting history x event a target (Sent s) state =
+passes : (setting : Setting) (history : List Deed) (x : ℕ) (event : Event) (a : IsAwaited setting history x event) (key : CacheKey) (s : ExchangeState) → IsState setting history x key s → (has_id a.meets.response.id s ≡ true) × (key.target.at ≡ a.meets.asks.sends.to)
+passes setting history x event a key Queued state = absurd (Never-at (Sends setting.salt x) history a.meets.asking state.0 a.meets.was_asked a.meets.asks.sends)
+passes setting history x event a key (Done answer) state = absurd (Never-at (Gets setting x) history state.getting a.ungot state.was_got state.gets)
+passes setting history x event a key (Sent s) state =
     let was = state.0 in
     let m = a.meets in
     let place = first-once (Sends setting.salt x) history was.asking m.asking was.was_asked m.was_asked was.asks.sends m.asks.sends was.asks.first m.asks.first in
@@ -100,8 +101,9 @@ not-ignored w history c x source bytes a none = ⊎_elim in_table was_served (c.
         let salt = w.setting.salt in
         let f = at-number (IsExchangeOf w.setting history) (λ y. awaits salt source m.response y ≡ false) x w.exchanges there c.exchanges (none-found (awaits salt source m.response) w.exchanges unfound) in
         let y = f.0 in
-        let state = subst (λ (n : ℕ). IsState w.setting history n y.1.target y.1.state) (sym f.1) f.2.state in
-        let test = passes w.setting history x (arrival source bytes) a y.1.target y.1.state state in
+        let key = request_key y.1.target f.2.opened.request in
+        let state = subst (λ (n : ℕ). IsState w.setting history n key y.1.state) (sym f.1) f.2.state in
+        let test = passes w.setting history x (arrival source bytes) a key y.1.state state in
         let token : token_of salt y.0 ≡ m.response.token = ap (token_of salt) (sym f.1) ∙ sym m.matches.same_token in
         let right = and_from (same_endpoint y.1.target.at source) (same_bytes (token_of salt y.0) m.response.token) ((Tells-both same_endpoint Tells-endpoint y.1.target.at source).1 (test.1 ∙ sym came.0)) (rw token (nat_list_eq_equiv.refl m.response.token)) in
         let found = and_from (has_id m.response.id y.1.state) (same_endpoint y.1.target.at source && same_bytes (token_of salt y.0) m.response.token) test.0 right in

@@ -1,12 +1,13 @@
 -- Serving a client keeps what is carried.
-use Rattle.std.proofs.Common.{◌≡◌, ◌≢◌, ◌⊎◌, inl, inr, ⊎_elim, ℕ, ◌+◌, ◌≤◌, Bool, true, false, eqb, List, ◌∷◌, length, Some, refl, sym, ap, ◌∙◌, subst, arith}
+use Rattle.std.proofs.Common.{◌≡◌, ◌≢◌, ◌⊎◌, inl, inr, ⊎_elim, ℕ, ◌+◌, ◌≤◌, Bool, true, false, eqb, List, ◌∷◌, length, Some, Ok, refl, sym, ap, ◌∙◌, subst, arith}
 use Rattle.std.specs.Prelude.{not}
 use Rattle.std.specs.List.{AllByRecursion}
 use Rattle.std.proofs.lemmas.Bool.{eqb-true, eqb-false, eq-eqb}
 use Rattle.coap_message.specs.Spelling.{IsMessage, Spells, spelling}
 use Rattle.coap_message.proofs.Spellings.{spelled}
 use Rattle.coap_target.specs.declared.target.Target.{Target}
-use Rattle.coap_routes.specs.Routes.{mapped_target}
+use Rattle.coap_message.specs.Message.{Message}
+use Rattle.coap_routes.specs.Request.{request_target}
 use Rattle.coap_target.proofs.Lists.{All-weaken}
 use Rattle.coap_exchange.specs.declared.exchange.Answer.{Answer}
 use Rattle.coap_exchange.specs.declared.exchange.ExchangeState.{ExchangeState}
@@ -17,19 +18,21 @@ use Rattle.coap_exchange.proofs.Counts.{one_if}
 use Rattle.coap_exchange.proofs.Tables.{IsRising-without}
 use Rattle.coap_exchange.specs.Table.{Numbered, without}
 use Rattle.coap_model.specs.Events.{tick}
-use Rattle.coap_model.specs.Messages.{answer_of, shown}
+use Rattle.coap_model.specs.Forms.{request_key}
+use Rattle.coap_model.specs.Answers.{answer_of, shown}
 use Rattle.coap_exchange.specs.Exchanges.{is_queued, count_where}
 use Rattle.coap_model.specs.World.{World, next_id, later}
 use Rattle.coap_exchange.specs.Due.{serving, least, answer_in}
 use Rattle.coap_model.specs.Ticks.{items_of, if_due, without_idle, delivers}
-use Rattle.coap_model.specs.History.{serves, Deed, Place, Somewhere, IsPlaceOf, Gets, Opens, Serves}
-use Rattle.coap_model.specs.Justified.{IsRequestOf, IsActing, IsDelivery}
+use Rattle.coap_model.specs.History.{serves, Deed, Place, Somewhere, IsPlaceOf, Gets, Serves}
+use Rattle.coap_model.specs.Justified.{IsActing, IsDelivery}
 use Rattle.coap_model.specs.declared.report.Outcome.TheVariants.{Delivered}
 use Rattle.coap_model.specs.Runs.{entry_of}
 use Rattle.coap_model.specs.Carries.{WasGot, IsState, IsExchangeOf, IsWaiterOf, HasNumber, Bears}
 use Rattle.coap_model.proofs.Lists.{All-filter, Has, All-there}
 use Rattle.coap_model.proofs.Places.{in-order, here, doing, same_serves, Never-at, one-opened}
 use Rattle.coap_model.proofs.Spelled.{shown-is}
+use Rattle.coap_model.proofs.Verdicts.{openable}
 use Rattle.coap_model.proofs.Tables.{due-serving, answer-holds, answer-number, ArePaired-without, length-paired, length-without, HasNumber-without, HasNumber-paired, count-without, not_awaited}
 use Rattle.coap_model.proofs.Frames.{clock_frame, numbers_frame, exchange_frame, waiter_frame, fresh_frame, later_served, sends-not, gets-not}
 use Rattle.coap_model.proofs.Acting.{acting}
@@ -43,8 +46,8 @@ pub record IsServed (w : World) (history : List Deed) (v : Numbered Waiter) (a :
   pub there : HasNumber v.0 w.exchanges
   pub counted : (t : ExchangeState → Bool) → count_where t (without v.0 w.exchanges) + one_if (t (Done a)) ≡ count_where t w.exchanges
   pub target : Target
-  pub target_is : mapped_target w.setting.routes waiter.opened.request ≡ Some target
-  pub got : WasGot w.setting history v.0 target a
+  pub target_is : request_target w.setting.routes waiter.opened.request ≡ Ok target
+  pub got : WasGot w.setting history v.0 (request_key target waiter.opened.request) a
 
 -- a waiter that is due is served with the answer of its exchange
 pub served : (w : World) (history : List Deed) (c : Bears history w) (now : ℕ) (v : Numbered Waiter) (a : Answer) → if_due now (least (items_of w)) ≡ Some (serving v a) → IsServed w history v a
@@ -56,7 +59,9 @@ served w history c now v a due =
     let x = found.0 in
     let f = found.1.0 in
     let same : x.0 ≡ v.0 = found.2 in
-    let state : WasGot w.setting history x.0 x.1.target a = subst (IsState w.setting history x.0 x.1.target) found.3 f.state in
+    let key = request_key x.1.target f.opened.request in
+    let may = openable w.setting.routes w.setting.limits.datagram f.opened.request c.routes x.1.target f.verdict in
+    let state : WasGot w.setting history x.0 key a = subst (IsState w.setting history x.0 key) found.3 f.state in
     let request = (one-opened same f.opened g.opened).2 in
     record {
       waiter = g;
@@ -65,8 +70,8 @@ served w history c now v a due =
           subst (λ (s : ExchangeState). count_where t (without v.0 w.exchanges) + one_if (t s) ≡ count_where t w.exchanges) found.3
           (subst (λ (n : ℕ). count_where t (without n w.exchanges) + one_if (t x.1.state) ≡ count_where t w.exchanges) same (count-without t x 0 w.exchanges c.whole.rising found.1.1));
       target = x.1.target;
-      target_is = sym (ap (mapped_target w.setting.routes) request) ∙ f.target_is;
-      got = subst (λ (n : ℕ). WasGot w.setting history n x.1.target a) same state;
+      target_is = sym (ap (request_target w.setting.routes) request) ∙ may.target_is;
+      got = subst (λ (n : ℕ). WasGot w.setting history n (request_key x.1.target g.opened.request) a) same (subst (λ (m : Message). WasGot w.setting history x.0 (request_key x.1.target m) a) request state);
     }
 
 -- ---- what is told
@@ -105,7 +110,7 @@ delivery w history e id v a s act acts sent spells =
           (λ (earlier : IsPlaceOf o.opening.before got.getting). absurd (Never-at (Gets w.setting v.0) o.opening.before got.getting g.ungot earlier got.gets))
           other)
           (in-order history got.getting o.opening got.was_got o.was_opened);
-      asked_target = got.asked_target;
+      asked_key = got.asked_key;
       acting = acts;
       tells = record {
         sent = sent ∙ ap Some g.client_is;

@@ -17,7 +17,8 @@ use Rattle.coap_model.specs.declared.limits.Limit.TheVariants.{Datagram}
 use Rattle.coap_model.specs.Limits.{AreLimits}
 use Rattle.coap_model.specs.Events.{Event, IsEvent}
 use Rattle.coap_message.specs.Codes.{is_code}
-use Rattle.coap_model.specs.Messages.{reset, max_age_option, own_reply, busy_reply, are_understood, widest, fits, bad_gateway, is_passed_on, answer_of, max_age_of, left_of, carries_max_age, shown_options, shown}
+use Rattle.coap_model.specs.Messages.{reset, max_age_option, own_reply, busy_reply}
+use Rattle.coap_model.specs.Answers.{are_understood, widest, fits, bad_gateway, is_passed_on, answer_of, max_age_of, left_of, carries_max_age, shown_options, shown}
 use Rattle.coap_model.specs.World.{World, Step, next_id}
 use Rattle.coap_model.specs.Ticks.{with_id}
 use Rattle.coap_model.specs.Step.{step_of}

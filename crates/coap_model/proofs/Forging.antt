@@ -8,7 +8,7 @@ use Rattle.coap_message.specs.Reading.{read_message, body_at, options_within, op
 use Rattle.coap_message.specs.Uint.{uint_spelling}
 use Rattle.coap_message.specs.Spelling.{spelling, option_spelling}
 use Rattle.coap_message.proofs.WholeMessages.{read_again}
-use Rattle.coap_model.specs.Messages.{max_age_of, answer_of, shown_options, shown}
+use Rattle.coap_model.specs.Answers.{max_age_of, answer_of, shown_options, shown}
 use Rattle.coap_model.specs.Examples.{client, content, content_for_client}
 use Rattle.coap_model.specs.History.{no_item, moves, serves, Deed, Sends, Place, IsPlaceOf, Opens, Gets}
 use Rattle.coap_model.specs.declared.report.Outcome.TheVariants.{SentRequest}

@@ -1,9 +1,10 @@
 -- Sending a request on keeps what is carried.
 use Rattle.std.proofs.Common.{◌≡◌, inl, inr, ⊎_elim, ℕ, ◌≤◌, true, List, ◌∷◌, Some, refl, sym, ap, ◌∙◌, subst, arith}
-use Rattle.std.proofs.lemmas.Option.{same_Some}
 use Rattle.coap_message.specs.Spelling.{Spells, spelling}
 use Rattle.coap_message.proofs.Spellings.{spelled}
+use Rattle.coap_option.specs.Selection.{sent_on}
 use Rattle.coap_target.specs.declared.target.Target.{Target}
+use Rattle.coap_cache.specs.declared.key.CacheKey.{CacheKey}
 use Rattle.coap_exchange.specs.declared.exchange.ExchangeState.{ExchangeState}
 use Rattle.coap_exchange.specs.declared.exchange.ExchangeState.TheVariants.{Queued, Sent, Done}
 use Rattle.coap_exchange.specs.declared.exchange.Exchange.{Exchange}
@@ -12,18 +13,21 @@ use Rattle.coap_exchange.specs.Table.{Numbered}
 use Rattle.coap_exchange.proofs.Counts.{one_if}
 use Rattle.coap_exchange.proofs.States.{moved-cases, length-with_state, IsRising-with_state}
 use Rattle.coap_model.specs.Events.{tick}
-use Rattle.coap_model.specs.Messages.{token_of, forwarded}
+use Rattle.coap_model.specs.Messages.{token_of}
+use Rattle.coap_model.specs.Forms.{forwarded, request_key}
+use Rattle.coap_model.specs.Verdicts.{may_open}
 use Rattle.coap_model.specs.World.{World, next_id}
 use Rattle.coap_exchange.specs.Due.{sending, least}
 use Rattle.coap_model.specs.Ticks.{items_of, if_due, with_id, sends}
-use Rattle.coap_routes.specs.Routes.{mapped_target}
-use Rattle.coap_model.specs.History.{moves, Deed, Place, Opens, Sends, Gets}
-use Rattle.coap_model.specs.Justified.{IsRequestOf}
+use Rattle.coap_model.specs.History.{moves, Deed, Sends, Gets}
+use Rattle.coap_model.specs.Justified.{verdict_on}
 use Rattle.coap_model.specs.Runs.{entry_of}
 use Rattle.coap_model.specs.Carries.{IsState, IsExchangeOf, IsWaiterOf, Bears}
 use Rattle.coap_model.proofs.Lists.{All-map, Has, All-there}
 use Rattle.coap_model.proofs.Places.{here, doing, same_moves, opened-number, one-opened}
-use Rattle.coap_model.proofs.Spelled.{forwarded-is, length-token_of, with_id-forwarded, target_sent-forwarded}
+use Rattle.coap_model.proofs.Forms.{forwarded-is, with_id-forwarded, key-forwarded}
+use Rattle.coap_model.proofs.Spelled.{length-token_of}
+use Rattle.coap_model.proofs.Verdicts.{openable}
 use Rattle.coap_model.proofs.Tables.{due-sending, ArePaired-with_state, HasNumber-with_state, count-moved}
 use Rattle.coap_model.proofs.Frames.{clock_frame, numbers_frame, exchange_moved, exchange_frame, waiters_frame, fresh_frame, later_served, gets-not, serves-not}
 use Rattle.coap_model.proofs.Acting.{acting}
@@ -35,12 +39,17 @@ queued_state Queued e = refl
 queued_state (Sent s) e = absurd cc
 queued_state (Done a) e = absurd cc
 
--- exchanges of one number have one target
-pub same_target : (w : World) (history : List Deed) (x y : Numbered Exchange) → IsExchangeOf w.setting history x → IsExchangeOf w.setting history y → x.0 ≡ y.0 → x.1.target ≡ y.1.target
-same_target w history x y f g same =
+-- what may be opened is for one target
+one_target : {a b : Target} → may_open a ≡ may_open b → a ≡ b
+one_target e = cc
+
+-- exchanges of one number have one key
+pub same_key : (w : World) (history : List Deed) (x y : Numbered Exchange) → (f : IsExchangeOf w.setting history x) (g : IsExchangeOf w.setting history y) → x.0 ≡ y.0
+    → request_key x.1.target f.opened.request ≡ request_key y.1.target g.opened.request
+same_key w history x y f g same =
     let request = (one-opened same f.opened g.opened).2 in
-    let targets : Some x.1.target ≡ Some y.1.target = sym f.target_is ∙ ap (mapped_target w.setting.routes) request ∙ g.target_is in
-    same_Some x.1.target y.1.target targets
+    let target = one_target (sym f.verdict ∙ ap (verdict_on w.setting) request ∙ g.verdict) in
+    rw (target, request) refl
 
 -- sending a request on keeps what is carried
 pub keeps_forwarding : (w : World) (history : List Deed) (c : Bears history w) → (now draw : ℕ) (x : Numbered Exchange) → w.last ≤ now → if_due now (least (items_of w)) ≡ Some (sending x)
@@ -54,10 +63,13 @@ keeps_forwarding w history c now draw x onward due =
     let f = found.0.0 in
     let there = found.0.1 in
     let queued = queued_state x.1.state found.1 in
-    let state : IsState w.setting history x.0 x.1.target Queued = subst (IsState w.setting history x.0 x.1.target) queued f.state in
-    let request = forwarded (token_of salt x.0) x.1.target id in
-    let is = forwarded-is (token_of salt x.0) x.1.target id f.sound (omega (arith, length-token_of salt x.0)) in
-    let bytes_are : e.entry.bytes ≡ spelling request = ap (with_id id) f.form_is ∙ with_id-forwarded id (token_of salt x.0) x.1.target in
+    let asked = f.opened.request in
+    let key = request_key x.1.target asked in
+    let may = openable w.setting.routes w.setting.limits.datagram asked c.routes x.1.target f.verdict in
+    let state : IsState w.setting history x.0 key Queued = subst (IsState w.setting history x.0 key) queued f.state in
+    let request = forwarded (token_of salt x.0) x.1.target (sent_on asked) id in
+    let is = forwarded-is (token_of salt x.0) x.1.target asked id may.sound f.opened.asked.brings.spells.message.options may.screened (omega (arith, length-token_of salt x.0)) in
+    let bytes_are : e.entry.bytes ≡ spelling request = ap (with_id id) f.form_is ∙ with_id-forwarded id (token_of salt x.0) x.1.target (sent_on asked) in
     let spells : Spells e.entry.bytes request = subst (λ (b : List ℕ). Spells b request) (sym bytes_are) (spelled request is) in
     let ungot : (n : ℕ) → Gets w.setting n p → ⊥ = gets-not w.setting history e (λ o. cc) in
     let number : (n : ℕ) → Sends salt n p → n ≡ x.0 = λ n s. same_moves n x.0 (sym s.act) in
@@ -75,20 +87,20 @@ keeps_forwarding w history c now draw x onward due =
           All-map (IsExchangeOf w.setting history) (IsExchangeOf w.setting (e ∷ history)) (moved x.0 next) w.exchanges
           (λ y g.
           moved-cases (IsExchangeOf w.setting (e ∷ history)) x.0 next y
-          (λ same. exchange_moved w.setting history e y next (
-          subst (λ (n : ℕ). IsState w.setting (e ∷ history) n y.1.target next) (sym same) (
+          (λ same. exchange_moved w.setting history e y next g (
+          subst (λ (n : ℕ). IsState w.setting (e ∷ history) n (request_key y.1.target g.opened.request) next) (sym same) (
             record {
               asking = p;
               was_asked = inl refl;
               asks = record { sends = first_is; first = state.0 };
-              asked_target = target_sent-forwarded (token_of salt x.0) x.1.target id ∙ same_target w history x y f g (sym same);
-              to = ap (λ (t : Target). t.at) (same_target w history x y f g (sym same));
+              asked_key = key-forwarded (token_of salt x.0) x.1.target asked id may.screened may.get ∙ same_key w history x y f g (sym same);
+              to = ap (λ (k : CacheKey). k.target.at) (same_key w history x y f g (sym same));
               id_is = refl;
               number = c.clock.events;
             },
             (ungot x.0, state.1),
           )
-          ) g)
+          ))
           (λ other. exchange_frame w.setting history e y (λ s. other (number y.0 s)) (ungot y.0) g))
           c.exchanges;
       waiters = waiters_frame w.setting history e w.waiters (serves-not history e (λ o. cc)) c.waiters;
@@ -107,7 +119,7 @@ keeps_forwarding w history c now draw x onward due =
           opened = f.opened;
           target = x.1.target;
           id = id;
-          target_is = f.target_is;
+          target_is = may.target_is;
           first = state.0;
           acting = acting w history c now (sending x) due e refl refl refl;
           tells = record { sent = refl; spells = spells };

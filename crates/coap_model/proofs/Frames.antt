@@ -1,7 +1,7 @@
 -- What stays as the history grows by an entry.
 use Rattle.std.proofs.Common.{◌≡◌, ◌≢◌, ◌⊎◌, ⊎_elim, inl, inr, ℕ, ◌+◌, ◌<◌, ◌≤◌, List, [], ◌∷◌, arith}
 use Rattle.std.specs.List.{AllByRecursion}
-use Rattle.coap_target.specs.declared.target.Target.{Target}
+use Rattle.coap_cache.specs.declared.key.CacheKey.{CacheKey}
 use Rattle.coap_target.proofs.Lists.{All-weaken}
 use Rattle.coap_exchange.specs.declared.exchange.ExchangeState.{ExchangeState}
 use Rattle.coap_exchange.specs.declared.exchange.ExchangeState.TheVariants.{Queued, Sent, Done}
@@ -14,6 +14,7 @@ use Rattle.coap_model.specs.declared.report.Storing.TheVariants.{NotStored}
 use Rattle.coap_model.specs.Setting.{Setting}
 use Rattle.coap_model.specs.World.{World}
 use Rattle.coap_model.specs.History.{Deed, Somewhere, opens_one, serves_one, gives_id, opened_in, served_in, ids_in, Sends, Gets, Serves}
+use Rattle.coap_model.specs.Forms.{request_key}
 use Rattle.coap_model.specs.Carries.{Clock, Numbers, IsState, IsExchangeOf, IsWaiterOf, HasNumber, IsFresh, Bears}
 use Rattle.coap_model.proofs.Places.{here, opened-later}
 use Rattle.coap_model.proofs.Tables.{length-paired}
@@ -27,23 +28,23 @@ pub numbers_frame : {history : List Deed} {w v : World} {e : Deed} → Numbers h
 numbers_frame n opened admitted given = record { opened = let h = n.opened in omega arith; admitted = let h = n.admitted in omega arith; given = let h = n.given in omega arith }
 
 -- a state stays where nothing is sent or got for the exchange
-state_frame : (setting : Setting) (history : List Deed) (e : Deed) (x : ℕ) (target : Target) (s : ExchangeState) → ¬ Sends setting.salt x (here history e) → ¬ Gets setting x (here history e) → IsState setting history x target s → IsState setting (e ∷ history) x target s
-state_frame setting history e x target Queued unsent ungot s = ((unsent, s.0), (ungot, s.1))
-state_frame setting history e x target (Sent sending) unsent ungot s =
+state_frame : (setting : Setting) (history : List Deed) (e : Deed) (x : ℕ) (key : CacheKey) (s : ExchangeState) → ¬ Sends setting.salt x (here history e) → ¬ Gets setting x (here history e) → IsState setting history x key s → IsState setting (e ∷ history) x key s
+state_frame setting history e x key Queued unsent ungot s = ((unsent, s.0), (ungot, s.1))
+state_frame setting history e x key (Sent sending) unsent ungot s =
     let a = s.0 in
-    (record { asking = a.asking; was_asked = inr a.was_asked; asks = a.asks; asked_target = a.asked_target; to = a.to; id_is = a.id_is; number = a.number }, (ungot, s.1))
-state_frame setting history e x target (Done answer) unsent ungot s =
-    record { getting = s.getting; was_got = inr s.was_got; gets = s.gets; asked_target = s.asked_target; answer_is = s.answer_is }
+    (record { asking = a.asking; was_asked = inr a.was_asked; asks = a.asks; asked_key = a.asked_key; to = a.to; id_is = a.id_is; number = a.number }, (ungot, s.1))
+state_frame setting history e x key (Done answer) unsent ungot s =
+    record { getting = s.getting; was_got = inr s.was_got; gets = s.gets; asked_key = s.asked_key; answer_is = s.answer_is }
 
 -- an exchange comes to another state, which is how far the history brought it
-pub exchange_moved : (setting : Setting) (history : List Deed) (e : Deed) (x : Numbered Exchange) (next : ExchangeState) → IsState setting (e ∷ history) x.0 x.1.target next → IsExchangeOf setting history x → IsExchangeOf setting (e ∷ history) (x.0, record { target = x.1.target; form = x.1.form; since = x.1.since; state = next })
-exchange_moved setting history e x next state f =
-    record { opened = opened-later e f.opened; since = f.since; target_is = f.target_is; sound = f.sound; form_is = f.form_is; form_short = f.form_short; state = state }
+pub exchange_moved : (setting : Setting) (history : List Deed) (e : Deed) (x : Numbered Exchange) (next : ExchangeState) (f : IsExchangeOf setting history x) → IsState setting (e ∷ history) x.0 (request_key x.1.target f.opened.request) next → IsExchangeOf setting (e ∷ history) (x.0, record { target = x.1.target; form = x.1.form; since = x.1.since; state = next })
+exchange_moved setting history e x next f state =
+    record { opened = opened-later e f.opened; since = f.since; verdict = f.verdict; form_is = f.form_is; form_short = f.form_short; state = state }
 
 -- an exchange stays for which nothing is sent or got
 pub exchange_frame : (setting : Setting) (history : List Deed) (e : Deed) (x : Numbered Exchange) → ¬ Sends setting.salt x.0 (here history e) → ¬ Gets setting x.0 (here history e) → IsExchangeOf setting history x → IsExchangeOf setting (e ∷ history) x
 exchange_frame setting history e x unsent ungot f =
-    exchange_moved setting history e x x.1.state (state_frame setting history e x.0 x.1.target x.1.state unsent ungot f.state) f
+    exchange_moved setting history e x x.1.state f (state_frame setting history e x.0 (request_key x.1.target f.opened.request) x.1.state unsent ungot f.state)
 
 -- all exchanges stay where nothing is sent or got
 pub exchanges_frame : (setting : Setting) (history : List Deed) (e : Deed) (xs : List (Numbered Exchange)) → ((x : ℕ) → ¬ Sends setting.salt x (here history e)) → ((x : ℕ) → ¬ Gets setting x (here history e))

@@ -6,7 +6,7 @@ use Rattle.std.proofs.lemmas.Bool.{eqb-true, leb-true, lt-ltb, and_parts}
 use Rattle.std.proofs.lemmas.Nat.{mul-le}
 use Rattle.std.proofs.lemmas.List.{append-nil}
 use Rattle.std.proofs.lemmas.List.Elements.{All-from_recursion}
-use Rattle.std.proofs.lemmas.List.Sums.{sum_by-cons, sum_by-le}
+use Rattle.std.proofs.lemmas.List.Sums.{sum_by-le}
 use Rattle.coap_message.specs.declared.code.TheConstants.Code.{VALID}
 use Rattle.coap_message.specs.declared.options.Opt.{Opt}
 use Rattle.coap_message.specs.Message.{Message}
@@ -24,11 +24,18 @@ use Rattle.coap_exchange.specs.declared.waiter.Waiter.{Waiter}
 use Rattle.coap_exchange.specs.Table.{Numbered}
 use Rattle.coap_model.specs.Setting.{Setting}
 use Rattle.coap_message.specs.Codes.{is_code}
-use Rattle.coap_message.specs.Options.{option_of}
-use Rattle.coap_model.specs.Messages.{host_options, target_options, forwarded, are_understood, widest, fits, bad_gateway, is_passed_on, answer_of}
+use Rattle.coap_message.specs.Options.{AreOptions, option_of}
+use Rattle.coap_option.specs.Selection.{sent_on}
+use Rattle.coap_routes.specs.Routes.{AreRoutes}
+use Rattle.coap_model.specs.Forms.{host_options, target_options, merged, forwarded, request_key, says_target}
+use Rattle.coap_model.specs.Answers.{are_understood, widest, fits, bad_gateway, is_passed_on, answer_of}
 use Rattle.coap_model.specs.World.{World}
 use Rattle.coap_model.specs.History.{Deed}
 use Rattle.coap_model.specs.Carries.{IsState, IsExchangeOf, IsWaiterOf, Bears}
+use Rattle.coap_target.specs.Target.{IsTarget}
+use Rattle.coap_model.proofs.Forms.{AreUnused, sent-unused, AreOptions-merged, target-options, sent-options, target-kept}
+use Rattle.coap_model.proofs.Verdicts.{IsOpenable, openable}
+use Rattle.coap_model.proofs.OptionLengths.{filter-length}
 use Rattle.coap_model.specs.Held.{host_bytes, target_bytes, response_bytes, state_bytes, exchange_bytes, waiter_bytes, held, most_held}
 
 -- ---- a target is held in hardly more than its form
@@ -65,9 +72,12 @@ target-short before t = go t.host
     go None = record { most = omega (arith, (path before).most) }
     go (Some h) = record { most = omega (arith, (path 3).most) }
 
--- and so little more than the form
-form-holds : (token : List ℕ) (t : Target) → IsLittleMore (target_bytes t) (length (spelling (forwarded token t 0)))
-form-holds token t = record { most = omega (arith, spelling-length (forwarded token t 0), (target-short 0 t).most) }
+-- and so little more than the form, which says more
+form-holds : (token : List ℕ) (t : Target) (others : List Opt) → IsTarget t → AreOptions 0 others → AreUnused others → IsLittleMore (target_bytes t) (length (spelling (forwarded token t others 0)))
+form-holds token t others is are none =
+    let whole : List Opt = merged (target_options t) others in
+    let less = filter-length (λ o. says_target o.number) 0 whole (AreOptions-merged 0 (target_options t) others (target-options t is) are) in
+    record { most = omega (arith, spelling-length (forwarded token t others 0), (target-short 0 t).most, less, ap (options_length 0) (target-kept t others is none)) }
 
 -- ---- an answer is held in no more than a datagram and a Max-Age
 
@@ -108,13 +118,21 @@ answer-short most now m = go (is_passed_on most m) refl
 -- ---- each element, and all of them
 
 -- what an exchange holds is within its part of the bound
-exchange-held : (setting : Setting) (history : List Deed) (x : Numbered Exchange) → IsExchangeOf setting history x → exchange_bytes x ≤ 4 * setting.limits.datagram + 256
-exchange-held setting history x f = go x.1.state f.state
+exchange-held : (setting : Setting) (history : List Deed) → AreRoutes setting.routes → (x : Numbered Exchange) → IsExchangeOf setting history x → exchange_bytes x ≤ 4 * setting.limits.datagram + 256
+exchange-held setting history routes x f = go x.1.state f.state
   where
-    target : IsLittleMore (target_bytes x.1.target) (length x.1.form)
-    target = subst (λ (form : List ℕ). IsLittleMore (target_bytes x.1.target) (length form)) (sym f.form_is) (form-holds _ x.1.target)
+    request : Message
+    request = f.opened.request
 
-    go : (s : ExchangeState) → IsState setting history x.0 x.1.target s → length x.1.form + target_bytes x.1.target + state_bytes s ≤ 4 * setting.limits.datagram + 256
+    may : IsOpenable setting.routes setting.limits.datagram request x.1.target
+    may = openable setting.routes setting.limits.datagram request routes x.1.target f.verdict
+
+    target : IsLittleMore (target_bytes x.1.target) (length x.1.form)
+    target =
+        subst (λ (form : List ℕ). IsLittleMore (target_bytes x.1.target) (length form)) (sym f.form_is)
+        (form-holds _ x.1.target (sent_on request) may.sound (sent-options request f.opened.asked.brings.spells.message.options may.screened) (sent-unused request may.screened))
+
+    go : (s : ExchangeState) → IsState setting history x.0 (request_key x.1.target request) s → length x.1.form + target_bytes x.1.target + state_bytes s ≤ 4 * setting.limits.datagram + 256
     go Queued state = omega (arith, target.most, f.form_short)
     go (Sent s) state = omega (arith, target.most, f.form_short)
     go (Done a) state =
@@ -129,7 +147,7 @@ waiter-held setting history v f = omega (arith, ap length f.token_is, f.opened.a
 pub within-bound : (history : List Deed) (w : World) → Bears history w → held w ≤ most_held w.setting.limits
 within-bound history w c =
     let d = w.setting.limits.datagram in
-    let xs = sum_by-le exchange_bytes (4 * d + 256) w.exchanges (All-from_recursion (λ x. exchange_bytes x ≤ 4 * d + 256) w.exchanges (All-weaken (IsExchangeOf w.setting history) (λ x. exchange_bytes x ≤ 4 * d + 256) w.exchanges (exchange-held w.setting history) c.exchanges)) in
+    let xs = sum_by-le exchange_bytes (4 * d + 256) w.exchanges (All-from_recursion (λ x. exchange_bytes x ≤ 4 * d + 256) w.exchanges (All-weaken (IsExchangeOf w.setting history) (λ x. exchange_bytes x ≤ 4 * d + 256) w.exchanges (exchange-held w.setting history c.routes) c.exchanges)) in
     let vs = sum_by-le waiter_bytes (d + 256) w.waiters (All-from_recursion (λ v. waiter_bytes v ≤ d + 256) w.waiters (All-weaken (IsWaiterOf w.setting history) (λ v. waiter_bytes v ≤ d + 256) w.waiters (waiter-held w.setting history) c.waiters)) in
     let most_xs = mul-le (length w.exchanges) (4 * d + 256) w.setting.limits.exchanges (4 * d + 256) c.within.exchanges (omega arith) in
     let most_vs = mul-le (length w.waiters) (d + 256) w.setting.limits.waiters (d + 256) c.within.waiters (omega arith) in

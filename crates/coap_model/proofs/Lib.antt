@@ -1,3 +1,5 @@
+pub mod Forms
+pub mod OptionLengths
 pub mod Spelled
 pub mod Lists
 pub mod Places

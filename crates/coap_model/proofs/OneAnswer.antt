@@ -1,5 +1,5 @@
 -- What may follow deeds at a turn is one answer, and it is that of the step.
-use Rattle.std.proofs.Common.{◌≡◌, ◌⊎◌, inl, inr, ⊎_elim, ℕ, ◌+◌, ◌%◌, ◌<◌, ◌≤◌, List, [], ◌∷◌, Some, None, refl, sym, ap, ◌∙◌, subst, arith}
+use Rattle.std.proofs.Common.{◌≡◌, ◌⊎◌, inl, inr, ⊎_elim, ℕ, ◌+◌, ◌%◌, ◌<◌, ◌≤◌, List, [], ◌∷◌, Some, Result, Ok, refl, sym, ap, ◌∙◌, subst, arith}
 use Rattle.std.proofs.lemmas.Option.{same_Some}
 use Rattle.std.proofs.lemmas.Bool.{cases_lt}
 use Rattle.coap_message.specs.declared.code.Code.{Code}
@@ -11,18 +11,22 @@ use Rattle.coap_message.proofs.Spellings.{spelled_once}
 use Rattle.coap_message.proofs.WholeMessages.{one_message}
 use Rattle.coap_target.specs.declared.endpoint.Endpoint.{Endpoint}
 use Rattle.coap_target.specs.declared.target.Target.{Target}
-use Rattle.coap_routes.specs.Routes.{mapped_target}
+use Rattle.coap_option.specs.Selection.{sent_on}
+use Rattle.coap_routes.specs.declared.error.TargetError.{TargetError}
+use Rattle.coap_routes.specs.Request.{request_target}
 use Rattle.coap_model.specs.declared.report.Outcome.{Outcome}
 use Rattle.coap_model.specs.declared.report.Outcome.TheVariants.{Ignored, Rejected, Refused, Opened, Overloaded, NoId, Answered, SentRequest, Delivered, Idle}
 use Rattle.coap_model.specs.declared.report.Storing.TheVariants.{NotStored}
 use Rattle.coap_model.specs.Setting.{Setting}
-use Rattle.coap_model.specs.Events.{Event, IsEvent, arrival, tick}
-use Rattle.coap_model.specs.Messages.{reset, own_reply, busy_reply, token_of, forwarded, answer_of, shown}
+use Rattle.coap_model.specs.Events.{IsEvent}
+use Rattle.coap_model.specs.Messages.{reset, own_reply, busy_reply, token_of}
+use Rattle.coap_model.specs.Forms.{forwarded}
+use Rattle.coap_model.specs.Answers.{answer_of, shown}
 use Rattle.coap_model.specs.World.{World}
 use Rattle.coap_model.specs.Step.{step_of}
-use Rattle.coap_model.specs.History.{Entry, Act, no_item, admits, moves, serves, Deed, Place, IsPlaceOf, ids_in, gives_id, Opens, Brings, Sends, Gets, Gives, AreIds}
-use Rattle.coap_model.specs.Due.{IsDueAt, ComesBefore, IsSooner}
-use Rattle.coap_model.specs.Justified.{IsRequestOf, Tells, IsSilent, IsRefusal, IsOverload, IsRejection, IsAwaited, IsActing, IsForwarding, IsDelivery, IsUnprocessable, JustifiedBy, AllJustified, MayFollow, AreOfOneTurn}
+use Rattle.coap_model.specs.History.{Entry, Act, no_item, admits, moves, serves, Deed, Place, ids_in, gives_id, Brings, Sends, Gets, Gives, AreIds}
+use Rattle.coap_model.specs.Due.{IsDueAt, ComesBefore}
+use Rattle.coap_model.specs.Justified.{IsRequestOf, Tells, IsSilent, IsAwaited, IsActing, IsForwarding, IsDelivery, IsUnprocessable, JustifiedBy, AllJustified, MayFollow, AreOfOneTurn}
 use Rattle.coap_model.specs.Runs.{entry_of}
 use Rattle.coap_model.specs.Promised.{IdsDiffer}
 use Rattle.coap_model.specs.Carries.{Carries}
@@ -60,9 +64,9 @@ own_reply-same code i k t u id token = rw (id, token) refl
 busy_reply-same : (seconds i k : ℕ) (t u : List ℕ) → i ≡ k → t ≡ u → busy_reply seconds i t ≡ busy_reply seconds k u
 busy_reply-same seconds i k t u id token = rw (id, token) refl
 
--- requests for one target, with one token and one id, are one
-forwarded-same : (salt x y : ℕ) (a b : Target) (i k : ℕ) → x ≡ y → a ≡ b → i ≡ k → forwarded (token_of salt x) a i ≡ forwarded (token_of salt y) b k
-forwarded-same salt x y a b i k number target id = rw (number, target, id) refl
+-- requests that are sent on for one target and one request, with one token and one id, are one
+forwarded-same : (salt x y : ℕ) (a b : Target) (m n : Message) (i k : ℕ) → x ≡ y → a ≡ b → m ≡ n → i ≡ k → forwarded (token_of salt x) a (sent_on m) i ≡ forwarded (token_of salt y) b (sent_on n) k
+forwarded-same salt x y a b m n i k number target request id = rw (number, target, request, id) refl
 
 -- and so is what is shown at one moment of one response, got at one moment
 shown-same : (most now later got again : ℕ) (m n : Message) (i k : ℕ) (t u : List ℕ) → now ≡ later → got ≡ again → m ≡ n → i ≡ k → t ≡ u → shown now (answer_of most got m) i t ≡ shown later (answer_of most again n) k u
@@ -117,15 +121,19 @@ one-response setting x y p q e g h =
     let m = g.meets in
     (one-brought (subst (λ (r : Place). Brings setting.limits.datagram m.asks.sends.to m.response r.deed.entry.event) e m.brings) h.meets.brings).1
 
+-- one target is told
+same_Ok : (a b : Target) → ◌≡◌ {A = Result Target TargetError} (Ok a) (Ok b) → a ≡ b
+same_Ok a b e = cc
+
 -- for one exchange one request is sent
 one-forwarding : (setting : Setting) (past : List Deed) (d e : Deed) (id : ℕ) → Gives id d.entry → Gives id e.entry → IsForwarding setting past d → IsForwarding setting past e → d.act ≡ e.act → SayTheSame d.entry e.entry
 one-forwarding setting past d e id g h j k act =
     let number = same_moves j.exchange k.exchange (sym j.act ∙ act ∙ k.act) in
     let request = (one-opened number j.opened k.opened).2 in
-    let target = same_Some j.target k.target (sym j.target_is ∙ ap (mapped_target setting.routes) request ∙ k.target_is) in
-    let sent_id = id-told d.entry id j.target.at (forwarded (token_of setting.salt j.exchange) j.target j.id) g j.tells in
-    let other_id = id-told e.entry id k.target.at (forwarded (token_of setting.salt k.exchange) k.target k.id) h k.tells in
-    let same = forwarded-same setting.salt j.exchange k.exchange j.target k.target j.id k.id number target (sent_id ∙ sym other_id) in
+    let target = same_Ok j.target k.target (sym j.target_is ∙ ap (request_target setting.routes) request ∙ k.target_is) in
+    let sent_id = id-told d.entry id j.target.at (forwarded (token_of setting.salt j.exchange) j.target (sent_on j.opened.request) j.id) g j.tells in
+    let other_id = id-told e.entry id k.target.at (forwarded (token_of setting.salt k.exchange) k.target (sent_on k.opened.request) k.id) h k.tells in
+    let same = forwarded-same setting.salt j.exchange k.exchange j.target k.target j.opened.request k.opened.request j.id k.id number target request (sent_id ∙ sym other_id) in
     told-same d.entry e.entry j.target.at k.target.at _ _ j.tells k.tells (ap (λ (t : Target). t.at) target) same
 
 -- a response is of one exchange: the requests of two were sent with different ids

@@ -12,7 +12,7 @@ use Rattle.coap_exchange.proofs.Counts.{count_where-push}
 use Rattle.coap_exchange.proofs.Tables.{IsRising-push}
 use Rattle.coap_model.specs.Setting.{Setting}
 use Rattle.coap_model.specs.Events.{arrival}
-use Rattle.coap_model.specs.Messages.{may_open}
+use Rattle.coap_model.specs.Verdicts.{may_open}
 use Rattle.coap_exchange.specs.Exchanges.{is_queued, count_where}
 use Rattle.coap_model.specs.World.{World, has_ids, has_room}
 use Rattle.coap_model.specs.Requests.{opens, new_exchange, new_waiter, next_token}
@@ -50,7 +50,7 @@ pub keeps_opening : (w : World) (history : List Deed) (c : Bears history w) → 
 keeps_opening w history c now draw client bytes m t onward fits asks verdict room =
     let e = doing (admits (opened_in history + 1) (opened_in history + 1)) (entry_of now draw (arrival client bytes) (opens w now client m t)) in
     let came = request-came w client bytes m fits asks in
-    let may = openable w.setting.routes w.setting.limits.datagram m t c.routes verdict in
+    let may = openable w.setting.routes w.setting.limits.datagram m c.routes t verdict in
     let number : w.opened + 1 ≡ opened_in history + 1 = let h = c.numbers.opened in omega arith in
     let same : w.admitted + 1 ≡ w.opened + 1 = let h = c.numbers.opened in let k = c.numbers.admitted in omega arith in
     let new = c.fresh (w.opened + 1) (omega arith) in
@@ -62,9 +62,9 @@ keeps_opening w history c now draw client bytes m t onward fits asks verdict roo
     let exchange_room = ltb-true (length w.exchanges) w.setting.limits.exchanges parts.0 in
     let waiter_room = ltb-true (length w.waiters) w.setting.limits.waiters more.0 in
     let ids_room = leb-true (w.given + (length w.waiters + count_where is_queued w.exchanges) + 2) 32768 more.1 in
-    let longer_exchanges = length-append w.exchanges (new_exchange w now t ∷ []) in
+    let longer_exchanges = length-append w.exchanges (new_exchange w now m t ∷ []) in
     let longer_waiters = length-append w.waiters (new_waiter w client m ∷ []) in
-    let more_queued = count_where-push is_queued w.exchanges (new_exchange w now t) in
+    let more_queued = count_where-push is_queued w.exchanges (new_exchange w now m t) in
     let below : AllByRecursion (λ x. x.0 < w.opened + 1) w.exchanges = subst (λ (n : ℕ). AllByRecursion (λ x. x.0 < n) w.exchanges) (sym number) (exchanges-below w history c) in
     record {
       routes = c.routes;
@@ -73,12 +73,11 @@ keeps_opening w history c now draw client bytes m t onward fits asks verdict roo
       ids = ((λ g. absurd (omega arith)), c.ids);
       fresh = fresh_frame w.setting history e (λ x above. unsent x) (λ x above. ungot x) c.fresh;
       exchanges =
-          All-append (IsExchangeOf w.setting (e ∷ history)) w.exchanges (new_exchange w now t ∷ []) (exchanges_frame w.setting history e w.exchanges unsent ungot c.exchanges) (
+          All-append (IsExchangeOf w.setting (e ∷ history)) w.exchanges (new_exchange w now m t ∷ []) (exchanges_frame w.setting history e w.exchanges unsent ungot c.exchanges) (
             record {
               opened = record { opening = here history e; client = client; request = m; was_opened = inl refl; opens = (refl, number); asked = came };
               since = refl;
-              target_is = may.target_is;
-              sound = may.sound;
+              verdict = verdict;
               form_is = refl;
               form_short = may.short (next_token w) (length-token_of w.setting.salt (w.opened + 1));
               state = ((unsent (w.opened + 1), new.0), (ungot (w.opened + 1), new.1));
@@ -98,12 +97,12 @@ keeps_opening w history c now draw client bytes m t onward fits asks verdict roo
             tt,
           );
       whole = record {
-        rising = IsRising-push 0 (w.opened + 1) w.exchanges (new_exchange w now t).1 (omega arith) below c.whole.rising;
-        paired = subst (λ (n : ℕ). ArePaired (w.exchanges ++ new_exchange w now t ∷ []) (w.waiters ++ (n, (new_waiter w client m).1) ∷ [])) (sym same) (ArePaired-push (w.opened + 1) w.exchanges w.waiters (new_exchange w now t).1 (new_waiter w client m).1 c.whole.paired);
+        rising = IsRising-push 0 (w.opened + 1) w.exchanges (new_exchange w now m t).1 (omega arith) below c.whole.rising;
+        paired = subst (λ (n : ℕ). ArePaired (w.exchanges ++ new_exchange w now m t ∷ []) (w.waiters ++ (n, (new_waiter w client m).1) ∷ [])) (sym same) (ArePaired-push (w.opened + 1) w.exchanges w.waiters (new_exchange w now m t).1 (new_waiter w client m).1 c.whole.paired);
         complete = λ n positive le.
             ⊎_elim
-            (λ (lt : n < w.opened + 1). ⊎_elim (λ there. inl (HasNumber-push n w.exchanges (new_exchange w now t ∷ []) there)) (λ s. inr s) (later_served history e w.exchanges n (c.whole.complete n positive (omega arith))))
-            (λ (ge : w.opened + 1 ≤ n). let last : n ≡ w.opened + 1 = omega arith in inl (subst (λ (k : ℕ). HasNumber k (w.exchanges ++ new_exchange w now t ∷ [])) (sym last) (HasNumber-last (w.opened + 1) w.exchanges (new_exchange w now t).1)))
+            (λ (lt : n < w.opened + 1). ⊎_elim (λ there. inl (HasNumber-push n w.exchanges (new_exchange w now m t ∷ []) there)) (λ s. inr s) (later_served history e w.exchanges n (c.whole.complete n positive (omega arith))))
+            (λ (ge : w.opened + 1 ≤ n). let last : n ≡ w.opened + 1 = omega arith in inl (subst (λ (k : ℕ). HasNumber k (w.exchanges ++ new_exchange w now m t ∷ [])) (sym last) (HasNumber-last (w.opened + 1) w.exchanges (new_exchange w now m t).1)))
             (cases_lt n (w.opened + 1));
         under_way = let h = c.whole.under_way in omega arith;
         unsent = let h = c.whole.unsent in omega arith;

@@ -12,7 +12,7 @@ use Rattle.coap_model.specs.declared.report.Outcome.TheVariants.{Ignored, Reject
 use Rattle.coap_model.specs.declared.report.Storing.TheVariants.{NotStored}
 use Rattle.coap_model.specs.Setting.{Setting}
 use Rattle.coap_model.specs.Events.{arrival, tick}
-use Rattle.coap_model.specs.Messages.{refused_with, may_open}
+use Rattle.coap_model.specs.Verdicts.{refused_with, may_open}
 use Rattle.coap_model.specs.History.{Act, Deed, HasIds, HasRoom}
 use Rattle.coap_model.specs.Due.{IsDueAt}
 use Rattle.coap_model.specs.Justified.{IsRequestOf, verdict_on, IsRefusal, IsOverload, IsLack, IsOpening, IsAwaited, IsForwarding, IsDelivery, IsIdle, IsUnprocessable, IsActing, JustifiedBy}

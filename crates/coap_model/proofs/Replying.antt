@@ -16,13 +16,14 @@ use Rattle.coap_target.specs.declared.endpoint.Endpoint.{Endpoint}
 use Rattle.coap_target.specs.declared.target.Target.{Target}
 use Rattle.coap_model.specs.Events.{arrival}
 use Rattle.coap_message.specs.Codes.{is_request}
-use Rattle.coap_model.specs.Messages.{is_con, is_non, reset, own_reply, busy_reply, refused_with, may_open}
+use Rattle.coap_model.specs.Messages.{is_con, is_non, reset, own_reply, busy_reply}
+use Rattle.coap_model.specs.Verdicts.{refused_with, may_open}
 use Rattle.coap_model.specs.World.{World, reserved, next_id, has_ids, has_room, ignores}
 use Rattle.coap_model.specs.Requests.{lacks_id, refuses, overloads}
 use Rattle.coap_model.specs.Step.{rejects, message_in}
 use Rattle.coap_model.specs.History.{no_item, Deed, ids_in}
 use Rattle.coap_model.specs.Setting.{Setting}
-use Rattle.coap_model.specs.Justified.{IsRequestOf, IsAwaited, IsUnprocessable}
+use Rattle.coap_model.specs.Justified.{IsRequestOf, IsUnprocessable}
 use Rattle.coap_model.specs.Runs.{entry_of}
 use Rattle.coap_model.specs.Carries.{Bears}
 use Rattle.coap_model.proofs.Spelled.{reset-is, own_reply-is, busy_reply-is, message_in-is, message_in-again}
@@ -73,7 +74,7 @@ pub keeps_refusing : (w : World) (history : List Deed) (c : Bears history w) (no
 keeps_refusing w history c now draw client bytes m code onward fits asked verdict free =
     let e = doing no_item (entry_of now draw (arrival client bytes) (refuses w now client m code)) in
     let came = request-came w client bytes m fits asked in
-    let some = refused-code w.setting.routes w.setting.limits.datagram m code c.routes verdict in
+    let some = refused-code w.setting.routes w.setting.limits.datagram m c.routes code verdict in
     let reply = own_reply code [] (next_id w) m.token in
     let spells : Spells (spelling reply) reply = spelled reply (own_reply-is code [] (next_id w) m.token some tt came.brings.spells.message.token) in
     keeps_quiet w history c e (w.given + 1) (record { opens = refl; sends = refl; serves = refl; unsent = λ o. cc; ungot = λ o. cc; unserved = λ o. cc }) onward refl

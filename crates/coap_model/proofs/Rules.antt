@@ -18,7 +18,8 @@ use Rattle.coap_exchange.specs.declared.waiter.Waiter.{Waiter}
 use Rattle.coap_exchange.specs.Table.{Numbered}
 use Rattle.coap_model.specs.Events.{Event, arrival, tick, IsEvent}
 use Rattle.coap_message.specs.Codes.{is_request, is_response}
-use Rattle.coap_model.specs.Messages.{is_con, is_non, is_ack, Verdict, refused_with, may_open, verdict_of}
+use Rattle.coap_model.specs.Messages.{is_con, is_non, is_ack}
+use Rattle.coap_model.specs.Verdicts.{Verdict, refused_with, may_open, verdict_of}
 use Rattle.coap_model.specs.World.{World, Step, has_ids, has_room, ignores}
 use Rattle.coap_model.specs.Requests.{lacks_id, refuses, overloads, opens, on_verdict, on_request}
 use Rattle.coap_model.specs.Responses.{awaiting, answers, on_awaited, on_response}

@@ -1,11 +1,8 @@
 -- The messages that a proxy makes are messages, and so each is spelled; what is read off them.
-use Rattle.std.proofs.Common.{◌≡◌, ◌≢◌, ℕ, zero, suc, ◌+◌, ◌%◌, ◌^◌, ◌<◌, ◌≤◌, Bool, true, false, cond, eqb, leb, List, [], ◌∷◌, ◌++◌, length, Option, Some, None, Result, Ok, Err, refl, sym, ap, subst, ◌∙◌, arith}
-use Rattle.std.specs.Prelude.{map, IfSome}
-use Rattle.std.specs.List.{AllByRecursion}
+use Rattle.std.proofs.Common.{◌≡◌, ◌≢◌, ℕ, zero, suc, ◌+◌, ◌%◌, ◌^◌, ◌<◌, ◌≤◌, Bool, true, false, cond, leb, List, [], ◌∷◌, length, Some, None, Result, Ok, Err, refl, sym, ap, subst, ◌∙◌, arith}
 use Rattle.std.specs.Result.{result_ok}
 use Rattle.std.specs.Int.{w64, to_be_bytes, from_be_bytes}
 use Rattle.std.proofs.lemmas.Bool.{leb-true, le-leb}
-use Rattle.std.proofs.lemmas.List.{append-nil}
 use Rattle.std.proofs.lemmas.Nat.{from_be_bytes-to_be_bytes_8}
 use Rattle.coap_message.specs.declared.code.Code.{Code}
 use Rattle.coap_message.specs.declared.error.ReadError.{ReadError}
@@ -13,46 +10,16 @@ use Rattle.coap_message.specs.declared.options.Opt.{Opt}
 use Rattle.coap_message.specs.Uint.{IsBytes, without_zeros, uint_spelling}
 use Rattle.coap_message.specs.Options.{AreOptions}
 use Rattle.coap_message.specs.Message.{Message}
-use Rattle.coap_message.specs.Spelling.{IsMessage, Spells, spelling}
+use Rattle.coap_message.specs.Spelling.{IsMessage, Spells}
 use Rattle.coap_message.specs.Reading.{read_message}
 use Rattle.coap_message.proofs.WholeMessages.{read_is}
-use Rattle.coap_target.specs.declared.target.Target.{Target}
-use Rattle.coap_target.specs.Target.{IsShort, IsTarget}
-use Rattle.coap_routes.specs.Routes.{values_of}
 use Rattle.coap_exchange.specs.declared.exchange.Answer.{Answer}
 use Rattle.coap_message.specs.Codes.{is_response}
-use Rattle.coap_message.specs.Options.{option_of}
-use Rattle.coap_routes.specs.Request.{first_value}
-use Rattle.coap_model.specs.Messages.{reset, own_reply, max_age_option, busy_reply, token_of, host_options, target_options, forwarded, target_sent, is_passed_on, bad_gateway, answer_of, carries_max_age, left_of, shown}
-use Rattle.coap_model.specs.Ticks.{with_id}
+use Rattle.coap_model.specs.Messages.{reset, own_reply, max_age_option, busy_reply, token_of}
+use Rattle.coap_model.specs.Answers.{is_passed_on, bad_gateway, answer_of, carries_max_age, left_of, shown}
 use Rattle.coap_model.specs.Step.{message_in}
 
--- ---- options
-
--- options may stand behind a lower number
-AreOptions-lower : (low high : ℕ) (os : List Opt) → low ≤ high → AreOptions high os → AreOptions low os
-AreOptions-lower low high [] le are = tt
-AreOptions-lower low high (o ∷ os) le are = (omega (arith, are.0), are.1, are.2, are.3)
-
--- values of one number, short enough, behind a lower number and before the others
-AreOptions-map : (low number : ℕ) (values : List (List ℕ)) (os : List Opt) → low ≤ number → number < 65536 → AllByRecursion IsShort values → AreOptions number os → AreOptions low (map (option_of number) values ++ os)
-AreOptions-map low number [] os le small short are = AreOptions-lower low number os le are
-AreOptions-map low number (v ∷ values) os le small short are = (le, small, omega (arith, short.0), AreOptions-map number number values os (omega arith) small short.1 are)
-
--- the options of a target are in order and fit
-target-options : (t : Target) → IsTarget t → AreOptions 0 (target_options t)
-unfolding target_options
-target-options t is = go t.host is.host
-  where
-    query : AreOptions 11 (map (option_of 15) t.query)
-    query = subst (AreOptions 11) (append-nil (map (option_of 15) t.query)) (AreOptions-map 11 15 t.query [] (omega arith) (omega arith) is.query tt)
-
-    path : (low : ℕ) → low ≤ 11 → AreOptions low (map (option_of 11) t.path ++ map (option_of 15) t.query)
-    path low le = AreOptions-map low 11 t.path (map (option_of 15) t.query) le (omega arith) is.path query
-
-    go : (host : Option (List ℕ)) → IfSome host IsShort → AreOptions 0 (host_options host ++ (map (option_of 11) t.path ++ map (option_of 15) t.query))
-    go None short = path 0 (omega arith)
-    go (Some h) short = (omega arith, omega arith, omega (arith, short), path 3 (omega arith))
+-- ---- a Max-Age
 
 -- without zeros at the head a number is no longer
 length-without_zeros : (bytes : List ℕ) → length (without_zeros bytes) ≤ length bytes
@@ -82,10 +49,6 @@ own_reply-is code options id token some are short = record { token = short; opti
 -- and so is one that says when to try again
 pub busy_reply-is : (seconds id : ℕ) (token : List ℕ) → length token ≤ 8 → IsMessage (busy_reply seconds id token)
 busy_reply-is seconds id token short = own_reply-is _ (max_age_option seconds ∷ []) id token (λ e. absurd (omega arith)) (max_age-options seconds) short
-
--- the request that is sent on is one
-pub forwarded-is : (token : List ℕ) (t : Target) (id : ℕ) → IsTarget t → length token ≤ 8 → IsMessage (forwarded token t id)
-forwarded-is token t id is short = record { token = short; options = target-options t is; bare = record { token = λ e. absurd (omega arith); options = λ e. absurd (omega arith); payload = λ e. absurd (omega arith) } }
 
 -- the code of a response isn't 0.00
 response-code : (code : Code) → is_response code ≡ true → code.0 ≢ 0
@@ -127,55 +90,6 @@ token-same salt m n small_m small_n same =
     let b = from_be_bytes-to_be_bytes_8 ((salt + n) % 2 ^ 64) (omega arith) in
     let sums : (salt + m) % 2 ^ 64 ≡ (salt + n) % 2 ^ 64 = sym a ∙ ap (from_be_bytes w64) same ∙ b in
     omega (arith, sums)
-
--- a form with an id is the request with that id
-pub with_id-forwarded : (id : ℕ) (token : List ℕ) (t : Target) → with_id id (spelling (forwarded token t 0)) ≡ spelling (forwarded token t id)
-unfolding with_id spelling
-with_id-forwarded id token t = refl
-
--- ---- the target, read off the request
-
--- the values of a number are read back
-values-here : (number : ℕ) (values : List (List ℕ)) (os : List Opt) → eqb number number ≡ true → values_of number (map (option_of number) values ++ os) ≡ values ++ values_of number os
-values-here number [] os same = refl
-values-here number (v ∷ values) os same = rw same (ap (λ (l : List (List ℕ)). v ∷ l) (values-here number values os same))
-
--- and options of another number don't count
-values-other : (number other : ℕ) (values : List (List ℕ)) (os : List Opt) → eqb other number ≡ false → values_of number (map (option_of other) values ++ os) ≡ values_of number os
-values-other number other [] os differ = refl
-values-other number other (v ∷ values) os differ = rw differ (values-other number other values os differ)
-
--- so the target is read back off the request
-pub target_sent-forwarded : (token : List ℕ) (t : Target) (id : ℕ) → target_sent t.at (forwarded token t id) ≡ t
-unfolding target_sent target_options
-target_sent-forwarded token t id = made (host t.host) (path t.host) (query t.host)
-  where
-    all : Option (List ℕ) → List Opt
-    all h = host_options h ++ (map (option_of 11) t.path ++ map (option_of 15) t.query)
-
-    tail : (number : ℕ) → values_of number (map (option_of 15) t.query) ≡ values_of number (map (option_of 15) t.query ++ [])
-    tail number = sym (ap (values_of number) (append-nil (map (option_of 15) t.query)))
-
-    host : (h : Option (List ℕ)) → first_value (values_of 3 (all h)) ≡ h
-    host None = ap first_value (values-other 3 11 t.path (map (option_of 15) t.query) refl ∙ tail 3 ∙ values-other 3 15 t.query [] refl)
-    host (Some h) = refl
-
-    segments : values_of 11 (all None) ≡ t.path
-    segments = values-here 11 t.path (map (option_of 15) t.query) refl ∙ ap (λ (l : List (List ℕ)). t.path ++ l) (tail 11 ∙ values-other 11 15 t.query [] refl) ∙ append-nil t.path
-
-    path : (h : Option (List ℕ)) → values_of 11 (all h) ≡ t.path
-    path None = segments
-    path (Some h) = segments
-
-    parts : values_of 15 (all None) ≡ t.query
-    parts = values-other 15 11 t.path (map (option_of 15) t.query) refl ∙ tail 15 ∙ values-here 15 t.query [] refl ∙ append-nil t.query
-
-    query : (h : Option (List ℕ)) → values_of 15 (all h) ≡ t.query
-    query None = parts
-    query (Some h) = parts
-
-    made : {h h' : Option (List ℕ)} {p p' q q' : List (List ℕ)} → h ≡ h' → p ≡ p' → q ≡ q' → ◌≡◌ {A = Target} (record { host = h; at = t.at; path = p; query = q }) (record { host = h'; at = t.at; path = p'; query = q' })
-    made e f g = cc
 
 -- ---- what is read
 

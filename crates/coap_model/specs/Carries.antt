@@ -1,12 +1,10 @@
 -- A proxy carries a history: each part of its tables is what the history says.
-use Rattle.std.specs.Prelude.{◌≡◌, ◌⊎◌, ℕ, ◌+◌, ◌<◌, ◌≤◌, List, [], ◌∷◌, length, Some}
+use Rattle.std.specs.Prelude.{◌≡◌, ◌⊎◌, ℕ, ◌+◌, ◌<◌, ◌≤◌, List, [], ◌∷◌, length}
 use Rattle.std.specs.List.{AllByRecursion}
-use Rattle.coap_message.specs.Message.{Message}
 use Rattle.coap_message.specs.Spelling.{spelling}
-use Rattle.coap_target.specs.declared.endpoint.Endpoint.{Endpoint}
-use Rattle.coap_target.specs.declared.target.Target.{Target}
-use Rattle.coap_target.specs.Target.{IsTarget}
-use Rattle.coap_routes.specs.Routes.{mapped_target, AreRoutes}
+use Rattle.coap_option.specs.Selection.{sent_on}
+use Rattle.coap_routes.specs.Routes.{AreRoutes}
+use Rattle.coap_cache.specs.declared.key.CacheKey.{CacheKey}
 use Rattle.coap_exchange.specs.declared.exchange.Answer.{Answer}
 use Rattle.coap_exchange.specs.declared.exchange.ExchangeState.{ExchangeState}
 use Rattle.coap_exchange.specs.declared.exchange.ExchangeState.TheVariants.{Queued, Sent, Done}
@@ -14,11 +12,14 @@ use Rattle.coap_exchange.specs.declared.exchange.Exchange.{Exchange}
 use Rattle.coap_exchange.specs.declared.waiter.Waiter.{Waiter}
 use Rattle.coap_exchange.specs.Table.{Numbered, IsRising}
 use Rattle.coap_model.specs.Setting.{Setting}
-use Rattle.coap_model.specs.Messages.{token_of, forwarded, target_sent, answer_of}
+use Rattle.coap_model.specs.Messages.{token_of}
+use Rattle.coap_model.specs.Forms.{forwarded, key_sent, request_key}
+use Rattle.coap_model.specs.Verdicts.{may_open}
+use Rattle.coap_model.specs.Answers.{answer_of}
 use Rattle.coap_exchange.specs.Exchanges.{is_queued, count_where}
 use Rattle.coap_model.specs.World.{World, reserved}
-use Rattle.coap_model.specs.History.{Entry, Deed, told_by, Place, index, IsPlaceOf, Never, Somewhere, opened_in, sent_in, served_in, ids_in, Opens, Sends, Asks, Gets, Serves, last_of, IsInOrder, AreIds}
-use Rattle.coap_model.specs.Justified.{WasOpened, AllJustified}
+use Rattle.coap_model.specs.History.{Entry, Deed, told_by, Place, index, IsPlaceOf, Never, Somewhere, opened_in, sent_in, served_in, ids_in, Sends, Asks, Gets, Serves, last_of, IsInOrder, AreIds}
+use Rattle.coap_model.specs.Justified.{WasOpened, verdict_on, AllJustified}
 
 -- ---- the clock, the numbers and the ids
 
@@ -34,47 +35,48 @@ pub record Numbers (history : List Deed) (w : World) : Type 0 where
 
 -- ---- exchanges
 
--- the exchange was asked in the history, for this target, with this id
+-- the exchange was asked in the history, with this cache key and this id
 pub record WasAsked
-    (setting : Setting) (history : List Deed) (x : ℕ) (target : Target) (id asked : ℕ)
+    (setting : Setting) (history : List Deed) (x : ℕ) (key : CacheKey) (id asked : ℕ)
     : Type 0 where
   pub asking : Place
   pub was_asked : IsPlaceOf history asking
   pub asks : Asks setting.salt x asking
-  pub asked_target : target_sent asks.sends.to asks.sends.message ≡ target
-  pub to : asks.sends.to ≡ target.at
+  pub asked_key : key_sent asks.sends.to asks.sends.message ≡ key
+  pub to : asks.sends.to ≡ key.target.at
   pub id_is : id ≡ asks.sends.message.id
   pub number : asked ≡ index asking
 
 -- the exchange was got in the history, with this answer
 pub record WasGot
-    (setting : Setting) (history : List Deed) (x : ℕ) (target : Target) (answer : Answer)
+    (setting : Setting) (history : List Deed) (x : ℕ) (key : CacheKey) (answer : Answer)
     : Type 0 where
   pub getting : Place
   pub was_got : IsPlaceOf history getting
   pub gets : Gets setting x getting
-  pub asked_target : target_sent gets.meets.asks.sends.to gets.meets.asks.sends.message ≡ target
+  pub asked_key : key_sent gets.meets.asks.sends.to gets.meets.asks.sends.message ≡ key
   pub answer_is :
       answer ≡ answer_of setting.limits.datagram getting.deed.entry.now gets.meets.response
 
 -- the state is how far the history brought the exchange
-abbrev pub IsState : Setting → List Deed → ℕ → Target → ExchangeState → Type 0
-IsState setting history x target Queued =
+abbrev pub IsState : Setting → List Deed → ℕ → CacheKey → ExchangeState → Type 0
+IsState setting history x key Queued =
     Never (Sends setting.salt x) history × Never (Gets setting x) history
-IsState setting history x target (Sent s) =
-    WasAsked setting history x target s.id s.asked × Never (Gets setting x) history
-IsState setting history x target (Done a) = WasGot setting history x target a
+IsState setting history x key (Sent s) =
+    WasAsked setting history x key s.id s.asked × Never (Gets setting x) history
+IsState setting history x key (Done a) = WasGot setting history x key a
 
 -- the exchange is the one that the history opened under its number
 pub record IsExchangeOf
     (setting : Setting) (history : List Deed) (x : Numbered Exchange) : Type 0 where
   pub opened : WasOpened setting history x.0
   pub since : x.1.since ≡ opened.opening.deed.entry.now
-  pub target_is : mapped_target setting.routes opened.request ≡ Some x.1.target
-  pub sound : IsTarget x.1.target
-  pub form_is : x.1.form ≡ spelling (forwarded (token_of setting.salt x.0) x.1.target 0)
+  pub verdict : verdict_on setting opened.request ≡ may_open x.1.target
+  pub form_is :
+      x.1.form
+      ≡ spelling (forwarded (token_of setting.salt x.0) x.1.target (sent_on opened.request) 0)
   pub form_short : length x.1.form ≤ setting.limits.datagram
-  pub state : IsState setting history x.0 x.1.target x.1.state
+  pub state : IsState setting history x.0 (request_key x.1.target opened.request) x.1.state
 
 -- ---- waiters
 

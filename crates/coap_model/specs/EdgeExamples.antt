@@ -1,6 +1,6 @@
 -- Words that the step and the history share, computed at their edges: what a wrong word would give stands beside
 -- nothing here. The bytes are those of RFC 7252 (3, 3.1, 5.10), written out.
-use Rattle.std.specs.Prelude.{ℕ, List, [], ◌∷◌, ◌++◌, Option, Some, None, option_map, Result}
+use Rattle.std.specs.Prelude.{ℕ, List, [], ◌∷◌, Option, Some, option_map}
 use Rattle.std.specs.Result.{result_ok}
 use Rattle.coap_message.specs.declared.code.TheConstants.Code.{METHOD_NOT_ALLOWED, BAD_OPTION, NOT_FOUND}
 use Rattle.coap_message.specs.Reading.{read_message}
@@ -9,7 +9,7 @@ use Rattle.coap_target.specs.declared.target.Target.{Target}
 use Rattle.coap_model.specs.declared.report.Outcome.TheVariants.{Refused, Opened, Overloaded, Answered, SentRequest, Delivered}
 use Rattle.coap_model.specs.declared.report.Storing.TheVariants.{NotStored}
 use Rattle.coap_model.specs.World.{World}
-use Rattle.coap_model.specs.Messages.{target_sent}
+use Rattle.coap_model.specs.Forms.{target_sent}
 use Rattle.coap_model.specs.Runs.{Turn}
 use Rattle.coap_model.specs.Step.{step_of}
 use Rattle.coap_model.specs.Examples.{Sent, origin, client, from, tick_at, nothing, to, answer, answered_by, delivered_as}

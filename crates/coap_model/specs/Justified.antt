@@ -1,5 +1,5 @@
 -- What justifies each entry of a history: the entries before it alone. No table is named.
-use Rattle.std.specs.Prelude.{◌≡◌, ◌≢◌, ℕ, ◌+◌, ◌%◌, ◌<◌, ◌≤◌, true, List, [], ◌∷◌, Some, None}
+use Rattle.std.specs.Prelude.{◌≡◌, ◌≢◌, ℕ, ◌+◌, ◌%◌, ◌<◌, ◌≤◌, true, List, [], ◌∷◌, Some, None, Ok}
 use Rattle.coap_message.specs.declared.kind.Kind.TheVariants.{Con, Non}
 use Rattle.coap_message.specs.declared.code.Code.{Code}
 use Rattle.coap_message.specs.declared.message.Head.{Head}
@@ -8,14 +8,18 @@ use Rattle.coap_message.specs.Reading.{head_at}
 use Rattle.coap_message.specs.Spelling.{Spells}
 use Rattle.coap_target.specs.declared.endpoint.Endpoint.{Endpoint}
 use Rattle.coap_target.specs.declared.target.Target.{Target}
-use Rattle.coap_routes.specs.Routes.{mapped_target}
+use Rattle.coap_option.specs.Selection.{sent_on}
+use Rattle.coap_routes.specs.Request.{request_target}
 use Rattle.coap_model.specs.declared.report.Outcome.{Outcome}
 use Rattle.coap_model.specs.declared.report.Outcome.TheVariants.{Ignored, Rejected, Refused, Opened, Overloaded, NoId, Answered, SentRequest, Delivered, Idle}
 use Rattle.coap_model.specs.declared.report.Storing.TheVariants.{NotStored}
 use Rattle.coap_model.specs.Setting.{Setting}
 use Rattle.coap_model.specs.Events.{Event, arrival, tick}
 use Rattle.coap_message.specs.Codes.{is_request}
-use Rattle.coap_model.specs.Messages.{reset, own_reply, busy_reply, token_of, forwarded, target_sent, Verdict, refused_with, may_open, verdict_of, answer_of, shown}
+use Rattle.coap_model.specs.Messages.{reset, own_reply, busy_reply, token_of}
+use Rattle.coap_model.specs.Forms.{forwarded, key_sent, request_key}
+use Rattle.coap_model.specs.Verdicts.{Verdict, refused_with, may_open, verdict_of}
+use Rattle.coap_model.specs.Answers.{answer_of, shown}
 use Rattle.coap_model.specs.Due.{IsDueAt, IsSooner}
 use Rattle.coap_model.specs.History.{Entry, Act, no_item, admits, moves, serves, Deed, Place, IsPlaceOf, Never, gives_id, opened_in, ids_in, HasIds, HasRoom, Opens, Brings, Sends, Meets, Gets, Serves, Gives}
 
@@ -106,17 +110,18 @@ pub record IsActing (setting : Setting) (past : List Deed) (d : Deed) : Type 0 w
 -- ---- what is sent on, and what comes back
 
 -- the request that is sent on: for an exchange that was opened and never sent, the request for the
--- target of the client's request, with the exchange's token, to the target's endpoint
+-- target of the client's request, with what is sent on of its options and with the exchange's
+-- token, to the target's endpoint
 pub record IsForwarding (setting : Setting) (past : List Deed) (d : Deed) : Type 0 where
   pub exchange : ℕ
   pub act : d.act ≡ moves exchange
   pub opened : WasOpened setting past exchange
   pub target : Target
   pub id : ℕ
-  pub target_is : mapped_target setting.routes opened.request ≡ Some target
+  pub target_is : request_target setting.routes opened.request ≡ Ok target
   pub first : Never (Sends setting.salt exchange) past
   pub acting : IsActing setting past d
-  pub tells : Tells target.at (forwarded (token_of setting.salt exchange) target id) d.entry
+  pub tells : Tells target.at (forwarded (token_of setting.salt exchange) target (sent_on opened.request) id) d.entry
 
 -- an answer is got for an exchange that had none
 pub record IsAnswer (setting : Setting) (past : List Deed) (d : Deed) : Type 0 where
@@ -125,9 +130,9 @@ pub record IsAnswer (setting : Setting) (past : List Deed) (d : Deed) : Type 0 w
   pub first : Never (Gets setting exchange) past
   pub silent : IsSilent d.entry
 
--- A delivery: the exchange that was opened for this client's request was got after that, its
--- request was for the target of the client's, and the datagram is what this client is shown of the
--- answer, with what is left of its Max-Age.
+-- A delivery: the exchange that was opened for this client's request was got after that, the request
+-- that was sent for it has the cache key of the client's, and the datagram is what this client is
+-- shown of the answer, with what is left of its Max-Age.
 pub record IsDelivery (setting : Setting) (past : List Deed) (d : Deed) : Type 0 where
   pub waiter : ℕ
   pub act : d.act ≡ serves waiter
@@ -136,11 +141,13 @@ pub record IsDelivery (setting : Setting) (past : List Deed) (d : Deed) : Type 0
   pub target : Target
   pub getting : Place
   pub id : ℕ
-  pub target_is : mapped_target setting.routes opened.request ≡ Some target
+  pub target_is : request_target setting.routes opened.request ≡ Ok target
   pub was_got : IsPlaceOf past getting
   pub gets : Gets setting waiter getting
   pub got_later : IsPlaceOf getting.before opened.opening
-  pub asked_target : target_sent gets.meets.asks.sends.to gets.meets.asks.sends.message ≡ target
+  pub asked_key :
+      key_sent gets.meets.asks.sends.to gets.meets.asks.sends.message
+      ≡ request_key target opened.request
   pub acting : IsActing setting past d
   pub tells :
       Tells opened.client

@@ -1,6 +1,9 @@
 pub mod Limits
 pub mod Setting
 pub mod Messages
+pub mod Forms
+pub mod Verdicts
+pub mod Answers
 pub mod Events
 pub mod World
 pub mod Requests

@@ -3,6 +3,7 @@ use Rattle.std.specs.Prelude.{ℕ, ◌+◌, if◌then◌else◌, List, [], ◌�
 use Rattle.coap_message.specs.declared.code.Code.{Code}
 use Rattle.coap_message.specs.Message.{Message}
 use Rattle.coap_message.specs.Spelling.{spelling}
+use Rattle.coap_option.specs.Selection.{sent_on}
 use Rattle.coap_target.specs.declared.endpoint.Endpoint.{Endpoint}
 use Rattle.coap_target.specs.declared.target.Target.{Target}
 use Rattle.coap_exchange.specs.declared.exchange.ExchangeState.TheVariants.{Queued}
@@ -10,7 +11,9 @@ use Rattle.coap_exchange.specs.declared.exchange.Exchange.{Exchange}
 use Rattle.coap_exchange.specs.declared.waiter.Waiter.{Waiter}
 use Rattle.coap_exchange.specs.Table.{Numbered}
 use Rattle.coap_model.specs.declared.report.Outcome.TheVariants.{Refused, Overloaded, NoId, Opened}
-use Rattle.coap_model.specs.Messages.{own_reply, busy_reply, forwarded, token_of, Verdict, refused_with, may_open, verdict_of}
+use Rattle.coap_model.specs.Messages.{own_reply, busy_reply, token_of}
+use Rattle.coap_model.specs.Forms.{forwarded}
+use Rattle.coap_model.specs.Verdicts.{Verdict, refused_with, may_open, verdict_of}
 use Rattle.coap_model.specs.World.{World, Step, later, silent, says, next_id, has_ids, has_room}
 
 -- no id is free for a reply: silence
@@ -33,9 +36,16 @@ overloads w now client m =
 abbrev pub next_token : World → List ℕ
 next_token w = token_of w.setting.salt (w.opened + 1)
 
-abbrev pub new_exchange : World → ℕ → Target → Numbered Exchange
-new_exchange w now t =
-    (w.opened + 1, record { target = t; form = spelling (forwarded (next_token w) t 0); since = now; state = Queued })
+abbrev pub new_exchange : World → ℕ → Message → Target → Numbered Exchange
+new_exchange w now m t = (
+  w.opened + 1,
+  record {
+    target = t;
+    form = spelling (forwarded (next_token w) t (sent_on m) 0);
+    since = now;
+    state = Queued;
+  },
+)
 
 abbrev pub new_waiter : World → Endpoint → Message → Numbered Waiter
 new_waiter w client m =
@@ -45,7 +55,7 @@ new_waiter w client m =
 abbrev pub opens : World → ℕ → Endpoint → Message → Target → Step
 opens w now client m t =
     silent Opened (record (later w now) {
-      exchanges = w.exchanges ++ new_exchange w now t ∷ [];
+      exchanges = w.exchanges ++ new_exchange w now m t ∷ [];
       waiters = w.waiters ++ new_waiter w client m ∷ [];
       opened = w.opened + 1;
       admitted = w.admitted + 1;

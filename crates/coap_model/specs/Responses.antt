@@ -12,7 +12,8 @@ use Rattle.coap_exchange.specs.Exchanges.{with_state}
 use Rattle.coap_exchange.specs.Table.{Numbered}
 use Rattle.coap_model.specs.declared.report.Outcome.TheVariants.{Answered}
 use Rattle.coap_model.specs.declared.report.Storing.TheVariants.{NotStored}
-use Rattle.coap_model.specs.Messages.{token_of, answer_of}
+use Rattle.coap_model.specs.Messages.{token_of}
+use Rattle.coap_model.specs.Answers.{answer_of}
 use Rattle.coap_model.specs.World.{World, Step, later, silent, ignores}
 
 -- whether it was sent with this id, and no answer has come

@@ -9,7 +9,7 @@ use Rattle.coap_exchange.specs.Due.{Item, sending, serving, due_of, exchange_ite
 use Rattle.coap_exchange.specs.Table.{Numbered, without}
 use Rattle.coap_exchange.specs.Waiters.{is_awaited}
 use Rattle.coap_model.specs.declared.report.Outcome.TheVariants.{SentRequest, Delivered, Idle}
-use Rattle.coap_model.specs.Messages.{shown}
+use Rattle.coap_model.specs.Answers.{shown}
 use Rattle.coap_model.specs.World.{World, Step, later, silent, says, next_id}
 
 -- ---- what is due

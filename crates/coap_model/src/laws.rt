@@ -1,5 +1,5 @@
 //! Laws of the step: public functions that do nothing, whose contracts are the laws.
-ghost use Rattle.std.specs.Prelude.{◌≡◌, ◌≢◌, ℕ, ◌+◌, ◌-◌, ◌*◌, ◌<◌, ◌≤◌, List, [], ◌∷◌, length, Some, None};
+ghost use Rattle.std.specs.Prelude.{◌≡◌, ◌≢◌, ℕ, ◌+◌, ◌-◌, ◌*◌, ◌<◌, ◌≤◌, List, [], ◌∷◌, filter, length, Some, None};
 ghost use Rattle.coap_message.specs.declared.kind.Kind.TheVariants.{Con};
 ghost use Rattle.coap_message.specs.declared.message.Head.{Head};
 ghost use Rattle.coap_message.specs.Message.{Message};
@@ -13,7 +13,13 @@ ghost use Rattle.coap_model.specs.Limits.{AreLimits, default_limits};
 ghost use Rattle.coap_model.specs.Setting.{Setting};
 ghost use Rattle.coap_model.specs.declared.report.Outcome.TheVariants.{Rejected, Opened, Answered, Idle};
 ghost use Rattle.coap_model.specs.declared.report.Storing.TheVariants.{NotStored};
-ghost use Rattle.coap_model.specs.Messages.{eight_zeros, forwarded, may_open, max_age_of, left_of};
+ghost use Rattle.coap_model.specs.Messages.{eight_zeros};
+ghost use Rattle.coap_option.specs.declared.side.Side.{Side};
+ghost use Rattle.coap_option.specs.Screening.{first_refused};
+ghost use Rattle.coap_option.specs.Selection.{sent_on};
+ghost use Rattle.coap_model.specs.Forms.{forwarded, goes_on};
+ghost use Rattle.coap_model.specs.Verdicts.{may_open};
+ghost use Rattle.coap_model.specs.Answers.{max_age_of, left_of};
 ghost use Rattle.coap_model.specs.Events.{Event, arrival, tick, IsEvent};
 ghost use Rattle.coap_model.specs.World.{World, new_world, counts};
 ghost use Rattle.coap_model.specs.Step.{step_of};
@@ -85,7 +91,7 @@ pub fn examples_at_edges()
     ensures of_one_moment { play proxy of_one_moment ≡ of_one_moment_sent }
     ensures request_first { play proxy request_first ≡ request_first_sent }
     ensures client_first { play proxy client_first ≡ client_first_sent }
-    ensures form { spelling (forwarded eight_zeros named 7) ≡ named_form }
+    ensures form { spelling (forwarded eight_zeros named [] 7) ≡ named_form }
     ensures read_back { target_in origin named_form ≡ Some named }
     ensures held_when_opened { held (after proxy (asks_at 0 1 ∷ [])) ≡ 22 }
     ensures held_with_token { held (after proxy (from 0 (client 1) (with_token 0x74) ∷ [])) ≡ 24 }
@@ -103,6 +109,13 @@ pub fn examples_at_edges()
         } }
     ensures none_due { next_due proxy ≡ None }
     ensures due_at_opening { next_due (after proxy (asks_at 5 1 ∷ [])) ≡ Some 5 }
+{}
+
+/// Where no option of a request is refused, what is sent on of it shows by each option alone.
+pub fn what_goes_on_shows_by_itself()
+    ensures { (m : Message)
+        → first_refused Side.Request m.options ≡ None
+        → sent_on m ≡ filter (goes_on m.code) m.options }
 {}
 
 /// What is left of a Max-Age and the age add up to it: no more than it, and more than it with one

@@ -1,4 +1,4 @@
-use Rattle.std.proofs.Common.{◌≡◌, true, OnErr, refl}
+use Rattle.std.proofs.Common.{◌≡◌, true, false, OnErr, refl}
 use Rattle.std.specs.Prelude.{IfOk}
 use Rattle.coap_option.proofs.Picking.{on_err}
 use Rattle.coap_model.specs.Memory.{takes_memory}
@@ -15,4 +15,4 @@ returns-in-Some-clause-exact c =
 pub returns-in-Some-clause-memory : goal.returns-in-Some-clause-memory
 returns-in-Some-clause-memory c =
     let m = c.args.response.now in
-    answered c.args.self.now c.args.now m (awaiting c.args.self.now c.args.source m) c.in-Some.number (λ s. OnErr c.answer.result (takes_memory s.report.outcome ≡ true)) c.in-Some.ensures.exact (λ x. on_err c.answer.result refl)
+    answered c.args.self.now c.args.now m (awaiting c.args.self.now c.args.source m) c.in-Some.number (λ s. OnErr c.answer.result (takes_memory false s.report.outcome ≡ true)) c.in-Some.ensures.exact (λ x. on_err c.answer.result refl)

@@ -4,7 +4,7 @@ use Rattle.coap_message.specs.Options.{last_number}
 use Rattle.coap_message.specs.Spelling.{options_spelling}
 use Rattle.coap_target.specs.Target.{IsShort}
 use Rattle.coap_message.specs.Options.{option_of}
-use Rattle.coap_core.proofs.writing.put_values.Given as goal
+use Rattle.coap_core.proofs.form.put_values.Given as goal
 
 abbrev pub invariant-values : goal.invariant-values
 invariant-values g l = record {

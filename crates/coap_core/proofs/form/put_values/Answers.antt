@@ -1,9 +1,9 @@
-use Rattle.std.proofs.Common.{◌≡◌, ◌+◌, ◌∷◌, List, ℕ, map, sym, ap, ◌∙◌}
+use Rattle.std.proofs.Common.{map}
 use Rattle.std.proofs.lemmas.Result.{err_from_is_err_and}
 use Rattle.coap_message.specs.Spelling.{option_spelling, options_spelling}
 use Rattle.coap_message.proofs.Appending.{Appends-part}
 use Rattle.coap_message.specs.Options.{option_of}
-use Rattle.coap_core.proofs.writing.put_values.Goals as goal
+use Rattle.coap_core.proofs.form.put_values.Goals as goal
 
 pub returns-in_err-put_option-clause-written : goal.returns-in_err-put_option-clause-written
 returns-in_err-put_option-clause-written g c =

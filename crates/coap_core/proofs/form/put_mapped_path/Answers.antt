@@ -9,7 +9,7 @@ use Rattle.coap_target.specs.Target.{IsShort}
 use Rattle.coap_target.proofs.Lists.{All-parts}
 use Rattle.coap_core.proofs.Forms.{IsWritten, written, values-parts, last-parts, last-values}
 use Rattle.coap_message.specs.Datagram.{unit_of}
-use Rattle.coap_core.proofs.writing.put_path.Goals as goal
+use Rattle.coap_core.proofs.form.put_mapped_path.Goals as goal
 
 pub returns-in_err-last-clause-written : goal.returns-in_err-last-clause-written
 returns-in_err-last-clause-written c =

@@ -1,0 +1,366 @@
+//! The request that is sent on, written part by part into the caller's datagram, without memory.
+ghost use Rattle.std.specs.Prelude.{◌≡◌, ◌≤◌, ◌++◌, None, [], length, map, IfOk, IfSome};
+ghost use Rattle.std.specs.List.{AllByRecursion};
+ghost use Rattle.coap_message.specs.declared.code.Code.{Code};
+ghost use Rattle.coap_message.specs.Datagram.{Appends, holding, unit_of};
+ghost use Rattle.coap_message.specs.Options.{AreOptions, last_number, option_of};
+ghost use Rattle.coap_message.specs.OptRef as opt;
+ghost use Rattle.coap_message.specs.Spelling.{spelling, options_spelling};
+ghost use Rattle.coap_option.specs.declared.side.Side.{Side};
+ghost use Rattle.coap_option.specs.Screening.{first_refused};
+ghost use Rattle.coap_option.specs.Selection.{sent_on};
+ghost use Rattle.coap_target.specs.Target.{IsTarget, IsShort};
+ghost use Rattle.coap_routes.specs.MappedTarget as mapped;
+ghost use Rattle.coap_model.specs.Forms.{host_options, merged, target_options, forwarded, goes_on};
+ghost use Rattle.coap_model.specs.Ticks.{with_id};
+ghost use Rattle.coap_core.specs.Forms.{end_of, floor_of, is_in, others_in, seen};
+
+use crate::request_target::RequestTarget;
+use coap_message::{
+    Code, Datagram, Full, Head, Kind, MessageRef, OptRef, OptRefs, Seq, Token, put_head, put_option,
+};
+use coap_option::{Side, numbers, recognised};
+use coap_routes::{MappedTarget, Segments};
+
+/// Where other options stand among those of a target.
+#[derive(Clone, Copy)]
+pub(crate) enum Gap {
+    /// Before the Uri-Host.
+    BeforeHost,
+    /// Behind the Uri-Host, before any Uri-Path.
+    BeforePath,
+    /// Behind the Uri-Paths, before any Uri-Query.
+    BeforeQuery,
+    /// Behind them all.
+    Last,
+}
+
+impl Gap {
+    /// Whether an option of this number stands there.
+    fn has(self, number: u16) -> bool
+        ensures { result ≡ is_in self number }
+    {
+        match self {
+            Gap::BeforeHost => number < numbers::URI_HOST,
+            Gap::BeforePath => numbers::URI_HOST < number && number < numbers::URI_PATH,
+            Gap::BeforeQuery => numbers::URI_PATH < number && number < numbers::URI_QUERY,
+            Gap::Last => numbers::URI_QUERY < number,
+        }
+    }
+}
+
+/// Whether an option of a GET is sent on, where no option of the request is refused.
+fn goes_on(option: OptRef<'_>) -> bool
+    ensures { result ≡ goes_on Code.GET (opt.seen option.entry) }
+{
+    match option.number {
+        numbers::URI_HOST
+        | numbers::OBSERVE
+        | numbers::URI_PORT
+        | numbers::URI_PATH
+        | numbers::MAX_AGE
+        | numbers::URI_QUERY
+        | numbers::PROXY_URI
+        | numbers::PROXY_SCHEME => false,
+        numbers::ETAG => !recognised(Side::Request, numbers::ETAG, option.value.len(), 0),
+        _ => true,
+    }
+}
+
+// ---- options, behind one of the number `before`; what is answered is the number of the last
+
+/// Adds those options of a GET in a gap that are sent on.
+fn put_others(
+    out: &mut Datagram,
+    room: usize,
+    before: u16,
+    options: &OptRefs<'_>,
+    gap: Gap,
+) -> Result<u16, Full>
+    requires room { room ≤ out.old.room }
+    requires held { length out.old.bytes ≤ room }
+    requires above { before ≤ floor_of gap }
+    requires in_order { AreOptions 0 options.now }
+    ensures written { Appends out.old out.new room
+        (options_spelling before (others_in gap options.now)) (unit_of result) }
+    ensures last { IfOk result (λ last. last ≡ last_number before (others_in gap options.now)) }
+    ensures below { IfOk result (λ last. last ≤ end_of gap) }
+{
+    let mut last = before;
+    for option in options.again() {
+        if gap.has(option.number) && goes_on(option) {
+            put_option(out, room, last, option.number, option.value)?;
+            last = option.number;
+        }
+    }
+    Ok(last)
+}
+
+/// Adds an option for each value.
+fn put_values<'a, P: Segments<'a>>(
+    out: &mut Datagram,
+    room: usize,
+    before: u16,
+    number: u16,
+    values: P,
+) -> Result<u16, Full>
+    requires room { room ≤ out.old.room }
+    requires held { length out.old.bytes ≤ room }
+    requires above { before ≤ number }
+    requires within { AllByRecursion IsShort (P.left values) }
+    ensures written { Appends out.old out.new room
+        (options_spelling before (map (option_of number) (P.left values))) (unit_of result) }
+    ensures last { IfOk result (λ last. last ≡ last_number before (map (option_of number) (P.left values))) }
+    ensures below { IfOk result (λ last. last ≤ number) }
+{
+    let mut values = values;
+    let mut last = before;
+    'values: while let Some(value) = values.next_segment() {
+        put_option(out, room, last, number, value)?;
+        last = number;
+    }
+    Ok(last)
+}
+
+/// Adds a Uri-Host where there is a host.
+fn put_host(
+    out: &mut Datagram,
+    room: usize,
+    before: u16,
+    host: &Option<Seq<u8>>,
+) -> Result<u16, Full>
+    requires room { room ≤ out.old.room }
+    requires held { length out.old.bytes ≤ room }
+    requires above { before ≤ 3 }
+    requires within { IfSome host.now IsShort }
+    ensures written { Appends out.old out.new room
+        (options_spelling before (host_options host.now)) (unit_of result) }
+    ensures last { IfOk result (λ last. last ≡ last_number before (host_options host.now)) }
+    ensures below { IfOk result (λ last. last ≤ 3) }
+{
+    match host {
+        Some(host) => {
+            put_option(out, room, before, numbers::URI_HOST, host.as_slice())?;
+            Ok(numbers::URI_HOST)
+        }
+        None => Ok(before),
+    }
+}
+
+/// Adds a Uri-Path for each segment of a target that is lent, those of the map's origin first.
+fn put_mapped_path(
+    out: &mut Datagram,
+    room: usize,
+    before: u16,
+    target: &MappedTarget<'_, '_>,
+) -> Result<u16, Full>
+    requires room { room ≤ out.old.room }
+    requires held { length out.old.bytes ≤ room }
+    requires above { before ≤ 11 }
+    requires within { AllByRecursion IsShort (mapped.seen target.now).path }
+    ensures written { Appends out.old out.new room
+        (options_spelling before (map (option_of 11) (mapped.seen target.now).path)) (unit_of result) }
+    ensures last { IfOk result (λ last.
+        last ≡ last_number before (map (option_of 11) (mapped.seen target.now).path)) }
+    ensures below { IfOk result (λ last. last ≤ 11) }
+{
+    let path = target.origin.path.iter();
+    let last = put_values(out, room, before, numbers::URI_PATH, path)?;
+    let rest = target.rest.again();
+    put_values(out, room, last, numbers::URI_PATH, rest)
+}
+
+/// Adds a Uri-Path for each segment of a target.
+fn put_path(
+    out: &mut Datagram,
+    room: usize,
+    before: u16,
+    target: &RequestTarget<'_, '_>,
+) -> Result<u16, Full>
+    requires room { room ≤ out.old.room }
+    requires held { length out.old.bytes ≤ room }
+    requires above { before ≤ 11 }
+    requires within { AllByRecursion IsShort (seen target.now).path }
+    ensures written { Appends out.old out.new room
+        (options_spelling before (map (option_of 11) (seen target.now).path)) (unit_of result) }
+    ensures last { IfOk result (λ last. last ≡ last_number before (map (option_of 11) (seen target.now).path)) }
+    ensures below { IfOk result (λ last. last ≤ 11) }
+{
+    match target {
+        RequestTarget::Mapped(target) => put_mapped_path(out, room, before, target),
+        RequestTarget::Named(target) => {
+            put_values(out, room, before, numbers::URI_PATH, target.path.iter())
+        }
+    }
+}
+
+/// Adds a Uri-Query for each part of a target's query.
+fn put_query(
+    out: &mut Datagram,
+    room: usize,
+    before: u16,
+    target: &RequestTarget<'_, '_>,
+) -> Result<u16, Full>
+    requires room { room ≤ out.old.room }
+    requires held { length out.old.bytes ≤ room }
+    requires above { before ≤ 15 }
+    requires within { AllByRecursion IsShort (seen target.now).query }
+    ensures written { Appends out.old out.new room
+        (options_spelling before (map (option_of 15) (seen target.now).query)) (unit_of result) }
+    ensures last { IfOk result (λ last. last ≡ last_number before (map (option_of 15) (seen target.now).query)) }
+    ensures below { IfOk result (λ last. last ≤ 15) }
+{
+    match target {
+        RequestTarget::Mapped(target) => {
+            put_values(out, room, before, numbers::URI_QUERY, target.query.again())
+        }
+        RequestTarget::Named(target) => {
+            put_values(out, room, before, numbers::URI_QUERY, target.query.iter())
+        }
+    }
+}
+
+// ---- the parts of a target, each behind the other options that stand before it
+
+/// Adds what stands before any Uri-Path.
+fn put_host_part(
+    out: &mut Datagram,
+    room: usize,
+    options: &OptRefs<'_>,
+    target: &RequestTarget<'_, '_>,
+) -> Result<u16, Full>
+    requires room { room ≤ out.old.room }
+    requires held { length out.old.bytes ≤ room }
+    requires in_order { AreOptions 0 options.now }
+    requires target { IsTarget (seen target.now) }
+    ensures written { Appends out.old out.new room
+        (options_spelling 0 (others_in Gap.BeforeHost options.now ++ host_options (seen target.now).host))
+        (unit_of result) }
+    ensures last { IfOk result (λ last.
+        last ≡ last_number 0 (others_in Gap.BeforeHost options.now ++ host_options (seen target.now).host)) }
+    ensures below { IfOk result (λ last. last ≤ 3) }
+{
+    let last = put_others(out, room, 0, options, Gap::BeforeHost)?;
+    put_host(out, room, last, target.host())
+}
+
+/// Adds the Uri-Paths, and what stands between them and a Uri-Host.
+fn put_path_part(
+    out: &mut Datagram,
+    room: usize,
+    before: u16,
+    options: &OptRefs<'_>,
+    target: &RequestTarget<'_, '_>,
+) -> Result<u16, Full>
+    requires room { room ≤ out.old.room }
+    requires held { length out.old.bytes ≤ room }
+    requires above { before ≤ 3 }
+    requires in_order { AreOptions 0 options.now }
+    requires target { IsTarget (seen target.now) }
+    ensures written { Appends out.old out.new room
+        (options_spelling before
+        (others_in Gap.BeforePath options.now ++ map (option_of 11) (seen target.now).path))
+        (unit_of result) }
+    ensures last { IfOk result (λ last.
+        last
+        ≡ last_number before
+        (others_in Gap.BeforePath options.now ++ map (option_of 11) (seen target.now).path)) }
+    ensures below { IfOk result (λ last. last ≤ 11) }
+{
+    let last = put_others(out, room, before, options, Gap::BeforePath)?;
+    put_path(out, room, last, target)
+}
+
+/// Adds the Uri-Queries, and what stands between them and the Uri-Paths.
+fn put_query_part(
+    out: &mut Datagram,
+    room: usize,
+    before: u16,
+    options: &OptRefs<'_>,
+    target: &RequestTarget<'_, '_>,
+) -> Result<u16, Full>
+    requires room { room ≤ out.old.room }
+    requires held { length out.old.bytes ≤ room }
+    requires above { before ≤ 11 }
+    requires in_order { AreOptions 0 options.now }
+    requires target { IsTarget (seen target.now) }
+    ensures written { Appends out.old out.new room
+        (options_spelling before
+        (others_in Gap.BeforeQuery options.now ++ map (option_of 15) (seen target.now).query))
+        (unit_of result) }
+    ensures last { IfOk result (λ last.
+        last
+        ≡ last_number before
+        (others_in Gap.BeforeQuery options.now ++ map (option_of 15) (seen target.now).query)) }
+    ensures below { IfOk result (λ last. last ≤ 15) }
+{
+    let last = put_others(out, room, before, options, Gap::BeforeQuery)?;
+    put_query(out, room, last, target)
+}
+
+/// Adds all options that are sent on.
+fn put_form_options(
+    out: &mut Datagram,
+    room: usize,
+    request: &MessageRef<'_>,
+    target: &RequestTarget<'_, '_>,
+) -> Result<(), Full>
+    requires room { room ≤ out.old.room }
+    requires held { length out.old.bytes ≤ room }
+    requires get { request.now.code ≡ Code.GET }
+    requires screened { first_refused Side.Request request.now.options ≡ None }
+    requires target { IsTarget (seen target.now) }
+    ensures { Appends out.old out.new room
+        (options_spelling 0 (merged (target_options (seen target.now)) (sent_on request.now))) result }
+{
+    let options = request.options.iter();
+    let last = put_host_part(out, room, &options, target)?;
+    let last = put_path_part(out, room, last, &options, target)?;
+    let last = put_query_part(out, room, last, &options, target)?;
+    put_others(out, room, last, &options, Gap::Last)?;
+    Ok(())
+}
+
+/// Writes the request that is sent on for a GET that passed the screening, with the id 0, if it is
+/// at most `room` bytes: Uri-Host, a Uri-Path for each segment and a Uri-Query for each part (RFC
+/// 7252, 5.10.1), with the other options in their places.
+#[tactic(auto, unfolding(coap_message::specs::Spelling::spelling))]
+pub(crate) fn put_forwarded(
+    out: &mut Datagram,
+    room: usize,
+    token: &Token,
+    request: &MessageRef<'_>,
+    target: &RequestTarget<'_, '_>,
+) -> Result<(), Full>
+    requires room { room ≤ out.old.room }
+    requires get { request.now.code ≡ Code.GET }
+    requires screened { first_refused Side.Request request.now.options ≡ None }
+    requires target { IsTarget (seen target.now) }
+    ensures { Appends (holding out.old []) out.new room
+        (spelling (forwarded token.now (seen target.now) (sent_on request.now) 0)) result }
+{
+    let head = Head {
+        kind: Kind::Con,
+        code: Code::GET,
+        id: 0,
+    };
+    put_head(out, room, head, token)?;
+    put_form_options(out, room, request, target)
+}
+
+/// Writes a form with a message id in place of its own.
+#[tactic(auto, unfolding(coap_model::specs::Ticks::with_id))]
+pub(crate) fn put_with_id(out: &mut Datagram, form: &[u8], id: u16)
+    requires { length form.now ≤ out.old.room }
+    ensures { out.new ≡ holding out.old (with_id id form.now) }
+{
+    out.clear();
+    match form {
+        [a, b, _, _, rest @ ..] => {
+            let [high, low] = id.to_be_bytes();
+            out.put(&[*a, *b, high, low]);
+            out.put(rest);
+        }
+        _ => out.put(form),
+    }
+}
