@@ -21,7 +21,7 @@ pub use key::CacheKey;
 pub use list_store::ListStore;
 pub use lru_store::LruStore;
 pub use renew::renewed;
-pub use show::show_into;
+pub use show::{put_aged, show_into};
 pub use size::bytes_of;
 pub use store::{Put, Store};
 pub use stored::Stored;

@@ -156,9 +156,13 @@ fn put_max_age(out: &mut Datagram, room: usize, before: u16, seconds: u64) -> Re
     put_option(out, room, before, numbers::MAX_AGE, without_zeros(&bytes))
 }
 
-/// Writes a response with one Max-Age of what is left.
+/// Writes a response with one Max-Age of so many seconds, if it is at most `room` bytes: as a message of this head and
+/// token, whose options and payload are those of the response. It takes no memory.
+///
+/// # Errors
+/// `Full`, exactly where it is longer than `room` bytes. Then a part of it may have been written.
 #[tactic(auto, unfolding(coap_message::specs::Spelling::spelling))]
-fn put_aged(
+pub fn put_aged(
     message: &Message,
     head: Head,
     token: &Token,

@@ -1,47 +1,20 @@
 -- What a proxy that carries a history can do: it can go on.
-use Rattle.std.proofs.Common.{◌≡◌, ℕ, ◌<◌, ◌≤◌, ◌^◌, Bool, true, false, cond, List, [], ◌∷◌, length, Result, Ok, Err, refl, sym, ap, subst, arith}
-use Rattle.std.specs.Prelude.{◌&&◌, not, IfOk, OnErr}
-use Rattle.std.proofs.lemmas.Bool.{and_parts}
-use Rattle.coap_message.specs.Message.{Message}
-use Rattle.coap_exchange.specs.declared.exchange.Answer.{Answer}
-use Rattle.coap_exchange.specs.declared.exchange.ExchangeState.{ExchangeState}
-use Rattle.coap_exchange.specs.declared.exchange.ExchangeState.TheVariants.{Queued, Sent, Done}
-use Rattle.coap_cache.specs.declared.key.CacheKey.{CacheKey}
-use Rattle.coap_target.proofs.Lists.{All-weaken}
-use Rattle.coap_message.specs.declared.code.TheConstants.Code.{VALID}
-use Rattle.coap_message.specs.Codes.{is_code}
-use Rattle.coap_model.specs.Answers.{are_understood, is_passed_on, fits, bad_gateway, answer_of}
-use Rattle.coap_model.specs.Forms.{request_key}
-use Rattle.coap_model.specs.Setting.{Setting}
+use Rattle.std.proofs.Common.{◌≡◌, ℕ, ◌<◌, ◌≤◌, ◌^◌, List, [], ◌∷◌, length, Result, Ok, Err, refl, ap, arith}
+use Rattle.std.specs.Prelude.{IfOk, OnErr}
 use Rattle.coap_message.specs.declared.error.OutOfMemory.{OutOfMemory}
 use Rattle.coap_message.specs.Datagram.{Datagram, holding}
 use Rattle.coap_model.specs.declared.report.Report.{Report}
 use Rattle.coap_model.specs.World.{World, Step}
 use Rattle.coap_model.specs.Events.{Event, IsEvent}
 use Rattle.coap_model.specs.Step.{step_of}
-use Rattle.coap_model.specs.History.{Entry, Deed}
+use Rattle.coap_model.specs.History.{Entry}
 use Rattle.coap_model.specs.Runs.{entry_of}
-use Rattle.coap_model.specs.Carries.{IsState, IsExchangeOf, Carries}
+use Rattle.coap_model.specs.Carries.{Carries}
 use Rattle.coap_model.proofs.Acting.{rising-paired}
 use Rattle.coap_model.proofs.Carrying.{keeps_step}
 use Rattle.coap_model.proofs.Frames.{opened-few}
 use Rattle.coap_model.proofs.Running.{setting_stays}
-use Rattle.coap_core.specs.Steps.{Does, IsUnderstood, CanGoOn}
-
--- what a response gives can be shown
-answer-shown : (most now : ℕ) (m : Message) → are_understood (answer_of most now m).message.options ≡ true
-unfolding answer_of
-answer-shown most now m = go (is_passed_on most m) refl
-  where
-    go : (b : Bool) → is_passed_on most m ≡ b → are_understood (cond {A = Answer} b (record { message = m; got = now; own = false }) (record { message = bad_gateway; got = now; own = true })).message.options ≡ true
-    go true e = (and_parts (are_understood m.options) (not (is_code m.code VALID) && fits most m) e).0
-    go false e = refl
-
--- what an exchange was got as can be shown
-state-shown : (setting : Setting) (history : List Deed) (x : ℕ) (k : CacheKey) (s : ExchangeState) → IsState setting history x k s → IsUnderstood s
-state-shown setting history x k Queued is = tt
-state-shown setting history x k (Sent s) is = tt
-state-shown setting history x k (Done a) is = subst (λ (b : Answer). are_understood b.message.options ≡ true) (sym is.answer_is) (answer-shown setting.limits.datagram is.getting.deed.entry.now is.gets.meets.response)
+use Rattle.coap_core.specs.Steps.{Does, CanGoOn}
 
 -- what is carried is what a step needs
 pub can_go_on : (history : List Entry) (w : World) → Carries history w → w.events < 2 ^ 63 → CanGoOn w
@@ -56,7 +29,6 @@ can_go_on history w c few =
       opened = omega (arith, opened, b.numbers.opened);
       admitted = omega (arith, opened, b.numbers.admitted);
       ids = b.within.ids;
-      answers = All-weaken (IsExchangeOf w.setting c.deeds) (λ x. IsUnderstood x.1.state) w.exchanges (λ x f. state-shown w.setting c.deeds x.0 (request_key x.1.target f.opened.request) x.1.state f.state) b.exchanges;
     }
 
 -- ---- what the step in code leaves

@@ -1,15 +1,10 @@
 -- What the tables keep for later: ids for what is still to be sent and served, and answers that can be shown.
 use Rattle.std.proofs.Common.{◌≡◌, ℕ, ◌+◌, ◌<◌, Bool, true, false, cond, eqb, List, [], ◌∷◌, Some, sym, subst, arith}
-use Rattle.std.specs.List.{AllByRecursion}
-use Rattle.coap_exchange.specs.declared.exchange.Answer.{Answer}
 use Rattle.coap_exchange.specs.declared.exchange.Exchange.{Exchange}
-use Rattle.coap_exchange.specs.Due.{answer_in}
 use Rattle.coap_exchange.specs.Exchanges.{is_queued, count_where}
 use Rattle.coap_exchange.specs.Table.{Numbered, item_at}
-use Rattle.coap_model.specs.Answers.{are_understood}
 use Rattle.coap_model.specs.World.{World}
-use Rattle.coap_model.proofs.Tables.{answer-holds}
-use Rattle.coap_core.specs.Steps.{IsUnderstood, CanGoOn}
+use Rattle.coap_core.specs.Steps.{CanGoOn}
 
 -- an exchange that is queued is counted
 queued-counts : (n : ℕ) (xs : List (Numbered Exchange)) (x : Exchange) → item_at n xs ≡ Some x → is_queued x.state ≡ true → 0 < count_where is_queued xs
@@ -27,9 +22,3 @@ queued-counts n (y ∷ ys) x e queued = go (eqb n y.0) e (λ f. queued-counts n 
 -- an id is left for it
 pub id-for-queued : (w : World) (n : ℕ) (x : Exchange) → CanGoOn w → item_at n w.exchanges ≡ Some x → is_queued x.state ≡ true → w.given < 32768
 id-for-queued w n x can e queued = let some = queued-counts n w.exchanges x e queued in omega (arith, can.ids)
-
--- the options of an answer are understood
-pub answer-understood : (xs : List (Numbered Exchange)) (n : ℕ) (a : Answer) → AllByRecursion (λ x. IsUnderstood x.1.state) xs → answer_in n xs ≡ Some a → are_understood a.message.options ≡ true
-answer-understood xs n a all e =
-    let h = answer-holds (λ x. IsUnderstood x.1.state) xs n a all e in
-    subst IsUnderstood h.3 h.1

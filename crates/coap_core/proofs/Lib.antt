@@ -3,6 +3,7 @@ pub mod DueFirst
 pub mod Forms
 pub mod Keeping
 pub mod Tokens
+pub mod Observing
 pub mod Uris
 pub mod Widths
 pub mod Read

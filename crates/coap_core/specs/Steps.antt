@@ -1,20 +1,16 @@
 -- What the calls of a core answer and leave.
 use Rattle.std.specs.Prelude.{◌≡◌, ℕ, ◌+◌, ◌<◌, ◌≤◌, ◌^◌, true, false, List, ◌∷◌, Option, Some, None, IfSome, option_map}
-use Rattle.std.specs.List.{AllByRecursion}
 use Rattle.coap_message.specs.Datagram.{Datagram, holding}
 use Rattle.coap_message.specs.Spelling.{spelling}
 use Rattle.coap_message.specs.declared.code.Code.{Code}
 use Rattle.coap_message.specs.Message.{Message}
 use Rattle.coap_option.specs.Selection.{sent_on}
-use Rattle.coap_exchange.specs.declared.exchange.ExchangeState.{ExchangeState}
-use Rattle.coap_exchange.specs.declared.exchange.ExchangeState.TheVariants.{Queued, Sent, Done}
 use Rattle.coap_exchange.specs.declared.exchange.Exchange.{Exchange}
 use Rattle.coap_exchange.specs.Exchanges.{is_sent}
 use Rattle.coap_exchange.specs.Table.{Numbered, IsRising, item_at}
 use Rattle.coap_exchange.specs.declared.waiter.Waiter.{Waiter}
 use Rattle.coap_exchange.specs.Due.{Item, sending, serving, due_as, answer_in}
 use Rattle.coap_model.specs.declared.report.Report.{Report}
-use Rattle.coap_model.specs.Answers as answers
 use Rattle.coap_model.specs.Forms.{forwarded}
 use Rattle.coap_model.specs.Memory.{says_uri, is_before_target}
 use Rattle.coap_model.specs.Verdicts as verdicts
@@ -49,14 +45,8 @@ CarriesOn before e after = (history : List Entry) → Carries history before →
 abbrev pub PromisesOn : World → Entry → World → Type 0
 PromisesOn before e after = (history : List Entry) → Carries history before → Promised (e ∷ history) after
 
--- the options of an answer were understood
-abbrev pub IsUnderstood : ExchangeState → Type 0
-IsUnderstood Queued = Unit {0}
-IsUnderstood (Sent s) = Unit {0}
-IsUnderstood (Done a) = answers.are_understood a.message.options ≡ true
-
 -- What a step needs of the tables before it: origins are targets, the tables are in order of number, there are numbers left to
--- count with, an id is left for whoever it is kept for, and answers can be shown.
+-- count with, and an id is left for whoever it is kept for.
 pub record CanGoOn (w : World) : Type 0 where
   pub routes : AreRoutes w.setting.routes
   pub exchanges : IsRising 0 w.exchanges
@@ -65,7 +55,6 @@ pub record CanGoOn (w : World) : Type 0 where
   pub opened : w.opened < 2 ^ 63
   pub admitted : w.admitted < 2 ^ 63
   pub ids : w.given + reserved w ≤ 32768
-  pub answers : AllByRecursion (λ x. IsUnderstood x.1.state) w.exchanges
 
 -- the request of the exchange of this number, if there is one, was sent, and no answer has come
 abbrev pub IsSentAt : ℕ → List (Numbered Exchange) → Type 0

@@ -1,111 +1,139 @@
 //! What a proxy makes of a response: the answer that it keeps, and how long that is fresh.
-ghost use Rattle.std.specs.Prelude.{◌≡◌, ◌<◌, ◌^◌, true, IfOk};
-ghost use Rattle.coap_message.specs.Message.{Message};
-ghost use Rattle.coap_model.specs.Answers.{are_understood, fits, is_passed_on, answer_of, max_age_of, left_of, carries_max_age, bad_gateway};
+ghost use Rattle.std.specs.Prelude.{◌≡◌, ◌≤◌, ◌==◌, true, not, filter, IfOk};
+ghost use Rattle.std.specs.List.{list_any};
+ghost use Rattle.coap_message.specs.declared.code.Code.{Code};
+ghost use Rattle.coap_model.specs.Answers.{without_observe, fits, answer_of, left_of, left_told, bad_gateway};
 
+use coap_cache::put_aged;
 use coap_exchange::Answer;
 use coap_message::{
-    Code, Kind, Message, MessageRef, OptionList, Options, OutOfMemory, Seq, Token, uint,
+    Code, Datagram, Head, Kind, Message, MessageRef, OptionList, Options, OutOfMemory, Seq, Token,
 };
-use coap_option::numbers;
+use coap_option::{max_age, numbers, screen_response};
 use std::alloc::Global;
 
-/// How many bytes a datagram has at most beside a payload and its marker: the header, a token of
-/// eight bytes, and a Max-Age of four.
-const BESIDE_PAYLOAD: usize = 18;
+/// The greatest Max-Age, in seconds: it takes four bytes (RFC 7252, 5.10.5).
+const GREATEST_MAX_AGE: u64 = 4_294_967_295;
 
-/// Whether a response fits a datagram of so many bytes with any token and any Max-Age.
-fn fits(most: usize, payload: &[u8]) -> bool
-    ensures { (m : Message) → m.payload ≡ payload.now → result ≡ fits most m }
+/// Whether one of the options is an Observe.
+fn has_observe(options: &Options<'_>) -> bool
+    ensures { result ≡ list_any (λ o. o.number == 6) options.now }
 {
-    if payload.is_empty() {
-        BESIDE_PAYLOAD <= most
-    } else {
-        payload.len() < most.saturating_sub(BESIDE_PAYLOAD)
+    for option in options.iter() {
+        if option.number == numbers::OBSERVE {
+            return true;
+        }
     }
+    false
 }
 
-/// Whether the options of a response are understood: at most one Max-Age of at most four bytes.
-fn are_understood(options: &Options<'_>) -> bool
-    ensures { result ≡ are_understood options.now }
+/// A copy of the options without Observe, in no more room than it needs.
+fn without_observe(alloc: Global, options: &Options<'_>) -> Result<OptionList, OutOfMemory>
+    ensures { IfOk result (λ list. list ≡ filter (λ o. not (o.number == 6)) options.now) }
 {
-    let mut left = options.iter();
-    let Some(option) = left.next() else {
-        return true;
+    if !has_observe(options) {
+        return options.to_owned(alloc);
+    }
+    let mut list = OptionList::new(alloc);
+    for option in options.iter() {
+        if option.number != numbers::OBSERVE {
+            list.push(option.number, option.value)?;
+        }
+    }
+    list.shrink_to_fit();
+    Ok(list)
+}
+
+/// A copy of what goes on of a response: Observe is taken off (RFC 7641, 2).
+fn kept(alloc: Global, response: &MessageRef<'_>) -> Result<Message, OutOfMemory>
+    ensures { IfOk result (λ message. message ≡ without_observe response.now) }
+{
+    Ok(Message {
+        kind: response.kind,
+        code: response.code,
+        id: response.id,
+        token: response.token,
+        options: without_observe(alloc, &response.options)?,
+        payload: Seq::from_slice(alloc, response.payload)?,
+    })
+}
+
+/// Whether a response fits a datagram of so many bytes with any token and any Max-Age. Its widest
+/// form is written for that.
+fn fits(message: &Message, most: usize, out: &mut Datagram) -> bool
+    requires { most ≤ out.old.room }
+    ensures exact { result ≡ fits most message.now }
+    ensures kept { out.new.room ≡ out.old.room }
+{
+    let head = Head {
+        kind: Kind::Non,
+        code: message.code,
+        id: 0,
     };
-    left.next().is_none() && option.number == numbers::MAX_AGE && option.value.len() <= 4
-}
-
-/// Whether a response is passed on to clients.
-fn is_passed_on(most: usize, response: &MessageRef<'_>) -> bool
-    ensures { result ≡ is_passed_on most response.now }
-{
-    are_understood(&response.options)
-        && response.code != Code::VALID
-        && fits(most, response.payload)
+    let token = Token::new(&[0; 8]);
+    put_aged(message, head, &token, GREATEST_MAX_AGE, out, most).is_ok()
 }
 
 /// 5.02, in place of a response that can't be passed on (RFC 7252, 5.9.3.3).
-fn bad_gateway(alloc: Global) -> Message
-    ensures { result ≡ bad_gateway }
+fn bad_gateway(alloc: Global, now: u64) -> Answer
+    ensures { result ≡ record { message = bad_gateway; got = now; own = true } }
 {
-    Message {
-        kind: Kind::Non,
-        code: Code::BAD_GATEWAY,
-        id: 0,
-        token: Token::empty(),
-        options: OptionList::new(alloc),
-        payload: Seq::new(alloc),
+    Answer {
+        message: Message {
+            kind: Kind::Non,
+            code: Code::BAD_GATEWAY,
+            id: 0,
+            token: Token::empty(),
+            options: OptionList::new(alloc),
+            payload: Seq::new(alloc),
+        },
+        got: now,
+        own: true,
     }
 }
 
-/// The answer that a response gives. What is passed on is copied here.
+/// The answer that a response gives. What may be passed on is copied here.
 #[tactic(auto, unfolding(coap_model::specs::Answers::answer_of))]
 pub(crate) fn answer_of(
     alloc: Global,
     most: usize,
     now: u64,
     response: &MessageRef<'_>,
+    out: &mut Datagram,
 ) -> Result<Answer, OutOfMemory>
-    ensures { IfOk result (λ answer. answer ≡ answer_of most now response.now) }
+    requires { most ≤ out.old.room }
+    ensures exact { IfOk result (λ answer. answer ≡ answer_of most now response.now) }
+    ensures kept { out.new.room ≡ out.old.room }
 {
-    let own = !is_passed_on(most, response);
-    let message = if own {
-        bad_gateway(alloc)
-    } else {
-        response.to_message(alloc)?
-    };
+    if screen_response(response).is_err() || response.code == Code::VALID {
+        return Ok(bad_gateway(alloc, now));
+    }
+    let message = kept(alloc, response)?;
+    if !fits(&message, most, out) {
+        return Ok(bad_gateway(alloc, now));
+    }
     Ok(Answer {
         message,
         got: now,
-        own,
+        own: false,
     })
 }
 
-/// The Max-Age of a response, 60 where there is none (RFC 7252, 5.10.5).
-fn max_age_of(options: &Options<'_>) -> u64
-    requires { are_understood options.now ≡ true }
-    ensures { result ≡ max_age_of options.now }
-{
-    match options.iter().next() {
-        Some(option) => uint(option.value),
-        None => 60,
-    }
-}
-
 /// For how many seconds an answer still is fresh (RFC 7252, 5.7.1).
-pub(crate) fn left_of(now: u64, answer: &Answer) -> u64
-    requires moment { now < 2 ^ 63 }
-    requires understood { are_understood answer.now.message.options ≡ true }
+fn left_of(now: u64, answer: &Answer) -> u64
     ensures { result ≡ left_of now answer.now }
 {
     let age = now.saturating_sub(answer.got);
-    max_age_of(&answer.message.options.lent()).saturating_sub((age + 999) / 1000)
+    u64::from(max_age(&answer.message.lent())).saturating_sub(age.div_ceil(1000))
 }
 
-/// Whether an answer is told with a Max-Age (RFC 7252, 5.7.1).
-pub(crate) fn carries_max_age(answer: &Answer) -> bool
-    ensures { result ≡ carries_max_age answer.now }
+/// That is told of what an origin answered, and not of the proxy's own replies.
+pub(crate) fn left_told(now: u64, answer: &Answer) -> Option<u64>
+    ensures { result ≡ left_told now answer.now }
 {
-    !answer.own && (answer.message.code == Code::CONTENT || answer.message.code.class() >= 4)
+    if answer.own {
+        None
+    } else {
+        Some(left_of(now, answer))
+    }
 }

@@ -26,7 +26,7 @@ use crate::writing::{put_message, put_with_max_age};
 use coap_exchange::Waiter;
 use coap_message::{Code, Datagram, Head, Kind, MessageRef, Options, OutOfMemory, Seq};
 use coap_model::{Outcome, Report};
-use coap_option::{numbers, screen_request};
+use coap_option::{numbers, screen_request, tags};
 use coap_routes::laws::{requests_to_the_proxy_are_mapped, targets_fit_options};
 use coap_routes::{MappedTarget, TargetError};
 use coap_target::{Endpoint, Target};
@@ -312,12 +312,14 @@ impl World {
         ensures kept { out.new.room ≡ out.old.room }
     {
         let form = Seq::from_slice(self.alloc, out.bytes())?;
+        let tags = tags(self.alloc, request)?;
         let Ok(number) = self.exchanges.admit(target, form, now) else {
             return Err(OutOfMemory);
         };
         let waiter = Waiter {
             client,
             token: request.token,
+            tags,
             exchange: number,
         };
         if self.waiters.admit(waiter).is_err() {

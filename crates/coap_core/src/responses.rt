@@ -1,5 +1,5 @@
 //! The step of a response that comes in an acknowledgement (RFC 7252, 5.2.1 and 5.3.2).
-ghost use Rattle.std.specs.Prelude.{◌≡◌, ◌&&◌, true, false, option_map, IfOk, IfSome, OnErr};
+ghost use Rattle.std.specs.Prelude.{◌≡◌, ◌≤◌, ◌&&◌, true, false, option_map, IfOk, IfSome, OnErr};
 ghost use Rattle.coap_target.specs.Endpoint.{same_endpoint};
 ghost use Rattle.coap_exchange.specs.declared.exchange.Exchange.{Exchange};
 ghost use Rattle.coap_model.specs.Memory.{takes_memory};
@@ -39,7 +39,8 @@ impl World {
         response: &MessageRef<'_>,
         out: &mut Datagram,
     ) -> Result<Report, OutOfMemory>
-        requires { CanGoOn self.old }
+        requires can { CanGoOn self.old }
+        requires room { self.old.setting.limits.datagram ≤ out.old.room }
         ensures exact { IfOk result (λ report.
             Does (on_response self.old now source response.now) report out.old out.new self.new) }
         ensures err { OnErr result (self.new ≡ self.old) }
@@ -79,6 +80,7 @@ impl World {
     ) -> Result<Report, OutOfMemory>
         requires can { CanGoOn self.old }
         requires sent { IsSentAt number self.old.exchanges }
+        requires room { self.old.setting.limits.datagram ≤ out.old.room }
         ensures exact { (x : Exchange)
             → IfOk result (λ report.
             Does (answers self.old now response.now (number, x)) report out.old out.new self.new) }
@@ -86,7 +88,7 @@ impl World {
         ensures kept { out.new.room ≡ out.old.room }
     {
         let most = self.limits.values().datagram as usize;
-        let answer = answer_of(self.alloc, most, now, response)?;
+        let answer = answer_of(self.alloc, most, now, response, out)?;
         self.exchanges.answer(number, answer);
         out.clear();
         self.pass(now);

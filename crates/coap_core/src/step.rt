@@ -25,7 +25,6 @@ impl World {
         out: &mut Datagram,
     ) -> Result<Report, OutOfMemory>
         requires can { CanGoOn self.old }
-        requires moment { now < 2 ^ 63 }
         requires room { self.old.setting.limits.datagram ≤ out.old.room }
         requires fits { length (step_of self.old now 0 (seen event)).bytes ≤ out.old.room }
         ensures exact { IfOk result (λ report.

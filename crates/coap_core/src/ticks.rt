@@ -25,7 +25,6 @@ pub(crate) enum DueItem {
 impl World {
     pub(crate) fn on_tick(&mut self, now: u64, out: &mut Datagram) -> Report
         requires can { CanGoOn self.old }
-        requires moment { now < 2 ^ 63 }
         requires fits { length (on_tick self.old now).bytes ≤ out.old.room }
         ensures { Does (on_tick self.old now) result out.old out.new self.new }
     {
@@ -90,27 +89,27 @@ impl World {
     /// The waiter of this number is given the answer of its exchange, with a new id.
     fn deliver(&mut self, now: u64, number: u64, out: &mut Datagram) -> Report
         requires can { CanGoOn self.old }
-        requires moment { now < 2 ^ 63 }
         requires there { IsSome (delivery_at self.old now number) }
         requires fits { IfSome (delivery_at self.old now number) (λ step. length step.bytes ≤ out.old.room) }
         ensures { IfSome (delivery_at self.old now number) (λ step.
             Does step result out.old out.new self.new) }
     {
-        let Some(waiter) = self.waiters.get(number).copied() else {
+        let Some(waiter) = self.waiters.get(number) else {
             unreachable!();
         };
         let Some(answer) = self.exchanges.answer_of(waiter.exchange) else {
             unreachable!();
         };
         let id = self.ids.next();
-        put_shown(out, now, answer, id, &waiter.token);
+        put_shown(out, now, answer, id, &waiter.token, &waiter.tags);
+        let (client, exchange) = (waiter.client, waiter.exchange);
         self.waiters.close(number);
-        if !self.waiters.is_awaited(waiter.exchange) {
-            self.exchanges.close(waiter.exchange);
+        if !self.waiters.is_awaited(exchange) {
+            self.exchanges.close(exchange);
         }
         self.pass(now);
         Report {
-            send: Some(waiter.client),
+            send: Some(client),
             outcome: Outcome::Delivered,
         }
     }

@@ -1,16 +1,17 @@
 //! The messages that a proxy sends, written part by part into the caller's datagram, without
 //! memory.
-ghost use Rattle.std.specs.Prelude.{◌≡◌, ◌≤◌, ◌<◌, ◌∷◌, ◌^◌, [], true, length};
+ghost use Rattle.std.specs.Prelude.{◌≡◌, ◌≤◌, ◌∷◌, [], length};
 ghost use Rattle.coap_message.specs.Datagram.{Appends, holding};
 ghost use Rattle.coap_message.specs.Message.{message_of};
 ghost use Rattle.coap_message.specs.Spelling.{spelling};
-ghost use Rattle.coap_model.specs.Messages.{max_age_option};
-ghost use Rattle.coap_model.specs.Answers.{are_understood, shown};
+ghost use Rattle.coap_cache.specs.Renewing.{max_age_option};
+ghost use Rattle.coap_model.specs.Answers.{shown};
 
-use crate::answers::{carries_max_age, left_of};
+use crate::answers::left_told;
+use coap_cache::show_into;
 use coap_exchange::Answer;
 use coap_message::{
-    Code, Datagram, Full, Head, Kind, Options, Token, put_head, put_option, put_options,
+    Code, Datagram, Full, Head, Kind, Options, Pieces, Token, put_head, put_option, put_options,
     put_payload, without_zeros,
 };
 use coap_option::numbers;
@@ -93,23 +94,21 @@ fn try_with_max_age(
 
 // ---- what clients are shown
 
-/// Writes what a client is given for an answer.
-pub(crate) fn put_shown(out: &mut Datagram, now: u64, answer: &Answer, id: u16, token: &Token)
-    requires moment { now < 2 ^ 63 }
-    requires understood { are_understood answer.now.message.options ≡ true }
-    requires fits { length (spelling (shown now answer.now id token.now)) ≤ out.old.room }
-    ensures { out.new ≡ holding out.old (spelling (shown now answer.now id token.now)) }
+/// Writes what a client with these tags is given for an answer.
+pub(crate) fn put_shown(
+    out: &mut Datagram,
+    now: u64,
+    answer: &Answer,
+    id: u16,
+    token: &Token,
+    tags: &Pieces,
+)
+    requires fits { length (spelling (shown now answer.now id token.now tags.now)) ≤ out.old.room }
+    ensures { out.new ≡ holding out.old (spelling (shown now answer.now id token.now tags.now)) }
 {
-    let message = &answer.message;
-    let head = Head {
-        kind: Kind::Non,
-        code: message.code,
-        id,
-    };
-    let payload = message.payload.as_slice();
-    if carries_max_age(answer) {
-        put_with_max_age(out, head, token, left_of(now, answer), payload);
-    } else {
-        put_message(out, head, token, &message.options.lent(), payload);
+    let left = left_told(now, answer);
+    let room = out.room();
+    if show_into(&answer.message, Kind::Non, id, token, left, tags, out, room).is_err() {
+        unreachable!();
     }
 }

@@ -1,5 +1,5 @@
 //! Waiters: clients that wait for an exchange.
-use coap_message::Token;
+use coap_message::{Pieces, Token};
 use coap_target::Endpoint;
 
 /// A client that waits for an exchange.
@@ -8,10 +8,12 @@ use coap_target::Endpoint;
 ///            its exchange is done, a tick serves it
 /// waiting  ---------------------------------------->  closed
 /// ```
-#[derive(Clone, Copy, Debug, PartialEq, Eq)]
+#[derive(Clone, Debug, Drop, PartialEq, Eq)]
 pub struct Waiter {
     pub client: Endpoint,
     pub token: Token,
+    /// The ETags of the responses that it holds already (RFC 7252, 5.10.6.2).
+    pub tags: Pieces,
     /// The number of the exchange that it waits for.
     pub exchange: u64,
 }

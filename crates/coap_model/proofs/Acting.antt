@@ -20,7 +20,7 @@ use Rattle.coap_model.specs.declared.report.Outcome.TheVariants.{Answered}
 use Rattle.coap_model.specs.declared.report.Storing.TheVariants.{NotStored}
 use Rattle.coap_model.specs.Setting.{Setting}
 use Rattle.coap_model.specs.Events.{tick}
-use Rattle.coap_model.specs.Answers.{is_passed_on, bad_gateway, answer_of}
+use Rattle.coap_model.specs.Answers.{without_observe, is_passed_on, bad_gateway, answer_of}
 use Rattle.coap_model.specs.World.{World}
 use Rattle.coap_model.specs.Ticks.{items_of, if_due, next_due}
 use Rattle.coap_model.specs.History.{Act, no_item, admits, moves, serves, Deed, Place, IsPlaceOf, Never, Somewhere, opened_in, Opens, Sends, Gets, Serves}
@@ -180,7 +180,7 @@ got-is : (most now : ℕ) (m : Message) → (answer_of most now m).got ≡ now
 unfolding answer_of
 got-is most now m = go (is_passed_on most m)
   where
-    go : (b : Bool) → (cond {A = Answer} b (record { message = m; got = now; own = false }) (record { message = bad_gateway; got = now; own = true })).got ≡ now
+    go : (b : Bool) → (cond {A = Answer} b (record { message = without_observe m; got = now; own = false }) (record { message = bad_gateway; got = now; own = true })).got ≡ now
     go true = refl
     go false = refl
 

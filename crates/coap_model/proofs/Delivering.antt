@@ -31,7 +31,7 @@ use Rattle.coap_model.specs.Runs.{entry_of}
 use Rattle.coap_model.specs.Carries.{WasGot, IsState, IsExchangeOf, IsWaiterOf, HasNumber, Bears}
 use Rattle.coap_model.proofs.Lists.{All-filter, Has, All-there}
 use Rattle.coap_model.proofs.Places.{in-order, here, doing, same_serves, Never-at, one-opened}
-use Rattle.coap_model.proofs.Spelled.{shown-is}
+use Rattle.coap_model.proofs.Showing.{shown-is}
 use Rattle.coap_model.proofs.Verdicts.{openable}
 use Rattle.coap_model.proofs.Tables.{due-serving, answer-holds, answer-number, ArePaired-without, length-paired, length-without, HasNumber-without, HasNumber-paired, count-without, not_awaited}
 use Rattle.coap_model.proofs.Frames.{clock_frame, numbers_frame, exchange_frame, waiter_frame, fresh_frame, later_served, sends-not, gets-not}
@@ -77,15 +77,15 @@ served w history c now v a due =
 -- ---- what is told
 
 -- what it is told is a message
-reply-is : (w : World) (history : List Deed) (now id : ℕ) (v : Numbered Waiter) (a : Answer) → IsServed w history v a → IsMessage (shown now a id v.1.token)
+reply-is : (w : World) (history : List Deed) (now id : ℕ) (v : Numbered Waiter) (a : Answer) → IsServed w history v a → IsMessage (shown now a id v.1.token v.1.tags)
 reply-is w history now id v a s =
     let got = s.got in
     let short : length v.1.token ≤ 8 = subst (λ (t : List ℕ). length t ≤ 8) (sym s.waiter.token_is) s.waiter.opened.asked.brings.spells.message.token in
-    let is = shown-is w.setting.limits.datagram now got.getting.deed.entry.now got.gets.meets.response id v.1.token got.gets.meets.brings.spells.message got.gets.meets.matches.code short in
-    subst (λ (b : Answer). IsMessage (shown now b id v.1.token)) (sym got.answer_is) is
+    let is = shown-is w.setting.limits.datagram now got.getting.deed.entry.now got.gets.meets.response id v.1.token v.1.tags got.gets.meets.brings.spells.message got.gets.meets.matches.code short in
+    subst (λ (b : Answer). IsMessage (shown now b id v.1.token v.1.tags)) (sym got.answer_is) is
 
 -- so the entry is a delivery
-delivery : (w : World) (history : List Deed) (e : Deed) (id : ℕ) (v : Numbered Waiter) (a : Answer) → IsServed w history v a → e.act ≡ serves v.0 → IsActing w.setting history e → e.entry.report.send ≡ Some v.1.client → Spells e.entry.bytes (shown e.entry.now a id v.1.token) → IsDelivery w.setting history e
+delivery : (w : World) (history : List Deed) (e : Deed) (id : ℕ) (v : Numbered Waiter) (a : Answer) → IsServed w history v a → e.act ≡ serves v.0 → IsActing w.setting history e → e.entry.report.send ≡ Some v.1.client → Spells e.entry.bytes (shown e.entry.now a id v.1.token v.1.tags) → IsDelivery w.setting history e
 delivery w history e id v a s act acts sent spells =
     let g = s.waiter in
     let got = s.got in
@@ -115,8 +115,9 @@ delivery w history e id v a s act acts sent spells =
       tells = record {
         sent = sent ∙ ap Some g.client_is;
         spells =
-            subst (λ (t : List ℕ). Spells e.entry.bytes (shown e.entry.now (answer_of w.setting.limits.datagram got.getting.deed.entry.now got.gets.meets.response) id t)) g.token_is
-            (subst (λ (b : Answer). Spells e.entry.bytes (shown e.entry.now b id v.1.token)) got.answer_is spells);
+            subst (λ (ts : List (List ℕ)). Spells e.entry.bytes (shown e.entry.now (answer_of w.setting.limits.datagram got.getting.deed.entry.now got.gets.meets.response) id o.request.token ts)) g.tags_are
+            (subst (λ (t : List ℕ). Spells e.entry.bytes (shown e.entry.now (answer_of w.setting.limits.datagram got.getting.deed.entry.now got.gets.meets.response) id t v.1.tags)) g.token_is
+            (subst (λ (b : Answer). Spells e.entry.bytes (shown e.entry.now b id v.1.token v.1.tags)) got.answer_is spells));
       };
     }
 
@@ -146,7 +147,7 @@ pub keeps_delivering : (w : World) (history : List Deed) (c : Bears history w) (
 keeps_delivering w history c now draw v a onward due =
     let e = doing (serves v.0) (entry_of now draw tick (delivers w now v a)) in
     let s = served w history c now v a due in
-    let reply = shown now a (next_id w) v.1.token in
+    let reply = shown now a (next_id w) v.1.token v.1.tags in
     let spells : Spells (spelling reply) reply = spelled reply (reply-is w history now (next_id w) v a s) in
     let unsent = sends-not w.setting history e (λ o. cc) in
     let ungot = gets-not w.setting history e (λ o. cc) in

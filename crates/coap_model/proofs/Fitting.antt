@@ -1,107 +1,27 @@
 -- No datagram that a proxy sends is longer than a datagram may be.
-use Rattle.std.proofs.Common.{◌≡◌, ℕ, ◌+◌, ◌*◌, ◌^◌, ◌<◌, ◌≤◌, Bool, true, false, cond, eqb, leb, List, [], ◌∷◌, ◌++◌, length, refl, sym, subst, arith}
-use Rattle.std.specs.Prelude.{◌&&◌, not}
-use Rattle.std.proofs.Math.Nat.{pow-le-pow_right}
-use Rattle.std.proofs.lemmas.Bool.{eqb-true, leb-true, lt-ltb, and_parts}
+use Rattle.std.proofs.Common.{◌≡◌, ℕ, ◌≤◌, List, [], ◌∷◌, length, refl, sym, subst, arith}
+use Rattle.std.proofs.lemmas.Bool.{lt-ltb}
 use Rattle.coap_message.specs.declared.code.Code.{Code}
-use Rattle.coap_message.specs.declared.code.TheConstants.Code.{VALID}
-use Rattle.coap_message.specs.declared.options.Opt.{Opt}
-use Rattle.coap_message.specs.Uint.{IsBytes, uint_spelling}
-use Rattle.coap_message.specs.Message.{Message}
-use Rattle.coap_message.specs.Spelling.{SpellsOption, SpellsOptions, header, Spells, spelling, more_length, options_length}
-use Rattle.coap_message.proofs.Extensions.{IsBytes-left, IsBytes-right}
+use Rattle.coap_message.specs.Uint.{uint_spelling}
+use Rattle.coap_message.specs.Spelling.{spelling, more_length}
 use Rattle.coap_message.proofs.Spellings.{spelling-length}
-use Rattle.coap_message.proofs.Uints.{uint_bound, uint_spelling-four}
 use Rattle.coap_exchange.specs.declared.exchange.Answer.{Answer}
 use Rattle.coap_model.specs.declared.limits.Limit.TheVariants.{Datagram}
 use Rattle.coap_model.specs.Limits.{AreLimits}
 use Rattle.coap_model.specs.Events.{Event, IsEvent}
-use Rattle.coap_message.specs.Codes.{is_code}
-use Rattle.coap_model.specs.Messages.{reset, max_age_option, own_reply, busy_reply}
-use Rattle.coap_model.specs.Answers.{are_understood, widest, fits, bad_gateway, is_passed_on, answer_of, max_age_of, left_of, carries_max_age, shown_options, shown}
+use Rattle.coap_model.specs.Messages.{reset, own_reply, busy_reply}
+use Rattle.coap_model.specs.Answers.{shown}
 use Rattle.coap_model.specs.World.{World, Step, next_id}
 use Rattle.coap_model.specs.Ticks.{with_id}
 use Rattle.coap_model.specs.Step.{step_of}
 use Rattle.coap_model.specs.History.{Entry, Deed}
 use Rattle.coap_model.specs.Carries.{IsExchangeOf, IsWaiterOf, Bears, Carries}
 use Rattle.coap_model.proofs.Spelled.{length-uint_spelling}
+use Rattle.coap_model.proofs.Showing.{answer-fits}
 use Rattle.coap_model.proofs.Rules.{Rule, refusing, lacking, overloading, opening, answering, rejecting, ignoring, forwarding, delivering, idling, rule_of}
 use Rattle.coap_model.proofs.Tables.{due-sending}
 use Rattle.coap_model.proofs.Replying.{request-came}
 use Rattle.coap_model.proofs.Delivering.{served}
-
--- ---- the Max-Age of an answer
-
--- the value of an option that is spelled in bytes is bytes
-value-bytes : (before : ℕ) (bytes : List ℕ) (o : Opt) → SpellsOption before bytes o → IsBytes bytes → IsBytes o.value
-value-bytes before bytes o s fit =
-    let all : IsBytes ((16 * s.delta_bits + s.length_bits) ∷ (s.delta_more ++ (s.length_more ++ o.value))) = subst IsBytes s.bytes_are fit in
-    IsBytes-right s.length_more o.value (IsBytes-right s.delta_more (s.length_more ++ o.value) (IsBytes-right ((16 * s.delta_bits + s.length_bits) ∷ []) (s.delta_more ++ (s.length_more ++ o.value)) all))
-
--- the options of a datagram of bytes are bytes
-options-bytes : (bytes : List ℕ) (m : Message) (s : Spells bytes m) → IsBytes bytes → IsBytes s.options
-options-bytes bytes m s fit =
-    let all : IsBytes (header m ++ (m.token ++ (s.options ++ s.payload))) = subst IsBytes s.bytes_are fit in
-    IsBytes-left s.options s.payload (IsBytes-right m.token (s.options ++ s.payload) (IsBytes-right (header m) (m.token ++ (s.options ++ s.payload)) all))
-
--- a Max-Age of four bytes is below 2 ^ 32
-age-small : (bytes : List ℕ) (os : List Opt) → IsBytes bytes → SpellsOptions 0 bytes os → are_understood os ≡ true → max_age_of os < 2 ^ 32
-age-small bytes [] fit s e = omega arith
-age-small bytes (o ∷ []) fit s e =
-    let parts = and_parts (eqb o.number 14) (leb (length o.value) 4) e in
-    let first : IsBytes s.0 = IsBytes-left s.0 s.1 (subst IsBytes s.2 fit) in
-    let bound = uint_bound o.value (value-bytes 0 s.0 o s.3 first) in
-    let powers : 256 ^ length o.value ≤ 256 ^ 4 = pow-le-pow_right {n = 256} (omega arith) {i = length o.value} {j = 4} (leb-true _ _ parts.1) in
-    omega (arith, bound, powers)
-age-small bytes (o ∷ p ∷ more) fit s e = absurd cc
-
--- ---- what a client is shown
-
--- a length of at most four needs no bytes that extend it
-more-none : (n : ℕ) → n ≤ 4 → more_length n ≡ 0
-more-none n le = rw (lt-ltb n 13 (omega arith)) refl
-
--- a Max-Age takes at most six bytes
-max_age-length : (number : ℕ) (value : List ℕ) → number ≡ 14 → length value ≤ 4 → options_length 0 (record { number = number; value = value } ∷ []) ≤ 6
-max_age-length number value is short = rw is (let more = more-none (length value) short in omega arith)
-
--- so the options of a response that is understood take at most six
-understood-length : (os : List Opt) → are_understood os ≡ true → options_length 0 os ≤ 6
-understood-length [] e = omega arith
-understood-length (o ∷ []) e = let parts = and_parts (eqb o.number 14) (leb (length o.value) 4) e in max_age-length o.number o.value (eqb-true _ _ parts.0) (leb-true _ _ parts.1)
-understood-length (o ∷ p ∷ more) e = absurd cc
-
--- and those of what is shown
-shown-length : (now id : ℕ) (a : Answer) (token : List ℕ) → options_length 0 a.message.options ≤ 6 → max_age_of a.message.options < 2 ^ 32 → options_length 0 (shown_options now a) ≤ 6
-shown-length now id a token short small = go (carries_max_age a)
-  where
-    go : (b : Bool) → options_length 0 (cond b (max_age_option (left_of now a) ∷ []) a.message.options) ≤ 6
-    go true = max_age-length 14 (uint_spelling (left_of now a)) refl (uint_spelling-four (left_of now a) (omega arith))
-    go false = short
-
--- what is passed on is shown in no more than its widest form
-passed-short : (most now got id : ℕ) (m : Message) (token : List ℕ) → is_passed_on most m ≡ true → max_age_of m.options < 2 ^ 32 → length token ≤ 8 → length (spelling (shown now (record { message = m; got = got; own = false }) id token)) ≤ most
-passed-short most now got id m token e small short =
-    let a : Answer = record { message = m; got = got; own = false } in
-    let parts = and_parts (are_understood m.options) (not (is_code m.code VALID) && fits most m) e in
-    let more = and_parts (not (is_code m.code VALID)) (fits most m) parts.1 in
-    let wide = leb-true (length (spelling (widest m))) most more.1 in
-    omega (arith, wide, spelling-length (widest m), spelling-length (shown now a id token), shown-length now id a token (understood-length m.options parts.0) small)
-
--- what stands in place of a response is short
-replaced-short : (now got id : ℕ) (token : List ℕ) → length token ≤ 8 → length (spelling (shown now (record { message = bad_gateway; got = got; own = true }) id token)) ≤ 128
-replaced-short now got id token short = omega (arith, spelling-length (shown now (record { message = bad_gateway; got = got; own = true }) id token))
-
--- what is shown of an answer fits a datagram
-answer-fits : (most now got id : ℕ) (bytes : List ℕ) (m : Message) (token : List ℕ) → 128 ≤ most → IsBytes bytes → Spells bytes m → length token ≤ 8 → length (spelling (shown now (answer_of most got m) id token)) ≤ most
-unfolding answer_of
-answer-fits most now got id bytes m token wide fit s short = go (is_passed_on most m) refl
-  where
-    go : (b : Bool) → is_passed_on most m ≡ b → length (spelling (shown now (cond {A = Answer} b (record { message = m; got = got; own = false }) (record { message = bad_gateway; got = got; own = true })) id token)) ≤ most
-    go true e =
-        let parts = and_parts (are_understood m.options) (not (is_code m.code VALID) && fits most m) e in
-        passed-short most now got id m token e (age-small s.options m.options (options-bytes bytes m s fit) s.options_are parts.0) short
-    go false e = omega (arith, wide, replaced-short now got id token short)
 
 -- ---- the proxy's own replies
 
@@ -150,8 +70,8 @@ rule_fits {w = w} {now = now} history c are (delivering v a due) =
     let s = served w history c now v a due in
     let g = s.got.gets in
     let short : length v.1.token ≤ 8 = subst (λ (t : List ℕ). length t ≤ 8) (sym s.waiter.token_is) s.waiter.opened.asked.brings.spells.message.token in
-    let fit = answer-fits w.setting.limits.datagram now s.got.getting.deed.entry.now (next_id w) g.meets.brings.bytes g.meets.response v.1.token (are Datagram).0 g.fits g.meets.brings.spells short in
-    subst (λ (b : Answer). length (spelling (shown now b (next_id w) v.1.token)) ≤ w.setting.limits.datagram) (sym s.got.answer_is) fit
+    let fit = answer-fits w.setting.limits.datagram now s.got.getting.deed.entry.now (next_id w) g.meets.brings.bytes g.meets.response v.1.token v.1.tags (are Datagram).0 g.fits g.meets.brings.spells short in
+    subst (λ (b : Answer). length (spelling (shown now b (next_id w) v.1.token v.1.tags)) ≤ w.setting.limits.datagram) (sym s.got.answer_is) fit
 rule_fits {w = w} history c are (idling nothing) = omega arith
 
 -- so each datagram fits

@@ -8,7 +8,8 @@ use Rattle.coap_message.specs.Reading.{read_message, body_at, options_within, op
 use Rattle.coap_message.specs.Uint.{uint_spelling}
 use Rattle.coap_message.specs.Spelling.{spelling, option_spelling}
 use Rattle.coap_message.proofs.WholeMessages.{read_again}
-use Rattle.coap_model.specs.Answers.{max_age_of, answer_of, shown_options, shown}
+use Rattle.coap_option.specs.Selection.{tags_of, max_age_of}
+use Rattle.coap_model.specs.Answers.{answer_of, shown}
 use Rattle.coap_model.specs.Examples.{client, content, content_for_client}
 use Rattle.coap_model.specs.History.{no_item, moves, serves, Deed, Sends, Place, IsPlaceOf, Opens, Gets}
 use Rattle.coap_model.specs.declared.report.Outcome.TheVariants.{SentRequest}
@@ -94,13 +95,13 @@ out_of_turn s = s.acting.first (moves 2) 0 (record { opening = here past opened;
 
 -- the Max-Age that a message tells
 abbrev told_by : Result Message ReadError → ℕ
-told_by (Ok m) = max_age_of m.options
+told_by (Ok m) = max_age_of m
 told_by (Err e) = 0
 
 -- the Max-Age that is to be told of an answer
-abbrev owed_by : Result Message ReadError → ℕ
-owed_by (Ok m) = max_age_of (shown_options 2500 (answer_of 1500 0 m))
-owed_by (Err e) = 0
+abbrev owed_by : ℕ → Message → Result Message ReadError → ℕ
+owed_by id request (Ok m) = max_age_of (shown 2500 (answer_of 1500 0 m) id request.token (tags_of request))
+owed_by id request (Err e) = 0
 
 -- the Max-Age that is told is what is left: seven seconds, and not ten
 pub another_age : ¬ IsDelivery setting past (delivery (client 1) (content_for_client 10) (serves 1))
@@ -110,7 +111,7 @@ another_age s =
     let m = s.gets.meets in
     let same = arrival-same m.asks.sends.to _ m.brings.bytes content (sym m.brings.came ∙ ap (λ (p : Place). p.deed.entry.event) place) in
     let read = ap read_message (sym same.1) ∙ read_again m.brings.bytes m.response m.brings.spells in
-    let told = read_again (content_for_client 10) (shown 2500 (answer_of 1500 s.getting.deed.entry.now m.response) s.id s.opened.request.token) s.tells.spells in
-    let moment = ap (λ (p : Place). max_age_of (shown_options 2500 (answer_of 1500 p.deed.entry.now m.response))) place in
-    let ten : 10 ≡ 7 = ap told_by told ∙ moment ∙ sym (ap owed_by read) in
+    let told = read_again (content_for_client 10) (shown 2500 (answer_of 1500 s.getting.deed.entry.now m.response) s.id s.opened.request.token (tags_of s.opened.request)) s.tells.spells in
+    let moment = ap (λ (p : Place). max_age_of (shown 2500 (answer_of 1500 p.deed.entry.now m.response) s.id s.opened.request.token (tags_of s.opened.request))) place in
+    let ten : 10 ≡ 7 = ap told_by told ∙ moment ∙ sym (ap (owed_by s.id s.opened.request) read) in
     omega (arith, ten)

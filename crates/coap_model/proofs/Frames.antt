@@ -55,7 +55,7 @@ exchanges_frame setting history e xs unsent ungot all =
 -- a waiter stays that isn't served
 pub waiter_frame : (setting : Setting) (history : List Deed) (e : Deed) (v : Numbered Waiter) → ¬ Serves v.0 (here history e) → IsWaiterOf setting history v → IsWaiterOf setting (e ∷ history) v
 waiter_frame setting history e v unserved f =
-    record { opened = opened-later e f.opened; exchange = f.exchange; client_is = f.client_is; token_is = f.token_is; ungot = f.ungot; unserved = (unserved, f.unserved) }
+    record { opened = opened-later e f.opened; exchange = f.exchange; client_is = f.client_is; token_is = f.token_is; tags_are = f.tags_are; ungot = f.ungot; unserved = (unserved, f.unserved) }
 
 -- what was served stays served
 pub later_served : (history : List Deed) (e : Deed) (xs : List (Numbered Exchange)) (n : ℕ) → HasNumber n xs ⊎ Somewhere (Serves n) history → HasNumber n xs ⊎ Somewhere (Serves n) (e ∷ history)

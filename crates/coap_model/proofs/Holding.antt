@@ -1,8 +1,8 @@
 -- The bytes that a proxy holds are within its bound.
-use Rattle.std.proofs.Common.{◌≡◌, ℕ, ◌+◌, ◌-◌, ◌*◌, ◌≤◌, Bool, true, false, cond, eqb, leb, List, [], ◌∷◌, ◌++◌, map, length, Option, Some, None, refl, sym, ap, subst, arith}
-use Rattle.std.specs.Prelude.{◌&&◌, not}
+use Rattle.std.proofs.Common.{◌≡◌, ℕ, ◌+◌, ◌*◌, ◌≤◌, Bool, true, false, cond, leb, List, [], ◌∷◌, ◌++◌, map, length, Option, Some, None, refl, sym, ap, subst, arith}
+use Rattle.std.specs.Prelude.{◌&&◌, ◌==◌, not, filter}
 use Rattle.std.specs.List.{sum_by}
-use Rattle.std.proofs.lemmas.Bool.{eqb-true, leb-true, lt-ltb, and_parts}
+use Rattle.std.proofs.lemmas.Bool.{eqb-true, leb-true, and_parts}
 use Rattle.std.proofs.lemmas.Nat.{mul-le}
 use Rattle.std.proofs.lemmas.List.{append-nil}
 use Rattle.std.proofs.lemmas.List.Elements.{All-from_recursion}
@@ -11,9 +11,9 @@ use Rattle.coap_message.specs.declared.code.TheConstants.Code.{VALID}
 use Rattle.coap_message.specs.declared.options.Opt.{Opt}
 use Rattle.coap_message.specs.Message.{Message}
 use Rattle.coap_message.specs.Pieces.{pieces_spelling}
-use Rattle.coap_message.specs.Spelling.{spelling, more_length, options_spelling, options_length, payload_length}
+use Rattle.coap_message.specs.Spelling.{spelling, options_length, payload_length}
 use Rattle.coap_message.proofs.PieceSpellings.{pieces-length}
-use Rattle.coap_message.proofs.Spellings.{options-length, spelling-length}
+use Rattle.coap_message.proofs.Spellings.{options-length, spelled_once, spelling-length}
 use Rattle.coap_target.specs.declared.target.Target.{Target}
 use Rattle.coap_target.proofs.Lists.{All-weaken}
 use Rattle.coap_exchange.specs.declared.exchange.Answer.{Answer}
@@ -25,10 +25,15 @@ use Rattle.coap_exchange.specs.Table.{Numbered}
 use Rattle.coap_model.specs.Setting.{Setting}
 use Rattle.coap_message.specs.Codes.{is_code}
 use Rattle.coap_message.specs.Options.{AreOptions, option_of}
-use Rattle.coap_option.specs.Selection.{sent_on}
+use Rattle.coap_option.specs.declared.side.Side.{Side}
+use Rattle.coap_option.specs.declared.side.Side.TheVariants.{Request, Response}
+use Rattle.coap_option.specs.Places.{PlacedOption, places_behind, count_of, is_recognised_at}
+use Rattle.coap_option.specs.Recognition.{is_recognised}
+use Rattle.coap_option.specs.Selection.{sent_on, is_of}
+use Rattle.coap_option.specs.Side.{side_of}
 use Rattle.coap_routes.specs.Routes.{AreRoutes}
 use Rattle.coap_model.specs.Forms.{host_options, target_options, merged, forwarded, request_key, says_target}
-use Rattle.coap_model.specs.Answers.{are_understood, widest, fits, bad_gateway, is_passed_on, answer_of}
+use Rattle.coap_model.specs.Answers.{is_screened, without_observe, widest, fits, bad_gateway, is_passed_on, answer_of}
 use Rattle.coap_model.specs.World.{World}
 use Rattle.coap_model.specs.History.{Deed}
 use Rattle.coap_model.specs.Carries.{IsState, IsExchangeOf, IsWaiterOf, Bears}
@@ -36,6 +41,7 @@ use Rattle.coap_target.specs.Target.{IsTarget}
 use Rattle.coap_model.proofs.Forms.{AreUnused, sent-unused, AreOptions-merged, target-options, sent-options, target-kept}
 use Rattle.coap_model.proofs.Verdicts.{IsOpenable, openable}
 use Rattle.coap_model.proofs.OptionLengths.{filter-length}
+use Rattle.coap_model.proofs.Showing.{within-widest}
 use Rattle.coap_model.specs.Held.{host_bytes, target_bytes, response_bytes, state_bytes, exchange_bytes, waiter_bytes, held, most_held}
 
 -- ---- a target is held in hardly more than its form
@@ -81,39 +87,48 @@ form-holds token t others is are none =
 
 -- ---- an answer is held in no more than a datagram and a Max-Age
 
--- the options of a response that is understood take at most six bytes
-options-short : (os : List Opt) → are_understood os ≡ true → length (options_spelling 0 os) ≤ 6
-options-short os e = omega (arith, options-length 0 os, counted os e)
-  where
-    counted : (os : List Opt) → are_understood os ≡ true → options_length 0 os ≤ 6
-    counted [] e = omega arith
-    counted (o ∷ []) e =
-        let parts = and_parts (eqb o.number 14) (leb (length o.value) 4) e in
-        one o.number (length o.value) (eqb-true _ _ parts.0) (leb-true _ _ parts.1)
-      where
-        one : (number n : ℕ) → number ≡ 14 → n ≤ 4 → 1 + more_length (number - 0) + more_length n + n + 0 ≤ 6
-        one number n is short = rw (is, lt-ltb n 13 (omega arith)) (omega arith)
-    counted (o ∷ p ∷ more) e = absurd cc
+-- a payload is no longer than with its marker
+payload-least : (payload : List ℕ) → length payload ≤ payload_length payload
+payload-least [] = omega arith
+payload-least (p ∷ ps) = omega arith
 
--- a payload is shorter than the widest message with it
-payload-short : (m : Message) → length m.payload ≤ length (spelling (widest m))
-payload-short m = omega (arith, spelling-length (widest m), least m.payload)
-  where
-    least : (payload : List ℕ) → length payload ≤ payload_length payload
-    least [] = omega arith
-    least (p ∷ ps) = omega arith
-
--- an answer takes little more than a datagram
-answer-short : (most now : ℕ) (m : Message) → response_bytes (answer_of most now m).message ≤ most + 6
+-- an answer takes no more than a datagram
+answer-short : (most now : ℕ) (m : Message) → AreOptions 0 m.options → response_bytes (answer_of most now m).message ≤ most
 unfolding answer_of
-answer-short most now m = go (is_passed_on most m) refl
+answer-short most now m are = go (is_passed_on most m) refl
   where
-    go : (b : Bool) → is_passed_on most m ≡ b → response_bytes (cond {A = Answer} b (record { message = m; got = now; own = false }) (record { message = bad_gateway; got = now; own = true })).message ≤ most + 6
+    go : (b : Bool) → is_passed_on most m ≡ b → response_bytes (cond {A = Answer} b (record { message = without_observe m; got = now; own = false }) (record { message = bad_gateway; got = now; own = true })).message ≤ most
     go true e =
-        let parts = and_parts (are_understood m.options) (not (is_code m.code VALID) && fits most m) e in
-        let more = and_parts (not (is_code m.code VALID)) (fits most m) parts.1 in
-        omega (arith, options-short m.options parts.0, payload-short m, leb-true (length (spelling (widest m))) most more.1)
+        let parts = and_parts (is_screened m) (not (is_code m.code VALID) && fits most (without_observe m)) e in
+        let more = and_parts (not (is_code m.code VALID)) (fits most (without_observe m)) parts.1 in
+        let kept : Message = without_observe m in
+        omega (arith, options-length 0 kept.options, within-widest m are parts.0, spelling-length (widest kept), payload-least m.payload, leb-true (length (spelling (widest kept))) most more.1)
     go false e = omega arith
+
+-- ---- tags are held in no more than the request
+
+-- a tag is short
+tag-short : (side : Side) (p : PlacedOption) → is_of side 4 p ≡ true → length p.option.value ≤ 8
+tag-short side p e =
+    let parts = and_parts (p.option.number == 4) (is_recognised_at side p) e in
+    go side (subst (λ (n : ℕ). is_recognised side n (length p.option.value) p.before ≡ true) (eqb-true p.option.number 4 parts.0) parts.1)
+  where
+    go : (s : Side) → is_recognised s 4 (length p.option.value) p.before ≡ true → length p.option.value ≤ 8
+    go Request f = leb-true _ _ (and_parts (leb 1 (length p.option.value)) (leb (length p.option.value) 8) (and_parts (leb 1 (length p.option.value) && leb (length p.option.value) 8) true f).0).1
+    go Response f = leb-true _ _ (and_parts (leb 1 (length p.option.value)) (leb (length p.option.value) 8) (and_parts (leb 1 (length p.option.value) && leb (length p.option.value) 8) (p.before == 0) f).0).1
+
+-- so tags take no more than the options
+tags-held : (side : Side) (low : ℕ) (passed os : List Opt) → length (pieces_spelling (map (λ p. p.option.value) (filter (is_of side 4) (places_behind passed os)))) ≤ options_length low os
+tags-held side low passed [] = omega arith
+tags-held side low passed (o ∷ os) = go (is_of side 4 (record { option = o; before = count_of o.number passed })) refl (tags-held side o.number (passed ++ o ∷ []) os)
+  where
+    rest : List (List ℕ)
+    rest = map (λ p. p.option.value) (filter (is_of side 4) (places_behind (passed ++ o ∷ []) os))
+
+    go : (b : Bool) → is_of side 4 (record { option = o; before = count_of o.number passed }) ≡ b → length (pieces_spelling rest) ≤ options_length o.number os
+        → length (pieces_spelling (map (λ p. p.option.value) (cond b (record { option = o; before = count_of o.number passed } ∷ filter (is_of side 4) (places_behind (passed ++ o ∷ []) os)) (filter (is_of side 4) (places_behind (passed ++ o ∷ []) os))))) ≤ options_length low (o ∷ os)
+    go true e more = omega (arith, more, pieces-length o.value rest, tag-short side (record { option = o; before = count_of o.number passed }) e)
+    go false e more = omega (arith, more)
 
 -- ---- each element, and all of them
 
@@ -136,12 +151,17 @@ exchange-held setting history routes x f = go x.1.state f.state
     go Queued state = omega (arith, target.most, f.form_short)
     go (Sent s) state = omega (arith, target.most, f.form_short)
     go (Done a) state =
-        let short = answer-short setting.limits.datagram state.getting.deed.entry.now state.gets.meets.response in
-        omega (arith, target.most, f.form_short, subst (λ (b : Answer). response_bytes b.message ≤ setting.limits.datagram + 6) (sym state.answer_is) short)
+        let short = answer-short setting.limits.datagram state.getting.deed.entry.now state.gets.meets.response state.gets.meets.brings.spells.message.options in
+        omega (arith, target.most, f.form_short, subst (λ (b : Answer). response_bytes b.message ≤ setting.limits.datagram) (sym state.answer_is) short)
 
 -- what a waiter holds is within its part
 waiter-held : (setting : Setting) (history : List Deed) (v : Numbered Waiter) → IsWaiterOf setting history v → waiter_bytes v ≤ setting.limits.datagram + 256
-waiter-held setting history v f = omega (arith, ap length f.token_is, f.opened.asked.brings.spells.message.token)
+waiter-held setting history v f =
+    let m = f.opened.request in
+    let b = f.opened.asked.brings in
+    let tags : length (pieces_spelling v.1.tags) ≤ options_length 0 m.options = rw f.tags_are (tags-held (side_of m.code) 0 [] m.options) in
+    let spelled : length b.bytes ≡ length (spelling m) = ap length (spelled_once b.bytes m b.spells) in
+    omega (arith, ap length f.token_is, b.spells.message.token, tags, spelled, spelling-length m, b.short)
 
 -- so what is held is within the bound
 pub within-bound : (history : List Deed) (w : World) → Bears history w → held w ≤ most_held w.setting.limits

@@ -1,6 +1,7 @@
 pub mod Forms
 pub mod OptionLengths
 pub mod Spelled
+pub mod Showing
 pub mod Lists
 pub mod Places
 pub mod Verdicts

@@ -11,7 +11,7 @@ use Rattle.coap_message.proofs.Spellings.{spelled_once}
 use Rattle.coap_message.proofs.WholeMessages.{one_message}
 use Rattle.coap_target.specs.declared.endpoint.Endpoint.{Endpoint}
 use Rattle.coap_target.specs.declared.target.Target.{Target}
-use Rattle.coap_option.specs.Selection.{sent_on}
+use Rattle.coap_option.specs.Selection.{sent_on, tags_of}
 use Rattle.coap_routes.specs.declared.error.TargetError.{TargetError}
 use Rattle.coap_routes.specs.Request.{request_target}
 use Rattle.coap_model.specs.declared.report.Outcome.{Outcome}
@@ -68,9 +68,9 @@ busy_reply-same seconds i k t u id token = rw (id, token) refl
 forwarded-same : (salt x y : ℕ) (a b : Target) (m n : Message) (i k : ℕ) → x ≡ y → a ≡ b → m ≡ n → i ≡ k → forwarded (token_of salt x) a (sent_on m) i ≡ forwarded (token_of salt y) b (sent_on n) k
 forwarded-same salt x y a b m n i k number target request id = rw (number, target, request, id) refl
 
--- and so is what is shown at one moment of one response, got at one moment
-shown-same : (most now later got again : ℕ) (m n : Message) (i k : ℕ) (t u : List ℕ) → now ≡ later → got ≡ again → m ≡ n → i ≡ k → t ≡ u → shown now (answer_of most got m) i t ≡ shown later (answer_of most again n) k u
-shown-same most now later got again m n i k t u moment getting response id token = rw (moment, getting, response, id, token) refl
+-- and so is what is shown for one request at one moment of one response, got at one moment
+shown-same : (most now later got again : ℕ) (m n : Message) (i k : ℕ) (r s : Message) → now ≡ later → got ≡ again → m ≡ n → i ≡ k → r ≡ s → shown now (answer_of most got m) i r.token (tags_of r) ≡ shown later (answer_of most again n) k s.token (tags_of s)
+shown-same most now later got again m n i k r s moment getting response id request = rw (moment, getting, response, id, request) refl
 
 -- what is told has the id that is given
 id-told : (e : Entry) (id : ℕ) (to : Endpoint) (m : Message) → Gives id e → Tells to m e → m.id ≡ id
@@ -159,10 +159,9 @@ one-delivery setting past all d e id g h j k act now =
     let getting = first-once (Gets setting k.waiter) past j.getting k.getting j.was_got k.was_got gets k.gets (got-first setting past k.waiter j.getting all j.was_got gets) (got-first setting past k.waiter k.getting all k.was_got k.gets) in
     let response = one-response setting j.waiter k.waiter j.getting k.getting getting j.gets k.gets in
     let moment : j.getting.deed.entry.now ≡ k.getting.deed.entry.now = ap (λ (p : Place). p.deed.entry.now) getting in
-    let token : j.opened.request.token ≡ k.opened.request.token = ap (λ (m : Message). m.token) one.2 in
-    let said_id = id-told d.entry id j.opened.client (shown d.entry.now (answer_of most j.getting.deed.entry.now j.gets.meets.response) j.id j.opened.request.token) g j.tells in
-    let other_id = id-told e.entry id k.opened.client (shown e.entry.now (answer_of most k.getting.deed.entry.now k.gets.meets.response) k.id k.opened.request.token) h k.tells in
-    let same = shown-same most d.entry.now e.entry.now j.getting.deed.entry.now k.getting.deed.entry.now j.gets.meets.response k.gets.meets.response j.id k.id j.opened.request.token k.opened.request.token now moment response (said_id ∙ sym other_id) token in
+    let said_id = id-told d.entry id j.opened.client (shown d.entry.now (answer_of most j.getting.deed.entry.now j.gets.meets.response) j.id j.opened.request.token (tags_of j.opened.request)) g j.tells in
+    let other_id = id-told e.entry id k.opened.client (shown e.entry.now (answer_of most k.getting.deed.entry.now k.gets.meets.response) k.id k.opened.request.token (tags_of k.opened.request)) h k.tells in
+    let same = shown-same most d.entry.now e.entry.now j.getting.deed.entry.now k.getting.deed.entry.now j.gets.meets.response k.gets.meets.response j.id k.id j.opened.request k.opened.request now moment response (said_id ∙ sym other_id) one.2 in
     told-same d.entry e.entry j.opened.client k.opened.client _ _ j.tells k.tells one.1 same
 
 -- ---- one answer

@@ -91,6 +91,7 @@ keeps_opening w history c now draw client bytes m t onward fits asks verdict roo
               exchange = sym same;
               client_is = refl;
               token_is = refl;
+              tags_are = refl;
               ungot = subst (λ (n : ℕ). Never (Gets w.setting n) history) (sym same) new.1;
               unserved = (unserved (w.admitted + 1), never-from (Serves (w.admitted + 1)) history (λ p at s. let i = served-number w.setting history c.past (w.admitted + 1) p at s in omega arith));
             },

@@ -1,5 +1,5 @@
 -- The messages that a proxy makes are messages, and so each is spelled; what is read off them.
-use Rattle.std.proofs.Common.{◌≡◌, ◌≢◌, ℕ, zero, suc, ◌+◌, ◌%◌, ◌^◌, ◌<◌, ◌≤◌, Bool, true, false, cond, leb, List, [], ◌∷◌, length, Some, None, Result, Ok, Err, refl, sym, ap, subst, ◌∙◌, arith}
+use Rattle.std.proofs.Common.{◌≡◌, ◌≢◌, ℕ, zero, suc, ◌+◌, ◌%◌, ◌^◌, ◌<◌, ◌≤◌, Bool, true, false, cond, leb, List, [], ◌∷◌, length, Some, None, Result, Ok, Err, refl, sym, ap, ◌∙◌, arith}
 use Rattle.std.specs.Result.{result_ok}
 use Rattle.std.specs.Int.{w64, to_be_bytes, from_be_bytes}
 use Rattle.std.proofs.lemmas.Bool.{leb-true, le-leb}
@@ -13,10 +13,8 @@ use Rattle.coap_message.specs.Message.{Message}
 use Rattle.coap_message.specs.Spelling.{IsMessage, Spells}
 use Rattle.coap_message.specs.Reading.{read_message}
 use Rattle.coap_message.proofs.WholeMessages.{read_is}
-use Rattle.coap_exchange.specs.declared.exchange.Answer.{Answer}
-use Rattle.coap_message.specs.Codes.{is_response}
-use Rattle.coap_model.specs.Messages.{reset, own_reply, max_age_option, busy_reply, token_of}
-use Rattle.coap_model.specs.Answers.{is_passed_on, bad_gateway, answer_of, carries_max_age, left_of, shown}
+use Rattle.coap_cache.specs.Renewing.{max_age_option}
+use Rattle.coap_model.specs.Messages.{reset, own_reply, busy_reply, token_of}
 use Rattle.coap_model.specs.Step.{message_in}
 
 -- ---- a Max-Age
@@ -49,31 +47,6 @@ own_reply-is code options id token some are short = record { token = short; opti
 -- and so is one that says when to try again
 pub busy_reply-is : (seconds id : ℕ) (token : List ℕ) → length token ≤ 8 → IsMessage (busy_reply seconds id token)
 busy_reply-is seconds id token short = own_reply-is _ (max_age_option seconds ∷ []) id token (λ e. absurd (omega arith)) (max_age-options seconds) short
-
--- the code of a response isn't 0.00
-response-code : (code : Code) → is_response code ≡ true → code.0 ≢ 0
-response-code code e zero_code = let f : is_response (record { 0 = 0 }) ≡ true = subst (λ (n : ℕ). is_response (record { 0 = n }) ≡ true) zero_code e in cc
-
--- what a client is shown of an answer to a response
-pub shown-is : (most now got : ℕ) (m : Message) (id : ℕ) (token : List ℕ) → IsMessage m → is_response m.code ≡ true → length token ≤ 8 → IsMessage (shown now (answer_of most got m) id token)
-unfolding answer_of
-shown-is most now got m id token is response short = answered (is_passed_on most m)
-  where
-    of : (a : Answer) → a.message.code.0 ≢ 0 → AreOptions 0 a.message.options → IsMessage (shown now a id token)
-    of a some are =
-        record {
-          token = short;
-          options = go (carries_max_age a);
-          bare = record { token = λ e. absurd (some e); options = λ e. absurd (some e); payload = λ e. absurd (some e) };
-        }
-      where
-        go : (b : Bool) → AreOptions 0 (cond b (max_age_option (left_of now a) ∷ []) a.message.options)
-        go true = max_age-options (left_of now a)
-        go false = are
-
-    answered : (b : Bool) → IsMessage (shown now (cond b (record { message = m; got = got; own = false }) (record { message = bad_gateway; got = got; own = true })) id token)
-    answered true = of (record { message = m; got = got; own = false }) (response-code m.code response) is.options
-    answered false = of (record { message = bad_gateway; got = got; own = true }) (λ e. absurd (omega arith)) tt
 
 -- ---- tokens and ids
 

@@ -1,80 +1,74 @@
 -- What a proxy makes of a response, and what its clients are shown of that.
-use Rattle.std.specs.Prelude.{ℕ, ◌+◌, ◌-◌, ◌/◌, ◌==◌, ◌&&◌, ◌||◌, Bool, true, false, not, nat_le, if◌then◌else◌, List, [], ◌∷◌, length}
+use Rattle.std.specs.Prelude.{ℕ, ◌-◌, ◌==◌, ◌&&◌, Bool, true, false, not, nat_le, is_some, if◌then◌else◌, List, [], filter, length, Option, Some, None}
+use Rattle.std.specs.Int.{div_ceil}
 use Rattle.coap_message.specs.declared.kind.Kind.TheVariants.{Non}
-use Rattle.coap_message.specs.declared.code.TheConstants.Code.{VALID, CONTENT, BAD_GATEWAY}
-use Rattle.coap_message.specs.declared.options.Opt.{Opt}
+use Rattle.coap_message.specs.declared.code.TheConstants.Code.{VALID, BAD_GATEWAY}
 use Rattle.coap_message.specs.Codes.{is_code}
 use Rattle.coap_message.specs.Message.{Message}
-use Rattle.coap_message.specs.Options.{option_of}
 use Rattle.coap_message.specs.Spelling.{spelling}
-use Rattle.coap_message.specs.Uint.{uint_of}
-use Rattle.coap_option.specs.declared.numbers.TheConstants.{MAX_AGE}
+use Rattle.coap_option.specs.declared.numbers.TheConstants.{OBSERVE}
+use Rattle.coap_option.specs.declared.side.Side.TheVariants.{Response}
+use Rattle.coap_option.specs.Screening.{first_refused}
+use Rattle.coap_option.specs.Selection.{max_age_of}
+use Rattle.coap_cache.specs.Renewing.{with_max_age}
+use Rattle.coap_cache.specs.Showing as showing
+use Rattle.coap_cache.specs.Showing.{addressed}
 use Rattle.coap_exchange.specs.declared.exchange.Answer.{Answer}
-use Rattle.coap_model.specs.Messages.{eight_zeros, max_age_option}
+use Rattle.coap_model.specs.Messages.{eight_zeros}
 
--- at most one Max-Age of at most four bytes is understood in a response so far
-abbrev pub are_understood : List Opt → Bool
-are_understood [] = true
-are_understood (o ∷ []) = (o.number == MAX_AGE) && nat_le (length o.value) 4
-are_understood (o ∷ p ∷ more) = false
+-- ---- what is kept of a response
 
--- a response fits where it fits a datagram with a token of eight bytes and a Max-Age of four
+-- it has no option that is unsafe to forward and isn't recognised (RFC 7252, 5.7.1)
+abbrev pub is_screened : Message → Bool
+is_screened m = not (is_some (first_refused Response m.options))
+
+-- Observe is taken off: no client is told of changes (RFC 7641, 2)
+abbrev pub without_observe : Message → Message
+without_observe m = record m { options = filter (λ o. not (o.number == OBSERVE)) m.options }
+
+-- the greatest Max-Age, in seconds: four bytes (RFC 7252, 5.10.5)
+abbrev pub greatest_max_age : ℕ
+greatest_max_age = 4294967295
+
+-- the widest form of a response: with a token of eight bytes, and one Max-Age, of four bytes
 abbrev pub widest : Message → Message
-widest m = record {
-  kind = Non;
-  code = m.code;
-  id = 0;
-  token = eight_zeros;
-  options = option_of MAX_AGE (0 ∷ 0 ∷ 0 ∷ 0 ∷ []) ∷ [];
-  payload = m.payload;
-}
+widest m =
+    addressed Non 0 eight_zeros (
+    record m { options = with_max_age greatest_max_age m.options }
+    )
 
 abbrev pub fits : ℕ → Message → Bool
 fits most m = nat_le (length (spelling (widest m))) most
 
+-- what of a response goes on to clients, if it does: all of it but Observe, where that fits a
+-- datagram; a 2.03 has nothing to validate
+abbrev pub is_passed_on : ℕ → Message → Bool
+is_passed_on most m = is_screened m && (not (is_code m.code VALID) && fits most (without_observe m))
+
 -- 5.02, in place of a response that can't be passed on (RFC 7252, 5.9.3.3)
 abbrev pub bad_gateway : Message
-bad_gateway = record { kind = Non; code = BAD_GATEWAY; id = 0; token = []; options = []; payload = [] }
-
-abbrev pub is_passed_on : ℕ → Message → Bool
-is_passed_on most m = are_understood m.options && (not (is_code m.code VALID) && fits most m)
+bad_gateway =
+    record { kind = Non; code = BAD_GATEWAY; id = 0; token = []; options = []; payload = [] }
 
 -- the answer that a response gives, got at a moment
 unfoldable pub answer_of : ℕ → ℕ → Message → Answer
 answer_of most now m =
     if is_passed_on most m
-    then record { message = m; got = now; own = false }
+    then record { message = without_observe m; got = now; own = false }
     else record { message = bad_gateway; got = now; own = true }
 
--- the Max-Age of a response that is passed on, in seconds: its one option, 60 where it has none
--- (RFC 7252, 5.10.5)
-abbrev pub max_age_of : List Opt → ℕ
-max_age_of [] = 60
-max_age_of (o ∷ more) = uint_of o.value
+-- ---- what a client is shown
 
 -- How long an answer stays fresh from a moment on, in seconds. A second that has begun counts as
 -- gone (RFC 7252, 5.7.1).
 abbrev pub left_of : ℕ → Answer → ℕ
-left_of now a = max_age_of a.message.options - (now - a.got + 999) / 1000
+left_of now a = max_age_of a.message - div_ceil (now - a.got) 1000
 
--- a 2.05 and the errors of an origin are told with a Max-Age (RFC 7252, 5.7.1)
-abbrev pub carries_max_age : Answer → Bool
-carries_max_age a =
-    not a.own && (is_code a.message.code CONTENT || nat_le 4 (a.message.code.0 / 32))
+-- that is told of what an origin answered, and not of the proxy's own replies
+abbrev pub left_told : ℕ → Answer → Option ℕ
+left_told now a = if a.own then None else Some (left_of now a)
 
-abbrev pub shown_options : ℕ → Answer → List Opt
-shown_options now a =
-    if carries_max_age a then max_age_option (left_of now a) ∷ [] else a.message.options
-
--- What a client is given for an answer: its own token, an id, the code and the payload of the
--- answer. Where a Max-Age is told, it says how long the answer still is fresh, and no other option
--- goes with it; else the options are those of the answer.
-abbrev pub shown : ℕ → Answer → ℕ → List ℕ → Message
-shown now a id token = record {
-  kind = Non;
-  code = a.message.code;
-  id = id;
-  token = token;
-  options = shown_options now a;
-  payload = a.message.payload;
-}
+-- What a client with these tags is given for an answer, with an id and its own token.
+abbrev pub shown : ℕ → Answer → ℕ → List ℕ → List (List ℕ) → Message
+shown now a id token tags =
+    addressed Non id token (showing.shown a.message (left_told now a) tags)

@@ -2,7 +2,7 @@
 use Rattle.std.specs.Prelude.{◌≡◌, ◌⊎◌, ℕ, ◌+◌, ◌<◌, ◌≤◌, List, [], ◌∷◌, length}
 use Rattle.std.specs.List.{AllByRecursion}
 use Rattle.coap_message.specs.Spelling.{spelling}
-use Rattle.coap_option.specs.Selection.{sent_on}
+use Rattle.coap_option.specs.Selection.{sent_on, tags_of}
 use Rattle.coap_routes.specs.Routes.{AreRoutes}
 use Rattle.coap_cache.specs.declared.key.CacheKey.{CacheKey}
 use Rattle.coap_exchange.specs.declared.exchange.Answer.{Answer}
@@ -87,6 +87,7 @@ pub record IsWaiterOf (setting : Setting) (history : List Deed) (v : Numbered Wa
   pub exchange : v.1.exchange ≡ v.0
   pub client_is : v.1.client ≡ opened.client
   pub token_is : v.1.token ≡ opened.request.token
+  pub tags_are : v.1.tags ≡ tags_of opened.request
   pub ungot : Never (Gets setting v.0) opened.opening.before
   pub unserved : Never (Serves v.0) history
 

@@ -37,8 +37,9 @@ state_bytes (Done a) = response_bytes a.message
 abbrev pub exchange_bytes : Numbered Exchange → ℕ
 exchange_bytes x = length x.1.form + target_bytes x.1.target + state_bytes x.1.state
 
+-- a client's token, and its tags, each with its length in front of it
 abbrev pub waiter_bytes : Numbered Waiter → ℕ
-waiter_bytes v = length v.1.token
+waiter_bytes v = length v.1.token + length (pieces_spelling v.1.tags)
 
 abbrev pub held : World → ℕ
 held w = sum_by exchange_bytes w.exchanges + sum_by waiter_bytes w.waiters

@@ -8,7 +8,7 @@ use Rattle.coap_message.specs.Reading.{head_at}
 use Rattle.coap_message.specs.Spelling.{Spells}
 use Rattle.coap_target.specs.declared.endpoint.Endpoint.{Endpoint}
 use Rattle.coap_target.specs.declared.target.Target.{Target}
-use Rattle.coap_option.specs.Selection.{sent_on}
+use Rattle.coap_option.specs.Selection.{sent_on, tags_of}
 use Rattle.coap_routes.specs.Request.{request_target}
 use Rattle.coap_model.specs.declared.report.Outcome.{Outcome}
 use Rattle.coap_model.specs.declared.report.Outcome.TheVariants.{Ignored, Rejected, Refused, Opened, Overloaded, NoId, Answered, SentRequest, Delivered, Idle}
@@ -132,7 +132,8 @@ pub record IsAnswer (setting : Setting) (past : List Deed) (d : Deed) : Type 0 w
 
 -- A delivery: the exchange that was opened for this client's request was got after that, the request
 -- that was sent for it has the cache key of the client's, and the datagram is what this client is
--- shown of the answer, with what is left of its Max-Age.
+-- shown of the answer: with what is left of its Max-Age, or as a 2.03 where one of its tags is the
+-- answer's.
 pub record IsDelivery (setting : Setting) (past : List Deed) (d : Deed) : Type 0 where
   pub waiter : ℕ
   pub act : d.act ≡ serves waiter
@@ -151,7 +152,8 @@ pub record IsDelivery (setting : Setting) (past : List Deed) (d : Deed) : Type 0
   pub acting : IsActing setting past d
   pub tells :
       Tells opened.client
-      (shown d.entry.now (answer_of setting.limits.datagram getting.deed.entry.now gets.meets.response) id opened.request.token) d.entry
+      (shown d.entry.now (answer_of setting.limits.datagram getting.deed.entry.now gets.meets.response) id opened.request.token
+      (tags_of opened.request)) d.entry
 
 -- ---- what isn't processed
 

@@ -8,8 +8,7 @@ use Rattle.coap_message.specs.declared.code.Code.{Code}
 use Rattle.coap_message.specs.declared.code.TheConstants.Code.{EMPTY, SERVICE_UNAVAILABLE}
 use Rattle.coap_message.specs.declared.options.Opt.{Opt}
 use Rattle.coap_message.specs.Message.{Message}
-use Rattle.coap_message.specs.Uint.{uint_spelling}
-use Rattle.coap_option.specs.declared.numbers.TheConstants.{MAX_AGE}
+use Rattle.coap_cache.specs.Renewing.{max_age_option}
 
 -- ---- types
 
@@ -40,10 +39,6 @@ reset id = record { kind = Rst; code = EMPTY; id = id; token = []; options = [];
 -- a reply of the proxy's own to a client's token
 abbrev pub own_reply : Code → List Opt → ℕ → List ℕ → Message
 own_reply code options id token = record { kind = Non; code = code; id = id; token = token; options = options; payload = [] }
-
--- a Max-Age of so many seconds (RFC 7252, 5.10.5)
-abbrev pub max_age_option : ℕ → Opt
-max_age_option seconds = record { number = MAX_AGE; value = uint_spelling seconds }
 
 -- 5.03, with the seconds after which to try again (RFC 7252, 5.9.3.4)
 abbrev pub busy_reply : ℕ → ℕ → List ℕ → Message

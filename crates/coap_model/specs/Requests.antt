@@ -3,7 +3,7 @@ use Rattle.std.specs.Prelude.{ℕ, ◌+◌, if◌then◌else◌, List, [], ◌�
 use Rattle.coap_message.specs.declared.code.Code.{Code}
 use Rattle.coap_message.specs.Message.{Message}
 use Rattle.coap_message.specs.Spelling.{spelling}
-use Rattle.coap_option.specs.Selection.{sent_on}
+use Rattle.coap_option.specs.Selection.{sent_on, tags_of}
 use Rattle.coap_target.specs.declared.endpoint.Endpoint.{Endpoint}
 use Rattle.coap_target.specs.declared.target.Target.{Target}
 use Rattle.coap_exchange.specs.declared.exchange.ExchangeState.TheVariants.{Queued}
@@ -48,8 +48,15 @@ new_exchange w now m t = (
 )
 
 abbrev pub new_waiter : World → Endpoint → Message → Numbered Waiter
-new_waiter w client m =
-    (w.admitted + 1, record { client = client; token = m.token; exchange = w.opened + 1 })
+new_waiter w client m = (
+  w.admitted + 1,
+  record {
+    client = client;
+    token = m.token;
+    tags = tags_of m;
+    exchange = w.opened + 1;
+  },
+)
 
 -- an exchange is opened, and the client waits for it
 abbrev pub opens : World → ℕ → Endpoint → Message → Target → Step

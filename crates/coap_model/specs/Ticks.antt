@@ -56,7 +56,7 @@ without_idle number waiters exchanges =
 -- the waiter is given the answer of its exchange, with a new id
 abbrev pub delivers : World → ℕ → Numbered Waiter → Answer → Step
 delivers w now v a =
-    says Delivered v.1.client (shown now a (next_id w) v.1.token) (record (later w now) {
+    says Delivered v.1.client (shown now a (next_id w) v.1.token v.1.tags) (record (later w now) {
       waiters = without v.0 w.waiters;
       exchanges = without_idle v.1.exchange (without v.0 w.waiters) w.exchanges;
       given = w.given + 1;

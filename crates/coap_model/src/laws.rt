@@ -16,10 +16,10 @@ ghost use Rattle.coap_model.specs.declared.report.Storing.TheVariants.{NotStored
 ghost use Rattle.coap_model.specs.Messages.{eight_zeros};
 ghost use Rattle.coap_option.specs.declared.side.Side.{Side};
 ghost use Rattle.coap_option.specs.Screening.{first_refused};
-ghost use Rattle.coap_option.specs.Selection.{sent_on};
+ghost use Rattle.coap_option.specs.Selection.{max_age_of, sent_on};
 ghost use Rattle.coap_model.specs.Forms.{forwarded, goes_on};
 ghost use Rattle.coap_model.specs.Verdicts.{may_open};
-ghost use Rattle.coap_model.specs.Answers.{max_age_of, left_of};
+ghost use Rattle.coap_model.specs.Answers.{left_of};
 ghost use Rattle.coap_model.specs.Events.{Event, arrival, tick, IsEvent};
 ghost use Rattle.coap_model.specs.World.{World, new_world, counts};
 ghost use Rattle.coap_model.specs.Step.{step_of};
@@ -123,9 +123,9 @@ pub fn what_goes_on_shows_by_itself()
 pub fn left_and_age_add_up()
     ensures within { (now : ℕ) (a : Answer)
         → 0 < left_of now a
-        → 1000 * left_of now a + (now - a.got) ≤ 1000 * max_age_of a.message.options }
+        → 1000 * left_of now a + (now - a.got) ≤ 1000 * max_age_of a.message }
     ensures no_more { (now : ℕ) (a : Answer)
-        → 1000 * max_age_of a.message.options < 1000 * (left_of now a + 1) + (now - a.got) }
+        → 1000 * max_age_of a.message < 1000 * (left_of now a + 1) + (now - a.got) }
 {}
 
 /// A tick does nothing exactly where nothing is due, or only later.

@@ -4,7 +4,7 @@ use Rattle.coap_message.specs.Datagram.{Appends, holding}
 use Rattle.coap_message.specs.Spelling.{head_spelling, option_spelling, payload_spelling, spelling}
 use Rattle.coap_message.specs.Uint.{uint_spelling}
 use Rattle.coap_message.proofs.Appending.{Appends-full, Appends-behind}
-use Rattle.coap_model.specs.Messages.{max_age_option}
+use Rattle.coap_cache.specs.Renewing.{max_age_option}
 use Rattle.coap_core.proofs.writing.try_with_max_age.Goals as goal
 
 pub returns-in_err-put_option : goal.returns-in_err-put_option
