@@ -13,6 +13,7 @@ pub mod Step
 pub mod Examples
 pub mod LimitExamples
 pub mod EdgeExamples
+pub mod OptionExamples
 pub mod History
 pub mod Due
 pub mod Justified

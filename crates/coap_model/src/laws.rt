@@ -17,7 +17,7 @@ ghost use Rattle.coap_model.specs.Messages.{eight_zeros};
 ghost use Rattle.coap_option.specs.declared.side.Side.{Side};
 ghost use Rattle.coap_option.specs.Screening.{first_refused};
 ghost use Rattle.coap_option.specs.Selection.{max_age_of, sent_on};
-ghost use Rattle.coap_model.specs.Forms.{forwarded, goes_on};
+ghost use Rattle.coap_model.specs.Forms.{forwarded, goes_on, request_key};
 ghost use Rattle.coap_model.specs.Verdicts.{may_open};
 ghost use Rattle.coap_model.specs.Answers.{left_of};
 ghost use Rattle.coap_model.specs.Events.{Event, arrival, tick, IsEvent};
@@ -34,6 +34,7 @@ ghost use Rattle.coap_model.specs.Promised.{IdsDiffer, Promised};
 ghost use Rattle.coap_model.specs.Runs.{Turn, AreTurns, new_run, run_of, entry_of, answer_at};
 ghost use Rattle.coap_model.specs.Examples.{origin, from, tick_at, client, content_for_client, play, proxy, small_proxy, narrow_proxy, first_answer, first_answer_sent, late_answer, late_answer_sent, error, error_sent, fault, fault_sent, changed, changed_sent, valid, replaced_sent, block_in_response, long_max_age, impostor, impostor_sent, refusals, refusals_sent, long_paths, long_paths_sent, long_segments, long_segments_sent, payload_in_get, payload_in_get_sent, full, full_sent, unprocessed_messages, unprocessed_messages_sent, too_long, too_long_sent, payload_of, payload_of_109_sent, spent_proxy, last_id, last_id_sent, wrapping_proxy, wrapping, wrapping_sent};
 ghost use Rattle.coap_model.specs.EdgeExamples.{after, asks_at, with_token, tokens, tokens_sent, two_faults, two_faults_sent, of_class_3, of_class_3_sent, changed_with_age, changed_with_age_sent, two_ages, greatest_age, greatest_age_sent, shorter_age, shorter_age_sent, ten_seconds_after, one_left, none_left, of_one_moment, of_one_moment_sent, request_first, request_first_sent, client_first, client_first_sent, named, named_form, target_in};
+ghost use Rattle.coap_model.specs.OptionExamples.{others, form_with_others, key_in, key_of_others, form_with_tag, key_of_temp, get_with_others, get_with_tags, with_tag, held_sent, other_tag_sent, accepted, accepted_sent, observed, observed_sent, with_unknown, safe_sent, beside_a_tag, beside_a_tag_sent, forward_proxy, refused_targets, refused_targets_sent, long_without_map, long_without_map_sent, to_sensor, to_sensor_sent};
 ghost use Rattle.coap_model.specs.Held.{target_bytes, held, most_held};
 ghost use Rattle.coap_model.specs.LimitExamples.{got, one_exchange, one_waiter, until_served, until_served_sent, retries_after, two_requests, second_is_told, narrow, long_datagrams, long_datagrams_sent, later_proxy, counted_on, counted_on_sent, after_ids, last_refusal, last_refusal_sent, kept_ids, kept_ids_sent};
 
@@ -109,6 +110,29 @@ pub fn examples_at_edges()
         } }
     ensures none_due { next_due proxy ≡ None }
     ensures due_at_opening { next_due (after proxy (asks_at 5 1 ∷ [])) ≡ Some 5 }
+{}
+
+/// Words about options and targets, computed: the form that is sent on and the keys read off it and
+/// off a client's request, clients with tags, Observe, options that aren't recognised, what fits
+/// beside a tag, and targets by a Proxy-Scheme.
+pub fn examples_of_options()
+    ensures form { spelling (forwarded eight_zeros named others 7) ≡ form_with_others }
+    ensures read_back { key_in origin form_with_others ≡ Some key_of_others }
+    ensures own_tag { key_in origin form_with_tag ≡ Some key_of_temp }
+    ensures of_client { request_key named get_with_others ≡ key_of_others }
+    ensures sent_on { sent_on get_with_others ≡ others }
+    ensures held { play proxy (with_tag 0xAB) ≡ held_sent }
+    ensures other_tag { play proxy (with_tag 0xEF) ≡ other_tag_sent }
+    ensures held_bytes { held (after proxy (from 0 (client 1) get_with_tags ∷ [])) ≡ 26 }
+    ensures accepted { play proxy accepted ≡ accepted_sent }
+    ensures observed { play proxy observed ≡ observed_sent }
+    ensures safe { play proxy (with_unknown 64) ≡ safe_sent }
+    ensures not_safe { play proxy (with_unknown 66) ≡ replaced_sent }
+    ensures fits { play narrow_proxy (beside_a_tag 101) ≡ beside_a_tag_sent }
+    ensures does_not { play narrow_proxy (beside_a_tag 102) ≡ replaced_sent }
+    ensures refused { play forward_proxy refused_targets ≡ refused_targets_sent }
+    ensures no_map { play narrow_proxy long_without_map ≡ long_without_map_sent }
+    ensures to_sensor { play forward_proxy to_sensor ≡ to_sensor_sent }
 {}
 
 /// Where no option of a request is refused, what is sent on of it shows by each option alone.

@@ -1,5 +1,5 @@
 //! The worked runs. Each file `NAME.events` of the current folder is one: comments that say what it shows and name the
-//! program's words, then events. They are replayed in order of name. What is written stands after a line with the
+//! program's words, or the routes and limits of its own, then events. They are replayed in order of name. What is written stands after a line with the
 //! run's name; where the program would stop before it is done, a line says with which status and text.
 //!
 //! The runs stand in `data`, and what all of them must write in `stdout`. To add one, add its file and its lines, and
@@ -8,6 +8,7 @@
 
 mod files;
 mod run;
+mod setting;
 
 use std::{fs, io};
 

@@ -1,10 +1,11 @@
-//! One run: its words, and what the program makes of it.
+//! One run: what the program, or a core with other routes, makes of it.
 ghost use Rattle.std.specs.Prelude.{◌≡◌, ◌++◌, codes, IfSome};
 
-use coap_proxyd::{Fault, serve};
+use crate::setting::core_of;
+use coap_proxyd::{Fault, replay, serve};
 use std::alloc::{AllocError, Global};
 use std::io;
-use std::io::{ErrorKind, Write};
+use std::io::Write;
 
 /// What the line begins with that names the words of a run.
 const MARK: &str = "# words:";
@@ -25,14 +26,28 @@ fn words_in(alloc: Global, text: &str) -> Result<Vec<String>, AllocError> {
     Ok(words)
 }
 
-/// The words that a run is made with: those of its first line that begins with `# words:`.
-fn words_of(alloc: Global, events: &[u8]) -> io::Result<Vec<String>> {
-    match events.split(|byte| *byte == b'\n').find_map(after_mark) {
-        Some(words) => Ok(words_in(alloc, words)?),
-        None => Err(io::Error::new(
-            ErrorKind::InvalidData,
-            "a run has no line that begins with `# words:`",
-        )),
+/// What the program makes of these words and events.
+fn serve_words<W: Write>(
+    alloc: Global,
+    words: &str,
+    events: &[u8],
+    output: &mut W,
+) -> io::Result<Result<(), Fault>> {
+    let words = words_in(alloc, words)?;
+    Ok(serve(alloc, &words, events, output))
+}
+
+/// What a core with the setting of a run makes of its events.
+fn replay_setting<W: Write>(
+    alloc: Global,
+    events: &[u8],
+    output: &mut W,
+) -> io::Result<Result<(), Fault>> {
+    let mut core = core_of(alloc, events)?;
+    let mut reader = events;
+    match replay(alloc, &mut reader, output, &mut core) {
+        Ok(_) => Ok(Ok(())),
+        Err(error) => Ok(Err(Fault::from(error))),
     }
 }
 
@@ -42,8 +57,9 @@ fn write_fault<W: Write>(output: &mut W, fault: Fault) -> io::Result<()> {
     writeln!(output, "status {status}: {fault}")
 }
 
-/// Writes a line with the name of a run, what the program writes at its events, and the fault with which it stops, if
-/// there is one.
+/// Writes a line with the name of a run, what is written at its events, and the fault with which it stops, if there is
+/// one. A run with a line that begins with `# words:` is one of the program with these words, any other one of a core
+/// with the routes and limits that its lines name.
 pub(crate) fn play<W: Write>(
     alloc: Global,
     name: &str,
@@ -51,8 +67,11 @@ pub(crate) fn play<W: Write>(
     output: &mut W,
 ) -> io::Result<()> {
     writeln!(output, "== {name}")?;
-    let words = words_of(alloc, events)?;
-    match serve(alloc, &words, events, output) {
+    let done = match events.split(|byte| *byte == b'\n').find_map(after_mark) {
+        Some(words) => serve_words(alloc, words, events, output)?,
+        None => replay_setting(alloc, events, output)?,
+    };
+    match done {
         Ok(()) => Ok(()),
         Err(fault) => write_fault(output, fault),
     }
