@@ -3,7 +3,6 @@
 #![tactic(auto)]
 
 mod error;
-pub mod examples;
 mod key;
 pub mod laws;
 mod list_store;

@@ -5,4 +5,3 @@ pub mod Recognition
 pub mod Places
 pub mod Screening
 pub mod Selection
-pub mod Examples

@@ -3,7 +3,6 @@
 
 mod address;
 mod error;
-pub mod examples;
 pub mod laws;
 mod map;
 mod mapped;
