@@ -30,7 +30,8 @@ abbrev pub content_message : Message
 content_message =
     message_of (head Con 0x45 258) (0xAA ∷ []) (option_of 14 (10 ∷ []) ∷ []) (0x32 ∷ 0x31 ∷ [])
 
--- a request for a temperature, without a token and with one, and their piggybacked responses (RFC 7252, Appendix A)
+-- a request for a temperature, without a token and with one, and their piggybacked responses (RFC
+-- 7252, Appendix A)
 abbrev pub asking_bytes : List ℕ
 asking_bytes = 0x40 ∷ 0x01 ∷ 0x7D ∷ 0x34 ∷ 0xBB ∷ codes "temperature"
 
@@ -73,8 +74,8 @@ short_bytes = 0x50 ∷ 1 ∷ 0 ∷ []
 abbrev pub old_bytes : List ℕ
 old_bytes = 0x10 ∷ 1 ∷ 0 ∷ 7 ∷ []
 
--- a token of nine bytes; the nibble 15 as a delta; a value past the end; a marker with nothing after it;
--- an option number of 65,536; and an Empty message with a byte too many
+-- a token of nine bytes; the nibble 15 as a delta; a value past the end; a marker with nothing
+-- after it; an option number of 65,536; and an Empty message with a byte too many
 abbrev pub malformed : List (List ℕ)
 malformed =
     (0x59 ∷ 1 ∷ 0 ∷ 7 ∷ 0 ∷ 0 ∷ 0 ∷ 0 ∷ 0 ∷ 0 ∷ 0 ∷ 0 ∷ 0 ∷ [])

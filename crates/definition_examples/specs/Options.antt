@@ -25,21 +25,23 @@ put options = message 0x03 options
 abbrev pub content : List Opt → Message
 content options = message 0x45 options
 
--- What a first option of a request may be, by number, and by the least and the greatest length of its value (RFC
--- 7252, 5.10; RFC 7641, 2). If-Match, Uri-Host, ETag, If-None-Match, Observe, Uri-Port, Uri-Path, Content-Format,
--- Max-Age, Uri-Query, Accept, Proxy-Uri, Proxy-Scheme, Size1.
+-- What a first option of a request may be, by number, and by the least and the greatest length of
+-- its value (RFC 7252, 5.10; RFC 7641, 2). If-Match, Uri-Host, ETag, If-None-Match, Observe,
+-- Uri-Port, Uri-Path, Content-Format, Max-Age, Uri-Query, Accept, Proxy-Uri, Proxy-Scheme, Size1.
 abbrev pub of_requests : List (ℕ × ℕ × ℕ)
 of_requests =
     (1, 0, 8) ∷ (3, 1, 255) ∷ (4, 1, 8) ∷ (5, 0, 0) ∷ (6, 0, 3) ∷ (7, 0, 2) ∷ (11, 0, 255)
     ∷ (12, 0, 2) ∷ (14, 0, 4) ∷ (15, 0, 255) ∷ (17, 0, 2) ∷ (35, 1, 1034)
     ∷ (39, 1, 255) ∷ (60, 0, 4) ∷ []
 
--- the same of a response: ETag, Observe, Location-Path, Content-Format, Max-Age, Location-Query, Size1
+-- the same of a response: ETag, Observe, Location-Path, Content-Format, Max-Age, Location-Query,
+-- Size1
 abbrev pub of_responses : List (ℕ × ℕ × ℕ)
 of_responses =
     (4, 1, 8) ∷ (6, 0, 3) ∷ (8, 0, 255) ∷ (12, 0, 2) ∷ (14, 0, 4) ∷ (20, 0, 255) ∷ (60, 0, 4) ∷ []
 
--- on this side, a first option of this number is recognised at these two lengths, and not just beyond them
+-- on this side, a first option of this number is recognised at these two lengths, and not just
+-- beyond them
 abbrev pub has_range : Side → ℕ × ℕ × ℕ → Bool
 has_range side (number, least, greatest) =
     let is_at : ℕ → Bool = λ length. is_recognised side number length 0 in

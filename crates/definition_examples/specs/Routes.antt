@@ -8,9 +8,9 @@ use Rattle.coap_routes.specs.Examples.{loopback}
 use Rattle.coap_routes.specs.declared.map.Map.{Map}
 use Rattle.coap_routes.specs.declared.routes.Routes.{Routes}
 use Rattle.coap_target.specs.declared.target.Target.{Target}
-use Rattle.coap_routes.specs.declared.uri.HostPart.{HostPart}
-use Rattle.coap_routes.specs.declared.uri.HostPart.TheVariants.{Name, Addr}
-use Rattle.coap_routes.specs.declared.uri.UriParts.{UriParts}
+use Rattle.coap_uri.specs.declared.uri.HostPart.{HostPart}
+use Rattle.coap_uri.specs.declared.uri.HostPart.TheVariants.{Name, Addr}
+use Rattle.coap_uri.specs.declared.uri.UriParts.{UriParts}
 use Rattle.url.specs.declared.host.Host.TheVariants.{Domain}
 use Rattle.url.specs.Parts.{Parts}
 

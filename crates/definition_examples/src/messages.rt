@@ -34,7 +34,8 @@ pub fn named_codes()
     ensures proxying_not_supported { Code.PROXYING_NOT_SUPPORTED ≡ code_of 5 5 }
 {}
 
-/// Methods are 0.01 to 0.31, response codes 2.00 to 5.31, and 0.00 is neither (RFC 7252, 3 and 12.1).
+/// Methods are 0.01 to 0.31, response codes 2.00 to 5.31, and 0.00 is neither (RFC 7252, 3 and
+/// 12.1).
 pub fn requests_and_responses()
     ensures requests { filter (λ n. is_request (record { 0 = n })) (range_with_len 0 256)
         ≡ range_with_len 1 31 }

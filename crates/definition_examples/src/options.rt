@@ -37,7 +37,8 @@ pub fn numbered()
 /// The classes of options, by number (RFC 7252, 5.4.6).
 pub fn classed()
     ensures critical { filter is_critical (range_with_len 0 8) ≡ 1 ∷ 3 ∷ 5 ∷ 7 ∷ [] }
-    ensures unsafe_to_forward { filter is_unsafe (range_with_len 0 12) ≡ 2 ∷ 3 ∷ 6 ∷ 7 ∷ 10 ∷ 11 ∷ [] }
+    ensures unsafe_to_forward { filter is_unsafe (range_with_len 0 12)
+        ≡ 2 ∷ 3 ∷ 6 ∷ 7 ∷ 10 ∷ 11 ∷ [] }
     ensures no_cache_key { filter is_no_cache_key (range_with_len 0 96)
         ≡ 28 ∷ 29 ∷ 60 ∷ 61 ∷ 92 ∷ 93 ∷ [] }
     ensures last_is_critical { is_critical 65535 ≡ true }
@@ -83,7 +84,8 @@ pub fn screened()
     ensures elective_unsafe { first_refused Side.Request (zeros 2050 1 ∷ []) ≡ Some 2050 }
 {}
 
-/// Which options of some messages are sent on, are part of the key, or say how the message is cached.
+/// Which options of some messages are sent on, are part of the key, or say how the message is
+/// cached.
 pub fn selected()
     ensures accepts { sent_on (get (zeros 17 1 ∷ zeros 17 1 ∷ [])) ≡ zeros 17 1 ∷ zeros 17 1 ∷ [] }
     ensures used_up { sent_on

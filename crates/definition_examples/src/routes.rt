@@ -4,16 +4,16 @@ ghost use Rattle.std.specs.List.{range_with_len};
 ghost use Rattle.url.specs.declared.host.Host.TheVariants.{Domain};
 ghost use Rattle.coap_message.specs.Options.{option_of};
 ghost use Rattle.coap_routes.specs.declared.error.TargetError.{TargetError};
-ghost use Rattle.coap_routes.specs.declared.error.UriError.TheVariants.{Bad, Scheme};
-ghost use Rattle.coap_routes.specs.declared.uri.HostPart.TheVariants.{Name};
-ghost use Rattle.coap_routes.specs.Address.{bracketed_uri, inner_of, ipv4_of, is_address_byte};
+ghost use Rattle.coap_uri.specs.declared.error.UriError.TheVariants.{Bad, Scheme};
+ghost use Rattle.coap_uri.specs.declared.uri.HostPart.TheVariants.{Name};
+ghost use Rattle.coap_uri.specs.Address.{bracketed_uri, inner_of, ipv4_of, is_address_byte};
 ghost use Rattle.definition_examples.specs.Routes.{at, at_known_address, everything, get, named, numbered, other, plain_url, sensor, temperature, uri, with_maps, without_names};
 ghost use Rattle.coap_routes.specs.Request.{request_target};
 ghost use Rattle.coap_routes.specs.RouteTexts.{are_few, is_name, is_name_byte, prefix_of};
-ghost use Rattle.coap_routes.specs.Uri.{are_short, is_short, name_or, path_parts, query_parts, uri_read};
+ghost use Rattle.coap_uri.specs.Uri.{are_short, is_short, name_or, path_parts, query_parts, uri_read};
 
-/// The targets of requests without proxy options: the longest prefix wins, then the earlier, whatever
-/// Uri-Host and Uri-Port say.
+/// The targets of requests without proxy options: the longest prefix wins, then the earlier,
+/// whatever Uri-Host and Uri-Port say.
 pub fn mapped()
     ensures rest { request_target (without_names (everything ∷ temperature ∷ []))
         (get (option_of 11 (codes "u") ∷ []))
@@ -86,8 +86,8 @@ pub fn cut()
     ensures three { ipv4_of (codes "1.2.3") ≡ None }
 {}
 
-/// What is read of a URL, part by part: the port of one without a port, and what a URI may not have (RFC
-/// 7252, 6.1 and 6.4).
+/// What is read of a URL, part by part: the port of one without a port, and what a URI may not have
+/// (RFC 7252, 6.1 and 6.4).
 pub fn read()
     ensures plain { uri_read (Ok plain_url) ≡ Ok (uri named 5683 (codes "a" ∷ []) []) }
     ensures port { uri_read (Ok (record plain_url { port = Some 5684 }))
@@ -132,7 +132,8 @@ pub fn configured()
     ensures long_name { is_name (replicate 256 0x61) ≡ false }
     ensures with_query { prefix_of (codes "/a?b") ≡ None }
     ensures with_fragment { prefix_of (codes "/a#b") ≡ None }
-    ensures most { are_few (replicate 64 []) (replicate 256 ([], [])) (replicate 64 ([], [])) ≡ true }
+    ensures most { are_few (replicate 64 []) (replicate 256 ([], [])) (replicate 64 ([], []))
+        ≡ true }
     ensures names { are_few (replicate 65 []) [] [] ≡ false }
     ensures hosts { are_few [] (replicate 257 ([], [])) [] ≡ false }
     ensures maps { are_few [] [] (replicate 65 ([], [])) ≡ false }

@@ -1,6 +1,6 @@
 use Rattle.std.proofs.Common.{refl}
 use Rattle.std.specs.Net.Reader.{read_number, read_octet, read_ipv4}
-use Rattle.coap_routes.specs.Address.{ipv4_of, ipv6_between}
+use Rattle.coap_uri.specs.Address.{ipv4_of, ipv6_between}
 use Rattle.coap_routes.specs.Request.{by_scheme, request_target}
 use Rattle.definition_examples.proofs.routes.proxied.Goals as goal
 

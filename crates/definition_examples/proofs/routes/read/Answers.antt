@@ -1,7 +1,7 @@
 use Rattle.std.proofs.Common.{refl}
 use Rattle.std.specs.Net.Reader.{read_number, read_octet, read_ipv4}
 use Rattle.percent_encoding.specs.Percent.{percent_decode}
-use Rattle.coap_routes.specs.Address.{ipv4_of}
+use Rattle.coap_uri.specs.Address.{ipv4_of}
 use Rattle.definition_examples.proofs.routes.read.Goals as goal
 
 pub returns : goal.returns

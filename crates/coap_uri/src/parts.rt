@@ -3,14 +3,14 @@ ghost use Rattle.std.specs.Prelude.{◌≡◌, ◌==◌, ◌<◌, ◌∷◌, IfO
 ghost use Rattle.std.specs.List.{list_all, slice_split};
 ghost use Rattle.std.specs.Option.{option_copied};
 ghost use Rattle.percent_encoding.specs.Percent as spec;
-ghost use Rattle.coap_routes.specs.Uri.{decoded_parts, is_short, parts_left};
+ghost use Rattle.coap_uri.specs.Uri.{decoded_parts, is_short, parts_left};
 
 use coap_message::{OutOfMemory, Pieces, Seq};
 use percent_encoding::percent_decode;
 use std::alloc::Global;
 
 /// The longest host, segment of a path or part of a query, in bytes (RFC 7252, 5.10).
-pub(crate) const LONGEST: usize = 255;
+pub const LONGEST: usize = 255;
 
 /// A text with its escapes decoded. A `%` that begins no escape is an ordinary byte.
 pub(crate) fn decoded(alloc: Global, text: &[u8]) -> Result<Seq<u8>, OutOfMemory>

@@ -1,6 +1,6 @@
 use Rattle.std.proofs.Common.{refl, sym, ◌∙◌}
-use Rattle.coap_routes.proofs.Addresses.{ipv6_between-other, ipv6_between-not_text, ipv6_between-read}
-use Rattle.coap_routes.proofs.address.read_ipv6.Goals as goal
+use Rattle.coap_uri.proofs.Addresses.{ipv6_between-other, ipv6_between-not_text, ipv6_between-read}
+use Rattle.coap_uri.proofs.address.read_ipv6.Goals as goal
 
 pub returns-then-not-are_address_bytes : goal.returns-then-not-are_address_bytes
 returns-then-not-are_address_bytes c = rw (ipv6_between-other _ (sym c.are_address_bytes.ensures ∙ c.if-not-are_address_bytes.true)) refl

@@ -4,11 +4,11 @@ ghost use Rattle.std.specs.List.{list_all};
 ghost use Rattle.std.specs.Option.{option_map, option_copied};
 ghost use Rattle.url.specs.Host.{borrowed_host};
 ghost use Rattle.url.specs.Parser.{parse_url};
-ghost use Rattle.coap_routes.specs.Address.{ipv4_of, is_address_byte, inner_of, ipv6_host, ipv6_read, ipv6_between, bracketed_uri, ip_of};
-ghost use Rattle.coap_routes.specs.Answer.{Answers};
+ghost use Rattle.coap_uri.specs.Address.{ipv4_of, is_address_byte, inner_of, ipv6_host, ipv6_read, ipv6_between, bracketed_uri, ip_of};
+ghost use Rattle.coap_uri.specs.Answer.{Answers};
 ghost use Rattle.coap_target.specs.declared.endpoint.Ip.TheVariants.{V4, V6};
-ghost use Rattle.coap_routes.specs.Uri.{host_of, url_or_bad};
-ghost use Rattle.coap_routes.specs.declared.error.UriError.TheVariants as errors;
+ghost use Rattle.coap_uri.specs.Uri.{host_of, url_or_bad};
+ghost use Rattle.coap_uri.specs.declared.error.UriError.TheVariants as errors;
 
 use crate::error::UriError;
 use crate::uri::HostPart;
@@ -101,7 +101,7 @@ fn read_ipv6(alloc: Global, inner: &[u8]) -> Result<Option<Ip>, OutOfMemory>
 }
 
 /// The address that a text is, if it is one.
-pub(crate) fn read_address(alloc: Global, text: &[u8]) -> Result<Option<Ip>, OutOfMemory>
+pub fn read_address(alloc: Global, text: &[u8]) -> Result<Option<Ip>, OutOfMemory>
     ensures { IfOk result (λ ip. ip ≡ ip_of text.now) }
 {
     if let Some(octets) = read_ipv4(text) {
@@ -125,7 +125,7 @@ pub fn read_ip(alloc: Global, text: &str) -> Result<Ip, UriError>
 }
 
 /// The host that a text is, in ASCII lower case: an address, or a name as it stands.
-pub(crate) fn read_host(alloc: Global, text: &[u8]) -> Result<HostPart, OutOfMemory>
+pub fn read_host(alloc: Global, text: &[u8]) -> Result<HostPart, OutOfMemory>
     ensures { IfOk result (λ host. host ≡ host_of text.now) }
 {
     let lower = text.to_ascii_lowercase(alloc)?;

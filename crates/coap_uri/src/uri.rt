@@ -2,12 +2,11 @@
 ghost use Rattle.std.specs.Prelude.{◌≡◌, IfOk};
 ghost use Rattle.std.specs.Option.{option_copied};
 ghost use Rattle.url.specs.Host.{borrowed_host};
-ghost use Rattle.coap_routes.specs.Address.{ipv4_of};
-ghost use Rattle.coap_routes.specs.Answer.{Answers};
-ghost use Rattle.coap_routes.specs.Uris.{same_uri};
-ghost use Rattle.coap_routes.specs.Hosts.{same_host};
-ghost use Rattle.coap_routes.specs.Uri as spec;
-ghost use Rattle.coap_routes.specs.declared.error.UriError.TheVariants as errors;
+ghost use Rattle.coap_uri.specs.Address.{ipv4_of};
+ghost use Rattle.coap_uri.specs.Answer.{Answers};
+ghost use Rattle.coap_uri.specs.Uris.{same_host, same_uri};
+ghost use Rattle.coap_uri.specs.Uri as spec;
+ghost use Rattle.coap_uri.specs.declared.error.UriError.TheVariants as errors;
 
 use crate::address::{read_ipv4, read_url};
 use crate::error::UriError;
@@ -18,7 +17,7 @@ use std::alloc::Global;
 use url::{Host, Url};
 
 /// The port of a URI without one (RFC 7252, 6.1).
-pub(crate) const DEFAULT_PORT: u16 = 5683;
+pub const DEFAULT_PORT: u16 = 5683;
 
 /// A host: a name, or an address.
 #[derive(Clone, Debug, Drop, PartialEq, Eq, Hash)]
@@ -125,7 +124,7 @@ fn named(alloc: Global, text: &str) -> Result<HostPart, OutOfMemory>
 }
 
 /// The segments after the first slash of a path; none where nothing stands there.
-pub(crate) fn path_parts(alloc: Global, path: &[u8]) -> Result<Pieces, OutOfMemory>
+pub fn path_parts(alloc: Global, path: &[u8]) -> Result<Pieces, OutOfMemory>
     ensures { IfOk result (λ segments. segments ≡ spec.path_parts path.now) }
 {
     match path {

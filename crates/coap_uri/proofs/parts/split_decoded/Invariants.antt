@@ -1,8 +1,8 @@
 use Rattle.std.proofs.Common.{◌≡◌, ◌+◌, ◌++◌, ℕ, List, Option, Some, None, Bor, length, map}
 use Rattle.std.specs.Option.{option_copied}
 use Rattle.percent_encoding.specs.Percent.{percent_decode}
-use Rattle.coap_routes.specs.Uri.{decoded_parts, parts_left}
-use Rattle.coap_routes.proofs.parts.split_decoded.Given as goal
+use Rattle.coap_uri.specs.Uri.{decoded_parts, parts_left}
+use Rattle.coap_uri.proofs.parts.split_decoded.Given as goal
 
 -- what is left to cut
 abbrev pub left : Option (Bor (List ℕ)) → ℕ

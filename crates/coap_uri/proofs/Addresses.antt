@@ -11,9 +11,9 @@ use Rattle.std.proofs.NetLemmas.Ipv4.{read_ipv4_sound, read_ipv4_complete}
 use Rattle.url.specs.declared.error.ParseError.{ParseError}
 use Rattle.url.specs.Parser.{parse_url}
 use Rattle.url.specs.Parts.{Parts}
-use Rattle.coap_routes.specs.Address.{ipv4_of, is_address_byte, ipv6_read, ipv6_between, bracketed_uri}
-use Rattle.coap_routes.specs.Uri.{url_or_bad}
-use Rattle.coap_routes.proofs.Texts.{passing-utf8}
+use Rattle.coap_uri.specs.Address.{ipv4_of, is_address_byte, ipv6_read, ipv6_between, bracketed_uri}
+use Rattle.coap_uri.specs.Uri.{url_or_bad}
+use Rattle.coap_uri.proofs.Texts.{passing-utf8}
 
 -- what the grammar says is read
 pub ipv4_of-dotted : (text octets : List ℕ) → IsDotted text octets → ipv4_of text ≡ Some octets

@@ -12,12 +12,12 @@ use Rattle.url.specs.Parser.{parse_url}
 use Rattle.url.specs.Parts.{Parts, nonempty_host, has_credentials}
 use Rattle.coap_target.specs.declared.endpoint.Ip.{Ip}
 use Rattle.coap_target.specs.declared.endpoint.Ip.TheVariants.{V4, V6}
-use Rattle.coap_routes.specs.declared.uri.HostPart.{HostPart}
-use Rattle.coap_routes.specs.declared.uri.HostPart.TheVariants.{Name, Addr}
-use Rattle.coap_routes.specs.declared.uri.UriParts.{UriParts}
-use Rattle.coap_routes.specs.declared.error.UriError.{UriError}
-use Rattle.coap_routes.specs.declared.error.UriError.TheVariants.{Bad, Scheme}
-use Rattle.coap_routes.specs.Address.{ipv4_of, ip_of}
+use Rattle.coap_uri.specs.declared.uri.HostPart.{HostPart}
+use Rattle.coap_uri.specs.declared.uri.HostPart.TheVariants.{Name, Addr}
+use Rattle.coap_uri.specs.declared.uri.UriParts.{UriParts}
+use Rattle.coap_uri.specs.declared.error.UriError.{UriError}
+use Rattle.coap_uri.specs.declared.error.UriError.TheVariants.{Bad, Scheme}
+use Rattle.coap_uri.specs.Address.{ipv4_of, ip_of}
 
 -- the parts of a text between separators, if there is one
 abbrev pub parts_left : ℕ → Option (List ℕ) → List (List ℕ)

@@ -3,11 +3,10 @@ use Rattle.std.proofs.Common.{◌≡◌, ◌==◌, true, ap, refl, eq-eqb}
 use Rattle.std.proofs.lemmas.Bool.{eqb-true}
 use Rattle.coap_target.specs.Equality.{same_parts}
 use Rattle.coap_target.proofs.Equality.{Tells, Tells-bytes, Tells-parts, Tells-ip, four, of_four}
-use Rattle.coap_routes.specs.declared.uri.HostPart.{HostPart}
-use Rattle.coap_routes.specs.declared.uri.HostPart.TheVariants.{Name, Addr}
-use Rattle.coap_routes.specs.declared.uri.UriParts.{UriParts}
-use Rattle.coap_routes.specs.Hosts.{same_host}
-use Rattle.coap_routes.specs.Uris.{same_uri}
+use Rattle.coap_uri.specs.declared.uri.HostPart.{HostPart}
+use Rattle.coap_uri.specs.declared.uri.HostPart.TheVariants.{Name, Addr}
+use Rattle.coap_uri.specs.declared.uri.UriParts.{UriParts}
+use Rattle.coap_uri.specs.Uris.{same_host, same_uri}
 
 -- hosts that compare as equal are equal
 host-only : (a b : HostPart) → same_host a b ≡ true → a ≡ b
