@@ -81,10 +81,21 @@ port_part port = unwrap_or port 5683
 abbrev pub is_plain : Parts → Bool
 is_plain url = not (has_credentials url) && not (is_some url.fragment)
 
+-- the parts of a URI with this host, decoded
+abbrev pub parts_of : Parts → Host (List ℕ) → UriParts
+parts_of url host =
+    record {
+      host = host_part host;
+      port = port_part url.port;
+      path = path_parts url.path;
+      query = query_parts url.query;
+    }
+
+-- a URI has a host, and nothing that can't be carried
 abbrev pub with_host : Parts → Option (Host (List ℕ)) → Result UriParts UriError
 with_host url None = Err Bad
 with_host url (Some host) =
-    let uri : UriParts = record { host = host_part host; port = port_part url.port; path = path_parts url.path; query = query_parts url.query } in
+    let uri : UriParts = parts_of url host in
     if is_plain url && (not (uri.port == 0) && are_short uri) then Ok uri else Err Bad
 
 -- what `url` refuses is no URI

@@ -1,6 +1,8 @@
 //! `coap` URIs (RFC 7252, 6).
-ghost use Rattle.std.specs.Prelude.{◌≡◌, IfOk};
+ghost use Rattle.std.specs.Prelude.{◌≡◌, IfOk, map};
+ghost use Rattle.std.specs.Char.{to_ascii_lowercase};
 ghost use Rattle.std.specs.Option.{option_copied};
+ghost use Rattle.percent_encoding.specs.Percent.{percent_decode};
 ghost use Rattle.url.specs.Host.{borrowed_host};
 ghost use Rattle.coap_uri.specs.Address.{ipv4_of};
 ghost use Rattle.coap_uri.specs.Answer.{Answers};
@@ -81,17 +83,24 @@ pub fn split_uri(alloc: Global, text: &str) -> Result<UriParts, UriError>
     let Some(host) = url.host() else {
         return Err(UriError::Bad);
     };
-    let parts = UriParts {
-        host: host_part(alloc, host)?,
-        port: url.port().unwrap_or(DEFAULT_PORT),
-        path: path_parts(alloc, url.path().as_bytes())?,
-        query: query_parts(alloc, url.query())?,
-    };
+    let parts = parts_of(alloc, &url, host)?;
     if is_plain(&url) && parts.port != 0 && parts.are_short() {
         Ok(parts)
     } else {
         Err(UriError::Bad)
     }
+}
+
+/// The parts of a URL that has this host, decoded.
+fn parts_of(alloc: Global, url: &Url, host: Host<&str>) -> Result<UriParts, OutOfMemory>
+    ensures { IfOk result (λ parts. parts ≡ spec.parts_of url.now (borrowed_host host.entry)) }
+{
+    Ok(UriParts {
+        host: host_part(alloc, host)?,
+        port: url.port().unwrap_or(DEFAULT_PORT),
+        path: path_parts(alloc, url.path().as_bytes())?,
+        query: query_parts(alloc, url.query())?,
+    })
 }
 
 /// Whether a URL has neither user name nor password nor fragment.
@@ -116,11 +125,18 @@ fn host_part(alloc: Global, host: Host<&str>) -> Result<HostPart, OutOfMemory>
 fn named(alloc: Global, text: &str) -> Result<HostPart, OutOfMemory>
     ensures { IfOk result (λ part. part ≡ spec.name_or (ipv4_of text.now) text.now) }
 {
-    if let Some(octets) = read_ipv4(text.as_bytes()) {
-        return Ok(HostPart::Addr(Ip::V4(octets)));
+    match read_ipv4(text.as_bytes()) {
+        Some(octets) => Ok(HostPart::Addr(Ip::V4(octets))),
+        None => Ok(HostPart::Name(name_of(alloc, text)?)),
     }
+}
+
+/// The name that a text is: in ASCII lower case, then decoded.
+fn name_of(alloc: Global, text: &str) -> Result<Seq<u8>, OutOfMemory>
+    ensures { IfOk result (λ name. name ≡ percent_decode (map to_ascii_lowercase text.now)) }
+{
     let lower = text.to_ascii_lowercase(alloc)?;
-    Ok(HostPart::Name(decoded(alloc, lower.as_bytes())?))
+    decoded(alloc, lower.as_bytes())
 }
 
 /// The segments after the first slash of a path; none where nothing stands there.
