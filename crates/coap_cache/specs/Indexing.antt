@@ -47,7 +47,8 @@ marked_by test entry = if test entry.0 then (entry.0, record entry.1 { marked = 
 
 -- The total and the groups are those of the entries: each key that has an entry is in the group of
 -- its target, and no other key is.
-pub record AreThoseOf {H : Type 0} (entries : List Entry) (bytes : ℕ) (groups : Groups H) : Type 0 where
+pub record AreThoseOf {H : Type 0} (entries : List Entry) (bytes : ℕ) (groups : Groups H)
+    : Type 0 where
   pub distinct : are_distinct entry_key entries ≡ true
   pub counted : bytes ≡ total entry_size entries
   pub indexed : (key : CacheKey) → is_indexed groups key ≡ is_held entries key

@@ -48,7 +48,8 @@ abbrev pub put : {X : Type 0} → (X → CacheKey) → (X → ℕ) → ℕ → �
 put key size bytes count x xs = cut size bytes count (x ∷ others key (key x) xs)
 
 -- `ys` is a beginning of `xs` within both limits, and no other such beginning is longer
-pub record IsLongestBeginning {X : Type 0} (size : X → ℕ) (bytes count : ℕ) (xs ys : List X) : Type 0 where
+pub record IsLongestBeginning {X : Type 0} (size : X → ℕ) (bytes count : ℕ) (xs ys : List X)
+    : Type 0 where
   pub rest : List X
   pub beginning : xs ≡ ys ++ rest
   pub within_bytes : total size ys ≤ bytes

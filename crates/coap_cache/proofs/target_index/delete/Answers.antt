@@ -9,3 +9,6 @@ pub returns-clause-left : goal.returns-clause-left
 returns-clause-left g c =
     λ k. held-alike c.args.keys.now c.remove.new.self c.args.key.now false c.remove.ensures.updates.0 k
     ∙ taken_out (same_key c.args.key.now k) (contains same_key c.args.keys.now k)
+
+pub returns-clause-empty : goal.returns-clause-empty
+returns-clause-empty g c = c.is_empty.ensures
