@@ -1,11 +1,11 @@
 -- The group of a target: its keys are those of the entries of that target, each once.
-use Rattle.std.proofs.Common.{◌≡◌, Result, Ok, Err, OnOk, OnErr, ◌&&◌, ◌||◌, Bool, true, false, cond, not, List, [], ◌∷◌, Some, None, map, filter, length, count_by, refl, sym, ap, subst, ◌∙◌}
+use Rattle.std.proofs.Common.{◌≡◌, ◌≢◌, Result, Ok, Err, OnOk, OnErr, ◌&&◌, ◌||◌, Bool, true, false, cond, not, List, [], ◌∷◌, Option, Some, None, map, filter, length, count_by, refl, sym, ap, subst, ◌∙◌}
 use Rattle.std.specs.Cmp.{IsEquivalence}
 use Rattle.std.specs.HashMap.{get}
-use Rattle.std.specs.HashSet.{HashSet, contains}
-use Rattle.std.specs.List.{list_all, IsDistinct, AllByRecursion}
+use Rattle.std.specs.HashSet.{HashSet, contains, hash_set_len}
+use Rattle.std.specs.List.{list_all, list_any, IsDistinct, AllByRecursion}
 use Rattle.std.specs.Map.{lookup}
-use Rattle.std.specs.Option.{option_map_or}
+use Rattle.std.specs.Option.{ForSome, option_map_or}
 use Rattle.std.specs.Set.{is_member}
 use Rattle.std.proofs.lemmas.Bool.{and_parts, and_from, or_right}
 use Rattle.std.proofs.lemmas.List.{length-map}
@@ -18,7 +18,7 @@ use Rattle.coap_target.specs.Equality.{same_target}
 use Rattle.coap_target.proofs.Equality.{Tells-target}
 use Rattle.coap_cache.specs.declared.key.CacheKey.{CacheKey}
 use Rattle.coap_cache.specs.Entries.{Entry, entry_key, is_for, marked}
-use Rattle.coap_cache.specs.Indexing.{Groups, in_group, is_indexed, is_held, marked_by}
+use Rattle.coap_cache.specs.Indexing.{Groups, AreFilled, AreOwn, IsFilled, in_group, is_indexed, is_held, marked_by}
 use Rattle.coap_cache.specs.Keys.{same_key}
 use Rattle.coap_cache.specs.Lists.{has_other_key, are_distinct}
 use Rattle.coap_cache.proofs.Distinct.{distinct-filter}
@@ -106,6 +106,47 @@ pub by_result : {T E P Q G : Type 0} (r : Result T E) → OnOk r P → OnErr r Q
 by_result (Ok x) ok err f g = f ok
 by_result (Err e) ok err f g = g err
 
+-- a set that has a key has keys
+some-keys : (ks : List CacheKey) (k : CacheKey) → list_any (same_key k) ks ≡ true → length ks ≢ 0
+some-keys [] k is = absurd cc
+some-keys (x ∷ ks) k is = λ none. absurd cc
+
+-- one without keys has none
+pub no-keys : (ks : List CacheKey) → length ks ≡ 0 → (k : CacheKey) → list_any (same_key k) ks ≡ false
+no-keys [] none k = refl
+no-keys (x ∷ ks) none k = absurd cc
+
+-- and with more keys it still has some
+still-keys : (ks more : List CacheKey) (added : CacheKey → Bool) → ((k : CacheKey) → list_any (same_key k) more ≡ (added k || list_any (same_key k) ks)) → length ks ≢ 0 → length more ≢ 0
+still-keys [] more added changed some = absurd (some refl)
+still-keys (x ∷ ks) more added changed some = some-keys more x (changed x ∙ ap (λ b. added x || (b || list_any (same_key x) ks)) (same_key-itself x) ∙ go (added x))
+  where
+    go : (b : Bool) → (b || true) ≡ true
+    go true = refl
+    go false = refl
+
+-- what holds of a group holds of it where it is found
+pub of_group : {H : Type 0} (keys : HashSet CacheKey H) → hash_set_len keys ≢ 0 → ForSome (Some keys) (λ held. hash_set_len held ≢ 0)
+of_group keys some held is = let same : keys ≡ held = cc in subst (λ (k : HashSet CacheKey _). hash_set_len k ≢ 0) same some
+
+-- A group is put, or let go.
+module _ {H : Type 0} (groups new : Groups H) (target : Target) (group : Option (HashSet CacheKey H)) (put : (t : Target) → get same_target new t ≡ cond (same_target target t) group (get same_target groups t)) where
+  -- then the other groups have keys, as before
+  pub others-filled : AreFilled groups → (t : Target) → same_target target t ≡ false → IsFilled new t
+  others-filled filled t other held is = filled t held (sym (put t ∙ ap (λ b. cond b group (get same_target groups t)) other) ∙ is)
+
+  -- and all have where this one has, if it is put
+  pub filled-put : ((t : Target) → same_target target t ≡ false → IsFilled groups t) → ForSome group (λ keys. hash_set_len keys ≢ 0) → AreFilled new
+  filled-put others some t held is = go (same_target target t) refl (sym (put t) ∙ is)
+    where
+      go : (b : Bool) → same_target target t ≡ b → cond b group (get same_target groups t) ≡ Some held → hash_set_len held ≢ 0
+      go true e found = some held found
+      go false e found = others t e held found
+
+-- the same groups have keys, as before
+pub filled-along : {H : Type 0} (groups new : Groups H) → new.entries ≡ groups.entries → AreFilled groups → AreFilled new
+filled-along groups new same filled t held is = filled t held (ap (λ (es : List (Target × HashSet CacheKey _)). lookup (same_target t) es) (sym same) ∙ is)
+
 -- One group is changed: by a test of keys whether a key is the one that is added or taken out, and whether it was there.
 module _ {H : Type 0} (groups new : Groups H) (key : CacheKey) (keys : HashSet CacheKey H) (change : Bool → Bool → Bool) (keeps : (b : Bool) → change false b ≡ b)
     (put : (t : Target) → get same_target new t ≡ cond (same_target key.target t) (Some keys) (get same_target groups t)) (changed : (k : CacheKey) → contains same_key keys k ≡ change (same_key key k) (in_group groups key.target k)) where
@@ -124,7 +165,7 @@ module _ {H : Type 0} (groups new : Groups H) (key : CacheKey) (keys : HashSet C
           ∙ sym (keeps (is_indexed groups k)) ∙ ap (λ c. change c (is_indexed groups k)) (sym other)
 
   -- and each key is in the group of its own target, as before
-  pub own-changed : ((t : Target) (k : CacheKey) → in_group groups t k ≡ true → k.target ≡ t) → (t : Target) (k : CacheKey) → in_group new t k ≡ true → k.target ≡ t
+  pub own-changed : AreOwn groups → AreOwn new
   own-changed own t k is = go (same_target key.target t) refl (same_key key k) refl
     where
       go : (b : Bool) → same_target key.target t ≡ b → (p : Bool) → same_key key k ≡ p → k.target ≡ t
@@ -133,6 +174,61 @@ module _ {H : Type 0} (groups new : Groups H) (key : CacheKey) (keys : HashSet C
           let here : contains same_key keys k ≡ true = sym (ap (λ found. option_map_or (λ held. contains same_key held k) found false) (put t ∙ ap (λ c. cond c (Some keys) (get same_target groups t)) e)) ∙ is in
           own key.target k (sym (keeps (in_group groups key.target k)) ∙ ap (λ b. change b (in_group groups key.target k)) (sym f) ∙ sym (changed k) ∙ here) ∙ Tells-target.only key.target t e
       go false e p f = own t k (sym (ap (λ found. option_map_or (λ held. contains same_key held k) found false) (put t ∙ ap (λ c. cond c (Some keys) (get same_target groups t)) e)) ∙ is)
+
+-- what the group of a target has with another key
+another_key : {H : Type 0} (groups : Groups H) (key copy : CacheKey) (held keys : HashSet CacheKey H) (added : Bool) → copy ≡ key → Some held ≡ get same_target groups key.target
+    → ((k : CacheKey) → contains same_key keys k ≡ ((added && same_key copy k) || contains same_key held k))
+    → (k : CacheKey) → contains same_key keys k ≡ ((added && same_key key k) || in_group groups key.target k)
+another_key groups key copy held keys added same was put k =
+    subst (λ (c : CacheKey). contains same_key keys k ≡ ((added && same_key c k) || contains same_key held k)) same (put k)
+    ∙ ap (λ found. (added && same_key key k) || option_map_or (λ h. contains same_key h k) found false) was
+
+-- and with its first key
+first_key : {H : Type 0} (groups : Groups H) (key : CacheKey) (keys none : HashSet CacheKey H) → get same_target groups key.target ≡ None → none.keys ≡ []
+    → ((k : CacheKey) → contains same_key keys k ≡ (same_key key k || contains same_key none k))
+    → (k : CacheKey) → contains same_key keys k ≡ (same_key key k || in_group groups key.target k)
+first_key groups key keys none no_group empty put k =
+    put k ∙ ap (λ (l : List CacheKey). same_key key k || list_any (same_key k) l) empty
+    ∙ ap (λ found. same_key key k || option_map_or (λ h. contains same_key h k) found false) (sym no_group)
+
+-- after a change of one group
+pub record Changed {H : Type 0} (groups new : Groups H) (key : CacheKey) (change : Bool → Bool → Bool) : Type 0 where
+  pub indexed : (k : CacheKey) → is_indexed new k ≡ change (same_key key k) (is_indexed groups k)
+  pub own : AreOwn new
+  pub filled : AreFilled new
+
+-- no key changes nothing
+none_added : (added b : Bool) → ((added && false) || b) ≡ b
+none_added true b = refl
+none_added false b = refl
+
+-- a key is added to a group that was there, if memory doesn't lack
+pub key-added : {H : Type 0} (groups new : Groups H) (key copy : CacheKey) (held keys : HashSet CacheKey H) (added : Bool) → AreOwn groups → AreFilled groups → copy ≡ key → Some held ≡ get same_target groups key.target
+    → ((t : Target) → get same_target new t ≡ cond (same_target key.target t) (Some keys) (get same_target groups t))
+    → ((k : CacheKey) → contains same_key keys k ≡ ((added && same_key copy k) || contains same_key held k))
+    → Changed groups new key (λ p b. (added && p) || b)
+key-added groups new key copy held keys added own filled same was put adds =
+    let changed = another_key groups key copy held keys added same was adds in
+    record {
+      indexed = is_indexed-changed groups new key keys (λ p b. (added && p) || b) (none_added added) put changed;
+      own = own-changed groups new key keys (λ p b. (added && p) || b) (none_added added) put changed own;
+      filled = filled-put groups new key.target (Some keys) put (λ t other. filled t)
+          (of_group keys (still-keys held.keys keys.keys (λ k. added && same_key copy k) adds (filled key.target held (sym was))));
+    }
+
+-- a group is opened for a key
+pub group-opened : {H : Type 0} (groups new : Groups H) (key : CacheKey) (keys none : HashSet CacheKey H) → AreOwn groups → AreFilled groups → get same_target groups key.target ≡ None → none.keys ≡ []
+    → ((k : CacheKey) → contains same_key keys k ≡ (same_key key k || contains same_key none k))
+    → ((t : Target) → get same_target new t ≡ cond (same_target key.target t) (Some keys) (get same_target groups t))
+    → Changed groups new key (λ p b. p || b)
+group-opened groups new key keys none own filled no_group empty adds put =
+    let changed = first_key groups key keys none no_group empty adds in
+    record {
+      indexed = is_indexed-changed groups new key keys (λ p b. p || b) (λ b. refl) put changed;
+      own = own-changed groups new key keys (λ p b. p || b) (λ b. refl) put changed own;
+      filled = filled-put groups new key.target (Some keys) put (λ t other. filled t)
+          (of_group keys (some-keys keys.keys key (changed key ∙ ap (λ b. b || in_group groups key.target key) (same_key-itself key))));
+    }
 
 -- without a group for its target a key isn't indexed, and needn't be taken out
 pub none_left : {H : Type 0} (groups : Groups H) (key : CacheKey) → get same_target groups key.target ≡ None → (k : CacheKey) → is_indexed groups k ≡ (not (same_key key k) && is_indexed groups k)
@@ -168,10 +264,10 @@ module _ {H : Type 0} (groups new : Groups H) (target : Target) (let_go : (t : T
       go false e = refl
 
   -- each key stays in the group of its own target
-  pub own-let_go : ((t : Target) (k : CacheKey) → in_group groups t k ≡ true → k.target ≡ t) → (t : Target) (k : CacheKey) → in_group new t k ≡ true → k.target ≡ t
+  pub own-let_go : AreOwn groups → AreOwn new
   own-let_go own t k is = own t k ((and_parts (not (same_target target t)) (in_group groups t k) (sym (in_group-let_go t k) ∙ is)).1)
 
-module _ {H : Type 0} (groups : Groups H) (es : List Entry) (target : Target) (own : (t : Target) (k : CacheKey) → in_group groups t k ≡ true → k.target ≡ t) (indexed : (k : CacheKey) → is_indexed groups k ≡ is_held es k) where
+module _ {H : Type 0} (groups : Groups H) (es : List Entry) (target : Target) (own : AreOwn groups) (indexed : (k : CacheKey) → is_indexed groups k ≡ is_held es k) where
   -- the group of a target has the keys of that target that have entries
   pub in_group-is : (k : CacheKey) → in_group groups target k ≡ (same_target k.target target && is_held es k)
   in_group-is k = go (same_target k.target target) refl (in_group groups target k) refl

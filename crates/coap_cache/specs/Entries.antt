@@ -24,7 +24,8 @@ stored_for key entries = option_map (λ entry. entry.1) (of_key entry_key key en
 
 -- the entry of a key may answer a request at this moment
 abbrev pub has_usable : CacheKey → ℕ → List Entry → Bool
-has_usable key now entries = option_map_or (λ entry. is_usable now entry.1) (of_key entry_key key entries) false
+has_usable key now entries =
+    option_map_or (λ entry. is_usable now entry.1) (of_key entry_key key entries) false
 
 -- the entry is one of this target
 abbrev pub is_for : Target → Entry → Bool
@@ -32,7 +33,8 @@ is_for target entry = same_target entry.0.target target
 
 -- a change of the target marks its entries, which then answer no request any more (RFC 7252, 5.9.1)
 abbrev pub marked : Target → Entry → Entry
-marked target entry = if is_for target entry then (entry.0, record entry.1 { marked = true }) else entry
+marked target entry =
+    if is_for target entry then (entry.0, record entry.1 { marked = true }) else entry
 
 -- how much a store keeps at most: bytes as they are counted, and entries
 pub record Limits : Type 0 where

@@ -1,5 +1,5 @@
--- For how long a stored response is used (RFC 7252, 5.6.1, 5.7.1 and 5.10.5). Moments are in milliseconds, a Max-Age
--- is in seconds.
+-- For how long a stored response is used (RFC 7252, 5.6.1, 5.7.1 and 5.10.5). Moments are in
+-- milliseconds, a Max-Age is in seconds.
 use Rattle.std.specs.Prelude.{ℕ, ◌-◌, ◌*◌, ◌&&◌, Bool, not, nat_le}
 use Rattle.std.specs.Int.{div_ceil}
 use Rattle.coap_option.specs.Selection.{max_age_of}

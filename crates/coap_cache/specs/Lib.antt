@@ -7,4 +7,3 @@ pub mod Indexing
 pub mod Renewing
 pub mod Showing
 pub mod Writing
-pub mod Examples

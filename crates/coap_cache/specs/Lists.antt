@@ -34,19 +34,26 @@ total size xs = sum_by size xs
 abbrev pub used : {X : Type 0} → (X → CacheKey) → CacheKey → List X → List X
 used key k xs = option_map_or (λ x. x ∷ others key k xs) (of_key key k xs) xs
 
--- the elements in order, for as long as the next one still fits: so many bytes, and so many elements
+-- the elements in order, for as long as the next one still fits: so many bytes, and so many
+-- elements
 abbrev pub cut : {X : Type 0} → (X → ℕ) → ℕ → ℕ → List X → List X
 cut size bytes count [] = []
-cut size bytes count (x ∷ xs) = if nat_le (size x) bytes && nat_le 1 count then x ∷ cut size (bytes - size x) (count - 1) xs else []
+cut size bytes count (x ∷ xs) =
+    if nat_le (size x) bytes && nat_le 1 count
+    then x ∷ cut size (bytes - size x) (count - 1) xs
+    else []
 
 -- a new element stands first, in place of the one of its key, and what no longer fits is given up
 abbrev pub put : {X : Type 0} → (X → CacheKey) → (X → ℕ) → ℕ → ℕ → X → List X → List X
 put key size bytes count x xs = cut size bytes count (x ∷ others key (key x) xs)
 
 -- `ys` is a beginning of `xs` within both limits, and no other such beginning is longer
-pub record IsLongestBeginning {X : Type 0} (size : X → ℕ) (bytes count : ℕ) (xs ys : List X) : Type 0 where
+pub record IsLongestBeginning {X : Type 0} (size : X → ℕ) (bytes count : ℕ) (xs ys : List X)
+    : Type 0 where
   pub rest : List X
   pub beginning : xs ≡ ys ++ rest
   pub within_bytes : total size ys ≤ bytes
   pub within_count : length ys ≤ count
-  pub longest : (zs more : List X) → xs ≡ zs ++ more → total size zs ≤ bytes → length zs ≤ count → length zs ≤ length ys
+  pub longest : (zs more : List X)
+      → xs ≡ zs ++ more → total size zs ≤ bytes → length zs ≤ count
+      → length zs ≤ length ys

@@ -59,6 +59,13 @@ news_of valid = with_max_age (max_age_of valid) (safe_options valid.options)
 abbrev pub renewed : Message → Message → Message
 renewed response valid = record response { options = updated (news_of valid) response.options }
 
--- A 2.03 validates a stored 2.05: it has the same tag (RFC 7252, 5.10.6.1). Without a tag nothing is validated.
+-- the message has this tag
+abbrev pub has_tag : List ℕ → Message → Bool
+has_tag tag m = option_map_or (same_bytes tag) (tag_of m.options) false
+
+-- A 2.03 validates a stored 2.05: it has the same tag (RFC 7252, 5.10.6.1). Without a tag nothing
+-- is validated.
 abbrev pub is_validated : Message → Message → Bool
-is_validated response valid = response.code.0 == 69 && valid.code.0 == 67 && option_map_or (λ tag. option_map_or (same_bytes tag) (tag_of valid.options) false) (tag_of response.options) false
+is_validated response valid =
+    response.code.0 == 69 && valid.code.0 == 67
+    && option_map_or (λ tag. has_tag tag valid) (tag_of response.options) false

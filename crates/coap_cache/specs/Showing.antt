@@ -29,7 +29,12 @@ held_tag m tags = if is_content m.code then among tags (tag_of m.options) else N
 
 -- 2.03 with this tag, and the Max-Age alone (RFC 7252, 5.9.1.3)
 abbrev pub valid : Message → ℕ → List ℕ → Message
-valid m left tag = record m { code = code_of 2 3; options = option_of 4 tag ∷ max_age_option left ∷ []; payload = [] }
+valid m left tag =
+    record m {
+      code = code_of 2 3;
+      options = option_of 4 tag ∷ max_age_option left ∷ [];
+      payload = [];
+    }
 
 -- one Max-Age of what is left
 abbrev pub aged : Message → ℕ → Message
@@ -39,8 +44,8 @@ aged m left = record m { options = with_max_age left m.options }
 abbrev pub told : Message → ℕ → List (List ℕ) → Message
 told m left tags = option_map_or (valid m left) (held_tag m tags) (aged m left)
 
--- What is shown to a client with these tags. `left` is how many seconds are left of an answer of an origin to a GET,
--- and none for every other answer, which is shown as it is stored.
+-- What is shown to a client with these tags. `left` is how many seconds are left of an answer of an
+-- origin to a GET, and none for every other answer, which is shown as it is stored.
 abbrev pub shown : Message → Option ℕ → List (List ℕ) → Message
 shown m None tags = m
 shown m (Some left) tags = if tells_age m.code then told m left tags else m

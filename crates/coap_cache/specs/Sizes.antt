@@ -24,8 +24,12 @@ host_size host = option_map_or value_size host 0
 
 -- the key
 abbrev pub key_size : CacheKey → ℕ
-key_size key = host_size key.target.host + values_size key.target.path + values_size key.target.query + options_size key.options
+key_size key =
+    host_size key.target.host + values_size key.target.path + values_size key.target.query
+    + options_size key.options
 
--- the entry: its key, and the options and the payload of its response. Token and message id aren't counted.
+-- the entry: its key, and the options and the payload of its response. Token and message id aren't
+-- counted.
 abbrev pub size_of : CacheKey → Stored → ℕ
-size_of key stored = 64 + key_size key + options_size stored.response.options + length stored.response.payload
+size_of key stored =
+    64 + key_size key + options_size stored.response.options + length stored.response.payload

@@ -4,8 +4,8 @@ ghost use Rattle.std.specs.Prelude.{◌≡◌, IfOk};
 use coap_message::{OptionList, OutOfMemory};
 use coap_target::Target;
 
-/// What a request and one whose response was stored have in common where that response answers both: the target, and
-/// the options that take part in the cache key (RFC 7252, 5.4.2 and 5.6).
+/// What a request and one whose response was stored have in common where that response answers
+/// both: the target, and the options that take part in the cache key (RFC 7252, 5.4.2 and 5.6).
 #[derive(Clone, Debug, Drop, PartialEq, Eq, Hash)]
 pub struct CacheKey {
     pub target: Target,

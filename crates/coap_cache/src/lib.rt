@@ -1,9 +1,9 @@
-//! The cache of a proxy: keys, stored responses, stores that keep the most recently used within limits, renewal by
-//! validation, and what clients are shown (RFC 7252, 5.6, 5.7.1, 5.9.1, 5.10.5 and 5.10.6).
+//! The cache of a proxy: keys, stored responses, stores that keep the most recently used within
+//! limits, renewal by validation, and what clients are shown (RFC 7252, 5.6, 5.7.1, 5.9.1, 5.10.5
+//! and 5.10.6).
 #![tactic(auto)]
 
 mod error;
-pub mod examples;
 mod key;
 pub mod laws;
 mod list_store;

@@ -11,7 +11,8 @@ use coap_message::OutOfMemory;
 use coap_target::Target;
 use std::alloc::Global;
 
-/// A store that keeps its entries as a list, the most recently used first, and walks it for each call.
+/// A store that keeps its entries as a list, the most recently used first, and walks it for each
+/// call.
 #[derive(Debug, Drop)]
 pub struct ListStore {
     entries: Vec<(CacheKey, Stored)>,
@@ -44,10 +45,7 @@ impl Store for ListStore {
     }
 
     fn hit(&mut self, key: &CacheKey, now: u64) -> bool {
-        let usable = match self.peek(key) {
-            Some(stored) => stored.is_usable(now),
-            None => false,
-        };
+        let usable = self.peek(key).is_some_and(|stored| stored.is_usable(now));
         if usable {
             use_entry(&mut self.entries, key);
         }
@@ -122,7 +120,8 @@ fn put_back(entries: &mut Vec<(CacheKey, Stored)>, entry: (CacheKey, Stored))
     }
 }
 
-/// Takes out the entry of a key and lets it go. Says whether there was one: then there is room for another.
+/// Takes out the entry of a key and lets it go. Says whether there was one: then there is room for
+/// another.
 fn forget_entry(entries: &mut Vec<(CacheKey, Stored)>, key: &CacheKey) -> bool
     requires { are_distinct entry_key entries.old.items ≡ true }
     ensures found { result ≡ is_some (of_key entry_key key.now entries.old.items) }
@@ -139,7 +138,8 @@ fn put_entry(
     stored: Stored,
 ) -> Result<(), OutOfMemory>
     requires { are_distinct entry_key entries.old.items ≡ true }
-    ensures ok { OnOk result (entries.new.items ≡ (key, stored) ∷ others entry_key key entries.old.items) }
+    ensures ok { OnOk result
+        (entries.new.items ≡ (key, stored) ∷ others entry_key key entries.old.items) }
     ensures err { OnErr result (entries.new.items ≡ entries.old.items) }
     ensures err_new { OnErr result (of_key entry_key key entries.old.items ≡ None) }
 {

@@ -21,9 +21,10 @@ use std::alloc::Global;
 use std::collections::HashSet;
 use std::hash::BuildHasher;
 
-/// A store that finds an entry by the hash of its key, and the keys of a target by the hash of that. Strangers choose
-/// both, so that the hasher is to have keys drawn at random, as `RandomState` has.
-#[derive(Drop)]
+/// A store that finds an entry by the hash of its key, and the keys of a target by the hash of
+/// that. Strangers choose both, so that the hasher is to have keys drawn at random, as
+/// `RandomState` has.
+#[derive(Debug, Drop)]
 pub struct LruStore<H: BuildHasher> {
     recent: LruCache<CacheKey, Stored, H>,
     total: u64,
@@ -60,10 +61,7 @@ impl<H: BuildHasher + Copy> Store for LruStore<H> {
     }
 
     fn hit(&mut self, key: &CacheKey, now: u64) -> bool {
-        let usable = match self.peek(key) {
-            Some(stored) => stored.is_usable(now),
-            None => false,
-        };
+        let usable = self.peek(key).is_some_and(|stored| stored.is_usable(now));
         if usable {
             self.recent.promote(key);
         }
@@ -129,7 +127,8 @@ fn take_out<H: BuildHasher + Copy>(
 ) -> bool
     requires { AreThoseOf recent.old.entries total.old index.old.groups }
     ensures found { result ≡ is_some (of_key entry_key key.now recent.old.entries) }
-    ensures others { recent.new ≡ lru_cache (others entry_key key.now recent.old.entries) recent.old.cap }
+    ensures others { recent.new
+        ≡ lru_cache (others entry_key key.now recent.old.entries) recent.old.cap }
     ensures those { AreThoseOf recent.new.entries total.new index.new.groups }
 {
     match recent.pop_entry(key) {
@@ -154,7 +153,9 @@ fn put_first<H: BuildHasher + Copy>(
     requires few { total.old < 2 ^ 63 }
     requires small { size_of key stored < 2 ^ 63 }
     requires unlimited { recent.old.cap ≡ 2 ^ 64 - 1 }
-    ensures ok { OnOk result (recent.new ≡ lru_cache ((key, stored) ∷ others entry_key key recent.old.entries) recent.old.cap) }
+    ensures ok { OnOk result
+        (recent.new
+        ≡ lru_cache ((key, stored) ∷ others entry_key key recent.old.entries) recent.old.cap) }
     ensures err { OnErr result (recent.new ≡ recent.old) }
     ensures err_total { OnErr result (total.new ≡ total.old) }
     ensures err_new { OnErr result (of_key entry_key key recent.old.entries ≡ None) }
@@ -183,7 +184,8 @@ fn replace<H: BuildHasher>(
     requires few { total.old < 2 ^ 63 }
     requires small { size_of key stored < 2 ^ 63 }
     ensures done { result ≡ Ok tt }
-    ensures ok { recent.new ≡ lru_cache ((key, stored) ∷ others entry_key key recent.old.entries) recent.old.cap }
+    ensures ok { recent.new
+        ≡ lru_cache ((key, stored) ∷ others entry_key key recent.old.entries) recent.old.cap }
     ensures counted { total.new + former ≡ total.old + size_of key stored }
 {
     let size = bytes_of(&key, &stored);
@@ -205,7 +207,8 @@ fn put_new<H: BuildHasher + Copy>(
     requires few { total.old < 2 ^ 63 }
     requires small { size_of key stored < 2 ^ 63 }
     requires unlimited { recent.old.cap ≡ 2 ^ 64 - 1 }
-    ensures ok { OnOk result (recent.new ≡ lru_cache ((key, stored) ∷ recent.old.entries) recent.old.cap) }
+    ensures ok { OnOk result
+        (recent.new ≡ lru_cache ((key, stored) ∷ recent.old.entries) recent.old.cap) }
     ensures err { OnErr result (recent.new ≡ recent.old) }
     ensures err_total { OnErr result (total.new ≡ total.old) }
     ensures those { AreThoseOf recent.new.entries total.new index.new.groups }
@@ -234,7 +237,8 @@ fn cut_to<H: BuildHasher + Copy>(
     most: usize,
 )
     requires { AreThoseOf recent.old.entries total.old index.old.groups }
-    ensures kept { recent.new ≡ lru_cache (cut entry_size bytes most recent.old.entries) recent.old.cap }
+    ensures kept { recent.new
+        ≡ lru_cache (cut entry_size bytes most recent.old.entries) recent.old.cap }
     ensures those { AreThoseOf recent.new.entries total.new index.new.groups }
 {
     'over: while is_over(recent, *total, bytes, most) {
@@ -261,7 +265,8 @@ fn take_last<H: BuildHasher + Copy>(
     index: &mut TargetIndex<H>,
 )
     requires { AreThoseOf recent.old.entries total.old index.old.groups }
-    ensures left { recent.new ≡ lru_cache (take (length recent.old.entries - 1) recent.old.entries) recent.old.cap }
+    ensures left { recent.new
+        ≡ lru_cache (take (length recent.old.entries - 1) recent.old.entries) recent.old.cap }
     ensures those { AreThoseOf recent.new.entries total.new index.new.groups }
 {
     match recent.pop_lru() {
@@ -279,7 +284,9 @@ fn mark_keys<H: BuildHasher>(
     keys: &HashSet<CacheKey, H>,
 ) -> usize
     requires { are_distinct entry_key recent.old.entries ≡ true }
-    ensures marked { recent.new ≡ lru_cache (map (marked_by (contains same_key keys.now)) recent.old.entries) recent.old.cap }
+    ensures marked { recent.new
+        ≡ lru_cache (map (marked_by (contains same_key keys.now)) recent.old.entries)
+        recent.old.cap }
     ensures counted { result ≡ length keys.now.keys }
     ensures distinct { IsDistinct same_key keys.now.keys }
 {
@@ -292,7 +299,8 @@ fn mark_keys<H: BuildHasher>(
 /// Marks the entry of a key, if there is one.
 fn mark_key<H: BuildHasher>(recent: &mut LruCache<CacheKey, Stored, H>, key: &CacheKey)
     requires { are_distinct entry_key recent.old.entries ≡ true }
-    ensures { recent.new ≡ lru_cache (map (marked_by (λ k. same_key k key.now)) recent.old.entries) recent.old.cap }
+    ensures { recent.new
+        ≡ lru_cache (map (marked_by (λ k. same_key k key.now)) recent.old.entries) recent.old.cap }
 {
     match recent.peek_mut(key) {
         Some(stored) => stored.marked = true,

@@ -12,13 +12,13 @@ use coap_message::{
 use coap_option::{is_unsafe, max_age, numbers};
 use std::alloc::Global;
 
-/// The stored response, a 2.05, renewed by a 2.03 with its ETag: its Max-Age is that of the 2.03, 60 seconds where that
-/// has none, in as few bytes as will do; each other kind of safe option that stands in the 2.03 replaces that kind
-/// (RFC 7252, 5.9.1.3).
+/// The stored response, a 2.05, renewed by a 2.03 with its ETag: its Max-Age is that of the 2.03,
+/// 60 seconds where that has none, in as few bytes as will do; each other kind of safe option that
+/// stands in the 2.03 replaces that kind (RFC 7252, 5.9.1.3).
 ///
 /// # Errors
-/// 1. `WrongTag`: the stored one isn't a 2.05, or the other isn't a 2.03, or their ETags differ, or one of them has none
-///    that is recognised.
+/// 1. `WrongTag`: the stored one isn't a 2.05, or the other isn't a 2.03, or their ETags differ, or
+///    one of them has none that is recognised.
 /// 2. `OutOfMemory`.
 pub fn renewed(
     alloc: Global,
@@ -26,7 +26,8 @@ pub fn renewed(
     valid: &MessageRef<'_>,
 ) -> Result<Message, RenewError>
     ensures ok { IfOk result (λ message. message ≡ renewed stored.now.response valid.now) }
-    ensures wrong_tag { (result ≡ Err RenewError.WrongTag) ↔ (is_validated stored.now.response valid.now ≡ false) }
+    ensures wrong_tag { (result ≡ Err RenewError.WrongTag)
+        ↔ (is_validated stored.now.response valid.now ≡ false) }
 {
     if !is_validated(&stored.response, valid) {
         return Err(RenewError::WrongTag);

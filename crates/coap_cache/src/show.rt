@@ -1,4 +1,5 @@
-//! What clients are given for a response, written without memory (RFC 7252, 5.6, 5.7.1, 5.10.5 and 5.10.6).
+//! What clients are given for a response, written without memory (RFC 7252, 5.6, 5.7.1, 5.10.5 and
+//! 5.10.6).
 ghost use Rattle.std.specs.Prelude.{◌≡◌, ◌≤◌, ◌<◌, ◌↔◌, ◌∷◌, [], length, IfOk, IsErr, OnOk, OnErr};
 ghost use Rattle.coap_message.specs.Datagram.{Appends, holding};
 ghost use Rattle.coap_message.specs.Options.{last_number, option_of};
@@ -16,11 +17,13 @@ use coap_message::{
 };
 use coap_option::numbers;
 
-/// Writes what a client is shown for a response: as a message of this kind, message id and token. It takes no memory.
+/// Writes what a client is shown for a response: as a message of this kind, message id and token.
+/// It takes no memory.
 ///
-/// `left` is how many seconds are left of an answer of an origin to a GET. A 2.05 and a code of class 4 or 5 then carry
-/// exactly one Max-Age of that; a 2.05 whose ETag is among the client's `tags` is a 2.03 with that ETag and the Max-Age
-/// alone. Every other response, and each one without `left`, is shown as it is.
+/// `left` is how many seconds are left of an answer of an origin to a GET. A 2.05 and a code of
+/// class 4 or 5 then carry exactly one Max-Age of that; a 2.05 whose ETag is among the client's
+/// `tags` is a 2.03 with that ETag and the Max-Age alone. Every other response, and each one
+/// without `left`, is shown as it is.
 ///
 /// # Errors
 /// `Full`, exactly where it is longer than `room` bytes: the datagram is empty then.
@@ -35,8 +38,13 @@ pub fn show_into(
     room: usize,
 ) -> Result<(), Full>
     requires { room ≤ out.old.room }
-    ensures ok { OnOk result (out.new ≡ holding out.old (spelling (addressed kind id token.now (shown message.now left tags.now)))) }
-    ensures full { IsErr result ↔ (room < length (spelling (addressed kind id token.now (shown message.now left tags.now)))) }
+    ensures ok { OnOk result
+        (out.new
+        ≡ holding out.old
+        (spelling (addressed kind id token.now (shown message.now left tags.now)))) }
+    ensures full { IsErr result
+        ↔ (room
+        < length (spelling (addressed kind id token.now (shown message.now left tags.now)))) }
     ensures err { OnErr result (out.new ≡ holding out.old []) }
 {
     let head = Head {
@@ -70,7 +78,9 @@ fn put_shown(
 ) -> Result<(), Full>
     requires room { room ≤ out.old.room }
     requires code { head.code ≡ message.now.code }
-    ensures { Appends (holding out.old []) out.new room (spelling (addressed head.kind head.id token.now (shown message.now left tags.now))) result }
+    ensures { Appends (holding out.old []) out.new room
+        (spelling (addressed head.kind head.id token.now (shown message.now left tags.now)))
+        result }
 {
     match left {
         Some(left) => {
@@ -94,7 +104,8 @@ fn put_stored(
     room: usize,
 ) -> Result<(), Full>
     requires { room ≤ out.old.room }
-    ensures { Appends (holding out.old []) out.new room (spelling (message_of head token.now message.now.options message.now.payload)) result }
+    ensures { Appends (holding out.old []) out.new room
+        (spelling (message_of head token.now message.now.options message.now.payload)) result }
 {
     put_head(out, room, head, token)?;
     put_options(out, room, &message.options.lent())?;
@@ -113,7 +124,8 @@ fn put_told(
 ) -> Result<(), Full>
     requires room { room ≤ out.old.room }
     requires code { head.code ≡ message.now.code }
-    ensures { Appends (holding out.old []) out.new room (spelling (addressed head.kind head.id token.now (told message.now left tags.now))) result }
+    ensures { Appends (holding out.old []) out.new room
+        (spelling (addressed head.kind head.id token.now (told message.now left tags.now))) result }
 {
     match held_tag(message, tags) {
         Some(tag) => put_valid(head, token, tag, left, out, room),
@@ -133,7 +145,10 @@ fn put_valid(
 ) -> Result<(), Full>
     requires room { room ≤ out.old.room }
     requires short { length tag.now ≤ 8 }
-    ensures { Appends (holding out.old []) out.new room (spelling (message_of (record head { code = Code.VALID }) token.now (option_of 4 tag.now ∷ max_age_option left ∷ []) [])) result }
+    ensures { Appends (holding out.old []) out.new room
+        (spelling
+        (message_of (record head { code = Code.VALID }) token.now
+        (option_of 4 tag.now ∷ max_age_option left ∷ []) [])) result }
 {
     let valid = Head {
         kind: head.kind,
@@ -150,7 +165,8 @@ fn put_valid(
 fn put_max_age(out: &mut Datagram, room: usize, before: u16, seconds: u64) -> Result<(), Full>
     requires room { room ≤ out.old.room }
     requires above { before ≤ 14 }
-    ensures { Appends out.old out.new room (options_spelling before (max_age_option seconds ∷ [])) result }
+    ensures { Appends out.old out.new room (options_spelling before (max_age_option seconds ∷ []))
+        result }
 {
     let bytes = seconds.to_be_bytes();
     put_option(out, room, before, numbers::MAX_AGE, without_zeros(&bytes))
@@ -171,7 +187,10 @@ pub fn put_aged(
     room: usize,
 ) -> Result<(), Full>
     requires { room ≤ out.old.room }
-    ensures { Appends (holding out.old []) out.new room (spelling (message_of head token.now (with_max_age left message.now.options) message.now.payload)) result }
+    ensures { Appends (holding out.old []) out.new room
+        (spelling
+        (message_of head token.now (with_max_age left message.now.options) message.now.payload))
+        result }
 {
     put_head(out, room, head, token)?;
     put_with_max_age(out, room, &message.options.lent(), left)?;
@@ -187,7 +206,8 @@ fn put_with_max_age(
 ) -> Result<(), Full>
     requires room { room ≤ out.old.room }
     requires held { length out.old.bytes ≤ room }
-    ensures { Appends out.old out.new room (options_spelling 0 (with_max_age left options.now)) result }
+    ensures { Appends out.old out.new room (options_spelling 0 (with_max_age left options.now))
+        result }
 {
     let before = put_part(out, room, 0, options, Part::Before)?;
     put_max_age(out, room, before, left)?;
@@ -216,7 +236,8 @@ impl Part {
     }
 }
 
-/// Adds those options that stand in this part, behind one of the number `before`. Answers the number of the last.
+/// Adds those options that stand in this part, behind one of the number `before`. Answers the
+/// number of the last.
 fn put_part(
     out: &mut Datagram,
     room: usize,
@@ -227,7 +248,8 @@ fn put_part(
     requires room { room ≤ out.old.room }
     requires held { length out.old.bytes ≤ room }
     requires above { before ≤ floor_of part }
-    ensures written { Appends out.old out.new room (options_spelling before (part_of part options.now)) (unit_of result) }
+    ensures written { Appends out.old out.new room
+        (options_spelling before (part_of part options.now)) (unit_of result) }
     ensures last { IfOk result (λ last. last ≡ last_number before (part_of part options.now)) }
 {
     let mut last = before;

@@ -6,9 +6,10 @@ use crate::key::CacheKey;
 use crate::stored::Stored;
 use coap_message::{OptionList, Pieces};
 
-/// How many bytes an entry counts: 64, and what it keeps of values, each with a byte more: the host, if it has one, the
-/// segments of the path, the parts of the query, the options of the key and those of the response; and the payload,
-/// without a byte more. Token and message id aren't counted. It takes no memory.
+/// How many bytes an entry counts: 64, and what it keeps of values, each with a byte more: the
+/// host, if it has one, the segments of the path, the parts of the query, the options of the key
+/// and those of the response; and the payload, without a byte more. Token and message id aren't
+/// counted. It takes no memory.
 ///
 /// The count ends at `u64::MAX`, so that it is exact below that.
 pub fn bytes_of(key: &CacheKey, stored: &Stored) -> u64

@@ -15,7 +15,8 @@ pub struct Stored {
     pub got_no: u64,
     /// The moment at which it came, in milliseconds.
     pub got: u64,
-    /// Its resource was changed since it was asked for, so that it answers no request (RFC 7252, 5.9.1).
+    /// Its resource was changed since it was asked for, so that it answers no request (RFC 7252,
+    /// 5.9.1).
     pub marked: bool,
 }
 
@@ -29,15 +30,16 @@ impl Stored {
         now.saturating_sub(self.got)
     }
 
-    /// Whether it is fresh at this moment: no more than its Max-Age has passed since it came (RFC 7252, 5.6.1).
+    /// Whether it is fresh at this moment: no more than its Max-Age has passed since it came (RFC
+    /// 7252, 5.6.1).
     pub fn is_fresh(&self, now: u64) -> bool
         ensures { result ≡ is_fresh now self.now }
     {
         self.age(now) <= 1000 * u64::from(max_age(&self.response.lent()))
     }
 
-    /// The seconds for which it will be fresh, 0 where it isn't: its Max-Age less its age, of which a second that has
-    /// begun is gone (RFC 7252, 5.7.1).
+    /// The seconds for which it will be fresh, 0 where it isn't: its Max-Age less its age, of which
+    /// a second that has begun is gone (RFC 7252, 5.7.1).
     pub fn left(&self, now: u64) -> u64
         ensures { result ≡ left_of now self.now }
     {

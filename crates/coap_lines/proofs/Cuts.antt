@@ -1,10 +1,9 @@
 -- Texts that are cut where a byte first stands.
 use Rattle.std.proofs.Common.{◌≡◌, ◌==◌, ℕ, suc, ◌+◌, ◌<◌, ◌≤◌, true, false, List, [], ◌∷◌, ◌++◌, length, take, drop, Some, None, Option, option_map, position, refl, sym, ap, ◌∙◌, arith, add-one, ⊎_elim, ltb, cond, eq-eqb}
-use Rattle.std.specs.List.{All, position_or_len, slice_split}
+use Rattle.std.specs.List.{All, position_or_len}
 use Rattle.std.specs.Option.{unwrap_or}
 use Rattle.std.proofs.lemmas.Bool.{cases_Bool, eqb-true, ltb-true, ltb-false, or_parts}
 use Rattle.std.proofs.lemmas.List.Elements.{All-nil, All-cons}
-use Rattle.std.proofs.lemmas.List.Splits.{slice_split_at, slice_split_none}
 use Rattle.std.proofs.lemmas.Option.{none-some}
 use Rattle.coap_lines.specs.Texts.{cut, has, with_front}
 
@@ -119,13 +118,3 @@ none-has byte (b ∷ text) none =
     unmapped : (parts : Option (List ℕ × List ℕ)) → option_map (with_front b) parts ≡ None → parts ≡ None
     unmapped None is = refl
     unmapped (Some p) is = absurd (none-some (with_front b p) (sym is))
-
--- the parts of a text that is cut
-pub slice_split-cut : (byte : ℕ) (text front rest : List ℕ) → cut byte text ≡ Some (front, rest) → slice_split (λ b. b == byte) text ≡ front ∷ slice_split (λ b. b == byte) rest
-slice_split-cut byte text front rest found =
-    let is = cut-is byte text front rest found in
-    rw is.0 (slice_split_at (λ b. b == byte) front byte rest (All-others byte front is.1) (eq-eqb byte byte refl))
-
--- and of one that isn't
-pub slice_split-whole : (byte : ℕ) (text : List ℕ) → cut byte text ≡ None → slice_split (λ b. b == byte) text ≡ text ∷ []
-slice_split-whole byte text none = slice_split_none (λ b. b == byte) text (All-others byte text (none-has byte text none))

@@ -10,9 +10,10 @@ use Rattle.std.proofs.lemmas.Option.{none-some}
 use Rattle.coap_target.specs.declared.endpoint.Endpoint.{Endpoint}
 use Rattle.coap_target.specs.declared.endpoint.Ip.{Ip}
 use Rattle.coap_target.specs.declared.endpoint.Ip.TheVariants.{V4, V6}
-use Rattle.coap_routes.specs.Address.{ipv4_of}
-use Rattle.coap_routes.proofs.Addresses.{ipv4_of-dotted, dotted-ipv4_of}
-use Rattle.coap_lines.specs.Texts.{◌>>=◌, cut, has}
+use Rattle.coap_uri.specs.Address.{ipv4_of}
+use Rattle.coap_uri.proofs.Addresses.{ipv4_of-dotted, dotted-ipv4_of}
+use Rattle.coap_message.specs.Reading.{◌>>=◌}
+use Rattle.coap_lines.specs.Texts.{cut, has}
 use Rattle.coap_lines.specs.Numbers.{IsNumber, number_of}
 use Rattle.coap_lines.specs.Endpoints.{AreGroups, IsAddress, IsEndpoint, endpoint_at, endpoint_of, segments_read, v4_endpoint, v6_endpoint}
 use Rattle.coap_lines.proofs.Cuts.{cut-front, cut-is}

@@ -1,24 +1,22 @@
 -- Groups of an IPv6 address: what is read.
-use Rattle.std.proofs.Common.{◌≡◌, ◌==◌, ◌≢◌, ℕ, suc, ◌^◌, ◌<◌, ◌≤◌, Bool, true, false, ◌&&◌, List, [], ◌∷◌, ◌++◌, length, map, get_or, Option, Some, None, option_map, Ok, Err, refl, sym, ap, ◌∙◌, arith, append_assoc, All, ltb, leb, cond, lt-ltb, le-leb, lit≤, eq-eqb, length-append}
+use Rattle.std.proofs.Common.{◌≡◌, ◌==◌, ◌≢◌, ℕ, suc, ◌^◌, ◌<◌, ◌≤◌, Bool, true, false, ◌&&◌, List, [], ◌∷◌, ◌++◌, length, map, get_or, Option, Some, None, option_map, Ok, Err, refl, sym, ap, ◌∙◌, arith, append_assoc, ltb, leb, cond, lt-ltb, le-leb, lit≤, eq-eqb, length-append}
 use Rattle.std.specs.Char.{digit_value, is_digit}
 use Rattle.std.specs.List.{AllZip, join_with_byte, list_all, slice_split}
 use Rattle.std.specs.Net.Grammar.{IsGroup}
-use Rattle.std.specs.Option.{option_and_then}
 use Rattle.std.specs.Str.{IsUtf8}
 use Rattle.std.specs.Str.Parse.{AllDigits, ParsesUnsigned, digits_value}
 use Rattle.std.proofs.lemmas.Bool.{and_parts, eqb-true, leb-true, ltb-true, ne_eqb}
 use Rattle.std.proofs.lemmas.Bool.Decides.{nat_tests}
 use Rattle.std.proofs.lemmas.Int.Digits.{digits_value-lt}
 use Rattle.std.proofs.lemmas.List.{length-map}
-use Rattle.std.proofs.lemmas.List.Elements.{All-nil, All-cons}
 use Rattle.std.proofs.lemmas.List.Folds.{list_any-append}
 use Rattle.std.proofs.lemmas.List.Splits.{join_with_byte-slice_split, length-slice_split, slice_split_at, slice_split_none}
 use Rattle.std.proofs.lemmas.Option.{none-some}
-use Rattle.std.proofs.lemmas.Str.{IsUtf8-from_ascii}
-use Rattle.std.proofs.lemmas.Str.Ascii.{IsAscii-from_all}
 use Rattle.std.proofs.lemmas.Str.Parse.{without_leading_plus_none}
 use Rattle.std.proofs.Math.Bool.{and-false}
 use Rattle.std.proofs.Math.Nat.{pow-le-pow_right}
+use Rattle.coap_message.specs.Reading.{◌>>=◌}
+use Rattle.coap_uri.proofs.Texts.{passing-utf8}
 use Rattle.coap_routes.specs.RouteTexts.{all_of}
 use Rattle.coap_lines.specs.Endpoints.{AreGroups, if_eight, segments_read}
 use Rattle.coap_lines.specs.Numbers.{group_of}
@@ -32,13 +30,6 @@ are_few text = leb (length text) 4 && list_all (λ b. is_digit b 16) text
 -- a hexadecimal digit is ASCII
 digit-ascii : (b : ℕ) → is_digit b 16 ≡ true → b < 128
 digit-ascii b is = grind (arith, nat_tests)
-
--- so are all of them
-All-ascii : (text : List ℕ) → list_all (λ b. is_digit b 16) text ≡ true → All (λ b. b < 128) text
-All-ascii [] all = All-nil (λ b. b < 128)
-All-ascii (b ∷ text) all =
-    let parts = and_parts (is_digit b 16) (list_all (λ b. is_digit b 16) text) all in
-    All-cons (λ (x : ℕ). x < 128) b text (digit-ascii b parts.0) (All-ascii text parts.1)
 
 -- the test in the words of the standard library
 AllDigits-test : (text : List ℕ) → list_all (λ b. is_digit b 16) text ≡ true → AllDigits 16 text
@@ -56,7 +47,7 @@ others-none text other = rw (other, and-false (ltb 0 (length text))) refl
 pub digits-utf8 : (text : List ℕ) → are_few text ≡ true → ¬ (IsUtf8 text) → group_of text ≡ None
 digits-utf8 text few never =
     let parts = and_parts (leb (length text) 4) (list_all (λ b. is_digit b 16) text) few in
-    absurd (never (IsUtf8-from_ascii text (IsAscii-from_all text (All-ascii text parts.1))))
+    absurd (never (passing-utf8 (λ b. is_digit b 16) digit-ascii text parts.1))
 
 -- digits don't begin with a plus
 no_plus : (text : List ℕ) → AllDigits 16 text → get_or text 0 0 ≢ 43
@@ -227,7 +218,7 @@ pub segments_read-is : (text segments : List ℕ) → segments_read text ≡ Som
 unfolding segments_read
 segments_read-is text segments found = go (all_of (map group_of (slice_split (λ b. b == colon) text))) refl found
   where
-    go : (o : Option (List ℕ)) → all_of (map group_of (slice_split (λ b. b == colon) text)) ≡ o → option_and_then if_eight o ≡ Some segments → AreGroups text segments
+    go : (o : Option (List ℕ)) → all_of (map group_of (slice_split (λ b. b == colon) text)) ≡ o → (o >>= if_eight) ≡ Some segments → AreGroups text segments
     go None is made = absurd (none-some segments made)
     go (Some some) is made =
         let same = sized some (length some == 8) refl made in

@@ -6,7 +6,7 @@ use Rattle.std.proofs.lemmas.Bool.{false≢true}
 use Rattle.std.proofs.lemmas.Slice.Eq.{bytes_eq-Decides}
 use Rattle.coap_model.specs.Events.{Event}
 use Rattle.coap_model.specs.Events.Event.{tick}
-use Rattle.coap_lines.specs.Texts.{◌>>=◌}
+use Rattle.coap_message.specs.Reading.{◌>>=◌}
 use Rattle.coap_lines.specs.Turns.{event_of, not_before, turn_at}
 use Rattle.coap_lines.proofs.TurnTexts.{event_of-is}
 

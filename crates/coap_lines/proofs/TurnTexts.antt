@@ -10,7 +10,8 @@ use Rattle.coap_target.specs.declared.endpoint.Endpoint.{Endpoint}
 use Rattle.coap_model.specs.Events.{Event}
 use Rattle.coap_model.specs.Events.Event.{arrival, tick}
 use Rattle.coap_model.specs.Runs.{Turn}
-use Rattle.coap_lines.specs.Texts.{◌>>=◌, cut, has}
+use Rattle.coap_message.specs.Reading.{◌>>=◌}
+use Rattle.coap_lines.specs.Texts.{cut, has}
 use Rattle.coap_lines.specs.Numbers.{IsNumber, number_of}
 use Rattle.coap_lines.specs.Endpoints.{endpoint_of}
 use Rattle.coap_lines.specs.Datagrams.{bytes_read}

@@ -9,9 +9,10 @@ use Rattle.std.specs.Net.Text.{ipv4_text}
 use Rattle.coap_target.specs.declared.endpoint.Endpoint.{Endpoint}
 use Rattle.coap_target.specs.declared.endpoint.Ip.{Ip}
 use Rattle.coap_target.specs.declared.endpoint.Ip.TheVariants.{V4, V6}
-use Rattle.coap_routes.specs.Address.{ipv4_of}
+use Rattle.coap_uri.specs.Address.{ipv4_of}
 use Rattle.coap_routes.specs.RouteTexts.{all_of}
-use Rattle.coap_lines.specs.Texts.{◌>>=◌, colon, cut, left_bracket, right_bracket}
+use Rattle.coap_message.specs.Reading.{◌>>=◌}
+use Rattle.coap_lines.specs.Texts.{colon, cut, left_bracket, right_bracket}
 use Rattle.coap_lines.specs.Numbers.{IsNumber, group_of, number_of}
 
 -- eight groups of one to four hexadecimal digits each, with colons between them
@@ -50,11 +51,6 @@ if_eight segments = if length segments == 8 then Some segments else None
 -- the eight numbers of the groups of an IPv6 address
 unfoldable pub segments_read : List ℕ → Option (List ℕ)
 segments_read text = all_of (map group_of (slice_split (λ b. b == colon) text)) >>= if_eight
-
--- the groups of what is left after a colon, if there is one
-abbrev pub parts_left : Option (List ℕ) → List (List ℕ)
-parts_left None = []
-parts_left (Some text) = slice_split (λ b. b == colon) text
 
 -- the endpoint of an IPv6 address and a port, after the opening bracket
 unfoldable pub v6_endpoint : List ℕ → Option Endpoint

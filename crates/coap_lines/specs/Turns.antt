@@ -7,7 +7,8 @@ use Rattle.coap_model.specs.Runs.{Turn}
 use Rattle.coap_lines.specs.declared.reading.turn.Input.{Input}
 use Rattle.coap_lines.specs.declared.reading.turn.Input.TheVariants.{Datagram, Tick}
 use Rattle.coap_lines.specs.declared.reading.turn.Turn.{Turn as TurnRead}
-use Rattle.coap_lines.specs.Texts.{◌>>=◌, cut, space}
+use Rattle.coap_message.specs.Reading.{◌>>=◌}
+use Rattle.coap_lines.specs.Texts.{cut, space}
 use Rattle.coap_lines.specs.Numbers.{IsNumber, number_of}
 use Rattle.coap_lines.specs.Endpoints.{IsEndpoint, endpoint_of}
 use Rattle.coap_lines.specs.Datagrams.{IsHex, bytes_read}

@@ -8,7 +8,6 @@ pub mod Message
 pub mod MessageView
 pub mod Spelling
 pub mod Reading
-pub mod Examples
 pub mod Parsing
 pub mod Uint
 pub mod SpelledOptions

@@ -1,5 +1,5 @@
 -- One pass over options in order, which counts the options of the last number.
-use Rattle.std.proofs.Common.{◌≡◌, ◌==◌, ℕ, ◌+◌, ◌<◌, ◌≤◌, Bool, true, false, cond, List, [], ◌∷◌, ◌++◌, length, refl, sym, ap, subst, ◌∙◌, arith, eq-eqb, ⊎_elim}
+use Rattle.std.proofs.Common.{◌≡◌, ◌==◌, ℕ, ◌+◌, ◌<◌, ◌≤◌, false, cond, List, [], ◌∷◌, ◌++◌, refl, sym, ap, subst, ◌∙◌, arith, eq-eqb, ⊎_elim}
 use Rattle.std.proofs.lemmas.Bool.{cases_eq, ne_eqb}
 use Rattle.std.proofs.lemmas.List.Sums.{sum_by-cons, sum_by_push}
 use Rattle.coap_message.specs.declared.options.Opt.{Opt}
@@ -7,6 +7,7 @@ use Rattle.coap_message.specs.Options.{AreOptions, last_number}
 use Rattle.coap_message.proofs.Counting.{last_number-push}
 use Rattle.coap_message.proofs.OptionLists.{AreOptions-push}
 use Rattle.coap_option.specs.declared.places.Run.{Run}
+use Rattle.coap_option.specs.Passing.{before_of, run_behind, places_after}
 use Rattle.coap_option.specs.Places.{PlacedOption, count_of, places, places_behind}
 
 -- numbers don't go down
@@ -31,19 +32,6 @@ before_is passed x run before in_order number count le counted =
     (λ other. let above : last_number 0 passed < x.number = omega arith in
     (rw (ne_eqb x.number run.number other) at counted) ∙ sym (count_of-above x.number 0 passed in_order above))
     (cases_eq x.number run.number)
-
--- how many of an option's number stand before it, by the run after the options passed
-abbrev pub before_of : Run → Opt → ℕ
-before_of run o = cond (o.number == run.number) run.count 0
-
--- the run after it
-abbrev pub run_behind : Run → Opt → Run
-run_behind run o = record { number = o.number; count = before_of run o + 1 }
-
--- the places of options after a run
-abbrev pub places_after : Run → List Opt → List PlacedOption
-places_after run [] = []
-places_after run (o ∷ os) = record { option = o; before = before_of run o } ∷ places_after (run_behind run o) os
 
 -- an option with so many of its number before it
 abbrev placed : Opt → ℕ → PlacedOption

@@ -1,20 +1,17 @@
--- A loop over options in order that looks for the first place of which a test holds, or picks all such
--- places.
-use Rattle.std.proofs.Common.{Result, Ok, Err, OnErr, ◌≡◌, ◌≢◌, ℕ, ◌+◌, ◌-◌, ◌^◌, ◌<◌, ◌≤◌, ◌==◌, cond, Bool, true, false, Some, None, List, [], ◌∷◌, ◌++◌, length, find, filter, map, refl, sym, subst, ap, ◌∙◌, append_assoc, arith}
-use Rattle.std.proofs.lemmas.List.{append-nil}
+-- The options of a message in places for which a test holds, one after the other.
+use Rattle.std.proofs.Common.{Result, Ok, Err, OnErr, ◌≡◌, ℕ, ◌+◌, ◌-◌, ◌^◌, ◌<◌, ◌≤◌, ◌==◌, cond, Bool, true, false, Option, Some, None, option_map, List, [], ◌∷◌, ◌++◌, length, find, filter, map, refl, sym, subst, ap, ◌∙◌, append_assoc, arith}
+use Rattle.std.specs.Prelude.{MatchOption}
 use Rattle.coap_message.specs.declared.options.Opt.{Opt}
-use Rattle.coap_message.specs.Options.{AreOptions}
+use Rattle.coap_message.specs.Options.{AreOptions, last_number}
+use Rattle.coap_message.proofs.Counting.{last_number-push}
 use Rattle.coap_option.specs.declared.places.Run.{Run}
-use Rattle.coap_option.specs.Places.{PlacedOption, places}
-use Rattle.coap_option.proofs.Passing.{before_of, places_after, places-after}
-
--- options in order are left, and few enough to be counted
-pub record IsAt (left : List Opt) (run : Run) : Type 0 where
-  pub in_order : AreOptions run.number left
-  pub within : run.count + length left < 2 ^ 64
+use Rattle.coap_option.specs.Passing.{IsAt, before_of, picked_after, places_after, run_behind}
+use Rattle.coap_option.specs.Places.{PlacedOption}
+use Rattle.coap_option.specs.Selection.{selected}
+use Rattle.coap_option.proofs.Passing.{places-after}
 
 -- one option on, they are in order and few enough as before
-IsAt-step : (left rest : List Opt) (x : Opt) (run : Run) (before : ℕ) → left ≡ x ∷ rest → before ≡ before_of run x → IsAt left run → IsAt rest (record { number = x.number; count = before + 1 })
+pub IsAt-step : (left rest : List Opt) (x : Opt) (run : Run) (before : ℕ) → left ≡ x ∷ rest → before ≡ before_of run x → IsAt left run → IsAt rest (record { number = x.number; count = before + 1 })
 IsAt-step left rest x run before next counted at =
     let are = subst (AreOptions run.number) next at.in_order in
     record { in_order = are.3; within = fits (x.number == run.number) run.count before (length rest) counted (omega (arith, at.within, ap length next)) }
@@ -23,85 +20,80 @@ IsAt-step left rest x run before next counted at =
     fits true count before more e lt = omega arith
     fits false count before more e lt = omega arith
 
--- the first place of all is the first of those left
-pub record IsSeeking (test : PlacedOption → Bool) (options left : List Opt) (run : Run) : Type 0 where
-  pub at : IsAt left run
-  pub rest : find test (places options) ≡ find test (places_after run left)
+-- the option that comes can be counted
+pub countable : (left rest : List Opt) (x : Opt) (run : Run) → left ≡ x ∷ rest → IsAt left run → run.count < 2 ^ 64 - 1
+countable left rest x run next at = omega (arith, at.within, ap length next)
 
--- `list` has what `f` makes of the options in the places passed; the others are among those left
-pub record IsPicking {A : Type 0} (f : Opt → A) (test : PlacedOption → Bool) (options left : List Opt) (run : Run) (list : List A) : Type 0 where
-  pub at : IsAt left run
-  pub rest : map (λ p. f p.option) (filter test (places options)) ≡ list ++ map (λ p. f p.option) (filter test (places_after run left))
+-- An option comes, and the code's answer to the test is `answer`.
+module _ (test : PlacedOption → Bool) (left rest : List Opt) (x : Opt) (run : Run) (before : ℕ) (answer : Bool) (next : left ≡ x ∷ rest) (counted : before ≡ before_of run x) (answers : answer ≡ test (record { option = x; before = before })) where
+  -- the test holds, and it is the next one
+  pub picked-yes : answer ≡ true → picked_after test run left ≡ x ∷ picked_after test (record { number = x.number; count = before + 1 }) rest
+  picked-yes holds = rw (next, ← counted, ← answers, holds) refl
 
--- the option that comes is in order, and short enough; and it can be counted
-pub record Comes (x : Opt) (run : Run) : Type 0 where
-  pub above : run.number ≤ x.number
-  pub short : length x.value ≤ 65804
-  pub countable : run.count < 2 ^ 64 - 1
+  -- the test fails, and it is left out
+  pub picked-no : answer ≡ false → picked_after test run left ≡ picked_after test (record { number = x.number; count = before + 1 }) rest
+  picked-no fails = rw (next, ← counted, ← answers, fails) refl
 
--- so it is, of the first of those left
-pub comes : (left rest : List Opt) (x : Opt) (run : Run) → left ≡ x ∷ rest → IsAt left run → Comes x run
-comes left rest x run next at =
-    let are = subst (AreOptions run.number) next at.in_order in
-    record { above = are.0; short = are.2; countable = omega (arith, at.within, ap length next) }
+-- at first none is passed
+pub picked-all : (test : PlacedOption → Bool) (options : List Opt) → AreOptions 0 options → picked_after test (record { number = 0; count = 0 }) options ≡ selected test options
+picked-all test options are = ap (λ (ps : List PlacedOption). map (λ p. p.option) (filter test ps)) (sym (places-after options are))
 
-module _ (test : PlacedOption → Bool) (options : List Opt) where
-  -- none is passed yet
-  pub IsSeeking-none : AreOptions 0 options → length options < 2 ^ 64 → IsSeeking test options options (record { number = 0; count = 0 })
-  IsSeeking-none are few = record { at = record { in_order = are; within = omega arith }; rest = ap (find test) (places-after options are) }
+-- options in order are so after a lower number
+AreOptions-from : (a b : ℕ) (xs : List Opt) → a ≤ b → AreOptions b xs → AreOptions a xs
+AreOptions-from a b [] le are = tt
+AreOptions-from a b (x ∷ xs) le are = (omega (arith, le, are.0), are.1, are.2, are.3)
 
-  -- The loop comes to the option x, and the code's answer to the test is `answer`.
-  module _ (left rest : List Opt) (x : Opt) (run : Run) (before : ℕ) (answer : Bool) (next : left ≡ x ∷ rest) (counted : before ≡ before_of run x) (answers : answer ≡ test (record { option = x; before = before })) (seeking : IsSeeking test options left run) where
-    -- the test holds of its place, which is the first
-    pub IsSeeking-yes : answer ≡ true → find test (places options) ≡ Some (record { option = x; before = before })
-    IsSeeking-yes holds = seeking.rest ∙ rw (next, ← counted, ← answers, holds) refl
+-- what is picked of options in order is in order
+picked-in_order : (test : PlacedOption → Bool) (run : Run) (left : List Opt) → AreOptions run.number left → AreOptions run.number (picked_after test run left)
+picked-in_order test run [] are = tt
+picked-in_order test run (o ∷ os) are = go (test (record { option = o; before = before_of run o })) (picked-in_order test (run_behind run o) os are.3)
+  where
+    more : List PlacedOption
+    more = places_after (run_behind run o) os
 
-    -- the test fails, and the next is looked at
-    pub IsSeeking-no : answer ≡ false → IsSeeking test options rest (record { number = x.number; count = before + 1 })
-    IsSeeking-no fails = record {
-      at = IsAt-step left rest x run before next counted seeking.at;
-      rest = seeking.rest ∙ rw (next, ← counted, ← answers, fails) refl;
-    }
+    go : (b : Bool) → AreOptions o.number (map (λ p. p.option) (filter test more)) → AreOptions run.number (map (λ p. p.option) (cond b (record { option = o; before = before_of run o } ∷ filter test more) (filter test more)))
+    go true rest = (are.0, are.1, are.2, rest)
+    go false rest = AreOptions-from run.number o.number _ are.0 rest
 
-  -- all are passed, and there is no such place
-  pub IsSeeking-all : (left : List Opt) (run : Run) → left ≡ [] → IsSeeking test options left run → find test (places options) ≡ None
-  IsSeeking-all left run none seeking = seeking.rest ∙ rw none refl
+-- so is what is selected
+pub selected-in_order : (test : PlacedOption → Bool) (options : List Opt) → AreOptions 0 options → AreOptions 0 (selected test options)
+selected-in_order test options are = subst (AreOptions 0) (picked-all test options are) (picked-in_order test (record { number = 0; count = 0 }) options are)
+
+-- where nothing is selected, nothing is found
+pub found-none : (test : PlacedOption → Bool) (ps : List PlacedOption) → map (λ p. p.option) (filter test ps) ≡ [] → option_map (λ p. p.option) (find test ps) ≡ None
+found-none test [] none = refl
+found-none test (p ∷ ps) none = go (test p) none (found-none test ps)
+  where
+    go : (b : Bool) → map (λ q. q.option) (cond b (p ∷ filter test ps) (filter test ps)) ≡ [] → (map (λ q. q.option) (filter test ps) ≡ [] → option_map (λ q. q.option) (find test ps) ≡ None) → option_map (λ q. q.option) (cond b (Some p) (find test ps)) ≡ None
+    go true is rest = absurd cc
+    go false is rest = rest is
+
+-- and else the first that is selected
+pub found-first : (test : PlacedOption → Bool) (ps : List PlacedOption) (x : Opt) (xs : List Opt) → map (λ p. p.option) (filter test ps) ≡ x ∷ xs → option_map (λ p. p.option) (find test ps) ≡ Some x
+found-first test [] x xs some = absurd cc
+found-first test (p ∷ ps) x xs some = go (test p) some (found-first test ps x xs)
+  where
+    go : (b : Bool) → map (λ q. q.option) (cond b (p ∷ filter test ps) (filter test ps)) ≡ x ∷ xs → (map (λ q. q.option) (filter test ps) ≡ x ∷ xs → option_map (λ q. q.option) (find test ps) ≡ Some x) → option_map (λ q. q.option) (cond b (Some p) (find test ps)) ≡ Some x
+    go true is rest = let same : p.option ≡ x = cc in ap Some same
+    go false is rest = rest is
+
+-- so the first one is found
+pub found-next : {R : Type 0} (seen : R → Opt) (test : PlacedOption → Bool) (ps : List PlacedOption) (left next : List Opt) (r : Option R) → left ≡ map (λ p. p.option) (filter test ps) → MatchOption r ((left ≡ []) × (next ≡ [])) (λ x. left ≡ seen x ∷ next) → option_map seen r ≡ option_map (λ p. p.option) (find test ps)
+found-next seen test ps left next None is none = sym (found-none test ps (sym is ∙ none.0))
+found-next seen test ps left next (Some x) is some = sym (found-first test ps (seen x) next (sym is ∙ some))
+
+-- an option that is added to those before it leaves the rest in order
+pub added-next : (all list left rest : List Opt) (x : Opt) → left ≡ x ∷ rest → all ≡ list ++ left → AreOptions (last_number 0 list) left → (all ≡ (list ++ x ∷ []) ++ rest) × AreOptions (last_number 0 (list ++ x ∷ [])) rest
+added-next all list left rest x next is are =
+    let in_order = subst (AreOptions (last_number 0 list)) next are in
+    (is ∙ ap (λ l. list ++ l) next ∙ sym (append_assoc list (x ∷ []) rest), subst (λ n. AreOptions n rest) (sym (last_number-push 0 list x)) in_order.3)
+
+-- the values of what is selected
+pub values-selected : (ps : List PlacedOption) → map (λ p. p.option.value) ps ≡ map (λ (o : Opt). o.value) (map (λ p. p.option) ps)
+values-selected [] = refl
+values-selected (p ∷ ps) = ap (λ vs. p.option.value ∷ vs) (values-selected ps)
 
 -- what holds anyway holds of an error
 pub on_err : {T E P : Type 0} (r : Result T E) → P → OnErr r P
 on_err (Ok x) holds = tt
 on_err (Err e) holds = holds
-
--- a list with an item in it
-append-nonempty : {A : Type 0} (xs : List A) (x : A) (ys : List A) → (xs ++ x ∷ []) ++ ys ≢ []
-append-nonempty [] x ys same = cc
-append-nonempty (z ∷ zs) x ys same = cc
-
-module _ {A : Type 0} (f : Opt → A) (test : PlacedOption → Bool) (options : List Opt) where
-  -- none is passed yet
-  pub IsPicking-none : AreOptions 0 options → length options < 2 ^ 64 → IsPicking f test options options (record { number = 0; count = 0 }) []
-  IsPicking-none are few = record { at = record { in_order = are; within = omega arith }; rest = ap (λ (ps : List PlacedOption). map (λ p. f p.option) (filter test ps)) (places-after options are) }
-
-  -- The loop comes to the option x, and the code's answer to the test is `answer`.
-  module _ (left rest : List Opt) (x : Opt) (run : Run) (before : ℕ) (answer : Bool) (list : List A) (next : left ≡ x ∷ rest) (counted : before ≡ before_of run x) (answers : answer ≡ test (record { option = x; before = before })) (picking : IsPicking f test options left run list) where
-    -- the test holds of its place, which is picked
-    pub IsPicking-yes : answer ≡ true → IsPicking f test options rest (record { number = x.number; count = before + 1 }) (list ++ f x ∷ [])
-    IsPicking-yes holds = record {
-      at = IsAt-step left rest x run before next counted picking.at;
-      rest = picking.rest ∙ rw (next, ← counted, ← answers, holds) (sym (append_assoc list (f x ∷ []) _));
-    }
-
-    -- and so something is picked
-    pub picked-some : answer ≡ true → map (λ p. f p.option) (filter test (places options)) ≢ []
-    picked-some holds none = append-nonempty list (f x) _ (sym (IsPicking-yes holds).rest ∙ none)
-
-    -- the test fails, and the place is left out
-    pub IsPicking-no : answer ≡ false → IsPicking f test options rest (record { number = x.number; count = before + 1 }) list
-    IsPicking-no fails = record {
-      at = IsAt-step left rest x run before next counted picking.at;
-      rest = picking.rest ∙ rw (next, ← counted, ← answers, fails) refl;
-    }
-
-  -- all are passed
-  pub IsPicking-all : (left : List Opt) (run : Run) (list : List A) → left ≡ [] → IsPicking f test options left run list → list ≡ map (λ p. f p.option) (filter test (places options))
-  IsPicking-all left run list none picking = sym (picking.rest ∙ rw none (append-nil list))

@@ -3,7 +3,6 @@
 #![tactic(auto)]
 
 mod classes;
-pub mod examples;
 pub mod numbers;
 mod places;
 mod recognition;

@@ -3,11 +3,13 @@
 ghost use Rattle.std.specs.Prelude.{◌≡◌, ◌≢◌, ◌==◌, ◌+◌, ◌-◌, ◌^◌, ◌<◌, if◌then◌else◌, filter, find, map, [], IfOk, OnErr};
 ghost use Rattle.std.specs.Option.{option_map};
 ghost use Rattle.coap_message.specs.OptRef.{seen};
+ghost use Rattle.coap_message.specs.Options.{AreOptions};
 ghost use Rattle.coap_option.specs.Places.{PlacedOption, places};
 ghost use Rattle.coap_option.specs.Selection.{selected};
 
-use coap_message::{OptRef, OptionList, Options, OutOfMemory, Pieces};
+use coap_message::{OptRef, OptRefs, OptionList, Options, OutOfMemory, Pieces};
 use std::alloc::Global;
+use std::marker::Model;
 
 /// A question about an option in its place.
 pub(crate) trait Test {
@@ -53,19 +55,69 @@ impl Run {
     }
 }
 
+/// The options that are left for which a test holds, in order. A contract sees the list.
+#[derive(Drop)]
+pub(crate) struct Picked<'a, 't, T: Test> {
+    left: OptRefs<'a>,
+    run: Run,
+    test: &'t T,
+}
+
+impl<'a, 't, T: Test> Model for Picked<'a, 't, T> {
+    ghost use Rattle.std.specs.Prelude.{List};
+    ghost use Rattle.coap_message.specs.declared.options.Opt.{Opt};
+
+    ghost Value = { List Opt };
+
+    ghost use Rattle.coap_option.specs.Passing.{IsAt, picked_after};
+
+    ghost view = { λ p. picked_after (T.holds p.test.now) p.run p.left };
+
+    ghost invariant = { λ p. IsAt p.left p.run };
+}
+
+impl<'a, 't, T: Test> Iterator for Picked<'a, 't, T> {
+    ghost use Rattle.std.specs.Iterator.{YieldsFirstBy, item_count};
+    ghost use Rattle.coap_message.specs.OptRef.{seen};
+
+    type Item = OptRef<'a>;
+
+    ghost next_gives = { YieldsFirstBy seen (λ left. left) };
+
+    ghost remaining = { item_count (λ left. left) };
+
+    fn next(&mut self) -> Option<OptRef<'a>> {
+        while let Some(option) = self.left.next() {
+            let before = self.run.pass(option.number);
+            if self.test.holds_of(option, before) {
+                return Some(option);
+            }
+        }
+        None
+    }
+}
+
+impl<'a, 't, T: Test> Picked<'a, 't, T> {
+    /// The options for which the test holds, one by one.
+    fn of(options: &Options<'a>, test: &'t T) -> Picked<'a, 't, T>
+        ensures list { result ≡ selected (T.holds test.now) options.now }
+        ensures in_order { AreOptions 0 (selected (T.holds test.now) options.now) }
+    {
+        Picked {
+            left: options.iter(),
+            run: Run::new(),
+            test,
+        }
+    }
+}
+
 /// The first option for which the test holds.
 pub(crate) fn first<'a, T: Test>(options: &Options<'a>, test: &T) -> Option<OptRef<'a>>
     ensures { option_map seen result
         ≡ option_map (λ p. p.option) (find (T.holds test.now) (places options.now)) }
 {
-    let mut run = Run::new();
-    for option in options.iter() {
-        let before = run.pass(option.number);
-        if test.holds_of(option, before) {
-            return Some(option);
-        }
-    }
-    None
+    let mut picked = Picked::of(options, test);
+    picked.next()
 }
 
 /// The options for which the test holds, in order, in no more room than they need.
@@ -77,13 +129,9 @@ pub(crate) fn select<T: Test>(
     ensures ok { IfOk result (λ list. list ≡ selected (T.holds test.now) options.now) }
     ensures err { OnErr result (selected (T.holds test.now) options.now ≢ []) }
 {
-    let mut run = Run::new();
     let mut list = OptionList::new(alloc);
-    for option in options.iter() {
-        let before = run.pass(option.number);
-        if test.holds_of(option, before) {
-            list.push(option.number, option.value)?;
-        }
+    for option in Picked::of(options, test) {
+        list.push(option.number, option.value)?;
     }
     list.shrink_to_fit();
     Ok(list)
@@ -100,13 +148,9 @@ pub(crate) fn values<T: Test>(
     ensures err { OnErr result
         (map (λ p. p.option.value) (filter (T.holds test.now) (places options.now)) ≢ []) }
 {
-    let mut run = Run::new();
     let mut list = Pieces::new(alloc);
-    for option in options.iter() {
-        let before = run.pass(option.number);
-        if test.holds_of(option, before) {
-            list.push(option.value)?;
-        }
+    for option in Picked::of(options, test) {
+        list.push(option.value)?;
     }
     list.shrink_to_fit();
     Ok(list)

@@ -1,5 +1,3 @@
-pub mod Addresses
-pub mod Cutting
 pub mod Dropping
 pub mod Gathering
 pub mod MapSearch
@@ -7,6 +5,4 @@ pub mod Origins
 pub mod Requests
 pub mod Screened
 pub mod Targets
-pub mod Texts
-pub mod Uris
 pub mod Winners

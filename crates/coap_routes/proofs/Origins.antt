@@ -8,21 +8,21 @@ use Rattle.url.specs.Parts.{Parts, nonempty_host}
 use Rattle.coap_target.specs.declared.endpoint.Ip.{Ip}
 use Rattle.coap_routes.specs.declared.error.RouteError.TheVariants.{Unreadable}
 use Rattle.coap_routes.specs.declared.error.TargetError.{TargetError}
-use Rattle.coap_routes.specs.declared.error.UriError.{UriError}
-use Rattle.coap_routes.specs.declared.error.UriError.TheVariants.{Bad, Scheme}
+use Rattle.coap_uri.specs.declared.error.UriError.{UriError}
+use Rattle.coap_uri.specs.declared.error.UriError.TheVariants.{Bad, Scheme}
 use Rattle.coap_routes.proofs.Gathering.{read-some}
 use Rattle.coap_routes.specs.declared.map.KnownHost.{KnownHost}
 use Rattle.coap_routes.specs.declared.map.Map.{Map}
 use Rattle.coap_target.specs.declared.target.Target.{Target}
-use Rattle.coap_routes.specs.declared.uri.HostPart.{HostPart}
-use Rattle.coap_routes.specs.declared.uri.HostPart.TheVariants.{Name, Addr}
-use Rattle.coap_routes.specs.declared.uri.UriParts.{UriParts}
+use Rattle.coap_uri.specs.declared.uri.HostPart.{HostPart}
+use Rattle.coap_uri.specs.declared.uri.HostPart.TheVariants.{Name, Addr}
+use Rattle.coap_uri.specs.declared.uri.UriParts.{UriParts}
 use Rattle.coap_routes.specs.Hosts.{address_of}
 use Rattle.coap_routes.specs.Request.{named_target, target_at_host, remote}
 use Rattle.coap_routes.specs.RouteLists.{HaveTargets}
 use Rattle.coap_routes.specs.RouteTexts.{Pair, prefix_of, target_at, without_query, origin_at, map_with, map_read, all_of}
 use Rattle.coap_target.specs.Target.{IsShort, IsTarget}
-use Rattle.coap_routes.specs.Uri.{is_short, is_short_host, are_short, host_part, port_part, path_parts, query_parts, is_plain, with_host, url_or_bad, uri_read, uri_of}
+use Rattle.coap_uri.specs.Uri.{is_short, is_short_host, are_short, host_part, port_part, path_parts, query_parts, is_plain, with_host, url_or_bad, uri_read, uri_of}
 
 -- parts that are all short enough
 pub All-list_all : (xs : List (List ℕ)) → list_all is_short xs ≡ true → AllByRecursion IsShort xs

@@ -11,19 +11,19 @@ use Rattle.coap_option.specs.Screening.{first_refused}
 use Rattle.coap_target.specs.declared.endpoint.Ip.{Ip}
 use Rattle.coap_routes.specs.declared.error.TargetError.{TargetError}
 use Rattle.coap_routes.specs.declared.error.TargetError.TheVariants.{BadUri, NotProxied, NotFound}
-use Rattle.coap_routes.specs.declared.error.UriError.{UriError}
-use Rattle.coap_routes.specs.declared.error.UriError.TheVariants as uri_error
+use Rattle.coap_uri.specs.declared.error.UriError.{UriError}
+use Rattle.coap_uri.specs.declared.error.UriError.TheVariants as uri_error
 use Rattle.coap_routes.specs.declared.map.Map.{Map}
 use Rattle.coap_routes.specs.declared.routes.Routes.{Routes}
 use Rattle.coap_target.specs.declared.target.Target.{Target}
-use Rattle.coap_routes.specs.declared.uri.HostPart.{HostPart}
-use Rattle.coap_routes.specs.declared.uri.UriParts.{UriParts}
-use Rattle.coap_routes.specs.Address.{ip_of}
+use Rattle.coap_uri.specs.declared.uri.HostPart.{HostPart}
+use Rattle.coap_uri.specs.declared.uri.UriParts.{UriParts}
+use Rattle.coap_uri.specs.Address.{ip_of}
 use Rattle.coap_routes.specs.Hosts.{is_own}
 use Rattle.coap_routes.specs.Request.{value_of, port_of, local, remote, resolved, of_uri, by_uri, composed, is_coap, by_scheme, if_any, by_options, request_target}
 use Rattle.coap_routes.specs.Routes.{path_of, query_of, map_of, mapped, mapped_target, AreRoutes}
 use Rattle.coap_target.specs.Target.{IsShort, IsTarget}
-use Rattle.coap_routes.specs.Uri.{is_short, is_short_host, are_short, host_or, host_of, uri_of}
+use Rattle.coap_uri.specs.Uri.{is_short, is_short_host, are_short, host_or, host_of, uri_of}
 use Rattle.std.specs.List.{list_all}
 use Rattle.coap_routes.proofs.Origins.{All-list_all, uri_of-short, target_at_host-is}
 use Rattle.coap_routes.proofs.Screened.{path_of-short, uri_host-short, query_of-short}

@@ -1,18 +1,11 @@
 -- Hosts of requests: own names of a proxy, and hosts that it knows.
-use Rattle.std.specs.Prelude.{ℕ, Bool, false, nat_eq, List, Option, find, option_map}
+use Rattle.std.specs.Prelude.{ℕ, Bool, nat_eq, List, Option, find, option_map}
 use Rattle.std.specs.List.{list_any}
 use Rattle.std.specs.Cmp.Lexicographic.{pointwise}
 use Rattle.coap_target.specs.declared.endpoint.Ip.{Ip}
 use Rattle.coap_routes.specs.declared.map.KnownHost.{KnownHost}
-use Rattle.coap_routes.specs.declared.uri.HostPart.{HostPart}
-use Rattle.coap_routes.specs.declared.uri.HostPart.TheVariants.{Name, Addr}
-use Rattle.coap_target.specs.Endpoint.{same_ip}
-
-abbrev pub same_host : HostPart → HostPart → Bool
-same_host (Name a) (Name b) = pointwise nat_eq a b
-same_host (Addr a) (Addr b) = same_ip a b
-same_host (Name a) (Addr b) = false
-same_host (Addr a) (Name b) = false
+use Rattle.coap_uri.specs.declared.uri.HostPart.{HostPart}
+use Rattle.coap_uri.specs.Uris.{same_host}
 
 -- a host is one of a proxy's own names
 abbrev pub is_own : List HostPart → HostPart → Bool

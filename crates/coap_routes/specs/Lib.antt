@@ -1,13 +1,9 @@
-pub mod Answer
-pub mod Address
-pub mod Uri
 pub mod RouteLists
 pub mod RoutesView
 pub mod Routes
 pub mod Hosts
 pub mod Request
 pub mod RouteTexts
-pub mod Uris
 pub mod Winner
 pub mod Examples
 pub mod MappedTarget

@@ -6,19 +6,19 @@ use Rattle.coap_message.specs.Message.{Message}
 use Rattle.coap_message.specs.Uint.{uint_of}
 use Rattle.coap_option.specs.declared.numbers.TheConstants.{URI_HOST, URI_PORT, PROXY_URI, PROXY_SCHEME}
 use Rattle.coap_target.specs.declared.endpoint.Ip.{Ip}
-use Rattle.coap_routes.specs.declared.error.UriError.{UriError}
-use Rattle.coap_routes.specs.declared.error.UriError.TheVariants as uri_error
+use Rattle.coap_uri.specs.declared.error.UriError.{UriError}
+use Rattle.coap_uri.specs.declared.error.UriError.TheVariants as uri_error
 use Rattle.coap_routes.specs.declared.error.TargetError.{TargetError}
 use Rattle.coap_routes.specs.declared.error.TargetError.TheVariants.{BadUri, NotProxied, NotFound, OutOfMemory}
 use Rattle.coap_routes.specs.declared.map.KnownHost.{KnownHost}
 use Rattle.coap_routes.specs.declared.routes.Routes.{Routes}
 use Rattle.coap_target.specs.declared.target.Target.{Target}
-use Rattle.coap_routes.specs.declared.uri.HostPart.{HostPart}
-use Rattle.coap_routes.specs.declared.uri.HostPart.TheVariants.{Name, Addr}
-use Rattle.coap_routes.specs.declared.uri.UriParts.{UriParts}
+use Rattle.coap_uri.specs.declared.uri.HostPart.{HostPart}
+use Rattle.coap_uri.specs.declared.uri.HostPart.TheVariants.{Name, Addr}
+use Rattle.coap_uri.specs.declared.uri.UriParts.{UriParts}
 use Rattle.coap_routes.specs.Hosts.{is_own, address_of}
 use Rattle.coap_routes.specs.Routes.{values_of, path_of, query_of, mapped_by}
-use Rattle.coap_routes.specs.Uri.{host_of, uri_of}
+use Rattle.coap_uri.specs.Uri.{host_of, uri_of}
 
 -- the value of the first option of a number
 abbrev pub first_value : List (List ℕ) → Option (List ℕ)

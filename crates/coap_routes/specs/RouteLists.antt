@@ -1,7 +1,7 @@
 -- What the routes of a proxy are.
 use Rattle.std.specs.Prelude.{List}
 use Rattle.std.specs.List.{AllByRecursion}
-use Rattle.coap_routes.specs.declared.uri.HostPart.{HostPart}
+use Rattle.coap_uri.specs.declared.uri.HostPart.{HostPart}
 use Rattle.coap_routes.specs.declared.map.Map.{Map}
 use Rattle.coap_routes.specs.declared.map.KnownHost.{KnownHost}
 use Rattle.coap_target.specs.Target.{IsTarget}

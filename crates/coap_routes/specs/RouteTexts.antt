@@ -7,17 +7,17 @@ use Rattle.coap_target.specs.declared.endpoint.Ip.{Ip}
 use Rattle.coap_routes.specs.declared.error.RouteError.{RouteError}
 use Rattle.coap_routes.specs.declared.error.RouteError.TheVariants.{Unreadable, TooMany}
 use Rattle.coap_routes.specs.declared.error.TargetError.{TargetError}
-use Rattle.coap_routes.specs.declared.error.UriError.{UriError}
+use Rattle.coap_uri.specs.declared.error.UriError.{UriError}
 use Rattle.coap_routes.specs.declared.map.KnownHost.{KnownHost}
 use Rattle.coap_routes.specs.declared.map.Map.{Map}
 use Rattle.coap_target.specs.declared.target.Target.{Target}
-use Rattle.coap_routes.specs.declared.uri.HostPart.{HostPart}
-use Rattle.coap_routes.specs.declared.uri.HostPart.TheVariants.{Name, Addr}
-use Rattle.coap_routes.specs.declared.uri.UriParts.{UriParts}
-use Rattle.coap_routes.specs.Address.{ip_of}
+use Rattle.coap_uri.specs.declared.uri.HostPart.{HostPart}
+use Rattle.coap_uri.specs.declared.uri.HostPart.TheVariants.{Name, Addr}
+use Rattle.coap_uri.specs.declared.uri.UriParts.{UriParts}
+use Rattle.coap_uri.specs.Address.{ip_of}
 use Rattle.coap_routes.specs.Request.{remote}
 use Rattle.coap_routes.specs.RouteLists.{RouteLists}
-use Rattle.coap_routes.specs.Uri.{host_of, is_short, path_parts, uri_of}
+use Rattle.coap_uri.specs.Uri.{host_of, is_short, path_parts, uri_of}
 
 -- a pair of texts: a host's name and its address, or a prefix and an origin
 abbrev pub Pair : Type 0

@@ -1,42 +1,10 @@
 //! What can be refused.
 ghost use Rattle.std.specs.Prelude.{◌≡◌};
-ghost use Rattle.coap_routes.specs.declared.error.UriError.TheVariants as errors;
 ghost use Rattle.coap_routes.specs.declared.error.TargetError.TheVariants as target_errors;
 ghost use Rattle.coap_routes.specs.declared.error.RouteError.TheVariants as route_errors;
 
 use coap_message::OutOfMemory;
-use std::alloc::AllocError;
 use thiserror::Error;
-
-/// Why a text was not read as a URI or an address.
-#[derive(Clone, Copy, Debug, PartialEq, Eq, Error)]
-pub enum UriError {
-    /// It is none, or has a part that can't be carried (RFC 7252, 6.4).
-    #[error("no URI that can be carried")]
-    Bad,
-    /// Its scheme is another than `coap`.
-    #[error("a scheme other than coap")]
-    Scheme,
-    /// The allocator had no memory for it.
-    #[error("out of memory")]
-    OutOfMemory,
-}
-
-impl From<OutOfMemory> for UriError {
-    ghost from_gives = { λ _ e. e ≡ errors.OutOfMemory };
-
-    fn from(_refused: OutOfMemory) -> UriError {
-        UriError::OutOfMemory
-    }
-}
-
-impl From<AllocError> for UriError {
-    ghost from_gives = { λ _ e. e ≡ errors.OutOfMemory };
-
-    fn from(_refused: AllocError) -> UriError {
-        UriError::OutOfMemory
-    }
-}
 
 /// Why a request has no target.
 #[derive(Clone, Copy, Debug, PartialEq, Eq, Error)]

@@ -1,14 +1,8 @@
 //! Laws of the definitions: public functions that do nothing, whose contracts are the laws.
-ghost use Rattle.std.specs.Prelude.{◌≡◌, ◌↔◌, ℕ, true, false, List, None, Some, Ok, ok_or};
+ghost use Rattle.std.specs.Prelude.{◌≡◌, ℕ, false, List, None, Some, Ok, ok_or};
 ghost use Rattle.std.specs.List.{AllByRecursion};
-ghost use Rattle.std.specs.Net.Grammar.{IsDotted};
 ghost use Rattle.coap_routes.specs.declared.map.Map.{Map};
 ghost use Rattle.coap_target.specs.declared.target.Target.{Target};
-ghost use Rattle.coap_routes.specs.declared.uri.HostPart.{HostPart};
-ghost use Rattle.coap_routes.specs.declared.uri.UriParts.{UriParts};
-ghost use Rattle.coap_routes.specs.Address.{ipv4_of};
-ghost use Rattle.coap_routes.specs.Uris.{same_uri};
-ghost use Rattle.coap_routes.specs.Hosts.{same_host};
 ghost use Rattle.coap_routes.specs.Routes.{AreRoutes, begins, map_of, mapped_target};
 ghost use Rattle.coap_routes.specs.Request.{request_target, value_of};
 ghost use Rattle.coap_target.specs.Target.{IsTarget};
@@ -20,12 +14,6 @@ ghost use Rattle.coap_option.specs.declared.side.Side.{Side};
 ghost use Rattle.coap_routes.specs.declared.error.TargetError.{TargetError};
 ghost use Rattle.coap_routes.specs.declared.routes.Routes.{Routes};
 
-/// An IPv4 address is read exactly where the grammar of RFC 3986, 3.2.2, has one.
-pub fn four_numbers_are_read()
-    ensures read { (text octets : List ℕ) → IsDotted text octets → ipv4_of text ≡ Some octets }
-    ensures only { (text octets : List ℕ) → ipv4_of text ≡ Some octets → IsDotted text octets }
-{}
-
 /// The map of a path is the one that wins, and there is none where no prefix begins the path.
 pub fn the_longest_prefix_wins()
     ensures wins { (maps : List Map) (path : List (List ℕ)) (m : Map)
@@ -34,12 +22,6 @@ pub fn the_longest_prefix_wins()
     ensures none { (maps : List Map) (path : List (List ℕ))
         → map_of maps path ≡ None
         → AllByRecursion (λ m. begins m.prefix path ≡ false) maps }
-{}
-
-/// What compares as equal is equal in all parts.
-pub fn equal_is_the_same()
-    ensures hosts { (a b : HostPart) → (same_host a b ≡ true) ↔ (a ≡ b) }
-    ensures uris { (a b : UriParts) → (same_uri a b ≡ true) ↔ (a ≡ b) }
 {}
 
 /// The target of a request that passed screening has a host, segments and parts of a query of at most

@@ -3,24 +3,23 @@ ghost use Rattle.std.specs.Prelude.{◌≡◌, ◌++◌, None, IfOk, option_map}
 ghost use Rattle.std.specs.Option.{option_copied};
 ghost use Rattle.coap_option.specs.declared.side.Side.{Side};
 ghost use Rattle.coap_option.specs.Screening.{first_refused};
-ghost use Rattle.coap_routes.specs.Answer.{Answers};
+ghost use Rattle.coap_uri.specs.Answer.{Answers};
 ghost use Rattle.coap_routes.specs.Hosts as names;
 ghost use Rattle.coap_routes.specs.Request as spec;
 ghost use Rattle.coap_routes.specs.MappedTarget.{seen};
 ghost use Rattle.coap_routes.specs.Routes.{AreRoutes, mapped, mapped_target, path_of, query_of};
 ghost use Rattle.coap_routes.specs.declared.error.TargetError.TheVariants as errors;
 
-use crate::address::read_host;
-use crate::error::{TargetError, UriError};
+use crate::error::TargetError;
 use crate::map::{KnownHost, Map};
 use crate::mapped::MappedTarget;
 use crate::options::Values;
 use crate::routes::{Routes, map_of};
 use crate::segment::{Segments, copies, joined, skip};
-use crate::uri::{DEFAULT_PORT, HostPart, UriParts, split_uri};
 use coap_message::{MessageRef, OutOfMemory, Seq, uint};
 use coap_option::numbers;
 use coap_target::{Endpoint, Ip, Target};
+use coap_uri::{DEFAULT_PORT, HostPart, UriError, UriParts, read_host, split_uri};
 use std::alloc::Global;
 
 /// The value of the first option of a number.

@@ -2,20 +2,18 @@
 ghost use Rattle.std.specs.Prelude.{◌≡◌, map, nat_eq, ok_or, string_bytes};
 ghost use Rattle.std.specs.Cmp.Lexicographic.{pointwise};
 ghost use Rattle.std.specs.List.{list_all, list_any};
-ghost use Rattle.coap_routes.specs.Answer.{Answers};
+ghost use Rattle.coap_uri.specs.Answer.{Answers};
 ghost use Rattle.coap_routes.specs.RouteTexts as spec;
-ghost use Rattle.coap_routes.specs.Uri.{uri_of};
+ghost use Rattle.coap_uri.specs.Uri.{uri_of};
 ghost use Rattle.coap_routes.specs.declared.error.RouteError.TheVariants as errors;
 
-use crate::address::{read_address, read_host};
-use crate::error::{RouteError, UriError};
+use crate::error::RouteError;
 use crate::map::{KnownHost, Map};
-use crate::parts::LONGEST;
 use crate::request::remote;
 use crate::routes::Routes;
-use crate::uri::{HostPart, path_parts, split_uri};
 use coap_message::{Pieces, Seq};
 use coap_target::Target;
+use coap_uri::{HostPart, LONGEST, UriError, path_parts, read_address, read_host, split_uri};
 use std::alloc::Global;
 
 /// The most own names.

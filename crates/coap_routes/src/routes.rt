@@ -6,9 +6,9 @@ ghost use Rattle.coap_routes.specs.Routes as spec;
 
 use crate::map::{KnownHost, Map};
 use crate::segment::{Segments, begins};
-use crate::uri::HostPart;
 use coap_message::{OutOfMemory, Pieces, Seq};
 use coap_target::{Endpoint, Ip, Target};
+use coap_uri::HostPart;
 use std::alloc::Global;
 use std::marker::Model;
 

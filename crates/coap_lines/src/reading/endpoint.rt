@@ -1,15 +1,13 @@
 //! Endpoints as texts: `a.b.c.d:port`, and `[g:g:g:g:g:g:g:g]:port`.
-ghost use Rattle.std.specs.Prelude.{◌≡◌, ◌==◌, ◌∷◌, option_map};
-ghost use Rattle.std.specs.List.{slice_split};
-ghost use Rattle.std.specs.Option.{option_copied};
+ghost use Rattle.std.specs.Prelude.{◌≡◌, option_map};
 ghost use Rattle.std.specs.Net.Reader.{read_byte};
-ghost use Rattle.coap_lines.specs.Endpoints.{endpoint_of, parts_left, segments_read, v4_endpoint, v6_endpoint};
+ghost use Rattle.coap_lines.specs.Endpoints.{endpoint_of, segments_read, v4_endpoint, v6_endpoint};
 ghost use Rattle.coap_lines.specs.Numbers.{number_of};
 
 use crate::reading::cutting::cut;
 use crate::reading::number::{read_group, read_number};
-use coap_routes::read_ipv4;
 use coap_target::{Endpoint, Ip};
+use coap_uri::{first_part, read_ipv4};
 use std::net::Ipv6Addr;
 
 /// A port of 0 to 65,535.
@@ -19,17 +17,6 @@ fn read_port(text: &[u8]) -> Option<u16>
     match read_number(text, 65_535) {
         Some(port) => Some(port as u16),
         None => None,
-    }
-}
-
-/// The first group of a text, and what stands after its colon, if it has one.
-fn first_group(text: &[u8]) -> (&[u8], Option<&[u8]>)
-    ensures { slice_split (λ b. b == 58) text.now
-        ≡ result.0.now ∷ parts_left (option_copied result.1) }
-{
-    match cut(text, b':') {
-        Some((group, rest)) => (group, Some(rest)),
-        None => (text, None),
     }
 }
 
@@ -43,7 +30,7 @@ fn read_segments(text: &[u8]) -> Option<[u16; 8]>
         let Some(text) = rest else {
             return None;
         };
-        let (group, after) = first_group(text);
+        let (group, after) = first_part(text, b':');
         match read_group(group) {
             Some(number) => *segment = number,
             None => return None,

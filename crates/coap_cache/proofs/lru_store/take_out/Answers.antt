@@ -1,4 +1,4 @@
-use Rattle.std.proofs.Common.{◌≡◌, ◌-◌, Some, is_some, sym, ap, subst, arith, ◌∙◌}
+use Rattle.std.proofs.Common.{◌≡◌, ◌-◌, Some, None, is_some, sym, ap, subst, arith, ◌∙◌}
 use Rattle.lru.specs.LruCache.{lru_cache}
 use Rattle.coap_cache.specs.Entries.{Entry, entry_key}
 use Rattle.coap_cache.specs.Indexing.{AreThoseOf}
@@ -16,31 +16,28 @@ overflow_sub-total g c =
     let found : of_key entry_key k es ≡ Some x = sym (c.in-Some.ensures.value ∙ popped k es) in
     omega (arith, c.bytes_of.ensures, c.requires.counted, total-others k es x c.requires.distinct found)
 
-pub returns-in-Some-clause-found : goal.returns-in-Some-clause-found
-returns-in-Some-clause-found g c = ap is_some (c.in-Some.ensures.value ∙ popped c.args.key.now c.args.recent.now.entries)
-
-pub returns-in-Some-clause-others : goal.returns-in-Some-clause-others
-returns-in-Some-clause-others g c = c.pop_entry.ensures.entries ∙ ap (λ l. lru_cache l c.args.recent.now.cap) (removed c.args.key.now c.args.recent.now.entries c.requires.distinct)
-
-pub returns-in-Some-clause-those : goal.returns-in-Some-clause-those
-returns-in-Some-clause-those g c =
+pub returns-in-Some : goal.returns-in-Some
+returns-in-Some g c =
     let k = c.args.key.now in
     let es = c.args.recent.now.entries in
     let x : Entry = (c.in-Some.of, c.in-Some.stored) in
-    let found : of_key entry_key k es ≡ Some x = sym (c.in-Some.ensures.value ∙ popped k es) in
-    let left : c.pop_entry.new.self.entries ≡ others entry_key k es = ap (λ m. m.entries) c.pop_entry.ensures.entries ∙ removed k es c.requires.distinct in
-    subst (λ l. AreThoseOf l (c.args.total.now - c.bytes_of.result) c.remove.new.self.groups) (sym left)
-    (AreThoseOf-others es c.args.total.now c.args.index.now.groups c.requires k x c.remove.new.self.groups (c.args.total.now - c.bytes_of.result) found c.remove.ensures (omega (arith, c.bytes_of.ensures, c.requires.counted, total-others k es x c.requires.distinct found)))
+    let value : Some x ≡ of_key entry_key k es = c.in-Some.ensures.value ∙ popped k es in
+    let left : c.pop_entry.new.self ≡ lru_cache (others entry_key k es) c.args.recent.now.cap = c.pop_entry.ensures.entries ∙ ap (λ l. lru_cache l c.args.recent.now.cap) (removed k es c.requires.distinct) in
+    record {
+      found = ap is_some value;
+      others = left;
+      those = subst (λ l. AreThoseOf l (c.args.total.now - c.bytes_of.result) c.remove.new.self.groups) (sym (ap (λ m. m.entries) left))
+          (AreThoseOf-others es c.args.total.now c.args.index.now.groups c.requires k x c.remove.new.self.groups (c.args.total.now - c.bytes_of.result) (sym value) c.remove.ensures (omega (arith, c.bytes_of.ensures, c.requires.counted, total-others k es x c.requires.distinct (sym value))));
+    }
 
-pub returns-in-None-clause-found : goal.returns-in-None-clause-found
-returns-in-None-clause-found g c = ap is_some (c.in-None.ensures.value ∙ popped c.args.key.now c.args.recent.now.entries)
-
-pub returns-in-None-clause-others : goal.returns-in-None-clause-others
-returns-in-None-clause-others g c = c.pop_entry.ensures.entries ∙ ap (λ l. lru_cache l c.args.recent.now.cap) (removed c.args.key.now c.args.recent.now.entries c.requires.distinct)
-
-pub returns-in-None-clause-those : goal.returns-in-None-clause-those
-returns-in-None-clause-those g c =
+pub returns-in-None : goal.returns-in-None
+returns-in-None g c =
     let k = c.args.key.now in
     let es = c.args.recent.now.entries in
-    let left : c.pop_entry.new.self.entries ≡ es = ap (λ m. m.entries) c.pop_entry.ensures.entries ∙ removed k es c.requires.distinct ∙ others-none entry_key k es (sym (c.in-None.ensures.value ∙ popped k es)) in
-    subst (λ l. AreThoseOf l c.args.total.now c.args.index.now.groups) (sym left) c.requires
+    let value : None ≡ of_key entry_key k es = c.in-None.ensures.value ∙ popped k es in
+    let left : c.pop_entry.new.self ≡ lru_cache (others entry_key k es) c.args.recent.now.cap = c.pop_entry.ensures.entries ∙ ap (λ l. lru_cache l c.args.recent.now.cap) (removed k es c.requires.distinct) in
+    record {
+      found = ap is_some value;
+      others = left;
+      those = subst (λ l. AreThoseOf l c.args.total.now c.args.index.now.groups) (sym (ap (λ m. m.entries) left ∙ others-none entry_key k es (sym value))) c.requires;
+    }

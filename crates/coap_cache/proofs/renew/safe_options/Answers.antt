@@ -1,7 +1,13 @@
 use Rattle.std.proofs.Common.{sym, ◌∙◌, ap, ◌++◌}
 use Rattle.coap_message.specs.OptRef.{seen}
-use Rattle.coap_cache.proofs.Renewals.{pushed-in_order, pushed-safe, skipped-in_order, skipped-safe}
+use Rattle.coap_cache.proofs.Renewals.{next-in_order, pushed-in_order, pushed-safe, skipped-in_order, skipped-safe}
 use Rattle.coap_cache.proofs.renew.safe_options.Goals as goal
+
+pub push-requires-clause-in_order : goal.push-requires-clause-in_order
+push-requires-clause-in_order c = (next-in_order _ _ (seen c.in-Some.option) c.in-Some.ensures.steps _ c.loop-option.invariant.in_order).0
+
+pub push-requires-clause-within : goal.push-requires-clause-within
+push-requires-clause-within c = (next-in_order _ _ (seen c.in-Some.option) c.in-Some.ensures.steps _ c.loop-option.invariant.in_order).2
 
 pub loop-option-preserved-in-Continue-1 : goal.loop-option-preserved-in-Continue-1
 loop-option-preserved-in-Continue-1 c =

@@ -1,7 +1,7 @@
 use Rattle.std.proofs.Common.{refl}
 use Rattle.std.specs.Fmt.{digits}
 use Rattle.coap_lines.specs.Numbers.{number_of, group_of}
-use Rattle.coap_routes.specs.Address.{ipv4_of}
+use Rattle.coap_uri.specs.Address.{ipv4_of}
 use Rattle.std.specs.Net.Reader.{read_ipv4, read_octet, read_number}
 use Rattle.coap_lines.specs.Endpoints.{v4_endpoint, segments_read, v6_endpoint}
 use Rattle.coap_lines.specs.Datagrams.{bytes_read}

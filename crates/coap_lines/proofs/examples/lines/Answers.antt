@@ -1,6 +1,6 @@
 use Rattle.std.proofs.Common.{refl}
 use Rattle.std.specs.Fmt.{digits}
-use Rattle.coap_routes.specs.Address.{ipv4_of}
+use Rattle.coap_uri.specs.Address.{ipv4_of}
 use Rattle.hex.specs.Hex.{encode_with}
 use Rattle.coap_lines.specs.Lines.{line_of}
 use Rattle.coap_lines.proofs.examples.lines.Goals as goal

@@ -16,14 +16,14 @@ returns-in_default c =
 
 pub returns-in-None : goal.returns-in-None
 returns-in-None c =
-    let read = rw (c.in-Some.is, c.first_group.ensures) at c.loop-segment.invariant.0 in
-    sym (bad-none c.args.text.now (read ∙ unread _ _ c.first_group.result.0.now (sym c.read_group.ensures ∙ c.in-None.is)))
+    let read = rw (c.in-Some.is, c.first_part.ensures.parts) at c.loop-segment.invariant.0 in
+    sym (bad-none c.args.text.now (read ∙ unread _ _ c.first_part.result.0.now (sym c.read_group.ensures ∙ c.in-None.is)))
 
 pub loop-segment-preserved : goal.loop-segment-preserved
 loop-segment-preserved c =
-    let read = rw (c.in-Some.is, c.first_group.ensures) at c.loop-segment.invariant.0 in
+    let read = rw (c.in-Some.is, c.first_part.ensures.parts) at c.loop-segment.invariant.0 in
     let within : c.loop-segment.segment-index < length c.loop-segment.segment-items = omega arith in (
-      rw (take_more_set c.loop-segment.segment-items c.loop-segment.segment-index c.in-Some-read_group.number within) (read ∙ step _ _ c.first_group.result.0.now c.in-Some-read_group.number (sym c.read_group.ensures ∙ c.in-Some-read_group.is)),
+      rw (take_more_set c.loop-segment.segment-items c.loop-segment.segment-index c.in-Some-read_group.number within) (read ∙ step _ _ c.first_part.result.0.now c.in-Some-read_group.number (sym c.read_group.ensures ∙ c.in-Some-read_group.is)),
       length-set c.loop-segment.segment-items c.loop-segment.segment-index c.in-Some-read_group.number ∙ c.loop-segment.invariant.1,
     )
 

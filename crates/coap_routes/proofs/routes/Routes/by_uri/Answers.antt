@@ -1,9 +1,9 @@
 use Rattle.std.proofs.Common.{◌≡◌, true, Ok, refl, inr, ⊎_elim}
 use Rattle.std.specs.Str.{is_utf8}
 use Rattle.std.proofs.lemmas.Str.{is_utf8-from_IsUtf8}
-use Rattle.coap_routes.specs.Uri.{uri_of}
+use Rattle.coap_uri.specs.Uri.{uri_of}
 use Rattle.coap_routes.specs.Request.{by_uri}
-use Rattle.coap_routes.proofs.Texts.{not_utf8}
+use Rattle.coap_uri.proofs.Texts.{not_utf8}
 use Rattle.coap_routes.proofs.routes.Routes.by_uri.Goals as goal
 
 pub returns-in_default : goal.returns-in_default

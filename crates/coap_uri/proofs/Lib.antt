@@ -1,0 +1,4 @@
+pub mod Addresses
+pub mod Cutting
+pub mod Texts
+pub mod Uris

@@ -1,0 +1,4 @@
+pub mod Answer
+pub mod Address
+pub mod Uri
+pub mod Uris

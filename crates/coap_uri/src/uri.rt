@@ -1,0 +1,160 @@
+//! `coap` URIs (RFC 7252, 6).
+ghost use Rattle.std.specs.Prelude.{◌≡◌, IfOk, map};
+ghost use Rattle.std.specs.Char.{to_ascii_lowercase};
+ghost use Rattle.std.specs.Option.{option_copied};
+ghost use Rattle.percent_encoding.specs.Percent.{percent_decode};
+ghost use Rattle.url.specs.Host.{borrowed_host};
+ghost use Rattle.coap_uri.specs.Address.{ipv4_of};
+ghost use Rattle.coap_uri.specs.Answer.{Answers};
+ghost use Rattle.coap_uri.specs.Uris.{same_host, same_uri};
+ghost use Rattle.coap_uri.specs.Uri as spec;
+ghost use Rattle.coap_uri.specs.declared.error.UriError.TheVariants as errors;
+
+use crate::address::{read_ipv4, read_url};
+use crate::error::UriError;
+use crate::parts::{LONGEST, all_short, decoded, split_decoded};
+use coap_message::{OutOfMemory, Pieces, Seq};
+use coap_target::Ip;
+use std::alloc::Global;
+use url::{Host, Url};
+
+/// The port of a URI without one (RFC 7252, 6.1).
+pub const DEFAULT_PORT: u16 = 5683;
+
+/// A host: a name, or an address.
+#[derive(Clone, Debug, Drop, PartialEq, Eq, Hash)]
+pub enum HostPart {
+    Name(Seq<u8>),
+    Addr(Ip),
+}
+
+impl HostPart {
+    /// Whether both are one host.
+    pub fn is(&self, other: &HostPart) -> bool
+        ensures { result ≡ same_host self.now other.now }
+    {
+        *self == *other
+    }
+}
+
+/// The parts of a `coap` URI, decoded. A name of a host is in ASCII lower case but for what its escapes
+/// stood for.
+#[derive(Clone, Debug, Drop, PartialEq, Eq, Hash)]
+pub struct UriParts {
+    pub host: HostPart,
+    pub port: u16,
+    pub path: Pieces,
+    pub query: Pieces,
+}
+
+impl UriParts {
+    /// Whether both are one URI, part by part.
+    pub fn is(&self, other: &UriParts) -> bool
+        ensures { result ≡ same_uri self.now other.now }
+    {
+        self == other
+    }
+
+    /// Whether host, segments and parts of the query have at most 255 bytes each.
+    fn are_short(&self) -> bool
+        ensures { result ≡ spec.are_short self.now }
+    {
+        let host = match &self.host {
+            HostPart::Name(name) => name.len() <= LONGEST,
+            HostPart::Addr(_) => true,
+        };
+        host && all_short(&self.path) && all_short(&self.query)
+    }
+}
+
+/// The parts of the URI that a text is (RFC 7252, 6.4): what the `url` crate reads in it, decoded.
+///
+/// `Bad` is what it refuses, and a URI without host, with a user name, a password or a fragment (RFC
+/// 7252, 6.1), with port 0, or with a part of more than 255 bytes. A URI of another scheme is
+/// `Scheme`, whatever its other parts are.
+#[tactic(auto, unfolding(crate::specs::Uri::uri_of))]
+pub fn split_uri(alloc: Global, text: &str) -> Result<UriParts, UriError>
+    ensures { Answers errors.OutOfMemory result (spec.uri_of text.now) }
+{
+    let url = read_url(alloc, text)?;
+    if url.scheme() != "coap" {
+        return Err(UriError::Scheme);
+    }
+    let Some(host) = url.host() else {
+        return Err(UriError::Bad);
+    };
+    let parts = parts_of(alloc, &url, host)?;
+    if is_plain(&url) && parts.port != 0 && parts.are_short() {
+        Ok(parts)
+    } else {
+        Err(UriError::Bad)
+    }
+}
+
+/// The parts of a URL that has this host, decoded.
+fn parts_of(alloc: Global, url: &Url, host: Host<&str>) -> Result<UriParts, OutOfMemory>
+    ensures { IfOk result (λ parts. parts ≡ spec.parts_of url.now (borrowed_host host.entry)) }
+{
+    Ok(UriParts {
+        host: host_part(alloc, host)?,
+        port: url.port().unwrap_or(DEFAULT_PORT),
+        path: path_parts(alloc, url.path().as_bytes())?,
+        query: query_parts(alloc, url.query())?,
+    })
+}
+
+/// Whether a URL has neither user name nor password nor fragment.
+fn is_plain(url: &Url) -> bool
+    ensures { result ≡ spec.is_plain url.now }
+{
+    url.username().is_empty() && url.password().is_none() && url.fragment().is_none()
+}
+
+/// A host that `url` has read: an address, or a name in ASCII lower case, then decoded.
+fn host_part(alloc: Global, host: Host<&str>) -> Result<HostPart, OutOfMemory>
+    ensures { IfOk result (λ part. part ≡ spec.host_part (borrowed_host host.entry)) }
+{
+    match host {
+        Host::Domain(text) => named(alloc, text),
+        Host::Ipv4(address) => Ok(HostPart::Addr(Ip::V4(address.octets()))),
+        Host::Ipv6(address) => Ok(HostPart::Addr(Ip::V6(address.octets()))),
+    }
+}
+
+/// The address that a host's text is, or else the name.
+fn named(alloc: Global, text: &str) -> Result<HostPart, OutOfMemory>
+    ensures { IfOk result (λ part. part ≡ spec.name_or (ipv4_of text.now) text.now) }
+{
+    match read_ipv4(text.as_bytes()) {
+        Some(octets) => Ok(HostPart::Addr(Ip::V4(octets))),
+        None => Ok(HostPart::Name(name_of(alloc, text)?)),
+    }
+}
+
+/// The name that a text is: in ASCII lower case, then decoded.
+fn name_of(alloc: Global, text: &str) -> Result<Seq<u8>, OutOfMemory>
+    ensures { IfOk result (λ name. name ≡ percent_decode (map to_ascii_lowercase text.now)) }
+{
+    let lower = text.to_ascii_lowercase(alloc)?;
+    decoded(alloc, lower.as_bytes())
+}
+
+/// The segments after the first slash of a path; none where nothing stands there.
+pub fn path_parts(alloc: Global, path: &[u8]) -> Result<Pieces, OutOfMemory>
+    ensures { IfOk result (λ segments. segments ≡ spec.path_parts path.now) }
+{
+    match path {
+        [] | [_] => Ok(Pieces::new(alloc)),
+        [_, behind @ ..] => split_decoded(alloc, behind, b'/'),
+    }
+}
+
+/// The parts of a query between `&`; none without a query.
+fn query_parts(alloc: Global, query: Option<&str>) -> Result<Pieces, OutOfMemory>
+    ensures { IfOk result (λ parts. parts ≡ spec.query_parts (option_copied query.entry)) }
+{
+    match query {
+        Some(query) => split_decoded(alloc, query.as_bytes(), b'&'),
+        None => Ok(Pieces::new(alloc)),
+    }
+}

@@ -1,0 +1,7 @@
+use Rattle.std.proofs.Common.{refl}
+use Rattle.coap_message.specs.Uint.{uint_spelling}
+use Rattle.definition_examples.proofs.messages.numbers.Goals as goal
+
+pub returns : goal.returns
+unfolding uint_spelling
+returns c = record { no_bytes = refl; high_byte_first = refl; zeros_at_the_head = refl; zero = refl; two_bytes = refl; greatest = refl }

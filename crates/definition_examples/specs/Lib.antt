@@ -1,0 +1,4 @@
+pub mod Messages
+pub mod Options
+pub mod Routes
+pub mod Cache
