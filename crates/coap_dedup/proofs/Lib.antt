@@ -1,0 +1,5 @@
+pub mod Orders
+pub mod Aging
+pub mod Apart
+pub mod Numbers
+pub mod Kept

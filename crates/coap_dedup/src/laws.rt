@@ -1,0 +1,1 @@
+//! Laws of the definitions: public functions that do nothing, whose contracts are the laws.
