@@ -3,3 +3,4 @@ pub mod Aging
 pub mod Apart
 pub mod Numbers
 pub mod Kept
+pub mod Passing

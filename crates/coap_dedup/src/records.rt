@@ -81,7 +81,7 @@ impl Records {
     pub fn is_full(&self, now: u64) -> bool
         ensures exact { result ≡ (length (living_at now self.now) == self.now.limit) }
     {
-        self.ring.len() == self.ring.capacity() && !begins_dead(&self.ring, self.lifetime, now)
+        self.ring.len() == self.ring.capacity() && !is_first_dead(&self.ring, self.lifetime, now)
     }
 
     /// Keeps a record of a message that wasn't seen, with the datagram that was sent in reply to it,
@@ -113,7 +113,7 @@ impl Records {
         let record = Record::new(from, id, now, reply);
         let number = next_number(&self.ring, &self.index);
         self.index.insert(record.key(), number)?;
-        let_dead_go(&mut self.ring, &mut self.index, self.lifetime, &record);
+        release_dead(&mut self.ring, &mut self.index, self.lifetime, &record);
         let _ = self.ring.try_push_back(record);
         Ok(())
     }
@@ -161,7 +161,7 @@ fn lives_at(ring: &HeapCircularBuffer<Record>, place: usize, lifetime: u64, now:
 }
 
 /// Whether the first record doesn't live any more.
-fn begins_dead(ring: &HeapCircularBuffer<Record>, lifetime: u64, now: u64) -> bool
+fn is_first_dead(ring: &HeapCircularBuffer<Record>, lifetime: u64, now: u64) -> bool
     ensures { result
         ≡ option_map_or (λ r. not (is_living lifetime now r)) (slice_get ring.now.items 0) false }
 {
@@ -187,7 +187,7 @@ fn next_number(ring: &HeapCircularBuffer<Record>, index: &BTreeMap<Key, u64>) ->
 
 /// Lets the records go that don't live any more when the new one is kept, whose number the index has
 /// already.
-fn let_dead_go(
+fn release_dead(
     ring: &mut HeapCircularBuffer<Record>,
     index: &mut BTreeMap<Key, u64>,
     lifetime: u64,
@@ -200,13 +200,17 @@ fn let_dead_go(
         ≡ buffer (living lifetime new.now.at ring.old.items) ring.old.capacity }
     ensures numbered { AreNumbered index.new (ring.new.items ++ new.now ∷ []) }
 {
-    'dead: while begins_dead(ring, lifetime, new.at) {
-        let_first_go(ring, index, new);
+    'dead: while is_first_dead(ring, lifetime, new.at) {
+        release_first(ring, index, new);
     }
 }
 
 /// Lets the first record go, and its number, unless the new one is of the same message.
-fn let_first_go(ring: &mut HeapCircularBuffer<Record>, index: &mut BTreeMap<Key, u64>, new: &Record)
+fn release_first(
+    ring: &mut HeapCircularBuffer<Record>,
+    index: &mut BTreeMap<Key, u64>,
+    new: &Record,
+)
     requires apart { AreApart ring.old.items }
     requires numbered { AreNumbered index.old (ring.old.items ++ new.now ∷ []) }
     ensures left { ring.new ≡ buffer (drop 1 ring.old.items) ring.old.capacity }

@@ -7,8 +7,8 @@ use Rattle.coap_dedup.proofs.records.Records.is_full.Goals as goal
 pub returns-then-len-capacity : goal.returns-then-len-capacity
 returns-then-len-capacity c =
     record {
-      exact = subst (λ (t : Records). not c.begins_dead.result ≡ (length (living_at c.args.now t) == t.limit)) c.self.view_is
-          (full-is c.self.inside.lifetime c.args.now c.self.inside.ring.capacity c.self.inside.ring.items c.begins_dead.result c.self.invariant.are.in_order (omega arith) c.begins_dead.ensures);
+      exact = subst (λ (t : Records). not c.is_first_dead.result ≡ (length (living_at c.args.now t) == t.limit)) c.self.view_is
+          (full-is c.self.inside.lifetime c.args.now c.self.inside.ring.capacity c.self.inside.ring.items c.is_first_dead.result c.self.invariant.are.in_order (omega arith) c.is_first_dead.ensures);
     }
 
 pub returns-else-len-capacity : goal.returns-else-len-capacity

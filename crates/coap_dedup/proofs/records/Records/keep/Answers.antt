@@ -11,8 +11,8 @@ use Rattle.coap_dedup.proofs.Numbers.{AreNumbered-insert}
 use Rattle.coap_dedup.proofs.records.Records.keep.Goals as goal
 use Rattle.coap_dedup.proofs.records.Records.keep.Goals.{Joined-try_push_back}
 
-pub let_dead_go-requires-clause-numbered : goal.let_dead_go-requires-clause-numbered
-let_dead_go-requires-clause-numbered c =
+pub release_dead-requires-clause-numbered : goal.release_dead-requires-clause-numbered
+release_dead-requires-clause-numbered c =
     AreNumbered-insert c.next_number-number.result c.self.inside.index c.insert.new.self c.self.inside.ring.items c.new-record.result c.next_number-number.ensures
     (subst (λ j. (k : Key) → get key_cmp c.insert.new.self k ≡ cond (is_eq (key_cmp j k)) (Some c.next_number-number.result) (get key_cmp c.self.inside.index k)) c.key.ensures c.in_ok-insert.ensures.updates.0)
 
@@ -29,7 +29,7 @@ room_inside c =
 -- what is kept
 kept : (c : Joined-try_push_back) → in_ring c.try_push_back.new.self c.self.inside.lifetime ≡ with_kept (record { from = c.args.from; id = c.args.id; at = c.args.now; reply = c.args.reply }) c.args.self.now
 kept c =
-    ring-kept c.try_push_back.result c.self.inside.ring c.let_dead_go.new.ring c.try_push_back.new.self c.self.inside.lifetime c.new-record.result c.let_dead_go.ensures.left c.try_push_back.ensures.variant c.try_push_back.ensures.ok (room_inside c)
+    ring-kept c.try_push_back.result c.self.inside.ring c.release_dead.new.ring c.try_push_back.new.self c.self.inside.lifetime c.new-record.result c.release_dead.ensures.left c.try_push_back.ensures.variant c.try_push_back.ensures.ok (room_inside c)
     ∙ ap (λ (x : Record). with_kept x (in_ring c.self.inside.ring c.self.inside.lifetime)) c.new-record.ensures
     ∙ ap (with_kept (record { from = c.args.from; id = c.args.id; at = c.args.now; reply = c.args.reply })) c.self.view_is
 
@@ -43,9 +43,9 @@ pub invariant_of-self-2 : goal.invariant_of-self-2
 invariant_of-self-2 c = record {
   are = are c;
   numbers =
-      subst (λ (b : Buffer Record). AreNumbered c.let_dead_go.new.index b.items)
-      (sym (ring-put c.try_push_back.result c.self.inside.ring c.let_dead_go.new.ring c.try_push_back.new.self c.self.inside.lifetime c.new-record.result c.let_dead_go.ensures.left c.try_push_back.ensures.variant c.try_push_back.ensures.ok (room_inside c)))
-      c.let_dead_go.ensures.numbered;
+      subst (λ (b : Buffer Record). AreNumbered c.release_dead.new.index b.items)
+      (sym (ring-put c.try_push_back.result c.self.inside.ring c.release_dead.new.ring c.try_push_back.new.self c.self.inside.lifetime c.new-record.result c.release_dead.ensures.left c.try_push_back.ensures.variant c.try_push_back.ensures.ok (room_inside c)))
+      c.release_dead.ensures.numbered;
 }
 
 pub returns-clause-ok : goal.returns-clause-ok

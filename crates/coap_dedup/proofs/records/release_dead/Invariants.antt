@@ -2,7 +2,7 @@
 use Rattle.std.proofs.Common.{◌≡◌, [], ◌∷◌, ◌++◌, length}
 use Rattle.coap_dedup.specs.Indexing.{AreNumbered}
 use Rattle.coap_dedup.specs.Lists.{AreApart, AreInOrder, living}
-use Rattle.coap_dedup.proofs.records.let_dead_go.Given as goal
+use Rattle.coap_dedup.proofs.records.release_dead.Given as goal
 
 abbrev pub invariant-dead : goal.invariant-dead
 invariant-dead l = record {

@@ -2,7 +2,7 @@ use Rattle.std.proofs.Common.{◌≡◌, sym, ◌∙◌}
 use Rattle.circular_buffer.specs.Buffer.{Buffer, buffer}
 use Rattle.coap_dedup.specs.Lists.{living}
 use Rattle.coap_dedup.proofs.Aging.{living-settled}
-use Rattle.coap_dedup.proofs.records.let_dead_go.Goals as goal
+use Rattle.coap_dedup.proofs.records.release_dead.Goals as goal
 
 pub returns-clause-left : goal.returns-clause-left
 returns-clause-left c =

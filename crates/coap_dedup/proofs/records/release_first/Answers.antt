@@ -7,7 +7,7 @@ use Rattle.coap_dedup.specs.declared.key.Key.{Key}
 use Rattle.coap_dedup.specs.Indexing.{AreNumbered, key_cmp}
 use Rattle.coap_dedup.specs.Keys.{key_of, same_key}
 use Rattle.coap_dedup.proofs.Numbers.{first-goes, first-stays}
-use Rattle.coap_dedup.proofs.records.let_first_go.Goals as goal
+use Rattle.coap_dedup.proofs.records.release_first.Goals as goal
 
 pub returns-then-not-is-clause-numbered : goal.returns-then-not-is-clause-numbered
 returns-then-not-is-clause-numbered c =
