@@ -1,5 +1,5 @@
 -- Which records live, as time passes: of records in order of their moments the first ones don't.
-use Rattle.std.proofs.Common.{◌≡◌, ◌==◌, ℕ, ◌+◌, ◌<◌, ◌≤◌, Bool, true, false, cond, not, List, [], ◌∷◌, length, drop, zero, suc, Option, Some, None, refl, sym, ap, ◌∙◌, arith, slice_get, filter}
+use Rattle.std.proofs.Common.{◌≡◌, ◌==◌, ℕ, ◌+◌, ◌<◌, ◌≤◌, Bool, true, false, cond, not, List, [], ◌∷◌, length, drop, zero, suc, Option, Some, None, refl, sym, ap, ◌∙◌, arith, slice_get}
 use Rattle.std.specs.Option.{option_map_or}
 use Rattle.std.specs.List.{AllByRecursion}
 use Rattle.std.proofs.lemmas.Bool.{ltb-true, lt-ltb, both_ways, not-true, not-false, eq-eqb, ne_eqb}

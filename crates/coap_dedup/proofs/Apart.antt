@@ -1,10 +1,10 @@
 -- The record of a message: there is one at most, and it is found among those that live if it lives.
-use Rattle.std.proofs.Common.{◌≡◌, ℕ, ◌+◌, ◌≤◌, Bool, true, false, cond, List, [], ◌∷◌, ◌++◌, Option, Some, None, ◌⊎◌, inl, inr, refl, sym, ap, subst, ◌∙◌, arith, filter, find}
+use Rattle.std.proofs.Common.{◌≡◌, ℕ, ◌≤◌, Bool, true, false, cond, List, [], ◌∷◌, ◌++◌, Some, None, ◌⊎◌, inl, inr, refl, ap, subst, ◌∙◌}
 use Rattle.std.specs.List.{AllByRecursion}
 use Rattle.coap_target.specs.declared.endpoint.Endpoint.{Endpoint}
 use Rattle.coap_dedup.specs.declared.key.Key.{Key}
 use Rattle.coap_dedup.specs.declared.record.Record.{Record}
-use Rattle.coap_dedup.specs.Keys.{key_of, same_key}
+use Rattle.coap_dedup.specs.Keys.{key_of}
 use Rattle.coap_dedup.specs.Lists.{is_of, is_living, living, record_of, AreApart, AreInOrder, AreUpTo}
 use Rattle.coap_dedup.proofs.Orders.{same_key-only, same_key-flips}
 

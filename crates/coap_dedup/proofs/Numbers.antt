@@ -1,10 +1,11 @@
 -- The numbers of records: which record has one, and what becomes of them as records come and go.
-use Rattle.std.proofs.Common.{◌≡◌, ℕ, ◌+◌, ◌-◌, ◌%◌, ◌^◌, ◌<◌, ◌≤◌, Bool, true, false, cond, List, [], ◌∷◌, ◌++◌, length, zero, suc, Option, Some, None, drop, refl, sym, ap, subst, ◌∙◌, arith, slice_get}
+use Rattle.std.proofs.Common.{◌≡◌, ℕ, ◌+◌, ◌-◌, ◌%◌, ◌^◌, ◌<◌, Bool, true, false, cond, List, [], ◌∷◌, ◌++◌, length, zero, suc, Option, Some, None, drop, refl, sym, ap, subst, ◌∙◌, arith, slice_get}
 use Rattle.std.specs.BTreeMap.{BTreeMap, get}
+use Rattle.std.specs.Option.{option_or}
 use Rattle.std.specs.Ordering.{is_eq}
 use Rattle.coap_dedup.specs.declared.key.Key.{Key}
 use Rattle.coap_dedup.specs.declared.record.Record.{Record}
-use Rattle.coap_dedup.specs.Indexing.{AreNumbered, AreNumberedUpTo, key_cmp, number_of, or_else}
+use Rattle.coap_dedup.specs.Indexing.{AreNumbered, AreNumberedUpTo, key_cmp, number_of}
 use Rattle.coap_dedup.specs.Keys.{key_of, same_key}
 use Rattle.coap_dedup.specs.Lists.{is_of, record_of, AreApart}
 use Rattle.coap_dedup.proofs.Apart.{apart-rest, not-first, record_of-others}
@@ -24,7 +25,7 @@ number_of-push n k [] x = go (is_of k.from k.id x)
     go false = refl
 number_of-push n k (r ∷ rs) x = rw (number_of-push (n + 1) k rs x) (go (is_of k.from k.id x) (is_of k.from k.id r) (number_of (n + 1) k rs))
   where
-    go : (b p : Bool) (o : Option ℕ) → or_else (cond b (Some ((n + 1 + length rs) % 2 ^ 64)) o) (cond p (Some (n % 2 ^ 64)) None) ≡ cond b (Some ((n + length (r ∷ rs)) % 2 ^ 64)) (or_else o (cond p (Some (n % 2 ^ 64)) None))
+    go : (b p : Bool) (o : Option ℕ) → option_or (cond b (Some ((n + 1 + length rs) % 2 ^ 64)) o) (cond p (Some (n % 2 ^ 64)) None) ≡ cond b (Some ((n + length (r ∷ rs)) % 2 ^ 64)) (option_or o (cond p (Some (n % 2 ^ 64)) None))
     go true p o = ap (λ m. Some (m % 2 ^ 64)) (omega arith)
     go false p o = refl
 
@@ -37,7 +38,7 @@ pub number_of-place : (n : ℕ) (k : Key) (rs : List Record) (m : ℕ) → AreAp
 number_of-place n k [] m apart e = absurd cc
 number_of-place n k (r ∷ rs) m apart e = go (number_of (n + 1) k rs) refl (is_of k.from k.id r) refl e (number_of-place (n + 1) k rs m apart.1)
   where
-    go : (o : Option ℕ) → number_of (n + 1) k rs ≡ o → (b : Bool) → is_of k.from k.id r ≡ b → or_else o (cond b (Some (n % 2 ^ 64)) None) ≡ Some m
+    go : (o : Option ℕ) → number_of (n + 1) k rs ≡ o → (b : Bool) → is_of k.from k.id r ≡ b → option_or o (cond b (Some (n % 2 ^ 64)) None) ≡ Some m
         → (number_of (n + 1) k rs ≡ Some m → (i : ℕ) × (i < length rs) × (m ≡ (n + 1 + i) % 2 ^ 64) × (slice_get rs i ≡ record_of k.from k.id rs))
         → (i : ℕ) × (i < length (r ∷ rs)) × (m ≡ (n + i) % 2 ^ 64) × (slice_get (r ∷ rs) i ≡ record_of k.from k.id (r ∷ rs))
     go (Some later) is true of found rest = absurd (apart_from_none (number_of (n + 1) k rs) later is (number_of-none (n + 1) k rs (apart-rest k.from k.id r rs apart of)))
@@ -55,7 +56,7 @@ pub record_of-unnumbered : (n : ℕ) (k : Key) (rs : List Record) → number_of 
 record_of-unnumbered n k [] none = refl
 record_of-unnumbered n k (r ∷ rs) none = go (is_of k.from k.id r) (number_of (n + 1) k rs) refl none (record_of-unnumbered (n + 1) k rs)
   where
-    go : (b : Bool) (o : Option ℕ) → number_of (n + 1) k rs ≡ o → or_else o (cond b (Some (n % 2 ^ 64)) None) ≡ None → (number_of (n + 1) k rs ≡ None → record_of k.from k.id rs ≡ None) → cond b (Some r) (record_of k.from k.id rs) ≡ None
+    go : (b : Bool) (o : Option ℕ) → number_of (n + 1) k rs ≡ o → option_or o (cond b (Some (n % 2 ^ 64)) None) ≡ None → (number_of (n + 1) k rs ≡ None → record_of k.from k.id rs ≡ None) → cond b (Some r) (record_of k.from k.id rs) ≡ None
     go true None is e rest = absurd cc
     go false None is e rest = rest is
     go b (Some m) is e rest = absurd cc
@@ -150,7 +151,7 @@ module _ (index new : BTreeMap Key ℕ) (r : Record) (rs : List Record) where
       go k true same = sym (number_of-none (are.first + 1) k rs (subst (λ (j : Key). record_of j.from j.id rs ≡ None) (same_key-only (key_of r) k same) none))
       go k false other = are.numbered k ∙ rw other (last (number_of (are.first + 1) k rs))
         where
-          last : (o : Option ℕ) → or_else o None ≡ o
+          last : (o : Option ℕ) → option_or o None ≡ o
           last None = refl
           last (Some m) = refl
 
@@ -185,11 +186,11 @@ module _ (index : BTreeMap Key ℕ) (rs : List Record) (r x : Record) (apart : A
           skips : (k : Key) (b : Bool) → is_of k.from k.id x ≡ b → number_of nums.first k (s ∷ (ss ++ x ∷ [])) ≡ number_of (nums.first + 1) k (ss ++ x ∷ [])
           skips k true of = later (number_of (nums.first + 1) k (ss ++ x ∷ [])) (cond (is_of k.from k.id s) (Some (nums.first % 2 ^ 64)) None) ((nums.first + 1 + length ss) % 2 ^ 64) (number_of-push (nums.first + 1) k ss x ∙ rw of refl)
             where
-              later : (o p : Option ℕ) (m : ℕ) → o ≡ Some m → or_else o p ≡ o
+              later : (o p : Option ℕ) (m : ℕ) → o ≡ Some m → option_or o p ≡ o
               later None p m e = absurd cc
               later (Some l) p m e = refl
           skips k false of = rw (ap (λ j. same_key j k) key ∙ of) (only (number_of (nums.first + 1) k (ss ++ x ∷ [])))
             where
-              only : (o : Option ℕ) → or_else o None ≡ o
+              only : (o : Option ℕ) → option_or o None ≡ o
               only None = refl
               only (Some l) = refl

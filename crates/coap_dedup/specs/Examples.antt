@@ -3,6 +3,7 @@ use Rattle.std.specs.Prelude.{ℕ, List, [], ◌∷◌, Option, Some, None}
 use Rattle.coap_target.specs.declared.endpoint.Endpoint.{Endpoint}
 use Rattle.coap_target.specs.declared.endpoint.Ip.TheVariants.{V4}
 use Rattle.coap_dedup.specs.declared.record.Record.{Record}
+use Rattle.coap_dedup.specs.Lists.{living, record_of}
 use Rattle.coap_dedup.specs.Records.{Records, no_records, with_kept}
 
 -- a client with this port
@@ -36,3 +37,7 @@ third = with_kept (message 3 10) two
 -- one place, taken at the moment 0
 abbrev pub one : Records
 one = with_kept (confirmable 0) (no_records 1 247000)
+
+-- what is found for the message 9 of the client 40001, among records of this lifetime
+abbrev pub found_at : ℕ → ℕ → List Record → Option Record
+found_at lifetime now records = record_of (client 40001) 9 (living lifetime now records)

@@ -1,5 +1,5 @@
 -- Records of messages that were seen, as a list in order of keeping (RFC 7252, 4.5).
-use Rattle.std.specs.Prelude.{◌≡◌, ℕ, ◌+◌, ◌≤◌, ◌==◌, ◌&&◌, Bool, List, [], ◌∷◌, length, filter, find, Option, None}
+use Rattle.std.specs.Prelude.{◌≡◌, ℕ, ◌≤◌, ◌==◌, ◌&&◌, Bool, List, [], ◌∷◌, length, filter, find, Option, None}
 use Rattle.std.specs.List.{AllByRecursion, sum_by}
 use Rattle.std.specs.Option.{option_map_or}
 use Rattle.coap_target.specs.declared.endpoint.Endpoint.{Endpoint}

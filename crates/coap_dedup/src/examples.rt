@@ -1,11 +1,11 @@
 //! Examples, computed on the definitions.
 ghost use Rattle.std.specs.Prelude.{◌≡◌, ◌^◌, ◌-◌, ◌∷◌, [], true, false, None, Some, length};
 ghost use Rattle.coap_target.specs.declared.endpoint.Ip.TheVariants.{V6};
-ghost use Rattle.coap_dedup.specs.Examples.{acknowledgement, client, confirmable, message, one, third, two, unanswered};
+ghost use Rattle.coap_dedup.specs.Examples.{acknowledgement, client, confirmable, found_at, message, one, third, two, unanswered};
 ghost use Rattle.coap_dedup.specs.Indexing.{number_of};
 ghost use Rattle.coap_dedup.specs.Keys.{key_of};
 ghost use Rattle.coap_dedup.specs.Lifetimes.{lives};
-ghost use Rattle.coap_dedup.specs.Lists.{bytes_of, living, record_of};
+ghost use Rattle.coap_dedup.specs.Lists.{bytes_of, record_of};
 ghost use Rattle.coap_dedup.specs.Records.{living_at, no_records, with_kept};
 
 use crate::record::{EXCHANGE_LIFETIME, NON_LIFETIME};
@@ -26,21 +26,17 @@ pub fn remembered()
 
 /// Which record is found, and until when.
 pub fn found()
-    ensures confirmable { record_of (client 40001) 9 (living 247000 246999 (confirmable 0 ∷ []))
-        ≡ Some (confirmable 0) }
-    ensures confirmable_too_late { record_of (client 40001) 9 (living 247000 247000 (confirmable 0 ∷ []))
-        ≡ None }
-    ensures non_confirmable { record_of (client 40001) 9 (living 145000 144999 (unanswered 0 ∷ []))
-        ≡ Some (unanswered 0) }
-    ensures non_confirmable_too_late { record_of (client 40001) 9 (living 145000 145000 (unanswered 0 ∷ []))
-        ≡ None }
+    ensures confirmable { found_at 247000 246999 (confirmable 0 ∷ []) ≡ Some (confirmable 0) }
+    ensures confirmable_too_late { found_at 247000 247000 (confirmable 0 ∷ []) ≡ None }
+    ensures non_confirmable { found_at 145000 144999 (unanswered 0 ∷ []) ≡ Some (unanswered 0) }
+    ensures non_confirmable_too_late { found_at 145000 145000 (unanswered 0 ∷ []) ≡ None }
+    ensures among_others { found_at 9 9 (message 8 0 ∷ confirmable 1 ∷ message 10 2 ∷ [])
+        ≡ Some (confirmable 1) }
+    ensures other_id { found_at 9 0 (message 8 0 ∷ message 10 0 ∷ []) ≡ None }
     ensures other_port { record_of (client 40002) 9 (confirmable 0 ∷ []) ≡ None }
     ensures other_address { record_of
         (record { ip = V6 (127 ∷ 0 ∷ 0 ∷ 1 ∷ []); port = 40001 }) 9 (confirmable 0 ∷ [])
         ≡ None }
-    ensures other_id { record_of (client 40001) 10 (confirmable 0 ∷ []) ≡ None }
-    ensures among_others { record_of (client 40001) 9 (message 8 0 ∷ confirmable 1 ∷ message 10 2 ∷ [])
-        ≡ Some (confirmable 1) }
 {}
 
 /// What is held as messages come: two places for ten milliseconds, and one for 247 seconds.

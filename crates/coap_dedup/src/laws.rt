@@ -55,7 +55,9 @@ pub fn records_stay_so()
         → AreUpTo r.at t.items
         → length (living_at r.at t) < t.limit
         → AreRecords (with_kept r t) }
-    ensures up_to { (r : Record) (t : Records) → AreUpTo r.at t.items → AreUpTo r.at (with_kept r t).items }
+    ensures up_to { (r : Record) (t : Records)
+        → AreUpTo r.at t.items
+        → AreUpTo r.at (with_kept r t).items }
     ensures few { (t : Records) (now : ℕ) → AreRecords t → length (living_at now t) ≤ t.limit }
 {}
 

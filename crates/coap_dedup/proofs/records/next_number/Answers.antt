@@ -1,7 +1,6 @@
-use Rattle.std.proofs.Common.{◌≡◌, ◌-◌, Some, None, length, slice_get, sym, subst, ◌∙◌}
+use Rattle.std.proofs.Common.{◌≡◌, Some, None, sym, subst}
 use Rattle.std.specs.BTreeMap.{get}
 use Rattle.coap_dedup.specs.Indexing.{key_cmp}
-use Rattle.coap_dedup.specs.Keys.{key_of}
 use Rattle.coap_dedup.proofs.Numbers.{AreNumberedUpTo-last, AreNumberedUpTo-none, last-has-number}
 use Rattle.coap_dedup.proofs.records.next_number.Goals as goal
 

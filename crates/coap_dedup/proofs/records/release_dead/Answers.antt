@@ -1,6 +1,4 @@
-use Rattle.std.proofs.Common.{◌≡◌, sym, ◌∙◌}
-use Rattle.circular_buffer.specs.Buffer.{Buffer, buffer}
-use Rattle.coap_dedup.specs.Lists.{living}
+use Rattle.std.proofs.Common.{sym, ◌∙◌}
 use Rattle.coap_dedup.proofs.Aging.{living-settled}
 use Rattle.coap_dedup.proofs.records.release_dead.Goals as goal
 
