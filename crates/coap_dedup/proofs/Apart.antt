@@ -1,12 +1,12 @@
 -- The record of a message: there is one at most, and it is found among those that live if it lives.
-use Rattle.std.proofs.Common.{◌≡◌, ℕ, ◌≤◌, Bool, true, false, cond, List, [], ◌∷◌, ◌++◌, Some, None, ◌⊎◌, inl, inr, refl, ap, subst, ◌∙◌}
+use Rattle.std.proofs.Common.{◌≡◌, ℕ, ◌≤◌, Bool, true, false, cond, List, [], ◌∷◌, ◌++◌, zero, suc, slice_get, Some, None, ◌⊎◌, inl, inr, refl, ap, subst, ◌∙◌}
 use Rattle.std.specs.List.{AllByRecursion}
 use Rattle.coap_target.specs.declared.endpoint.Endpoint.{Endpoint}
 use Rattle.coap_dedup.specs.declared.key.Key.{Key}
 use Rattle.coap_dedup.specs.declared.record.Record.{Record}
 use Rattle.coap_dedup.specs.Keys.{key_of}
 use Rattle.coap_dedup.specs.Lists.{is_of, is_living, living, record_of, AreApart, AreInOrder, AreUpTo}
-use Rattle.coap_dedup.proofs.Orders.{same_key-only, same_key-flips}
+use Rattle.coap_dedup.proofs.Orders.{same_key-itself, same_key-only, same_key-flips}
 
 -- a message that has no record isn't that of any record
 pub not-first : (from : Endpoint) (id : ℕ) (r : Record) (rs : List Record) → record_of from id (r ∷ rs) ≡ None → (is_of from id r ≡ false) × (record_of from id rs ≡ None)
@@ -104,3 +104,15 @@ AreInOrder-push (r ∷ rs) x in_order up_to = (more rs in_order.0, AreInOrder-pu
     more : (ss : List Record) → AllByRecursion (λ s. r.at ≤ s.at) ss → AllByRecursion (λ s. r.at ≤ s.at) (ss ++ x ∷ [])
     more [] all = (up_to.0, tt)
     more (s ∷ ss) all = (all.0, more ss all.1)
+
+-- of records that are apart, each is the one that is found for its message
+pub record_of-each : (rs : List Record) (i : ℕ) (x : Record) → AreApart rs → slice_get rs i ≡ Some x → record_of x.from x.id rs ≡ Some x
+record_of-each [] i x apart at = absurd cc
+record_of-each (r ∷ rs) zero x apart at =
+    let same : r ≡ x = cc in
+    subst (λ (y : Record). record_of y.from y.id (r ∷ rs) ≡ Some y) same (rw (same_key-itself (key_of r)) refl)
+record_of-each (r ∷ rs) (suc i) x apart at = go (is_of x.from x.id r) refl (record_of-each rs i x apart.1 at)
+  where
+    go : (b : Bool) → is_of x.from x.id r ≡ b → record_of x.from x.id rs ≡ Some x → cond b (Some r) (record_of x.from x.id rs) ≡ Some x
+    go true of rest = let none = apart-rest x.from x.id r rs apart of in absurd cc
+    go false of rest = rest

@@ -1,5 +1,5 @@
 -- Records of messages that were seen, as a list in order of keeping (RFC 7252, 4.5).
-use Rattle.std.specs.Prelude.{◌≡◌, ℕ, ◌≤◌, ◌==◌, ◌&&◌, Bool, List, [], ◌∷◌, length, filter, find, Option, None}
+use Rattle.std.specs.Prelude.{◌≡◌, ℕ, ◌≤◌, ◌==◌, ◌&&◌, Bool, List, [], ◌∷◌, ◌++◌, length, filter, find, Option, None}
 use Rattle.std.specs.List.{AllByRecursion, sum_by}
 use Rattle.std.specs.Option.{option_map_or}
 use Rattle.coap_target.specs.declared.endpoint.Endpoint.{Endpoint}
@@ -14,6 +14,10 @@ is_living lifetime now r = lives lifetime r.at now
 -- the records that live at this moment
 abbrev pub living : ℕ → ℕ → List Record → List Record
 living lifetime now records = filter (is_living lifetime now) records
+
+-- one record more, behind those that live at its moment; those that don't are let go
+abbrev pub kept_with : ℕ → Record → List Record → List Record
+kept_with lifetime r records = living lifetime r.at records ++ r ∷ []
 
 -- the record is of a message from this endpoint with this message id (RFC 7252, 4.4)
 abbrev pub is_of : Endpoint → ℕ → Record → Bool

@@ -1,7 +1,7 @@
 -- The records of one kind of messages, within a limit.
-use Rattle.std.specs.Prelude.{ℕ, ◌≤◌, List, [], ◌∷◌, ◌++◌, length}
+use Rattle.std.specs.Prelude.{ℕ, ◌≤◌, List, [], length}
 use Rattle.coap_dedup.specs.declared.record.Record.{Record}
-use Rattle.coap_dedup.specs.Lists.{living, AreInOrder, AreApart}
+use Rattle.coap_dedup.specs.Lists.{kept_with, living, AreInOrder, AreApart}
 
 pub record Records : Type 0 where
   -- those that are held, in order of keeping, whether they live or not
@@ -23,7 +23,7 @@ no_records limit lifetime = record { items = []; limit = limit; lifetime = lifet
 abbrev pub living_at : ℕ → Records → List Record
 living_at now t = living t.lifetime now t.items
 
--- one more is kept, and those are let go that don't live at its moment
+-- one record more is kept
 abbrev pub with_kept : Record → Records → Records
 with_kept r t =
-    record { items = living_at r.at t ++ r ∷ []; limit = t.limit; lifetime = t.lifetime }
+    record { items = kept_with t.lifetime r t.items; limit = t.limit; lifetime = t.lifetime }

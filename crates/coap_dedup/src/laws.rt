@@ -1,12 +1,13 @@
 //! Laws of the definitions: public functions that do nothing, whose contracts are the laws.
-ghost use Rattle.std.specs.Prelude.{◌≡◌, ℕ, ◌+◌, ◌*◌, ◌-◌, ◌<◌, ◌≤◌, ◌++◌, ◌∷◌, [], List, None, Some, true, false, drop, length};
+ghost use Rattle.std.specs.Prelude.{◌≡◌, ℕ, ◌+◌, ◌*◌, ◌-◌, ◌<◌, ◌≤◌, ◌++◌, ◌∷◌, [], List, None, Some, true, false, drop, length, slice_get};
 ghost use Rattle.std.specs.List.{AllByRecursion};
 ghost use Rattle.coap_target.specs.declared.endpoint.Endpoint.{Endpoint};
 ghost use Rattle.coap_dedup.specs.declared.record.Record.{Record};
-ghost use Rattle.coap_dedup.specs.Lists.{AreInOrder, AreUpTo, bytes_of, is_living, is_of, living, record_of, reply_bytes};
+ghost use Rattle.coap_dedup.specs.Lists.{AreApart, AreInOrder, AreUpTo, bytes_of, is_living, is_of, living, record_of, reply_bytes};
 ghost use Rattle.coap_dedup.specs.Records.{AreRecords, Records, living_at, no_records, with_kept};
 
-/// What is kept is found until its lifetime ends, and what was found before is found still.
+/// What is kept is found until its lifetime ends, and what was found before is found still. Each record
+/// is what is found for its message, and no other is.
 pub fn what_is_kept_is_found()
     ensures kept { (r : Record) (t : Records) (now : ℕ)
         → record_of r.from r.id (living_at r.at t) ≡ None
@@ -17,6 +18,10 @@ pub fn what_is_kept_is_found()
         → is_of from id r ≡ false
         → r.at ≤ now
         → record_of from id (living_at now (with_kept r t)) ≡ record_of from id (living_at now t) }
+    ensures each { (records : List Record) (place : ℕ) (r : Record)
+        → AreApart records
+        → slice_get records place ≡ Some r
+        → record_of r.from r.id records ≡ Some r }
     ensures of_that_message { (from : Endpoint) (id : ℕ) (records : List Record) (r : Record)
         → record_of from id records ≡ Some r
         → is_of from id r ≡ true }

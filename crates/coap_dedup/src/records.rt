@@ -20,13 +20,18 @@ use std::collections::BTreeMap;
 use std::marker::Model;
 
 /// Records of the messages of one kind, in order of keeping. A contract sees them as a list, with the
-/// most that are held and their lifetime.
+/// most that are held and their lifetime. Moments are in milliseconds and don't go back.
+///
+/// A look-up and a `keep` cost what a look-up in the index does, whatever keys strangers choose; beside
+/// that each record is let go once.
 #[derive(Drop)]
 pub struct Records {
     /// The records, in as many places as the limit.
     ring: HeapCircularBuffer<Record>,
-    /// A number for each record, one more than that of the record before it.
+    /// A number for each record, one more than that of the record before it; after the greatest
+    /// comes 0.
     index: BTreeMap<Key, u64>,
+    /// For how long each lives, in milliseconds.
     lifetime: u64,
 }
 
@@ -46,7 +51,7 @@ impl Model for Records {
 }
 
 impl Records {
-    /// No records, with room for so many. Each will live for so many milliseconds.
+    /// No records, with places for as many as the limit. Each will live for so many milliseconds.
     pub fn new(alloc: Global, limit: usize, lifetime: u64) -> Result<Records, OutOfMemory>
         ensures empty { IfOk result (λ records. records ≡ no_records limit lifetime) }
     {
@@ -70,22 +75,22 @@ impl Records {
         }
     }
 
-    /// How many records live.
+    /// How many records live. It takes no memory.
     pub fn living(&self, now: u64) -> usize
         ensures exact { result ≡ length (living_at now self.now) }
     {
         self.ring.len() - count_dead(&self.ring, self.lifetime, now)
     }
 
-    /// Whether as many records live as there may be.
+    /// Whether as many records live as there may be. It takes no memory.
     pub fn is_full(&self, now: u64) -> bool
         ensures exact { result ≡ (length (living_at now self.now) == self.now.limit) }
     {
         self.ring.len() == self.ring.capacity() && !is_first_dead(&self.ring, self.lifetime, now)
     }
 
-    /// Keeps a record of a message that wasn't seen, with the datagram that was sent in reply to it,
-    /// if one was. Those that no longer live are let go.
+    /// Keeps a record of a message that came now and wasn't seen, with the datagram that is sent in
+    /// reply to it, if one is (RFC 7252, 4.5). Records that no longer live are let go.
     ///
     /// # Errors
     /// 1. `Full` where as many records live as there may be. 2. `OutOfMemory`. Nothing is changed then.

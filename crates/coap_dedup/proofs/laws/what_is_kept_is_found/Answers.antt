@@ -1,3 +1,4 @@
+use Rattle.coap_dedup.proofs.Apart.{record_of-each}
 use Rattle.coap_dedup.proofs.Passing.{found-is_of, kept-found, kept-others}
 use Rattle.coap_dedup.proofs.laws.what_is_kept_is_found.Goals as goal
 
@@ -9,3 +10,6 @@ returns-clause-others c = kept-others
 
 pub returns-clause-of_that_message : goal.returns-clause-of_that_message
 returns-clause-of_that_message c = found-is_of
+
+pub returns-clause-each : goal.returns-clause-each
+returns-clause-each c = record_of-each
