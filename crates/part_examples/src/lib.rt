@@ -1,10 +1,13 @@
-//! Tests of the parts, each by itself: datagrams, options, targets, stores and tables, as they were worked out by hand.
+//! Tests of the parts, each by itself: datagrams, options, targets, stores, records and tables, as they were worked out
+//! by hand.
 #![tactic(auto)]
 
 #[cfg(test)]
 mod messages;
 #[cfg(test)]
 mod options;
+#[cfg(test)]
+mod records;
 #[cfg(test)]
 mod stores;
 #[cfg(test)]

@@ -1,0 +1,6 @@
+pub mod Orders
+pub mod Aging
+pub mod Apart
+pub mod Numbers
+pub mod Kept
+pub mod Passing

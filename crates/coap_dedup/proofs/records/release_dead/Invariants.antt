@@ -1,0 +1,17 @@
+-- What lives stays, and the index has the numbers of what is left and of the new record.
+use Rattle.std.proofs.Common.{◌≡◌, [], ◌∷◌, ◌++◌, length}
+use Rattle.coap_dedup.specs.Indexing.{AreNumbered}
+use Rattle.coap_dedup.specs.Lists.{AreApart, AreInOrder, living}
+use Rattle.coap_dedup.proofs.records.release_dead.Given as goal
+
+abbrev pub invariant-dead : goal.invariant-dead
+invariant-dead l = record {
+  capacity : l.ring.capacity ≡ l.initial.ring.capacity;
+  same : living l.lifetime l.new.at l.ring.items ≡ living l.lifetime l.new.at l.initial.ring.items;
+  in_order : AreInOrder l.ring.items;
+  apart : AreApart l.ring.items;
+  numbered : AreNumbered l.index (l.ring.items ++ l.new ∷ []);
+}
+
+abbrev pub decreases-dead : goal.decreases-dead
+decreases-dead l = length l.ring.items

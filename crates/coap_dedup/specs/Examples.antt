@@ -1,0 +1,43 @@
+-- Records of the examples.
+use Rattle.std.specs.Prelude.{ℕ, List, [], ◌∷◌, Option, Some, None}
+use Rattle.coap_target.specs.declared.endpoint.Endpoint.{Endpoint}
+use Rattle.coap_target.specs.declared.endpoint.Ip.TheVariants.{V4}
+use Rattle.coap_dedup.specs.declared.record.Record.{Record}
+use Rattle.coap_dedup.specs.Lists.{living, record_of}
+use Rattle.coap_dedup.specs.Records.{Records, no_records, with_kept}
+
+-- a client with this port
+abbrev pub client : ℕ → Endpoint
+client port = record { ip = V4 (127 ∷ 0 ∷ 0 ∷ 1 ∷ []); port = port }
+
+-- an empty acknowledgement of the message 9
+abbrev pub acknowledgement : List ℕ
+acknowledgement = 0x60 ∷ 0 ∷ 0 ∷ 9 ∷ []
+
+-- the message 9 of the client 40001, which came at this moment and was acknowledged
+abbrev pub confirmable : ℕ → Record
+confirmable at = record { from = client 40001; id = 9; at = at; reply = Some acknowledgement }
+
+-- the same without a reply
+abbrev pub unanswered : ℕ → Record
+unanswered at = record { from = client 40001; id = 9; at = at; reply = None }
+
+-- a message of this id, to which nothing was replied
+abbrev pub message : ℕ → ℕ → Record
+message id at = record { from = client 40001; id = id; at = at; reply = None }
+
+-- two places for ten milliseconds, taken at the moments 0 and 5
+abbrev pub two : Records
+two = with_kept (message 2 5) (with_kept (message 1 0) (no_records 2 10))
+
+-- a third message, kept once there is room
+abbrev pub third : Records
+third = with_kept (message 3 10) two
+
+-- one place, taken at the moment 0
+abbrev pub one : Records
+one = with_kept (confirmable 0) (no_records 1 247000)
+
+-- what is found for the message 9 of the client 40001, among records of this lifetime
+abbrev pub found_at : ℕ → ℕ → List Record → Option Record
+found_at lifetime now records = record_of (client 40001) 9 (living lifetime now records)

@@ -1,0 +1,12 @@
+-- By what messages are known again.
+use Rattle.std.specs.Prelude.{Bool, ◌==◌, ◌&&◌}
+use Rattle.coap_target.specs.Endpoint.{same_endpoint}
+use Rattle.coap_dedup.specs.declared.key.Key.{Key}
+use Rattle.coap_dedup.specs.declared.record.Record.{Record}
+
+-- one endpoint and one message id
+abbrev pub same_key : Key → Key → Bool
+same_key a b = same_endpoint a.from b.from && (a.id == b.id)
+
+abbrev pub key_of : Record → Key
+key_of r = record { from = r.from; id = r.id }

@@ -1,0 +1,7 @@
+pub mod Lifetimes
+pub mod Lists
+pub mod Records
+pub mod Seen
+pub mod Keys
+pub mod Indexing
+pub mod Examples

@@ -1,0 +1,15 @@
+//! Messages that were seen before, and the replies that were kept for them (RFC 7252, 4.2 and 4.5).
+#![tactic(auto)]
+
+mod error;
+pub mod examples;
+mod key;
+pub mod laws;
+mod record;
+mod records;
+mod seen;
+
+pub use error::KeepError;
+pub use record::{EXCHANGE_LIFETIME, NON_LIFETIME, Record};
+pub use records::Records;
+pub use seen::Seen;

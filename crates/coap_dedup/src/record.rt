@@ -1,0 +1,81 @@
+//! What is remembered of a message.
+ghost use Rattle.std.specs.Prelude.{◌≡◌};
+ghost use Rattle.std.specs.Option.{option_copied};
+ghost use Rattle.coap_dedup.specs.Keys.{key_of};
+ghost use Rattle.coap_dedup.specs.Lists.{is_living};
+
+use crate::key::Key;
+use coap_message::Seq;
+use coap_target::Endpoint;
+
+/// For how long the record of a Confirmable message lives, in milliseconds: EXCHANGE_LIFETIME
+/// (RFC 7252, 4.8.2).
+pub const EXCHANGE_LIFETIME: u64 = 247_000;
+
+/// For how long the record of a Non-confirmable message lives, in milliseconds: NON_LIFETIME
+/// (RFC 7252, 4.8.2).
+pub const NON_LIFETIME: u64 = 145_000;
+
+/// A message that was seen, and what was sent at once in reply to it.
+#[derive(Clone, Debug, Drop, PartialEq, Eq)]
+pub struct Record {
+    /// Where the message came from.
+    pub from: Endpoint,
+    /// Its message id.
+    pub id: u16,
+    /// The moment at which it came, in milliseconds.
+    pub at: u64,
+    /// The datagram that was sent in reply, if one was.
+    pub reply: Option<Seq<u8>>,
+}
+
+impl Record {
+    /// A record, whose reply takes no more room than it has bytes.
+    pub(crate) fn new(from: Endpoint, id: u16, at: u64, reply: Option<Seq<u8>>) -> Record
+        ensures { result ≡ record { from = from; id = id; at = at; reply = reply } }
+    {
+        let reply = match reply {
+            Some(mut bytes) => {
+                bytes.shrink_to_fit();
+                Some(bytes)
+            }
+            None => None,
+        };
+        Record {
+            from,
+            id,
+            at,
+            reply,
+        }
+    }
+
+    /// The bytes of the reply, if there was one.
+    pub(crate) fn reply(&self) -> Option<&[u8]>
+        ensures { option_copied result ≡ self.now.reply }
+    {
+        match &self.reply {
+            Some(bytes) => Some(bytes.as_slice()),
+            None => None,
+        }
+    }
+
+    /// By what the message is known again.
+    pub(crate) fn key(&self) -> Key
+        ensures { result ≡ key_of self.now }
+    {
+        Key {
+            from: self.from,
+            id: self.id,
+        }
+    }
+
+    /// Whether less than a lifetime has passed since the message came.
+    pub(crate) fn is_living(&self, lifetime: u64, now: u64) -> bool
+        ensures { result ≡ is_living lifetime now self.now }
+    {
+        match self.at.checked_add(lifetime) {
+            Some(end) => now < end,
+            None => true,
+        }
+    }
+}

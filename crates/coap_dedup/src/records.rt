@@ -1,0 +1,230 @@
+//! Records of the messages of one kind.
+ghost use Rattle.std.specs.Prelude.{◌≡◌, ◌↔◌, ◌==◌, ◌+◌, ◌<◌, ◌++◌, ◌∷◌, [], None, length, drop, slice_get, not, option_map, false, IfOk, IfErr, OnOk, OnErr};
+ghost use Rattle.std.specs.Option.{option_copied, option_map_or};
+ghost use Rattle.circular_buffer.specs.Buffer.{buffer};
+ghost use Rattle.coap_dedup.specs.declared.error.KeepError.TheVariants.{Full};
+ghost use Rattle.coap_dedup.specs.Indexing.{AreNumbered, AreNumberedUpTo};
+ghost use Rattle.coap_dedup.specs.Lists.{AreApart, AreInOrder, AreUpTo, is_living, living, record_of};
+ghost use Rattle.coap_dedup.specs.Records.{AreRecords, living_at, no_records, with_kept};
+ghost use Rattle.coap_dedup.specs.Seen.{told};
+
+use crate::error::KeepError;
+use crate::key::Key;
+use crate::record::Record;
+use crate::seen::Seen;
+use circular_buffer::HeapCircularBuffer;
+use coap_message::{OutOfMemory, Seq};
+use coap_target::Endpoint;
+use std::alloc::Global;
+use std::collections::BTreeMap;
+use std::marker::Model;
+
+/// Records of the messages of one kind, in order of keeping. A contract sees them as a list, with the
+/// most that are held and their lifetime. Moments are in milliseconds and don't go back.
+///
+/// A look-up and a `keep` cost what a look-up in the index does, whatever keys strangers choose; beside
+/// that each record is let go once.
+#[derive(Drop)]
+pub struct Records {
+    /// The records, in as many places as the limit.
+    ring: HeapCircularBuffer<Record>,
+    /// A number for each record, one more than that of the record before it; after the greatest
+    /// comes 0.
+    index: BTreeMap<Key, u64>,
+    /// For how long each lives, in milliseconds.
+    lifetime: u64,
+}
+
+impl Model for Records {
+    ghost use Rattle.coap_dedup.specs.Indexing.{AreIndexed};
+    ghost use Rattle.coap_dedup.specs.Records.{Records};
+
+    ghost Value = { Records };
+
+    ghost view = { λ r.
+        record { items = r.ring.items; limit = r.ring.capacity; lifetime = r.lifetime } };
+
+    ghost invariant = { λ r.
+        AreIndexed
+        (record { items = r.ring.items; limit = r.ring.capacity; lifetime = r.lifetime })
+        r.index };
+}
+
+impl Records {
+    /// No records, with places for as many as the limit. Each will live for so many milliseconds.
+    pub fn new(alloc: Global, limit: usize, lifetime: u64) -> Result<Records, OutOfMemory>
+        ensures empty { IfOk result (λ records. records ≡ no_records limit lifetime) }
+    {
+        Ok(Records {
+            ring: HeapCircularBuffer::with_capacity(alloc, limit)?,
+            index: BTreeMap::new(alloc),
+            lifetime,
+        })
+    }
+
+    /// Whether a message from this endpoint with this message id was seen, and what was replied
+    /// (RFC 7252, 4.5). It takes no memory.
+    pub fn seen(&self, from: Endpoint, id: u16, now: u64) -> Seen<'_>
+        ensures exact { told result
+            ≡ option_map (λ r. r.reply) (record_of from id (living_at now self.now)) }
+        ensures sound { AreRecords self.now }
+    {
+        match self.record(Key { from, id }) {
+            Some(record) if record.is_living(self.lifetime, now) => Seen::Again(record.reply()),
+            _ => Seen::New,
+        }
+    }
+
+    /// How many records live. It takes no memory.
+    pub fn living(&self, now: u64) -> usize
+        ensures exact { result ≡ length (living_at now self.now) }
+    {
+        self.ring.len() - count_dead(&self.ring, self.lifetime, now)
+    }
+
+    /// Whether as many records live as there may be. It takes no memory.
+    pub fn is_full(&self, now: u64) -> bool
+        ensures exact { result ≡ (length (living_at now self.now) == self.now.limit) }
+    {
+        self.ring.len() == self.ring.capacity() && !is_first_dead(&self.ring, self.lifetime, now)
+    }
+
+    /// Keeps a record of a message that came now and wasn't seen, with the datagram that is sent in
+    /// reply to it, if one is (RFC 7252, 4.5). Records that no longer live are let go.
+    ///
+    /// # Errors
+    /// 1. `Full` where as many records live as there may be. 2. `OutOfMemory`. Nothing is changed then.
+    pub fn keep(
+        &mut self,
+        from: Endpoint,
+        id: u16,
+        now: u64,
+        reply: Option<Seq<u8>>,
+    ) -> Result<(), KeepError>
+        requires new { record_of from id (living_at now self.old) ≡ None }
+        requires in_order { AreUpTo now self.old.items }
+        ensures ok { OnOk result
+            (self.new
+            ≡ with_kept (record { from = from; id = id; at = now; reply = reply }) self.old) }
+        ensures full { IfErr result (λ error.
+            (error ≡ Full) ↔ (length (living_at now self.old) ≡ self.old.limit)) }
+        ensures room { OnOk result (length (living_at now self.old) < self.old.limit) }
+        ensures err { OnErr result (self.new ≡ self.old) }
+        ensures sound { AreRecords self.new }
+    {
+        if self.is_full(now) {
+            return Err(KeepError::Full);
+        }
+        let record = Record::new(from, id, now, reply);
+        let number = next_number(&self.ring, &self.index);
+        self.index.insert(record.key(), number)?;
+        release_dead(&mut self.ring, &mut self.index, self.lifetime, &record);
+        let _ = self.ring.try_push_back(record);
+        Ok(())
+    }
+
+    /// The record of a key, whether it lives or not.
+    fn record(&self, key: Key) -> Option<&Record>
+        ensures found { option_copied result ≡ record_of key.from key.id self.now.items }
+        ensures sound { AreRecords self.now }
+    {
+        let _few = self.ring.len();
+        let number = self.index.get(&key)?;
+        let first = self.ring.front()?;
+        let first = self.index.get(&first.key())?;
+        self.ring.get(number.wrapping_sub(*first) as usize)
+    }
+}
+
+/// How many records don't live any more. They are the first ones.
+fn count_dead(ring: &HeapCircularBuffer<Record>, lifetime: u64, now: u64) -> usize
+    requires { AreInOrder ring.now.items }
+    ensures { result + length (living lifetime now ring.now.items) ≡ length ring.now.items }
+{
+    let mut dead = 0;
+    let mut end = ring.len();
+    'search: while dead < end {
+        let middle = dead + (end - dead) / 2;
+        if lives_at(ring, middle, lifetime, now) {
+            end = middle;
+        } else {
+            dead = middle + 1;
+        }
+    }
+    dead
+}
+
+/// Whether the record at a place lives.
+fn lives_at(ring: &HeapCircularBuffer<Record>, place: usize, lifetime: u64, now: u64) -> bool
+    ensures { result
+        ≡ option_map_or (is_living lifetime now) (slice_get ring.now.items place) false }
+{
+    match ring.get(place) {
+        Some(record) => record.is_living(lifetime, now),
+        None => false,
+    }
+}
+
+/// Whether the first record doesn't live any more.
+fn is_first_dead(ring: &HeapCircularBuffer<Record>, lifetime: u64, now: u64) -> bool
+    ensures { result
+        ≡ option_map_or (λ r. not (is_living lifetime now r)) (slice_get ring.now.items 0) false }
+{
+    match ring.front() {
+        Some(first) => !first.is_living(lifetime, now),
+        None => false,
+    }
+}
+
+/// The number of the next record.
+fn next_number(ring: &HeapCircularBuffer<Record>, index: &BTreeMap<Key, u64>) -> u64
+    requires { AreNumbered index.now ring.now.items }
+    ensures { AreNumberedUpTo result index.now ring.now.items }
+{
+    match ring.back() {
+        Some(last) => match index.get(&last.key()) {
+            Some(number) => number.wrapping_add(1),
+            None => 0,
+        },
+        None => 0,
+    }
+}
+
+/// Lets the records go that don't live any more when the new one is kept, whose number the index has
+/// already.
+fn release_dead(
+    ring: &mut HeapCircularBuffer<Record>,
+    index: &mut BTreeMap<Key, u64>,
+    lifetime: u64,
+    new: &Record,
+)
+    requires in_order { AreInOrder ring.old.items }
+    requires apart { AreApart ring.old.items }
+    requires numbered { AreNumbered index.old (ring.old.items ++ new.now ∷ []) }
+    ensures left { ring.new
+        ≡ buffer (living lifetime new.now.at ring.old.items) ring.old.capacity }
+    ensures numbered { AreNumbered index.new (ring.new.items ++ new.now ∷ []) }
+{
+    'dead: while is_first_dead(ring, lifetime, new.at) {
+        release_first(ring, index, new);
+    }
+}
+
+/// Lets the first record go, and its number, unless the new one is of the same message.
+fn release_first(
+    ring: &mut HeapCircularBuffer<Record>,
+    index: &mut BTreeMap<Key, u64>,
+    new: &Record,
+)
+    requires apart { AreApart ring.old.items }
+    requires numbered { AreNumbered index.old (ring.old.items ++ new.now ∷ []) }
+    ensures left { ring.new ≡ buffer (drop 1 ring.old.items) ring.old.capacity }
+    ensures numbered { AreNumbered index.new (ring.new.items ++ new.now ∷ []) }
+{
+    if let Some(first) = ring.pop_front() {
+        let key = first.key();
+        if !key.is(&new.key()) {
+            index.remove(&key);
+        }
+    }
+}
