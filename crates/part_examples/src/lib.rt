@@ -1,4 +1,5 @@
-//! Tests of the parts, each by itself: datagrams, options, targets, stores and tables, as they were worked out by hand.
+//! Tests of the parts, each by itself: datagrams, options, targets, stores, tables, words and configurations, as they were
+//! worked out by hand.
 #![tactic(auto)]
 
 #[cfg(test)]
@@ -11,3 +12,5 @@ mod stores;
 mod tables;
 #[cfg(test)]
 mod targets;
+#[cfg(test)]
+mod words;
