@@ -76,7 +76,8 @@ unless_unknown place None = Ok tt
 unless_unknown place (Some key) = Err (Key (name_in place key))
 
 abbrev pub keys_checked : Place → Members → Result (Unit {0}) ConfigError
-keys_checked place members = unless_unknown place (first_key (λ key. not (is_known place key)) members)
+keys_checked place members =
+    unless_unknown place (first_key (λ key. not (is_known place key)) members)
 
 -- ---- values
 
@@ -110,7 +111,8 @@ names_said (Some _) = Err (Value (codes "names"))
 
 -- ---- limits
 
--- the number that a value says for a limit; what is no number from 0 up says one that no limit may be
+-- the number that a value says for a limit; what is no number from 0 up says one that no limit may
+-- be
 abbrev pub number_said : Data → ℕ
 number_said (integer (pos n)) = n
 number_said _ = 0xFFFFFFFFFFFFFFFF
@@ -121,7 +123,8 @@ limit_or default None = default
 limit_or default (Some d) = number_said d
 
 abbrev pub limit_in : Members → Limit → ℕ
-limit_in members limit = limit_or (value_of default_limits limit) (get_member (limit_key limit) members)
+limit_in members limit =
+    limit_or (value_of default_limits limit) (get_member (limit_key limit) members)
 
 abbrev pub limits_in : Members → Limits
 limits_in members = record {
@@ -183,7 +186,8 @@ maps_said (Some _) = Err (Value (codes "map"))
 
 -- ---- all of it
 
--- Faults of the tree are told in this order: the version, keys that aren't known, names, limits, hosts, maps.
+-- Faults of the tree are told in this order: the version, keys that aren't known, names, limits,
+-- hosts, maps.
 unfoldable pub table_said : Members → Result Said ConfigError
 table_said members =
     after (version_checked (get_member (codes "version") members)) (λ _.

@@ -8,7 +8,8 @@ use Rattle.clap.specs.declared.builder.value_parser.ValueParser.TheVariants.{Sig
 
 -- an option with a value, under an id and a letter or a name
 abbrev pub by_letter : Text → ℕ → Rule
-by_letter id letter = record (new_rule id) { short = Some letter; action = Some Set; value_names = 1 }
+by_letter id letter =
+    record (new_rule id) { short = Some letter; action = Some Set; value_names = 1 }
 
 abbrev pub by_name : Text → Rule
 by_name name = record (new_rule name) { long = Some name; action = Some Set; value_names = 1 }
@@ -37,7 +38,8 @@ map_rule = by_name (codes "map")
 
 -- an option without a value
 abbrev pub replay_rule : Rule
-replay_rule = record (new_rule (codes "replay")) { long = Some (codes "replay"); action = Some SetTrue }
+replay_rule =
+    record (new_rule (codes "replay")) { long = Some (codes "replay"); action = Some SetTrue }
 
 abbrev pub id_rule : Rule
 id_rule = parsed_by (Signed (pos 0) (pos 65535)) (by_name (codes "id"))
@@ -50,7 +52,9 @@ turns_rule = parsed_by (Unsigned 1 greatest) (by_name (codes "turns"))
 
 -- the program without options, whose words don't begin with its name, and which has a version
 abbrev pub program : App
-program = on_top (λ s. record s { no_binary_name = true; has_version = true }) (new_app (codes "coap-proxyd"))
+program =
+    on_top (λ s. record s { no_binary_name = true; has_version = true })
+    (new_app (codes "coap-proxyd"))
 
 -- three options more
 abbrev pub with_three : App → Rule → Rule → Rule → App
@@ -58,5 +62,7 @@ with_three app a b c = with_rule (with_rule (with_rule app a) b) c
 
 abbrev pub option_table : App
 option_table =
-    with_three (with_three (with_three program address_rule port_rule names_rule) config_rule map_rule replay_rule)
+    with_three
+    (with_three (with_three program address_rule port_rule names_rule)
+    config_rule map_rule replay_rule)
     id_rule salt_rule turns_rule

@@ -65,8 +65,8 @@ IsRefusal k OutOfMemory = ⊥
 abbrev pub RefusesFor : Kinds → WordsError → Type 0
 RefusesFor kinds e = (e ≡ OutOfMemory) ⊎ ((k : ErrorKind) × IsAmong k kinds × IsRefusal k e)
 
--- The words are taken where `clap` finds no fault in them by the option table, and then say what it finds. Else they
--- are refused for a fault that it finds.
+-- The words are taken where `clap` finds no fault in them by the option table, and then say what it
+-- finds. Else they are refused for a fault that it finds.
 abbrev pub ReadsWords : List Text → Result Settings WordsError → Type 0
 ReadsWords words result =
     MatchResult result

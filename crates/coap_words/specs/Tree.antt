@@ -1,4 +1,5 @@
--- What stands in a configuration's tree, as `toml` reads it: its tables are in byte order of their keys.
+-- What stands in a configuration's tree, as `toml` reads it: its tables are in byte order of their
+-- keys.
 use Rattle.std.specs.Prelude.{Bool, List, [], ◌∷◌, ◌++◌, Option, Some, None, Result, Ok, Err, if◌then◌else◌}
 use Rattle.toml.specs.Data.{Data, Items, no_items, item, Members, no_members, member}
 use Rattle.coap_words.specs.Texts.{Text}

@@ -18,7 +18,8 @@ use coap_routes::{RouteError, Routes};
 use std::alloc::Global;
 use toml::{Table, Value};
 
-/// What a configuration says. Names, hosts and maps are the texts of which `Routes::new` makes routes.
+/// What a configuration says. Names, hosts and maps are the texts of which `Routes::new` makes
+/// routes.
 #[derive(Debug, Drop)]
 pub struct Config {
     /// The limits; each that is left out has its default.
@@ -40,9 +41,10 @@ pub struct Config {
 /// - `map`, a list of tables with a `prefix` and an `origin`.
 ///
 /// # Errors
-/// The first fault, in this order: no TOML; the version; keys that aren't known, in byte order; `names`; in `limits` keys
-/// that aren't known, then the limits in the order of `Limit`; `hosts`; `map`, in each table a key that isn't known, then
-/// the prefix, then the origin; no routes. Want of memory is answered where it is met.
+/// The first fault, in this order: no TOML; the version; keys that aren't known, in byte order;
+/// `names`; in `limits` keys that aren't known, then the limits in the order of `Limit`; `hosts`;
+/// `map`, in each table a key that isn't known, then the prefix, then the origin; no routes. Want
+/// of memory is answered where it is met.
 pub fn read_config(alloc: Global, text: &[u8]) -> Result<Config, ConfigError>
     ensures { Says seen errors.OutOfMemory result (spec.config_of text.now) }
 {

@@ -90,7 +90,9 @@ pub fn words()
     ensures salt { fault_of option_table (codes "--salt" ∷ codes "9223372036854775807" ∷ []) ≡ [] }
     ensures great_salt { fault_of option_table (codes "--salt" ∷ codes "9223372036854775808" ∷ [])
         ≡ kind.ValueValidation ∷ [] }
-    ensures turns { fault_of option_table (codes "--turns" ∷ codes "9223372036854775807" ∷ []) ≡ [] }
+    ensures turns { fault_of option_table
+        (codes "--turns" ∷ codes "9223372036854775807" ∷ [])
+        ≡ [] }
     ensures no_turns { fault_of option_table (codes "--turns" ∷ codes "0" ∷ [])
         ≡ kind.ValueValidation ∷ [] }
 {}

@@ -13,7 +13,8 @@ use coap_model::{Limit, LimitValues, Limits};
 use std::alloc::Global;
 use toml::{Table, Value};
 
-/// The number that a value says for a limit. What is no number from 0 up says one that no limit may be.
+/// The number that a value says for a limit. What is no number from 0 up says one that no limit may
+/// be.
 fn number(value: &Value) -> u64
     ensures { result ≡ spec.number_said (view value.now) }
 {

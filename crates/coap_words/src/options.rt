@@ -13,66 +13,68 @@ const VERSION: &str = "0.1.0";
 const EXAMPLE: &str =
     "Example: coap-proxyd -A 127.0.0.1 -p 5683 --map /t=coap://127.0.0.1:5690/temp";
 
+/// An option with a value, under an id and a letter.
+fn by_letter<'a>(alloc: Global, id: &'a str, letter: char, value: &'a str, help: &'a str) -> Arg<'a>
+    ensures { rule_of result ≡ spec.by_letter id.entry.now letter }
+{
+    Arg::new(alloc, id)
+        .short(letter)
+        .action(ArgAction::Set)
+        .value_name(value)
+        .help(help)
+}
+
+/// An option with a value, under a name.
+fn by_name<'a>(alloc: Global, name: &'a str, value: &'a str, help: &'a str) -> Arg<'a>
+    ensures { rule_of result ≡ spec.by_name name.entry.now }
+{
+    Arg::new(alloc, name)
+        .long(name)
+        .action(ArgAction::Set)
+        .value_name(value)
+        .help(help)
+}
+
 /// `-A`: the local address.
 fn address<'a>(alloc: Global) -> Arg<'a>
     ensures { rule_of result ≡ spec.address_rule }
 {
-    Arg::new(alloc, "address")
-        .short('A')
-        .action(ArgAction::Set)
-        .value_name("ADDRESS")
-        .help("Local address, IPv4, or IPv6 with or without brackets [default: 0.0.0.0]")
+    let help = "Local address, IPv4, or IPv6 with or without brackets [default: 0.0.0.0]";
+    by_letter(alloc, "address", 'A', "ADDRESS", help)
 }
 
 /// `-p`: the port.
 fn port<'a>(alloc: Global) -> Arg<'a>
     ensures { rule_of result ≡ spec.port_rule }
 {
-    Arg::new(alloc, "port")
-        .short('p')
-        .action(ArgAction::Set)
-        .value_name("PORT")
-        .value_parser(value_parser!(u16).range(1..=65535))
-        .help("UDP port, 1 to 65535 [default: 5683]")
+    let help = "UDP port, 1 to 65535 [default: 5683]";
+    by_letter(alloc, "port", 'p', "PORT", help).value_parser(value_parser!(u16).range(1..=65535))
 }
 
 /// `-P`: own names.
 fn names<'a>(alloc: Global) -> Arg<'a>
     ensures { rule_of result ≡ spec.names_rule }
 {
-    Arg::new(alloc, "names")
-        .short('P')
-        .action(ArgAction::Set)
-        .value_name(",NAMES")
-        .help(
-            "Own names after a comma, between commas, 1 to 64; they take the place of those in the file [default: the file's]",
-        )
+    let help = "Own names behind a comma, between commas, 1 to 64, in place of those in the file \
+[default: the file's]";
+    by_letter(alloc, "names", 'P', ",NAMES", help)
 }
 
 /// `--config`: the configuration.
 fn config<'a>(alloc: Global) -> Arg<'a>
     ensures { rule_of result ≡ spec.config_rule }
 {
-    Arg::new(alloc, "config")
-        .long("config")
-        .action(ArgAction::Set)
-        .value_name("FILE")
-        .help(
-            "Configuration, a TOML file [default: none: all limits have their defaults, and nothing is mapped]",
-        )
+    let help = "Configuration, a TOML file [default: none, with the default limits and no maps]";
+    by_name(alloc, "config", "FILE", help)
 }
 
 /// `--map`: one more map.
 fn map<'a>(alloc: Global) -> Arg<'a>
     ensures { rule_of result ≡ spec.map_rule }
 {
-    Arg::new(alloc, "map")
-        .long("map")
-        .action(ArgAction::Set)
-        .value_name("PREFIX=URI")
-        .help(
-            "One more map, after those of the file: a path prefix, and the origin it stands for [default: none]",
-        )
+    let help =
+        "One more map, after those of the file: a path prefix and its origin [default: none]";
+    by_name(alloc, "map", "PREFIX=URI", help)
 }
 
 /// `--replay`: events from standard input.
@@ -89,36 +91,24 @@ fn replay<'a>(alloc: Global) -> Arg<'a>
 fn first_id<'a>(alloc: Global) -> Arg<'a>
     ensures { rule_of result ≡ spec.id_rule }
 {
-    Arg::new(alloc, "id")
-        .long("id")
-        .action(ArgAction::Set)
-        .value_name("N")
-        .value_parser(value_parser!(u16).range(0..=65535))
-        .help("First message id, 0 to 65535 [default: 1 in a replay, else drawn]")
+    let help = "First message id, 0 to 65535 [default: 1 in a replay, else drawn]";
+    by_name(alloc, "id", "N", help).value_parser(value_parser!(u16).range(0..=65535))
 }
 
 /// `--salt`: the salt of tokens.
 fn salt<'a>(alloc: Global) -> Arg<'a>
     ensures { rule_of result ≡ spec.salt_rule }
 {
-    Arg::new(alloc, "salt")
-        .long("salt")
-        .action(ArgAction::Set)
-        .value_name("N")
-        .value_parser(value_parser!(u64).range(0..=i64::MAX))
-        .help("Salt of tokens, 0 to 9223372036854775807 [default: 0 in a replay, else drawn]")
+    let help = "Salt of tokens, 0 to 9223372036854775807 [default: 0 in a replay, else drawn]";
+    by_name(alloc, "salt", "N", help).value_parser(value_parser!(u64).range(0..=i64::MAX))
 }
 
 /// `--turns`: how many turns to do.
 fn turns<'a>(alloc: Global) -> Arg<'a>
     ensures { rule_of result ≡ spec.turns_rule }
 {
-    Arg::new(alloc, "turns")
-        .long("turns")
-        .action(ArgAction::Set)
-        .value_name("N")
-        .value_parser(value_parser!(u64).range(1..=i64::MAX))
-        .help("Turns to do, 1 to 9223372036854775807 [default: the greatest]")
+    let help = "Turns to do, 1 to 9223372036854775807 [default: the greatest]";
+    by_name(alloc, "turns", "N", help).value_parser(value_parser!(u64).range(1..=i64::MAX))
 }
 
 /// The program without options.

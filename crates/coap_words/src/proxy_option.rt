@@ -23,8 +23,9 @@ pub struct ProxyOption {
     pub names: Vec<String>,
 }
 
-/// The own names that the value of `-P` says, in lower case: the texts after the first comma, between commas. Each is a
-/// name of 1 to 255 visible ASCII characters other than a comma, and there are 64 at most.
+/// The own names that the value of `-P` says, in lower case: the texts after the first comma,
+/// between commas. Each is a name of 1 to 255 visible ASCII characters other than a comma, and
+/// there are 64 at most.
 #[tactic(auto, unfolding(crate::specs::ProxyOption::proxy_option_of))]
 pub fn parse_proxy_option(alloc: Global, text: &str) -> Result<ProxyOption, ProxyOptionError>
     ensures { Says seen errors.OutOfMemory result (proxy_option_of text.now) }
@@ -70,7 +71,8 @@ fn first_part(text: &str) -> (&str, Option<&str>)
 
 /// A name, in lower case.
 fn read_name(alloc: Global, text: &str) -> Result<String, ProxyOptionError>
-    ensures { Says string_bytes errors.OutOfMemory result (ok_or (name_of text.now) errors.BadName) }
+    ensures { Says string_bytes errors.OutOfMemory result
+        (ok_or (name_of text.now) errors.BadName) }
 {
     if !is_name(text.as_bytes()) {
         return Err(ProxyOptionError::BadName);

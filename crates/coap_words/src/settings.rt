@@ -36,7 +36,8 @@ pub enum WordsError {
     Usage {
         /// The exit status of the program: 0 for the help and the version, else 2.
         status: u8,
-        /// What to tell: with status 0 on standard output, else on standard error. It ends with a line end.
+        /// What to tell: with status 0 on standard output, else on standard error. It ends with a
+        /// line end.
         text: String,
     },
     /// The allocator had no memory for them.

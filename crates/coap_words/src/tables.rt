@@ -100,7 +100,8 @@ pub(crate) fn bad_value(alloc: Global, key: &str) -> ConfigError
 
 /// The fault of a value under a key of a table.
 pub(crate) fn bad_value_in(alloc: Global, table: &str, key: &str) -> ConfigError
-    ensures { (result ≡ errors.OutOfMemory) ⊎ (result ≡ errors.Value (spec.within table.now key.now)) }
+    ensures { (result ≡ errors.OutOfMemory)
+        ⊎ (result ≡ errors.Value (spec.within table.now key.now)) }
 {
     match KeyName::within(alloc, table, key) {
         Ok(name) => ConfigError::Value { name },

@@ -1,5 +1,5 @@
-//! Tests of the parts, each by itself: datagrams, options, targets, stores, tables, words and configurations, as they were
-//! worked out by hand.
+//! Tests of the parts, each by itself: datagrams, options, targets, stores, tables, words and
+//! configurations, as they were worked out by hand.
 #![tactic(auto)]
 
 #[cfg(test)]

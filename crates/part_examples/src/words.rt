@@ -11,16 +11,18 @@ use std::test::*;
 /// The file `examples/proxy.toml`, line by line.
 const EXAMPLE: &str = "\
 # A configuration of coap-proxyd, with all its keys: coap-proxyd --config proxy.toml
-# All but `version` may be left out, and in a map neither key. A key that isn't here is refused.
+# All but `version` may be left out, but of the two keys of a map neither. A key that isn't here
+# is refused.
 
 # The version of this format. It must be 1.
 version = 1
 
-# The own names of the proxy, at most 64: names, or addresses with IPv6 in brackets. It forwards for clients that
-# send it a Proxy-Uri or a Proxy-Scheme only if it has one.
+# The own names of the proxy, at most 64: names, or addresses with IPv6 in brackets. It forwards
+# for clients that send it a Proxy-Uri or a Proxy-Scheme only if it has one.
 names = [\"proxy.test\", \"192.0.2.1\", \"[2001:db8::1]\"]
 
-# Limits. These are the defaults. Those of the cache, of duplicates, nstart and exchange_ms limit nothing yet.
+# Limits. These are the defaults. Those of the cache, of duplicates, nstart and exchange_ms limit
+# nothing yet.
 [limits]
 # How many bytes the cache holds: 0 to 268435456.
 cache_bytes = 262144
@@ -48,7 +50,8 @@ retry_s = 5
 \"sensor.test\" = \"192.0.2.7\"
 \"meter.test\" = \"[2001:db8::7]\"
 
-# Maps, at most 64: what is asked of the proxy under the path of `prefix` is asked of `origin`. The longest prefix wins.
+# Maps, at most 64: what is asked of the proxy under the path of `prefix` is asked of `origin`.
+# The longest prefix wins.
 [[map]]
 # A path. `/` stands for every path.
 prefix = \"/t\"
