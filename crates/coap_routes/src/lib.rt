@@ -16,5 +16,6 @@ pub use error::{RouteError, TargetError};
 pub use map::{KnownHost, Map};
 pub use mapped::MappedTarget;
 pub use options::Values;
+pub use route_texts::is_name;
 pub use routes::Routes;
 pub use segment::Segments;

@@ -70,7 +70,7 @@ fn are_name_bytes(bytes: &[u8]) -> bool
 
 /// Whether a text may be a name: not empty, at most 255 bytes, each a visible ASCII character other than
 /// a comma.
-fn is_name(text: &[u8]) -> bool
+pub fn is_name(text: &[u8]) -> bool
     ensures { result ≡ spec.is_name text.now }
 {
     !text.is_empty() && text.len() <= LONGEST && are_name_bytes(text)

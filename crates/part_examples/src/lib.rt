@@ -1,5 +1,5 @@
-//! Tests of the parts, each by itself: datagrams, options, targets, stores, records and tables, as they were worked out
-//! by hand.
+//! Tests of the parts, each by itself: datagrams, options, targets, stores, records, tables, words and
+//! configurations, as they were worked out by hand.
 #![tactic(auto)]
 
 #[cfg(test)]
@@ -14,3 +14,5 @@ mod stores;
 mod tables;
 #[cfg(test)]
 mod targets;
+#[cfg(test)]
+mod words;

@@ -1,0 +1,106 @@
+-- A proxy that is driven turn by turn.
+use Rattle.std.proofs.Common.{◌≡◌, ◌+◌, ◌≤◌, ◌<◌, ℕ, Bool, true, false, cond, List, [], ◌∷◌, refl, sym, ap, ◌∙◌, subst, arith}
+use Rattle.coap_model.specs.Carries.{Carries}
+use Rattle.coap_model.specs.History.{Entry}
+use Rattle.coap_model.specs.Memory.{takes_memory}
+use Rattle.coap_model.specs.Runs.{Run, Turn, one_turn}
+use Rattle.coap_model.specs.Ticks.{next_due}
+use Rattle.coap_model.specs.World.{World}
+use Rattle.coap_target.specs.declared.endpoint.Endpoint.{Endpoint}
+use Rattle.std.specs.Prelude.{is_some}
+use Rattle.coap_port.specs.Driven.{DidTurn, DoesTurn, Given, IsDriven, came_last, last_moment, run_at, run_by, run_given, sent_at, stats_of, step_at, wait_for, world_by}
+use Rattle.coap_port.specs.Stats.{no_stats, with_turn}
+use Rattle.coap_port.specs.declared.stats.Stats.{Stats}
+
+-- the tables after a turn don't hang on the history before it
+given-apart : (r q : Run) (g : Given) → r.world ≡ q.world → (run_given r g).world ≡ (run_given q g).world
+given-apart r q g e = go g.lost
+  where
+    go : (lost : Bool) → (cond lost r (one_turn r g.turn)).world ≡ (cond lost q (one_turn q g.turn)).world
+    go true = e
+    go false = ap (λ (w : World). (step_at w g.turn).world) e
+
+-- nor do those after many
+run-apart : (r q : Run) (givens : List Given) → r.world ≡ q.world → (run_by r givens).world ≡ (run_by q givens).world
+run-apart r q [] e = e
+run-apart r q (g ∷ before) e = given-apart (run_by r before) (run_by q before) g (run-apart r q before e)
+
+module _ {P : Type 0} (gives : P → ℕ → Turn → P → Type 0) (takes : P → Endpoint → List ℕ → Bool → P → Type 0) (clock failures : P → ℕ) where
+  -- where a loop is: what was done, whether a datagram came last, and the last moment
+  pub record IsAt (first : ℕ) (w : World) (p : P) (v : World) (q : P) (s : Stats) (came : Bool) : Type 0 where
+    pub driven : IsDriven gives takes first w p v q s
+    pub told : came ≡ came_last driven.givens
+    pub moment : clock q ≡ last_moment first driven.givens
+
+  -- nothing was done at first
+  pub at-start : (w : World) (p : P) → IsAt (clock p) w p w p no_stats false
+  at-start w p = record {
+    driven = record {
+      givens = [];
+      leads = refl;
+      asked = tt;
+      lost = tt;
+      world = refl;
+      carries = λ history c. c;
+      counted = refl;
+    };
+    told = refl;
+    moment = refl;
+  }
+
+  module _ (first : ℕ) (w : World) (p : P) (v : World) (q : P) (s : Stats) (came : Bool) (at : IsAt first w p v q s came)
+      (v' : World) (q' : P) (s' : Stats) (arrived : Bool) (did : DidTurn gives takes clock failures came v q s v' q' s' arrived) where
+    abbrev givens : List Given
+    givens = at.driven.givens
+
+    abbrev g : Given
+    g = did.given
+
+    -- the tables before the turn
+    before : v ≡ world_by w givens
+    before = at.driven.world
+
+    leads : DoesTurn gives takes (world_by w givens) q g q'
+    leads = subst (λ (u : World). DoesTurn gives takes u q g q') before did.does
+
+    asked : g.wait ≡ wait_for (came_last givens) (last_moment first givens) (next_due (world_by w givens))
+    asked =
+        did.asked
+        ∙ ap (λ (b : Bool). wait_for b (clock q) (next_due v)) at.told
+        ∙ ap (λ (n : ℕ). wait_for (came_last givens) n (next_due v)) at.moment
+        ∙ ap (λ (u : World). wait_for (came_last givens) (last_moment first givens) (next_due u)) before
+
+    lost : g.lost ≡ true → takes_memory (step_at (world_by w givens) g.turn).report.outcome ≡ true
+    lost = subst (λ (u : World). g.lost ≡ true → takes_memory (step_at u g.turn).report.outcome ≡ true) before did.lost
+
+    world : v' ≡ world_by w (g ∷ givens)
+    world = did.world ∙ given-apart (run_at v []) (run_by (run_at w []) givens) g before
+
+    carries : (history : List Entry) → Carries history w → Carries (run_by (run_at w history) (g ∷ givens)).history v'
+    carries history c =
+        let run : Run = run_by (run_at w history) givens in
+        let tables : v ≡ run.world = before ∙ run-apart (run_at w []) (run_at w history) givens refl in
+        let same : run_at v run.history ≡ run = ap (λ (u : World). run_at u run.history) tables in
+        subst (λ (r : Run). Carries (run_given r g).history v') same (did.carries run.history (at.driven.carries history c))
+
+    counted : s' ≡ stats_of w (g ∷ givens)
+    counted =
+        did.counted
+        ∙ ap (λ (u : World). with_turn g.lost (is_some (sent_at u g)) g.went s) before
+        ∙ ap (with_turn g.lost (is_some (sent_at (world_by w givens) g)) g.went) at.driven.counted
+
+    -- one turn more was done
+    pub one-more : IsAt first w p v' q' s' arrived
+    one-more = record {
+      driven = record {
+        givens = g ∷ givens;
+        leads = (q, at.driven.leads, leads);
+        asked = (asked, at.driven.asked);
+        lost = (lost, at.driven.lost);
+        world = world;
+        carries = carries;
+        counted = counted;
+      };
+      told = did.told;
+      moment = did.moment;
+    }

@@ -1,0 +1,94 @@
+-- What one turn does, by what its calls say.
+use Rattle.std.proofs.Common.{◌≡◌, ◌+◌, ◌≤◌, ◌<◌, ℕ, Bool, true, false, List, [], ◌∷◌, Option, Some, None, option_map, is_some, refl, sym, ap, ◌∙◌, subst, arith}
+use Rattle.coap_core.specs.Steps.{CarriesOn, Does, entry_told}
+use Rattle.coap_message.specs.Datagram.{Datagram}
+use Rattle.coap_model.proofs.Running.{clock_after}
+use Rattle.coap_model.specs.Carries.{Carries}
+use Rattle.coap_model.specs.Events.{Event, IsEvent}
+use Rattle.coap_model.specs.History.{Entry}
+use Rattle.coap_model.specs.Memory.{takes_memory}
+use Rattle.coap_model.specs.Runs.{Turn}
+use Rattle.coap_model.specs.Step.{step_of}
+use Rattle.coap_model.specs.Ticks.{next_due}
+use Rattle.coap_model.specs.World.{Step, World}
+use Rattle.coap_model.specs.declared.report.Report.{Report}
+use Rattle.coap_target.specs.declared.endpoint.Endpoint.{Endpoint}
+use Rattle.coap_port.specs.Driven.{DidTurn, HandsOver, datagram_of, is_arrival, step_at, wait_for}
+use Rattle.coap_port.specs.Given.{event_given}
+use Rattle.coap_port.specs.Stats.{with_turn}
+use Rattle.coap_port.specs.declared.stats.Stats.{Stats}
+
+-- a datagram came where it has a source
+pub arrival-is : (o : Option Endpoint) (bytes : List ℕ) → is_some o ≡ is_arrival (event_given o bytes)
+arrival-is None bytes = refl
+arrival-is (Some e) bytes = refl
+
+is_some-map : {A B : Type 0} (f : A → B) (o : Option A) → is_some (option_map f o) ≡ is_some o
+is_some-map f None = refl
+is_some-map f (Some x) = refl
+
+-- what is sent, with its bytes
+abbrev pub told : Report → List ℕ → Option (Endpoint × List ℕ)
+told report bytes = option_map (λ e. (e, bytes)) report.send
+
+module _ {P : Type 0} (gives : P → ℕ → Turn → P → Type 0) (takes : P → Endpoint → List ℕ → Bool → P → Type 0) (clock failures : P → ℕ)
+    (came : Bool) (v : World) (p : P) (s : Stats) (wait : ℕ) (t : Turn) (m : P) (arrived : Bool)
+    (asked : wait ≡ wait_for came (clock p) (next_due v)) (gave : gives p wait t m) (arrives : arrived ≡ is_arrival t.event) (moment : clock m ≡ t.now) where
+  -- a step was done, and what it sent was handed over
+  pub did-step : (v' : World) (q : P) (s' : Stats) (event : Event) (report : Report) (out out' : Datagram) (went : Bool) → event ≡ t.event → IsEvent t.event
+      → Does (step_of v t.now t.draw event) report out out' v' → CarriesOn v (entry_told t.now t.draw event report out'.bytes) v'
+      → HandsOver takes m (told report out'.bytes) went q → clock q ≡ clock m → failures q ≡ failures p
+      → s' ≡ with_turn false (is_some report.send) went s → DidTurn gives takes clock failures came v p s v' q s' arrived
+  did-step v' q s' event report out out' went same bytes does carries handed still-now still counted = record {
+    given = record { wait = wait; turn = t; lost = false; went = went };
+    does = (m, gave, subst (λ (d : Option (Endpoint × List ℕ)). HandsOver takes m d went q) sent handed);
+    asked = asked;
+    lost = λ (h : false ≡ true). absurd cc;
+    world = done.2;
+    carries = λ history c. subst (λ (e : Entry). Carries (e ∷ history) v') entry (on history c);
+    counted = counted ∙ ap (λ (b : Bool). with_turn false b went s) (sym (is_some-map (λ to. (to, out'.bytes)) report.send) ∙ ap (λ (d : Option (Endpoint × List ℕ)). is_some d) sent);
+    told = arrives;
+    moment = still-now ∙ moment;
+    onward = omega (arith, ap (λ (w : World). w.last) done.2, clock-is.0, still-now, moment);
+    events = omega (arith, ap (λ (w : World). w.events) done.2, clock-is.1);
+    still = still;
+  }
+    where
+      step : Step
+      step = step_at v t
+
+      done : Does step report out out' v'
+      done = subst (λ (e : Event). Does (step_of v t.now t.draw e) report out out' v') same does
+
+      on : CarriesOn v (entry_told t.now t.draw t.event report out'.bytes) v'
+      on = subst (λ (e : Event). CarriesOn v (entry_told t.now t.draw e report out'.bytes) v') same carries
+
+      spelled : out'.bytes ≡ step.bytes
+      spelled = ap (λ (d : Datagram). d.bytes) done.1
+
+      sent : told report out'.bytes ≡ datagram_of step
+      sent = ap (told report) spelled ∙ ap (λ (r : Report). told r step.bytes) done.0
+
+      entry : entry_told t.now t.draw t.event report out'.bytes ≡ entry_told t.now t.draw t.event step.report step.bytes
+      entry = ap (entry_told t.now t.draw t.event report) spelled ∙ ap (λ (r : Report). entry_told t.now t.draw t.event r step.bytes) done.0
+
+      clock-is : (step.world.last ≡ t.now) × (step.world.events ≡ v.events + 1)
+      clock-is = clock_after v t.now t.draw t.event bytes
+
+  -- a step found no memory
+  pub did-nothing : (v' : World) (s' : Stats) (event : Event) → event ≡ t.event → v' ≡ v → takes_memory (step_of v t.now t.draw event).report.outcome ≡ true
+      → v.last ≤ t.now → failures m ≡ failures p → s' ≡ with_turn true false false s → DidTurn gives takes clock failures came v p s v' m s' arrived
+  did-nothing v' s' event same nothing memory onward still counted = record {
+    given = record { wait = wait; turn = t; lost = true; went = false };
+    does = (m, gave, refl);
+    asked = asked;
+    lost = λ h. subst (λ (e : Event). takes_memory (step_of v t.now t.draw e).report.outcome ≡ true) same memory;
+    world = nothing;
+    carries = λ history c. subst (λ (w : World). Carries history w) (sym nothing) c;
+    counted = counted;
+    told = arrives;
+    moment = moment;
+    onward = omega (arith, ap (λ (w : World). w.last) nothing, onward, moment);
+    events = omega (arith, ap (λ (w : World). w.events) nothing);
+    still = still;
+  }

@@ -1,0 +1,37 @@
+use Rattle.std.proofs.Common.{◌≡◌, ◌∙◌, ◌≤◌, ap, ap₂, subst, sym, arith}
+use Rattle.coap_core.specs.Events.{seen}
+use Rattle.coap_model.specs.Events.{Event, IsEvent}
+use Rattle.coap_model.specs.Ticks.{next_due}
+use Rattle.coap_port.specs.Driven.{DidTurn, is_arrival, wait_for}
+use Rattle.coap_port.specs.Given.{event_given, given_by}
+use Rattle.coap_port.proofs.Turning.{arrival-is, did-nothing, did-step}
+use Rattle.coap_port.proofs.turns.do_turn.Goals.{in-Ok, in-Err}
+use Rattle.coap_port.proofs.turns.do_turn.Goals as goal
+
+pub returns-clause-done : goal.returns-clause-done
+returns-clause-done g c =
+    let turn = c.in_ok-turn.turn in
+    let bytes = c.next.new.into.bytes in
+    let onward = c.in_ok-turn.ensures.onward in
+    let asked : c.wait_for-wait.result ≡ wait_for c.args.came (g.P.Port.clock c.args.port.now) (next_due c.args.core.now) =
+    c.wait_for-wait.ensures ∙ ap₂ (wait_for c.args.came) c.last.ensures c.next_due.ensures.exact in
+    let same : seen c.event_of-event.result ≡ event_given turn.from bytes = c.event_of-event.ensures.event ∙ ap (event_given turn.from) c.bytes.ensures.bytes in
+    let event : IsEvent (event_given turn.from bytes) = subst (λ b. IsEvent (event_given turn.from b)) c.bytes.ensures.bytes c.event_of-event.ensures.bytes in
+    let arrives : c.is_some-2.result ≡ is_arrival (event_given turn.from bytes) = c.is_some-2.ensures ∙ arrival-is turn.from bytes in
+    elim c.match-step.branch [
+      | in-Ok w ↦
+          rw (w.port-is, w.stats-is)
+          (did-step g.P.Port.gives g.P.Port.takes g.P.Port.clock g.P.Port.failures c.args.came c.args.core.now c.args.port.now c.args.stats.now
+          c.wait_for-wait.result (given_by turn bytes) c.next.new.self c.is_some-2.result asked c.in_ok-turn.ensures.gives arrives onward.held
+          c.step.new.self w.hand_over-went.new.port w.count.new.stats (seen c.event_of-event.result) w.in-Ok.report c.args.output.now c.step.new.out w.hand_over-went.result
+          same event w.in-Ok.ensures.exact w.in-Ok.ensures.carries
+          (rw w.bytes-in-Ok.ensures.bytes at w.hand_over-went.ensures.takes)
+          w.hand_over-went.ensures.clock (w.hand_over-went.ensures.failures ∙ c.in_ok-turn.ensures.works)
+          (rw w.is_some.ensures at w.count.ensures.exact))
+      | in-Err w ↦
+          rw (w.port-is, w.stats-is)
+          (did-nothing g.P.Port.gives g.P.Port.takes g.P.Port.clock g.P.Port.failures c.args.came c.args.core.now c.args.port.now c.args.stats.now
+          c.wait_for-wait.result (given_by turn bytes) c.next.new.self c.is_some-2.result asked c.in_ok-turn.ensures.gives arrives onward.held
+          c.step.new.self w.count-in-Err.new.stats (seen c.event_of-event.result) same w.in-Err.ensures.err w.in-Err.ensures.memory
+          (omega (arith, c.requires.onward, onward.onward)) c.in_ok-turn.ensures.works w.count-in-Err.ensures.exact)
+    ]

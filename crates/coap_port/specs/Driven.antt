@@ -1,0 +1,155 @@
+-- A proxy that is driven over a port: the turns that the port gave, what each did, and what was
+-- handed over.
+use Rattle.std.specs.Prelude.{◌≡◌, ◌≤◌, ◌-◌, ◌&&◌, ◌⊎◌, ℕ, min, max, nat_le, Bool, true, false, List, [], ◌∷◌, length, ◌+◌, Option, Some, None, Result, Ok, Err, option_map, is_some, if◌then◌else◌}
+use Rattle.coap_target.specs.declared.endpoint.Endpoint.{Endpoint}
+use Rattle.coap_model.specs.Carries.{Carries}
+use Rattle.coap_model.specs.Events.{Event, arrival, tick}
+use Rattle.coap_model.specs.History.{Entry}
+use Rattle.coap_model.specs.Memory.{takes_memory}
+use Rattle.coap_model.specs.Runs.{Run, Turn, one_turn}
+use Rattle.coap_model.specs.Step.{step_of}
+use Rattle.coap_model.specs.Ticks.{next_due}
+use Rattle.coap_model.specs.World.{Step, World}
+use Rattle.coap_port.specs.Stats.{no_stats, with_turn}
+use Rattle.coap_port.specs.declared.error.DriveError.{DriveError}
+use Rattle.coap_port.specs.declared.error.DriveError.TheVariants.{Port, OutOfMemory}
+use Rattle.coap_port.specs.declared.stats.Stats.{Stats}
+
+-- A turn that a port gave: the wait that it was asked with, whether its step found no memory, so
+-- that nothing was done, and what the port answered to what was sent, if anything was sent.
+pub record Given : Type 0 where
+  pub wait : ℕ
+  pub turn : Turn
+  pub lost : Bool
+  pub went : Bool
+
+-- ---- what a turn does
+
+abbrev pub step_at : World → Turn → Step
+step_at w t = step_of w t.now t.draw t.event
+
+abbrev pub run_given : Run → Given → Run
+run_given r g = if g.lost then r else one_turn r g.turn
+
+-- the datagram that is sent, and where it goes
+abbrev pub datagram_of : Step → Option (Endpoint × List ℕ)
+datagram_of s = option_map (λ to. (to, s.bytes)) s.report.send
+
+abbrev pub sent_at : World → Given → Option (Endpoint × List ℕ)
+sent_at w g = if g.lost then None else datagram_of (step_at w g.turn)
+
+-- ---- how long a port is asked to wait
+
+abbrev pub is_arrival : Event → Bool
+is_arrival (arrival source bytes) = true
+is_arrival tick = false
+
+-- Until the next thing is due: at least a millisecond and at most a second, and a second where
+-- nothing is due. Not at all where a datagram came before and something is due already, so that
+-- what is due gets its turn.
+abbrev pub wait_for : Bool → ℕ → Option ℕ → ℕ
+wait_for came clock None = 1000
+wait_for came clock (Some due) =
+    if came && nat_le due clock then 0 else max (min (due - clock) 1000) 1
+
+-- ---- turns, the newest first
+
+abbrev pub run_by : Run → List Given → Run
+run_by r [] = r
+run_by r (g ∷ before) = run_given (run_by r before) g
+
+abbrev pub run_at : World → List Entry → Run
+run_at w history = record { world = w; history = history }
+
+abbrev pub world_by : World → List Given → World
+world_by w givens = (run_by (run_at w []) givens).world
+
+-- whether the last was a datagram, and its moment
+abbrev pub came_last : List Given → Bool
+came_last [] = false
+came_last (g ∷ before) = is_arrival g.turn.event
+
+abbrev pub last_moment : ℕ → List Given → ℕ
+last_moment first [] = first
+last_moment first (g ∷ before) = g.turn.now
+
+-- each was asked with the wait that is due to it
+abbrev pub AreAsked : World → ℕ → List Given → Type 0
+AreAsked w first [] = Unit {0}
+AreAsked w first (g ∷ before) =
+    (g.wait ≡ wait_for (came_last before) (last_moment first before) (next_due (world_by w before)))
+    × AreAsked w first before
+
+-- only what takes memory is lost
+abbrev pub AreLostForMemory : World → List Given → Type 0
+AreLostForMemory w [] = Unit {0}
+AreLostForMemory w (g ∷ before) =
+    (g.lost ≡ true → takes_memory (step_at (world_by w before) g.turn).report.outcome ≡ true)
+    × AreLostForMemory w before
+
+-- what is counted of them
+abbrev pub stats_of : World → List Given → Stats
+stats_of w [] = no_stats
+stats_of w (g ∷ before) =
+    with_turn g.lost (is_some (sent_at (world_by w before) g)) g.went (stats_of w before)
+
+-- ---- what a port gave and took
+
+-- a datagram is handed over, if there is one, once
+abbrev pub HandsOver : {P : Type 0} → (P → Endpoint → List ℕ → Bool → P → Type 0) → P
+    → Option (Endpoint × List ℕ) → Bool → P → Type 0
+HandsOver takes p None went q = q ≡ p
+HandsOver takes p (Some d) went q = takes p d.0 d.1 went q
+
+module _ {P : Type 0} (gives : P → ℕ → Turn → P → Type 0)
+    (takes : P → Endpoint → List ℕ → Bool → P → Type 0) where
+  -- a port gave a turn, and took what its step sent
+  abbrev pub DoesTurn : World → P → Given → P → Type 0
+  DoesTurn w p g q = (m : P) × gives p g.wait g.turn m × HandsOver takes m (sent_at w g) g.went q
+
+  -- it gave these turns, one after the other, and took what they sent, and nothing else
+  abbrev pub LeadsTo : World → P → List Given → P → Type 0
+  LeadsTo w p [] q = q ≡ p
+  LeadsTo w p (g ∷ before) q = (m : P) × LeadsTo w p before m × DoesTurn (world_by w before) m g q
+
+  -- A proxy was driven over a port from one moment on, which gave turns, here the newest first: it
+  -- did them and nothing else, so that it carries their history in front of any that it carried
+  -- before.
+  pub record IsDriven (first : ℕ) (w : World) (p : P) (v : World) (q : P) (s : Stats) : Type 0 where
+    pub givens : List Given
+    pub leads : LeadsTo w p givens q
+    pub asked : AreAsked w first givens
+    pub lost : AreLostForMemory w givens
+    pub world : v ≡ world_by w givens
+    pub carries : (history : List Entry) → Carries history w
+        → Carries (run_by (run_at w history) givens).history v
+    pub counted : s ≡ stats_of w givens
+
+  -- How it ends.
+  --   Ok: after so many turns.
+  --   The port failed: at the turn after those that are counted.
+  --   Want of memory: before the first turn.
+  abbrev pub Ends : (P → ℕ) → (P → ℕ) → ℕ → World → P → World → P → Result Stats DriveError
+      → Type 0
+  Ends clock failures turns w p v q (Ok s) =
+      IsDriven (clock p) w p v q s × (s.turns ≡ turns) × (failures q ≡ failures p)
+  Ends clock failures turns w p v q (Err (Port s)) =
+      ((m : P) × IsDriven (clock p) w p v m s) × (failures q ≡ failures p + 1)
+  Ends clock failures turns w p v q (Err OutOfMemory) = (v ≡ w) × (q ≡ p)
+
+  -- One turn, after one that was a datagram or not.
+  pub record DidTurn (clock failures : P → ℕ) (came : Bool) (v : World) (p : P) (s : Stats) (v' : World) (q : P)
+      (s' : Stats) (arrived : Bool) : Type 0 where
+    pub given : Given
+    pub does : DoesTurn v p given q
+    pub asked : given.wait ≡ wait_for came (clock p) (next_due v)
+    pub lost : given.lost ≡ true → takes_memory (step_at v given.turn).report.outcome ≡ true
+    pub world : v' ≡ (run_given (run_at v []) given).world
+    pub carries : (history : List Entry) → Carries history v
+        → Carries (run_given (run_at v history) given).history v'
+    pub counted : s' ≡ with_turn given.lost (is_some (sent_at v given)) given.went s
+    pub told : arrived ≡ is_arrival given.turn.event
+    pub moment : clock q ≡ given.turn.now
+    pub onward : v'.last ≤ clock q
+    pub events : v'.events ≤ v.events + 1
+    pub still : failures q ≡ failures p

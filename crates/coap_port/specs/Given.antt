@@ -1,0 +1,21 @@
+-- What a port gives.
+use Rattle.std.specs.Prelude.{◌≡◌, ◌≤◌, ◌^◌, ℕ, List, Option, Some, None}
+use Rattle.coap_model.specs.Events.{Event, arrival, tick}
+use Rattle.coap_model.specs.Runs as model
+use Rattle.coap_target.specs.declared.endpoint.Endpoint.{Endpoint}
+use Rattle.coap_port.specs.declared.port.Turn.{Turn}
+
+abbrev pub event_given : Option Endpoint → List ℕ → Event
+event_given None bytes = tick
+event_given (Some source) bytes = arrival source bytes
+
+-- a turn, with the bytes that were put into the buffer
+abbrev pub given_by : Turn → List ℕ → model.Turn
+given_by t bytes = record { now = t.now; draw = t.draw; event = event_given t.from bytes }
+
+-- moments don't go back and are at most 2^62, and the last one is held; draws are at most 1,000
+pub record IsOnward (before after : ℕ) (t : Turn) : Type 0 where
+  pub onward : before ≤ t.now
+  pub moment : t.now ≤ 2 ^ 62
+  pub held : after ≡ t.now
+  pub draw : t.draw ≤ 1000

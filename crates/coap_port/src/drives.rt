@@ -1,0 +1,51 @@
+//! The loop that drives a core over a port.
+ghost use Rattle.std.specs.Prelude.{◌≤◌, ◌<◌, ◌+◌, ◌^◌};
+ghost use Rattle.coap_port.specs.Driven.{Ends};
+
+use crate::error::{DriveError, PortFault};
+use crate::port::Port;
+use crate::stats::Stats;
+use crate::turns::do_turn;
+use coap_core::Core;
+use coap_message::Datagram;
+use std::alloc::Global;
+
+/// Drives a core over a port for so many turns: each that the port gives is done, and what is sent
+/// is handed to the port once. The port is asked to wait until the next thing is due, for a second
+/// at most.
+///
+/// A turn that finds no memory is counted as lost, and a datagram that the port doesn't take as a
+/// fault; neither ends the loop. The port's last moment isn't before that of the core.
+///
+/// # Errors
+/// `Port` where the port gave no turn, with what was done before; `OutOfMemory` where there was no
+/// memory for the two buffers, and then nothing was done.
+pub fn drive<P: Port>(
+    alloc: Global,
+    core: &mut Core,
+    port: &mut P,
+    turns: u64,
+) -> Result<Stats, DriveError>
+    requires events { core.old.events + turns ≤ 2 ^ 63 }
+    requires onward { core.old.last ≤ P.clock port.old }
+    requires failures { P.failures port.old < 2 ^ 63 }
+    ensures { Ends P.gives P.takes P.clock P.failures turns
+        core.old port.old core.new port.new result }
+{
+    let room = core.datagram();
+    let (Ok(mut input), Ok(mut output)) = (
+        Datagram::new(alloc, room.saturating_add(1)),
+        Datagram::new(alloc, room),
+    ) else {
+        return Err(DriveError::OutOfMemory);
+    };
+    let mut stats = Stats::default();
+    let mut came = false;
+    for done in 0..turns {
+        match do_turn(core, port, came, &mut input, &mut output, &mut stats) {
+            Ok(arrived) => came = arrived,
+            Err(PortFault) => return Err(DriveError::Port { stats }),
+        }
+    }
+    Ok(stats)
+}

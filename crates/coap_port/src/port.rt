@@ -1,0 +1,61 @@
+//! Ports.
+use crate::error::PortFault;
+use coap_message::Datagram;
+use coap_target::Endpoint;
+
+/// What a port gives: a moment, a draw, and where the datagram came from that it put into the
+/// buffer; none for a tick.
+#[derive(Clone, Copy, Debug, PartialEq, Eq)]
+pub struct Turn {
+    pub now: u64,
+    pub draw: u16,
+    pub from: Option<Endpoint>,
+}
+
+/// Where datagrams come from and go to, and what tells the time.
+///
+/// An implementation says by `gives` and `takes` what its calls do, as far as it can be said: a
+/// port in memory exactly, a socket not at all. It holds its last moment (`clock`, 0 at first) and
+/// how often `next` failed (`failures`).
+pub trait Port {
+    ghost use Rattle.std.specs.Prelude.{◌≡◌, ◌≤◌, ◌<◌, ◌+◌, ◌^◌, ℕ, List, Bool, None, IfOk, OnOk, OnErr};
+    ghost use Rattle.coap_model.specs.Runs.{Turn};
+    ghost use Rattle.coap_target.specs.declared.endpoint.Endpoint.{Endpoint};
+    ghost use Rattle.coap_port.specs.Given.{IsOnward, given_by};
+
+    ghost clock: { Self → ℕ };
+
+    ghost failures: { Self → ℕ };
+
+    // a turn is given by a port that was asked with this wait, and leaves it so
+    ghost gives: { Self → ℕ → Turn → Self → Type 0 };
+
+    // bytes were handed to a port for an endpoint, which answered so and is left so
+    ghost takes: { Self → Endpoint → List ℕ → Bool → Self → Type 0 };
+
+    /// The last moment that it gave, in milliseconds, 0 at first.
+    fn last(&self) -> u64
+        ensures { result ≡ clock self.now };
+
+    /// The next turn: a datagram if one comes within so many milliseconds, else a tick. With no
+    /// wait it is a tick, and nothing is read. The datagram is put in place of what the buffer
+    /// holds, cut to its room.
+    ///
+    /// # Errors
+    /// The port can't be used any more.
+    fn next(&mut self, wait: u64, into: &mut Datagram) -> Result<Turn, PortFault>
+        requires { failures self.old < 2 ^ 63 }
+        ensures gives { IfOk result (λ turn.
+            gives self.old wait (given_by turn into.new.bytes) self.new) }
+        ensures onward { IfOk result (IsOnward (clock self.old) (clock self.new)) }
+        ensures ticks { wait ≡ 0 → IfOk result (λ turn. turn.from ≡ None) }
+        ensures room { into.new.room ≡ into.old.room }
+        ensures works { OnOk result (failures self.new ≡ failures self.old) }
+        ensures fails { OnErr result (failures self.new ≡ failures self.old + 1) };
+
+    /// Hands bytes over for an endpoint. Answers whether they were taken.
+    fn send(&mut self, to: Endpoint, bytes: &[u8]) -> bool
+        ensures takes { takes self.old to bytes.now result self.new }
+        ensures clock { clock self.new ≡ clock self.old }
+        ensures failures { failures self.new ≡ failures self.old };
+}

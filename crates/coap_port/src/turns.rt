@@ -1,0 +1,124 @@
+//! One turn of a port.
+ghost use Rattle.std.specs.Prelude.{◌≡◌, ◌≤◌, ◌<◌, ◌+◌, ◌^◌, IfOk, OnErr, is_some, length, option_map};
+ghost use Rattle.coap_message.specs.Uint.{IsBytes};
+ghost use Rattle.coap_model.specs.Events.{IsEvent};
+ghost use Rattle.coap_core.specs.Events.{seen};
+ghost use Rattle.coap_port.specs.Driven as spec;
+ghost use Rattle.coap_port.specs.Given.{event_given};
+ghost use Rattle.coap_port.specs.Stats.{AreWithin, with_turn};
+
+use crate::error::PortFault;
+use crate::port::Port;
+use crate::stats::Stats;
+use coap_core::{Core, Event};
+use coap_message::{Datagram, OutOfMemory};
+use coap_target::Endpoint;
+
+/// The longest wait, in milliseconds.
+const LONGEST_WAIT: u64 = 1000;
+
+/// How long a port is asked to wait after a moment, until the next thing is due.
+fn wait_for(came: bool, last: u64, due: Option<u64>) -> u64
+    ensures { result ≡ spec.wait_for came last due }
+{
+    match due {
+        Some(due) => {
+            if came && due <= last {
+                0
+            } else {
+                due.saturating_sub(last).min(LONGEST_WAIT).max(1)
+            }
+        }
+        None => LONGEST_WAIT,
+    }
+}
+
+/// The event of a turn.
+fn event_of(from: Option<Endpoint>, bytes: &[u8]) -> Event<'_>
+    ensures event { seen result ≡ event_given from bytes.now }
+    ensures bytes { IsEvent (event_given from bytes.now) }
+{
+    are_bytes(bytes);
+    match from {
+        Some(from) => Event::Datagram { from, bytes },
+        None => Event::Tick,
+    }
+}
+
+// Nothing is done: a proof learns here that the bytes of a datagram are below 256.
+fn are_bytes(bytes: &[u8])
+    ensures { IsBytes bytes.now }
+{}
+
+/// Hands a datagram over, if there is one. Answers whether it was taken.
+fn hand_over<P: Port>(port: &mut P, to: Option<Endpoint>, bytes: &[u8]) -> bool
+    ensures takes { spec.HandsOver P.takes port.old (option_map (λ e. (e, bytes.now)) to) result port.new }
+    ensures clock { P.clock port.new ≡ P.clock port.old }
+    ensures failures { P.failures port.new ≡ P.failures port.old }
+{
+    match to {
+        Some(to) => port.send(to, bytes),
+        None => true,
+    }
+}
+
+/// Counts a turn: whether it was lost, whether a datagram was handed over, and whether it was
+/// taken.
+fn count(stats: &mut Stats, lost: bool, sent: bool, went: bool)
+    requires within { AreWithin stats.old }
+    requires few { stats.old.turns < 2 ^ 63 }
+    ensures exact { stats.new ≡ with_turn lost sent went stats.old }
+    ensures within { AreWithin stats.new }
+{
+    stats.turns += 1;
+    if sent && went {
+        stats.sent += 1;
+    }
+    if sent && !went {
+        stats.send_faults += 1;
+    }
+    if lost {
+        stats.lost += 1;
+    }
+}
+
+/// One turn: what the port gives is done, and what is sent is handed over. Answers whether a
+/// datagram came.
+///
+/// # Errors
+/// The port gave nothing. Nothing was done then.
+pub(crate) fn do_turn<P: Port>(
+    core: &mut Core,
+    port: &mut P,
+    came: bool,
+    input: &mut Datagram,
+    output: &mut Datagram,
+    stats: &mut Stats,
+) -> Result<bool, PortFault>
+    requires failures { P.failures port.old < 2 ^ 63 }
+    requires onward { core.old.last ≤ P.clock port.old }
+    requires events { core.old.events < 2 ^ 63 }
+    requires room { core.old.setting.limits.datagram ≤ output.old.room }
+    requires within { AreWithin stats.old }
+    requires few { stats.old.turns < 2 ^ 63 }
+    ensures done { IfOk result (spec.DidTurn P.gives P.takes P.clock P.failures came
+        core.old port.old stats.old core.new port.new stats.new) }
+    ensures within { AreWithin stats.new }
+    ensures room { output.new.room ≡ output.old.room }
+    ensures setting { core.new.setting ≡ core.old.setting }
+    ensures nothing { OnErr result (core.new ≡ core.old) }
+    ensures uncounted { OnErr result (stats.new ≡ stats.old) }
+    ensures fails { OnErr result (P.failures port.new ≡ P.failures port.old + 1) }
+{
+    let wait = wait_for(came, port.last(), core.next_due());
+    let turn = port.next(wait, input)?;
+    let event = event_of(turn.from, input.bytes());
+    match core.step(turn.now, turn.draw, event, output) {
+        Ok(report) => {
+            let went = hand_over(port, report.send, output.bytes());
+            count(stats, false, report.send.is_some(), went);
+        }
+        Err(OutOfMemory) => count(stats, true, false, false),
+    }
+    Ok(turn.from.is_some())
+}

@@ -1,0 +1,5 @@
+pub mod Cuts
+pub mod LocalOptions
+pub mod Numbers
+pub mod Reading
+pub mod Taking

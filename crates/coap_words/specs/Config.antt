@@ -1,0 +1,214 @@
+-- What a configuration says, or the first fault in it.
+use Rattle.std.specs.Prelude.{ℕ, ℤ, pos, Bool, false, not, ◌==◌, ◌||◌, List, [], ◌∷◌, ◌++◌, map, codes, bytes_eq, Option, Some, None, ok_or, Result, Ok, Err, if◌then◌else◌}
+use Rattle.std.specs.List.{list_any}
+use Rattle.std.specs.Str.{is_utf8}
+use Rattle.toml.specs.Data.{Data, string, integer, array, table, Members, get_member}
+use Rattle.toml.specs.Parse.{parse_document}
+use Rattle.coap_model.specs.declared.limits.Limit.{Limit}
+use Rattle.coap_model.specs.declared.limits.Limit.TheVariants.{CacheBytes, CacheEntries, ConRecords, NonRecords, Exchanges, Waiters, Nstart, Datagram, ExchangeMs, RetryS}
+use Rattle.coap_model.specs.Limits.{Limits, default_limits, first_fault, value_of}
+use Rattle.coap_routes.specs.RouteLists.{RouteLists}
+use Rattle.coap_routes.specs.RouteTexts.{Pair, routes_of}
+use Rattle.coap_routes.specs.declared.error.RouteError.{RouteError}
+use Rattle.coap_words.specs.Texts.{Text, lower}
+use Rattle.coap_words.specs.Tree.{after, each_item, each_member, first_key}
+use Rattle.coap_words.specs.declared.config_error.ConfigError.{ConfigError}
+use Rattle.coap_words.specs.declared.config_error.ConfigError.TheVariants.{Syntax, Key, Value, Routes}
+use Rattle.coap_words.specs.declared.tables.Place.{Place}
+use Rattle.coap_words.specs.declared.tables.Place.TheVariants as place
+
+-- what a configuration says; names, hosts and maps as the texts of which routes are made
+pub record Said : Type 0 where
+  pub limits : Limits
+  pub names : List Text
+  pub hosts : List Pair
+  pub maps : List Pair
+
+-- ---- keys
+
+-- the key of a limit
+abbrev pub limit_key : Limit → Text
+limit_key CacheBytes = codes "cache_bytes"
+limit_key CacheEntries = codes "cache_entries"
+limit_key ConRecords = codes "con_records"
+limit_key NonRecords = codes "non_records"
+limit_key Exchanges = codes "exchanges"
+limit_key Waiters = codes "waiters"
+limit_key Nstart = codes "nstart"
+limit_key Datagram = codes "datagram"
+limit_key ExchangeMs = codes "exchange_ms"
+limit_key RetryS = codes "retry_s"
+
+-- the limits of what is held, and those of what is sent
+abbrev pub holding : List Limit
+holding = CacheBytes ∷ CacheEntries ∷ ConRecords ∷ NonRecords ∷ Exchanges ∷ Waiters ∷ []
+
+abbrev pub sending : List Limit
+sending = Nstart ∷ Datagram ∷ ExchangeMs ∷ RetryS ∷ []
+
+-- the keys that each table may have
+abbrev pub is_among : List Text → Text → Bool
+is_among keys key = list_any (bytes_eq key) keys
+
+abbrev pub top_keys : List Text
+top_keys = codes "version" ∷ codes "names" ∷ codes "limits" ∷ codes "hosts" ∷ codes "map" ∷ []
+
+abbrev pub is_limit : Text → Bool
+is_limit key = is_among (map limit_key holding) key || is_among (map limit_key sending) key
+
+abbrev pub is_known : Place → Text → Bool
+is_known place.Top key = is_among top_keys key
+is_known place.Limits key = is_limit key
+is_known place.Map key = is_among (codes "prefix" ∷ codes "origin" ∷ []) key
+
+-- the name of a key, with a dot behind the name of its table
+abbrev pub within : Text → Text → Text
+within outer key = outer ++ codes "." ++ key
+
+abbrev pub name_in : Place → Text → Text
+name_in place.Top key = key
+name_in place.Limits key = within (codes "limits") key
+name_in place.Map key = within (codes "map") key
+
+-- the first key that isn't known, if any, is a fault
+abbrev pub unless_unknown : Place → Option Text → Result (Unit {0}) ConfigError
+unless_unknown place None = Ok tt
+unless_unknown place (Some key) = Err (Key (name_in place key))
+
+abbrev pub keys_checked : Place → Members → Result (Unit {0}) ConfigError
+keys_checked place members =
+    unless_unknown place (first_key (λ key. not (is_known place key)) members)
+
+-- ---- values
+
+-- the number 1
+abbrev pub is_one : Data → Bool
+is_one (integer (pos n)) = n == 1
+is_one _ = false
+
+-- `version` must stand, and be 1
+abbrev pub version_checked : Option Data → Result (Unit {0}) ConfigError
+version_checked None = Err (Key (codes "version"))
+version_checked (Some d) = if is_one d then Ok tt else Err (Value (codes "version"))
+
+-- a text under a key of a map
+abbrev pub text_said : Text → Option Data → Result Text ConfigError
+text_said key (Some (string text)) = Ok text
+text_said key (Some _) = Err (Value (name_in place.Map key))
+text_said key None = Err (Value (name_in place.Map key))
+
+-- ---- own names
+
+abbrev pub name_said : Data → Result Text ConfigError
+name_said (string text) = Ok (lower text)
+name_said _ = Err (Value (codes "names"))
+
+-- a list of texts, in lower case; none where it is left out
+abbrev pub names_said : Option Data → Result (List Text) ConfigError
+names_said None = Ok []
+names_said (Some (array items)) = each_item name_said items
+names_said (Some _) = Err (Value (codes "names"))
+
+-- ---- limits
+
+-- the number that a value says for a limit; what is no number from 0 up says one that no limit may
+-- be
+abbrev pub number_said : Data → ℕ
+number_said (integer (pos n)) = n
+number_said _ = 0xFFFFFFFFFFFFFFFF
+
+-- the value of a limit; the default where it is left out
+abbrev pub limit_or : ℕ → Option Data → ℕ
+limit_or default None = default
+limit_or default (Some d) = number_said d
+
+abbrev pub limit_in : Members → Limit → ℕ
+limit_in members limit =
+    limit_or (value_of default_limits limit) (get_member (limit_key limit) members)
+
+abbrev pub limits_in : Members → Limits
+limits_in members = record {
+  cache_bytes = limit_in members CacheBytes;
+  cache_entries = limit_in members CacheEntries;
+  con_records = limit_in members ConRecords;
+  non_records = limit_in members NonRecords;
+  exchanges = limit_in members Exchanges;
+  waiters = limit_in members Waiters;
+  nstart = limit_in members Nstart;
+  datagram = limit_in members Datagram;
+  exchange_ms = limit_in members ExchangeMs;
+  retry_s = limit_in members RetryS;
+}
+
+-- the first that is out of its range, in the order of the limits, is a fault
+abbrev pub unless_out : Limits → Option Limit → Result Limits ConfigError
+unless_out limits None = Ok limits
+unless_out limits (Some limit) = Err (Value (name_in place.Limits (limit_key limit)))
+
+abbrev pub limits_checked : Limits → Result Limits ConfigError
+limits_checked limits = unless_out limits (first_fault limits)
+
+abbrev pub limits_said : Option Data → Result Limits ConfigError
+limits_said None = Ok default_limits
+limits_said (Some (table members)) =
+    after (keys_checked place.Limits members) (λ _. limits_checked (limits_in members))
+limits_said (Some _) = Err (Value (codes "limits"))
+
+-- ---- hosts
+
+-- a name in lower case, and its address as it stands
+abbrev pub host_said : Text → Data → Result Pair ConfigError
+host_said name (string address) = Ok (lower name, address)
+host_said name _ = Err (Value (within (codes "hosts") name))
+
+abbrev pub hosts_said : Option Data → Result (List Pair) ConfigError
+hosts_said None = Ok []
+hosts_said (Some (table members)) = each_member host_said members
+hosts_said (Some _) = Err (Value (codes "hosts"))
+
+-- ---- maps
+
+-- both keys must stand
+abbrev pub pair_said : Members → Result Pair ConfigError
+pair_said members =
+    after (text_said (codes "prefix") (get_member (codes "prefix") members)) (λ prefix.
+    after (text_said (codes "origin") (get_member (codes "origin") members)) (λ origin.
+    Ok (prefix, origin)))
+
+abbrev pub map_said : Data → Result Pair ConfigError
+map_said (table members) = after (keys_checked place.Map members) (λ _. pair_said members)
+map_said _ = Err (Value (codes "map"))
+
+abbrev pub maps_said : Option Data → Result (List Pair) ConfigError
+maps_said None = Ok []
+maps_said (Some (array items)) = each_item map_said items
+maps_said (Some _) = Err (Value (codes "map"))
+
+-- ---- all of it
+
+-- Faults of the tree are told in this order: the version, keys that aren't known, names, limits,
+-- hosts, maps.
+unfoldable pub table_said : Members → Result Said ConfigError
+table_said members =
+    after (version_checked (get_member (codes "version") members)) (λ _.
+    after (keys_checked place.Top members) (λ _.
+    after (names_said (get_member (codes "names") members)) (λ names.
+    after (limits_said (get_member (codes "limits") members)) (λ limits.
+    after (hosts_said (get_member (codes "hosts") members)) (λ hosts.
+    after (maps_said (get_member (codes "map") members)) (λ maps.
+    Ok (record { limits = limits; names = names; hosts = hosts; maps = maps })))))))
+
+-- then the texts must say routes
+abbrev pub if_routes : Said → Result RouteLists RouteError → Result Said ConfigError
+if_routes said (Ok routes) = Ok said
+if_routes said (Err e) = Err (Routes e)
+
+abbrev pub routes_checked : Said → Result Said ConfigError
+routes_checked said = if_routes said (routes_of said.names said.hosts said.maps)
+
+-- what isn't UTF-8, or no TOML, has a fault before all these
+abbrev pub document_of : Text → Result Members ConfigError
+document_of text = if is_utf8 text then ok_or (parse_document text) Syntax else Err Syntax
+
+abbrev pub config_of : Text → Result Said ConfigError
+config_of text = after (document_of text) (λ members. after (table_said members) routes_checked)

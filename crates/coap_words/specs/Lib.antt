@@ -1,0 +1,11 @@
+pub mod Answer
+pub mod Texts
+pub mod MapOption
+pub mod ProxyOption
+pub mod LocalAddress
+pub mod Tree
+pub mod Config
+pub mod ConfigView
+pub mod OptionTable
+pub mod Settings
+pub mod Examples

@@ -1,0 +1,10 @@
+-- The value of `-A`.
+use Rattle.std.specs.Prelude.{List, [], ◌∷◌, ◌++◌, codes, Option}
+use Rattle.std.specs.Option.{option_or}
+use Rattle.coap_target.specs.declared.endpoint.Ip.{Ip}
+use Rattle.coap_routes.specs.Address.{ip_of}
+use Rattle.coap_words.specs.Texts.{Text}
+
+-- an address, or what is one in brackets
+abbrev pub local_address_of : Text → Option Ip
+local_address_of text = option_or (ip_of text) (ip_of (codes "[" ++ text ++ codes "]"))

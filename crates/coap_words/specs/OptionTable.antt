@@ -1,0 +1,68 @@
+-- The options of the program, as `clap` reads them.
+use Rattle.std.specs.Prelude.{ℕ, true, codes, Some, pos}
+use Rattle.clap.specs.Simple.{on_top}
+use Rattle.clap.specs.Words.{App, Rule, Text, new_app, new_rule, with_rule}
+use Rattle.clap.specs.declared.builder.ArgAction.TheVariants.{Set, SetTrue}
+use Rattle.clap.specs.declared.builder.value_parser.ValueParser.{ValueParser}
+use Rattle.clap.specs.declared.builder.value_parser.ValueParser.TheVariants.{Signed, Unsigned}
+
+-- an option with a value, under an id and a letter or a name
+abbrev pub by_letter : Text → ℕ → Rule
+by_letter id letter =
+    record (new_rule id) { short = Some letter; action = Some Set; value_names = 1 }
+
+abbrev pub by_name : Text → Rule
+by_name name = record (new_rule name) { long = Some name; action = Some Set; value_names = 1 }
+
+-- its value must be one that a parser takes
+abbrev pub parsed_by : ValueParser → Rule → Rule
+parsed_by parser rule = record rule { parser = Some parser }
+
+abbrev pub greatest : ℕ
+greatest = 9223372036854775807
+
+abbrev pub address_rule : Rule
+address_rule = by_letter (codes "address") 0x41
+
+abbrev pub port_rule : Rule
+port_rule = parsed_by (Signed (pos 1) (pos 65535)) (by_letter (codes "port") 0x70)
+
+abbrev pub names_rule : Rule
+names_rule = by_letter (codes "names") 0x50
+
+abbrev pub config_rule : Rule
+config_rule = by_name (codes "config")
+
+abbrev pub map_rule : Rule
+map_rule = by_name (codes "map")
+
+-- an option without a value
+abbrev pub replay_rule : Rule
+replay_rule =
+    record (new_rule (codes "replay")) { long = Some (codes "replay"); action = Some SetTrue }
+
+abbrev pub id_rule : Rule
+id_rule = parsed_by (Signed (pos 0) (pos 65535)) (by_name (codes "id"))
+
+abbrev pub salt_rule : Rule
+salt_rule = parsed_by (Unsigned 0 greatest) (by_name (codes "salt"))
+
+abbrev pub turns_rule : Rule
+turns_rule = parsed_by (Unsigned 1 greatest) (by_name (codes "turns"))
+
+-- the program without options, whose words don't begin with its name, and which has a version
+abbrev pub program : App
+program =
+    on_top (λ s. record s { no_binary_name = true; has_version = true })
+    (new_app (codes "coap-proxyd"))
+
+-- three options more
+abbrev pub with_three : App → Rule → Rule → Rule → App
+with_three app a b c = with_rule (with_rule (with_rule app a) b) c
+
+abbrev pub option_table : App
+option_table =
+    with_three
+    (with_three (with_three program address_rule port_rule names_rule)
+    config_rule map_rule replay_rule)
+    id_rule salt_rule turns_rule

@@ -1,0 +1,74 @@
+-- What the words of the command line say, by what `clap` finds in them.
+use Rattle.std.specs.Prelude.{◌≡◌, ◌⊎◌, ◌≤◌, ◌==◌, ◌&&◌, nat_le, if◌then◌else◌, ℕ, Bool, false, List, [], ◌∷◌, map, codes, bytes_eq, Option, Some, None, IfSome, option_map, Result, MatchResult, string_bytes}
+use Rattle.std.specs.Option.{SomeIff, option_map_or}
+use Rattle.std.specs.Str.Parse.{IsNumeral, digits_value, without_leading_plus}
+use Rattle.clap.specs.Words.{IsAmong, Kinds, Row, Text, fault_of, first_of, matches_of, one_of}
+use Rattle.clap.specs.declared.error.ErrorKind.{ErrorKind}
+use Rattle.clap.specs.declared.error.ErrorKind.TheVariants as kind
+use Rattle.coap_words.specs.OptionTable.{greatest, option_table}
+use Rattle.coap_words.specs.declared.settings.Settings.{Settings}
+use Rattle.coap_words.specs.declared.settings.WordsError.{WordsError}
+use Rattle.coap_words.specs.declared.settings.WordsError.TheVariants.{Usage, OutOfMemory}
+
+-- a number from `least` to `most` that a text says in decimal digits, behind a plus or none
+abbrev pub SaysNumber : ℕ → ℕ → Text → Option ℕ → Type 0
+SaysNumber least most text number =
+    let digits = without_leading_plus text in
+    SomeIff number
+    (IsNumeral 10 digits × (least ≤ digits_value 10 digits) × (digits_value 10 digits ≤ most))
+    (digits_value 10 digits)
+
+-- the number that an option's text says; none without a text
+abbrev pub IsNumberOf : ℕ → ℕ → Option Text → Option ℕ → Type 0
+IsNumberOf least most None number = number ≡ None
+IsNumberOf least most (Some text) number = SaysNumber least most text number
+
+-- a number, where it is in a range
+abbrev pub narrowed : ℕ → ℕ → Option ℕ → Option ℕ
+narrowed least most None = None
+narrowed least most (Some n) = if nat_le least n && nat_le n most then Some n else None
+
+-- an option without a value is given
+abbrev pub is_given : Text → List Row → Bool
+is_given id rows = option_map_or (λ text. bytes_eq text (codes "true")) (first_of id rows) false
+
+-- each setting is what its option says
+pub record AreSettings (rows : List Row) (s : Settings) : Type 0 where
+  pub address : option_map string_bytes s.address ≡ first_of (codes "address") rows
+  pub port : IsNumberOf 1 65535 (one_of (codes "port") rows) s.port
+  pub names : option_map string_bytes s.names ≡ first_of (codes "names") rows
+  pub config : option_map string_bytes s.config ≡ first_of (codes "config") rows
+  pub map : option_map string_bytes s.map ≡ first_of (codes "map") rows
+  pub replay : s.replay ≡ is_given (codes "replay") rows
+  pub first_id : IsNumberOf 0 65535 (one_of (codes "id") rows) s.first_id
+  pub salt : IsNumberOf 0 greatest (one_of (codes "salt") rows) s.salt
+  pub turns : IsNumberOf 1 greatest (one_of (codes "turns") rows) s.turns
+
+-- the numbers are in their ranges
+pub record AreInRange (s : Settings) : Type 0 where
+  pub port : IfSome s.port (λ n. (1 ≤ n) × (n ≤ 65535))
+  pub salt : IfSome s.salt (λ n. n ≤ greatest)
+  pub turns : IfSome s.turns (λ n. (1 ≤ n) × (n ≤ greatest))
+
+-- help and the version end the program with 0, a refusal with 2
+abbrev pub status_of : ErrorKind → ℕ
+status_of kind.DisplayHelp = 0
+status_of kind.DisplayVersion = 0
+status_of _ = 2
+
+-- a refusal of this kind, with whatever text
+abbrev pub IsRefusal : ErrorKind → WordsError → Type 0
+IsRefusal k (Usage status text) = status ≡ status_of k
+IsRefusal k OutOfMemory = ⊥
+
+-- memory ran out, or it is a refusal of one of these kinds
+abbrev pub RefusesFor : Kinds → WordsError → Type 0
+RefusesFor kinds e = (e ≡ OutOfMemory) ⊎ ((k : ErrorKind) × IsAmong k kinds × IsRefusal k e)
+
+-- The words are taken where `clap` finds no fault in them by the option table, and then say what it
+-- finds. Else they are refused for a fault that it finds.
+abbrev pub ReadsWords : List Text → Result Settings WordsError → Type 0
+ReadsWords words result =
+    MatchResult result
+    (λ s. (fault_of option_table words ≡ []) × AreSettings (matches_of option_table words) s)
+    (RefusesFor (fault_of option_table words))

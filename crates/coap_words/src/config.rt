@@ -1,0 +1,135 @@
+//! The configuration of the proxy, a TOML file.
+ghost use Rattle.std.specs.Prelude.{◌≡◌, Some, None, option_map};
+ghost use Rattle.std.specs.Str.{is_utf8};
+ghost use Rattle.toml.specs.Data.{get_member};
+ghost use Rattle.toml.specs.View.{table_view, view};
+ghost use Rattle.coap_routes.specs.Answer.{Answers};
+ghost use Rattle.coap_words.specs.Answer.{Says};
+ghost use Rattle.coap_words.specs.Config as spec;
+ghost use Rattle.coap_words.specs.ConfigView.{seen};
+ghost use Rattle.coap_words.specs.declared.config_error.ConfigError.TheVariants as errors;
+
+use crate::config_error::{ConfigError, KeyName};
+use crate::limit_table::read_limits;
+use crate::lists::{read_hosts, read_maps, read_names};
+use crate::tables::{Place, bad_value, check_keys, member};
+use coap_model::Limits;
+use coap_routes::{RouteError, Routes};
+use std::alloc::Global;
+use toml::{Table, Value};
+
+/// What a configuration says. Names, hosts and maps are the texts of which `Routes::new` makes
+/// routes.
+#[derive(Debug, Drop)]
+pub struct Config {
+    /// The limits; each that is left out has its default.
+    pub limits: Limits,
+    /// The own names, in lower case, in order.
+    pub names: Vec<String>,
+    /// Hosts by name: the name in lower case, and its address. In byte order of their keys.
+    pub hosts: Vec<(String, String)>,
+    /// Maps: a prefix and an origin each, in order.
+    pub maps: Vec<(String, String)>,
+}
+
+/// What a configuration says, whose bytes are TOML:
+///
+/// - `version`, which must stand and be 1;
+/// - `names`, a list of texts;
+/// - `limits`, a table with a number for each limit that isn't to have its default;
+/// - `hosts`, a table with an address for each name;
+/// - `map`, a list of tables with a `prefix` and an `origin`.
+///
+/// # Errors
+/// The first fault, in this order: no TOML; the version; keys that aren't known, in byte order;
+/// `names`; in `limits` keys that aren't known, then the limits in the order of `Limit`; `hosts`;
+/// `map`, in each table a key that isn't known, then the prefix, then the origin; no routes. Want
+/// of memory is answered where it is met.
+pub fn read_config(alloc: Global, text: &[u8]) -> Result<Config, ConfigError>
+    ensures { Says seen errors.OutOfMemory result (spec.config_of text.now) }
+{
+    let table = read_document(alloc, text)?;
+    let config = read_table(alloc, &table)?;
+    check_routes(alloc, &config)?;
+    Ok(config)
+}
+
+/// The tree of a TOML text.
+fn read_document(alloc: Global, text: &[u8]) -> Result<Table, ConfigError>
+    ensures { Says table_view errors.OutOfMemory result (spec.document_of text.now) }
+{
+    let Ok(text) = str::from_utf8(text) else {
+        return Err(ConfigError::Syntax);
+    };
+    match toml::table_from_str(alloc, text) {
+        Ok(table) => Ok(table),
+        Err(error) => Err(if error.is_memory() {
+            ConfigError::OutOfMemory
+        } else {
+            ConfigError::Syntax
+        }),
+    }
+}
+
+/// What a tree says.
+#[tactic(auto, unfolding(crate::specs::Config::table_said))]
+fn read_table(alloc: Global, table: &Table) -> Result<Config, ConfigError>
+    ensures { Says seen errors.OutOfMemory result (spec.table_said (table_view table.now)) }
+{
+    check_version(alloc, member(table, "version"))?;
+    check_keys(alloc, Place::Top, table)?;
+    let names = read_names(alloc, member(table, "names"))?;
+    let limits = read_limits(alloc, member(table, "limits"))?;
+    let hosts = read_hosts(alloc, member(table, "hosts"))?;
+    let maps = read_maps(alloc, member(table, "map"))?;
+    Ok(Config {
+        limits,
+        names,
+        hosts,
+        maps,
+    })
+}
+
+/// Whether the version stands, and is 1.
+fn check_version(alloc: Global, said: Option<&Value>) -> Result<(), ConfigError>
+    ensures { Answers errors.OutOfMemory result
+        (spec.version_checked (option_map (λ value. view value.now) said.entry)) }
+{
+    let Some(said) = said else {
+        return Err(ConfigError::Key {
+            name: KeyName::new(alloc, "version")?,
+        });
+    };
+    if is_one(said) {
+        Ok(())
+    } else {
+        Err(bad_value(alloc, "version"))
+    }
+}
+
+/// Whether a value is the number 1.
+fn is_one(value: &Value) -> bool
+    ensures { result ≡ spec.is_one (view value.now) }
+{
+    match value.as_integer() {
+        Some(number) => number == 1,
+        None => false,
+    }
+}
+
+/// Whether the texts say routes.
+fn check_routes(alloc: Global, config: &Config) -> Result<(), ConfigError>
+    ensures { Says (λ _. seen config.now) errors.OutOfMemory result
+        (spec.routes_checked (seen config.now)) }
+{
+    match Routes::new(
+        alloc,
+        config.names.as_slice(),
+        config.hosts.as_slice(),
+        config.maps.as_slice(),
+    ) {
+        Ok(_routes) => Ok(()),
+        Err(RouteError::OutOfMemory) => Err(ConfigError::OutOfMemory),
+        Err(error) => Err(ConfigError::Routes(error)),
+    }
+}

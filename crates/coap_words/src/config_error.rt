@@ -1,0 +1,108 @@
+//! Faults of a configuration.
+ghost use Rattle.std.specs.Prelude.{◌≡◌, ◌++◌, Some, IfOk, codes};
+ghost use Rattle.coap_words.specs.ConfigView.{fault_text};
+ghost use Rattle.coap_words.specs.declared.config_error.ConfigError.TheVariants as errors;
+
+use coap_message::OutOfMemory;
+use coap_routes::RouteError;
+use std::alloc::{AllocError, AllocFailed, Global};
+use std::error::Error;
+use std::fmt;
+use std::marker::Model;
+
+/// The name of a key, with a dot behind the name of its table. A contract sees its bytes.
+#[derive(Debug, Drop)]
+pub struct KeyName {
+    text: String,
+}
+
+impl Model for KeyName {
+    ghost use Rattle.std.specs.Prelude.{List, ℕ, string_bytes};
+
+    ghost Value = { List ℕ };
+
+    ghost view = { λ name. string_bytes name.text };
+}
+
+impl KeyName {
+    /// A key of the whole file.
+    pub(crate) fn new(alloc: Global, key: &str) -> Result<KeyName, OutOfMemory>
+        ensures { IfOk result (λ name. name ≡ key.now) }
+    {
+        Ok(KeyName {
+            text: String::from_str(alloc, key)?,
+        })
+    }
+
+    /// A key of a table.
+    pub(crate) fn within(alloc: Global, table: &str, key: &str) -> Result<KeyName, OutOfMemory>
+        ensures { IfOk result (λ name. name ≡ table.now ++ codes "." ++ key.now) }
+    {
+        Ok(KeyName {
+            text: format!(in alloc; "{table}.{key}")?,
+        })
+    }
+
+    /// The name as a text.
+    pub fn as_str(&self) -> &str
+        ensures { result.now ≡ self.now }
+    {
+        self.text.as_str()
+    }
+}
+
+/// Why a text is no configuration: the first fault, in this order, and among those of one kind the
+/// first in the order of `read_config`. Want of memory may be answered in place of a later fault.
+#[derive(Debug, Drop)]
+pub enum ConfigError {
+    /// It isn't UTF-8, or no TOML.
+    Syntax,
+    /// A key isn't known, or `version` is missing.
+    Key { name: KeyName },
+    /// A value is of the wrong kind or out of its range, or a map lacks it.
+    Value { name: KeyName },
+    /// Its texts say no routes.
+    Routes(RouteError),
+    /// The allocator had no memory for it.
+    OutOfMemory,
+}
+
+impl From<OutOfMemory> for ConfigError {
+    ghost from_gives = { λ _ e. e ≡ errors.OutOfMemory };
+
+    fn from(_refused: OutOfMemory) -> ConfigError {
+        ConfigError::OutOfMemory
+    }
+}
+
+impl From<AllocError> for ConfigError {
+    ghost from_gives = { λ _ e. e ≡ errors.OutOfMemory };
+
+    fn from(_refused: AllocError) -> ConfigError {
+        ConfigError::OutOfMemory
+    }
+}
+
+impl<T: Drop> From<AllocFailed<T>> for ConfigError {
+    ghost from_gives = { λ _ e. e ≡ errors.OutOfMemory };
+
+    fn from(_refused: AllocFailed<T>) -> ConfigError {
+        ConfigError::OutOfMemory
+    }
+}
+
+impl fmt::Display for ConfigError {
+    ghost output = { λ error. Some (fault_text error) };
+
+    fn fmt<W: fmt::Write>(&self, f: &mut fmt::Formatter<W>) -> fmt::Result {
+        match self {
+            ConfigError::Syntax => f.write_str("syntax"),
+            ConfigError::Key { name } => write!(f, "key {}", name.as_str()),
+            ConfigError::Value { name } => write!(f, "value {}", name.as_str()),
+            ConfigError::Routes(_) => f.write_str("routes"),
+            ConfigError::OutOfMemory => f.write_str("out of memory"),
+        }
+    }
+}
+
+impl Error for ConfigError {}

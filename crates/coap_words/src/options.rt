@@ -1,0 +1,174 @@
+//! The options of the program, with what the help says of them.
+ghost use Rattle.std.specs.Prelude.{◌≡◌, true, IfOk};
+ghost use Rattle.clap.specs.Words.{app_of, rule_of, with_rule};
+ghost use Rattle.coap_words.specs.OptionTable as spec;
+
+use clap::{Arg, ArgAction, Command, value_parser};
+use std::alloc::{AllocError, Global};
+
+/// The version that `--version` tells.
+const VERSION: &str = "0.1.0";
+
+/// The line under the options.
+const EXAMPLE: &str =
+    "Example: coap-proxyd -A 127.0.0.1 -p 5683 --map /t=coap://127.0.0.1:5690/temp";
+
+/// An option with a value, under an id and a letter.
+fn by_letter<'a>(alloc: Global, id: &'a str, letter: char, value: &'a str, help: &'a str) -> Arg<'a>
+    ensures { rule_of result ≡ spec.by_letter id.entry.now letter }
+{
+    Arg::new(alloc, id)
+        .short(letter)
+        .action(ArgAction::Set)
+        .value_name(value)
+        .help(help)
+}
+
+/// An option with a value, under a name.
+fn by_name<'a>(alloc: Global, name: &'a str, value: &'a str, help: &'a str) -> Arg<'a>
+    ensures { rule_of result ≡ spec.by_name name.entry.now }
+{
+    Arg::new(alloc, name)
+        .long(name)
+        .action(ArgAction::Set)
+        .value_name(value)
+        .help(help)
+}
+
+/// `-A`: the local address.
+fn address<'a>(alloc: Global) -> Arg<'a>
+    ensures { rule_of result ≡ spec.address_rule }
+{
+    let help = "Local address, IPv4, or IPv6 with or without brackets [default: 0.0.0.0]";
+    by_letter(alloc, "address", 'A', "ADDRESS", help)
+}
+
+/// `-p`: the port.
+fn port<'a>(alloc: Global) -> Arg<'a>
+    ensures { rule_of result ≡ spec.port_rule }
+{
+    let help = "UDP port, 1 to 65535 [default: 5683]";
+    by_letter(alloc, "port", 'p', "PORT", help).value_parser(value_parser!(u16).range(1..=65535))
+}
+
+/// `-P`: own names.
+fn names<'a>(alloc: Global) -> Arg<'a>
+    ensures { rule_of result ≡ spec.names_rule }
+{
+    let help = "Own names behind a comma, between commas, 1 to 64, in place of those in the file \
+[default: the file's]";
+    by_letter(alloc, "names", 'P', ",NAMES", help)
+}
+
+/// `--config`: the configuration.
+fn config<'a>(alloc: Global) -> Arg<'a>
+    ensures { rule_of result ≡ spec.config_rule }
+{
+    let help = "Configuration, a TOML file [default: none, with the default limits and no maps]";
+    by_name(alloc, "config", "FILE", help)
+}
+
+/// `--map`: one more map.
+fn map<'a>(alloc: Global) -> Arg<'a>
+    ensures { rule_of result ≡ spec.map_rule }
+{
+    let help =
+        "One more map, after those of the file: a path prefix and its origin [default: none]";
+    by_name(alloc, "map", "PREFIX=URI", help)
+}
+
+/// `--replay`: events from standard input.
+fn replay<'a>(alloc: Global) -> Arg<'a>
+    ensures { rule_of result ≡ spec.replay_rule }
+{
+    Arg::new(alloc, "replay")
+        .long("replay")
+        .action(ArgAction::SetTrue)
+        .help("Takes events from standard input in place of a socket [default: a socket]")
+}
+
+/// `--id`: the first message id.
+fn first_id<'a>(alloc: Global) -> Arg<'a>
+    ensures { rule_of result ≡ spec.id_rule }
+{
+    let help = "First message id, 0 to 65535 [default: 1 in a replay, else drawn]";
+    by_name(alloc, "id", "N", help).value_parser(value_parser!(u16).range(0..=65535))
+}
+
+/// `--salt`: the salt of tokens.
+fn salt<'a>(alloc: Global) -> Arg<'a>
+    ensures { rule_of result ≡ spec.salt_rule }
+{
+    let help = "Salt of tokens, 0 to 9223372036854775807 [default: 0 in a replay, else drawn]";
+    by_name(alloc, "salt", "N", help).value_parser(value_parser!(u64).range(0..=i64::MAX))
+}
+
+/// `--turns`: how many turns to do.
+fn turns<'a>(alloc: Global) -> Arg<'a>
+    ensures { rule_of result ≡ spec.turns_rule }
+{
+    let help = "Turns to do, 1 to 9223372036854775807 [default: the greatest]";
+    by_name(alloc, "turns", "N", help).value_parser(value_parser!(u64).range(1..=i64::MAX))
+}
+
+/// The program without options.
+fn program<'a>(alloc: Global) -> Command<'a>
+    ensures { app_of result ≡ spec.program }
+{
+    Command::new(alloc, "coap-proxyd")
+        .version(VERSION)
+        .no_binary_name(true)
+        .about("A CoAP proxy: reverse for the maps, forward under its own names (RFC 7252)")
+        .after_help(EXAMPLE)
+}
+
+/// A command with one option more.
+fn with<'a>(command: Command<'a>, option: Arg<'a>) -> Result<Command<'a>, AllocError>
+    requires { (rule_of option).is_simple ≡ true }
+    ensures { IfOk result (λ more.
+        app_of more ≡ with_rule (app_of command.entry) (rule_of option.entry)) }
+{
+    command.arg(option)
+}
+
+/// A command with where it listens, and its own names.
+fn with_endpoint<'a>(alloc: Global, command: Command<'a>) -> Result<Command<'a>, AllocError>
+    ensures { IfOk result (λ more. app_of more
+        ≡ spec.with_three (app_of command.entry) spec.address_rule spec.port_rule spec.names_rule) }
+{
+    with(
+        with(with(command, address(alloc))?, port(alloc))?,
+        names(alloc),
+    )
+}
+
+/// A command with where its routes and its events come from.
+fn with_sources<'a>(alloc: Global, command: Command<'a>) -> Result<Command<'a>, AllocError>
+    ensures { IfOk result (λ more. app_of more
+        ≡ spec.with_three (app_of command.entry) spec.config_rule spec.map_rule spec.replay_rule) }
+{
+    with(
+        with(with(command, config(alloc))?, map(alloc))?,
+        replay(alloc),
+    )
+}
+
+/// A command with how it begins and ends.
+fn with_numbers<'a>(alloc: Global, command: Command<'a>) -> Result<Command<'a>, AllocError>
+    ensures { IfOk result (λ more. app_of more
+        ≡ spec.with_three (app_of command.entry) spec.id_rule spec.salt_rule spec.turns_rule) }
+{
+    with(
+        with(with(command, first_id(alloc))?, salt(alloc))?,
+        turns(alloc),
+    )
+}
+
+/// The program with all its options.
+pub(crate) fn command<'a>(alloc: Global) -> Result<Command<'a>, AllocError>
+    ensures { IfOk result (λ command. app_of command ≡ spec.option_table) }
+{
+    let command = with_endpoint(alloc, program(alloc))?;
+    let command = with_sources(alloc, command)?;
+    with_numbers(alloc, command)
+}

@@ -1,0 +1,54 @@
+//! What the words of the command line say.
+ghost use Rattle.std.specs.Prelude.{◌≡◌};
+ghost use Rattle.coap_words.specs.declared.settings.WordsError.TheVariants as errors;
+
+use std::alloc::AllocError;
+use thiserror::Error;
+
+/// What each option says, where it is given.
+#[derive(Debug, Drop)]
+pub struct Settings {
+    /// `-A`: the local address, as a text (`read_local_address`).
+    pub address: Option<String>,
+    /// `-p`: the port, from 1.
+    pub port: Option<u16>,
+    /// `-P`: own names, as a text (`parse_proxy_option`).
+    pub names: Option<String>,
+    /// `--config`: the path of the configuration.
+    pub config: Option<String>,
+    /// `--map`: one more map, as a text (`parse_map_option`).
+    pub map: Option<String>,
+    /// `--replay`: events come from standard input.
+    pub replay: bool,
+    /// `--id`: the first message id.
+    pub first_id: Option<u16>,
+    /// `--salt`: the salt of tokens, below 2^63.
+    pub salt: Option<u64>,
+    /// `--turns`: how many turns to do, from 1 and below 2^63.
+    pub turns: Option<u64>,
+}
+
+/// Why words were not read as settings.
+#[derive(Debug, Drop, Error)]
+pub enum WordsError {
+    /// They are refused, or ask for the help or the version.
+    #[error("{text}")]
+    Usage {
+        /// The exit status of the program: 0 for the help and the version, else 2.
+        status: u8,
+        /// What to tell: with status 0 on standard output, else on standard error. It ends with a
+        /// line end.
+        text: String,
+    },
+    /// The allocator had no memory for them.
+    #[error("out of memory")]
+    OutOfMemory,
+}
+
+impl From<AllocError> for WordsError {
+    ghost from_gives = { λ _ e. e ≡ errors.OutOfMemory };
+
+    fn from(_refused: AllocError) -> WordsError {
+        WordsError::OutOfMemory
+    }
+}

@@ -1,0 +1,142 @@
+//! The words of the command line.
+ghost use Rattle.std.specs.Prelude.{◌≡◌, ◌⊎◌, ◌≤◌, IfOk, IfErr, IfSome, map, option_map, string_bytes};
+ghost use Rattle.clap.specs.Words.{first_of, found_of, kind_of, one_of, rows_of};
+ghost use Rattle.coap_words.specs.Settings as spec;
+ghost use Rattle.coap_words.specs.declared.settings.WordsError.TheVariants as errors;
+
+use crate::options::command;
+use crate::settings::{Settings, WordsError};
+use clap::error::ErrorKind;
+use clap::{ArgMatches, Error};
+use std::alloc::{AllocError, Global};
+
+/// The settings that the words after the program's name say.
+///
+/// # Errors
+/// `Usage` where `clap` refuses them, and for the help and the version.
+pub fn read_words(alloc: Global, words: &[String]) -> Result<Settings, WordsError>
+    ensures exact { spec.ReadsWords (map string_bytes words.now) result }
+    ensures in_range { IfOk result spec.AreInRange }
+{
+    let command = command(alloc)?;
+    match command.try_get_matches_from(words) {
+        Ok(matches) => settings(alloc, &matches),
+        Err(error) => Err(refusal(alloc, &error)),
+    }
+}
+
+/// What was found, as settings.
+fn settings(alloc: Global, matches: &ArgMatches<'_>) -> Result<Settings, WordsError>
+    ensures ok { IfOk result (spec.AreSettings (rows_of (found_of matches.now))) }
+    ensures err { IfErr result (λ e. e ≡ errors.OutOfMemory) }
+{
+    Ok(Settings {
+        address: text(alloc, matches, "address")?,
+        port: short_number(matches, "port", 1),
+        names: text(alloc, matches, "names")?,
+        config: text(alloc, matches, "config")?,
+        map: text(alloc, matches, "map")?,
+        replay: is_given(matches, "replay"),
+        first_id: short_number(matches, "id", 0),
+        salt: number(matches, "salt", 0, i64::MAX as u64),
+        turns: number(matches, "turns", 1, i64::MAX as u64),
+    })
+}
+
+/// The text of an option.
+fn said<'a>(matches: &ArgMatches<'a>, id: &str) -> Option<&'a str>
+    ensures { option_map (λ text. text.now) result
+        ≡ first_of id.now (rows_of (found_of matches.now)) }
+{
+    matches.get_str(id)
+}
+
+/// A copy of the text of an option.
+fn text(alloc: Global, matches: &ArgMatches<'_>, id: &str) -> Result<Option<String>, AllocError>
+    ensures { IfOk result (λ text.
+        option_map string_bytes text ≡ first_of id.now (rows_of (found_of matches.now))) }
+{
+    match said(matches, id) {
+        Some(text) => Ok(Some(String::from_str(alloc, text)?)),
+        None => Ok(None),
+    }
+}
+
+/// Whether an option without a value is given.
+fn is_given(matches: &ArgMatches<'_>, id: &str) -> bool
+    ensures { result ≡ spec.is_given id.now (rows_of (found_of matches.now)) }
+{
+    match said(matches, id) {
+        Some(text) => text == "true",
+        None => false,
+    }
+}
+
+/// The number of an option, of 64 bits.
+fn any_number(matches: &ArgMatches<'_>, id: &str) -> Option<u64>
+    ensures { spec.IsNumberOf 0 u64.MAX (one_of id.now (rows_of (found_of matches.now))) result }
+{
+    matches.get_one::<u64>(id)
+}
+
+/// A number, where it is from `least` to `most`.
+fn narrow(number: Option<u64>, least: u64, most: u64) -> Option<u64>
+    ensures { result ≡ spec.narrowed least most number }
+{
+    match number {
+        Some(number) if least <= number && number <= most => Some(number),
+        _ => None,
+    }
+}
+
+/// The number of an option, from `least` to `most`.
+fn number(matches: &ArgMatches<'_>, id: &str, least: u64, most: u64) -> Option<u64>
+    ensures { spec.IsNumberOf least most (one_of id.now (rows_of (found_of matches.now))) result }
+{
+    narrow(any_number(matches, id), least, most)
+}
+
+/// A number of sixteen bits.
+fn short(number: Option<u64>) -> Option<u16>
+    requires { IfSome number (λ n. n ≤ 65535) }
+    ensures { result ≡ number }
+{
+    match number {
+        Some(number) => Some(number as u16),
+        None => None,
+    }
+}
+
+/// The number of an option, of sixteen bits.
+fn short_number(matches: &ArgMatches<'_>, id: &str, least: u16) -> Option<u16>
+    ensures { spec.IsNumberOf least 65535 (one_of id.now (rows_of (found_of matches.now))) result }
+{
+    short(number(matches, id, u64::from(least), 65535))
+}
+
+/// The exit status that goes with a refusal.
+fn status(kind: ErrorKind) -> u8
+    ensures { result ≡ spec.status_of kind }
+{
+    match kind {
+        ErrorKind::DisplayHelp | ErrorKind::DisplayVersion => 0,
+        _ => 2,
+    }
+}
+
+/// A refusal of `clap`.
+fn refusal(alloc: Global, error: &Error) -> WordsError
+    ensures memory { kind_of error.now ≡ ErrorKind.OutOfMemory → result ≡ errors.OutOfMemory }
+    ensures other { (result ≡ errors.OutOfMemory) ⊎ spec.IsRefusal (kind_of error.now) result }
+{
+    if error.kind() == ErrorKind::OutOfMemory {
+        return WordsError::OutOfMemory;
+    }
+    match error.to_string(alloc) {
+        Ok(text) => WordsError::Usage {
+            status: status(error.kind()),
+            text,
+        },
+        Err(AllocError) => WordsError::OutOfMemory,
+    }
+}
