@@ -13,7 +13,7 @@ use Rattle.coap_target.specs.declared.endpoint.Endpoint.{Endpoint}
 use Rattle.coap_target.specs.declared.endpoint.Ip.TheVariants.{V4}
 use Rattle.coap_target.specs.declared.target.Target.{Target}
 use Rattle.coap_routes.specs.declared.routes.Routes.{Routes}
-use Rattle.coap_routes.specs.declared.uri.HostPart.TheVariants.{Name}
+use Rattle.coap_uri.specs.declared.uri.HostPart.TheVariants.{Name}
 use Rattle.coap_routes.specs.Routes.{fixed_map}
 use Rattle.coap_cache.specs.declared.key.CacheKey.{CacheKey}
 use Rattle.coap_model.specs.declared.report.Outcome.TheVariants.{Refused, Opened, SentRequest}

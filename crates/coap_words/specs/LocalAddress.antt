@@ -2,7 +2,7 @@
 use Rattle.std.specs.Prelude.{List, [], ◌∷◌, ◌++◌, codes, Option}
 use Rattle.std.specs.Option.{option_or}
 use Rattle.coap_target.specs.declared.endpoint.Ip.{Ip}
-use Rattle.coap_routes.specs.Address.{ip_of}
+use Rattle.coap_uri.specs.Address.{ip_of}
 use Rattle.coap_words.specs.Texts.{Text}
 
 -- an address, or what is one in brackets

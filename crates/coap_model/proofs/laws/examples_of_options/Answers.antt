@@ -3,7 +3,7 @@ use Rattle.coap_message.specs.Reading.{read_message, body_at, options_within, op
 use Rattle.coap_message.specs.Spelling.{spelling, option_spelling}
 use Rattle.coap_message.specs.Uint.{uint_spelling}
 use Rattle.std.specs.Net.Reader.{read_number, read_octet, read_ipv4}
-use Rattle.coap_routes.specs.Address.{ipv4_of, ipv6_between}
+use Rattle.coap_uri.specs.Address.{ipv4_of, ipv6_between}
 use Rattle.coap_routes.specs.Request.{by_scheme, request_target}
 use Rattle.coap_routes.specs.Routes.{mapped_target}
 use Rattle.coap_model.specs.Messages.{token_of}

@@ -1,5 +1,5 @@
 use Rattle.std.proofs.Common.{refl}
-use Rattle.coap_routes.specs.Address.{ipv4_of, ipv6_between}
+use Rattle.coap_uri.specs.Address.{ipv4_of, ipv6_between}
 use Rattle.std.specs.Net.Reader.{read_ipv4, read_octet, read_number}
 use Rattle.coap_words.proofs.examples.addresses.Goals as goal
 
