@@ -3,7 +3,7 @@ use Rattle.std.proofs.Common.{◌≡◌, ℕ, ◌<◌, ◌≤◌, Bool, true, fa
 use Rattle.std.specs.Prelude.{◌&&◌, IfSome, IfOk}
 use Rattle.std.specs.List.{AllByRecursion}
 use Rattle.std.proofs.lemmas.Bool.{lt-leb, le-leb, ltb-true, ltb-false, le-ltb}
-use Rattle.std.proofs.lemmas.List.{append-nil, length-append, map-append}
+use Rattle.std.proofs.lemmas.List.{append-nil, length-append}
 use Rattle.coap_message.specs.declared.error.Full.{Full}
 use Rattle.coap_message.specs.declared.code.Code.{Code}
 use Rattle.coap_message.specs.declared.code.TheConstants.Code.{GET}
@@ -19,14 +19,14 @@ use Rattle.coap_option.specs.declared.side.Side.TheVariants.{Request}
 use Rattle.coap_option.specs.Screening.{first_refused}
 use Rattle.coap_option.specs.Selection.{sent_on}
 use Rattle.coap_target.specs.declared.target.Target.{Target}
-use Rattle.coap_target.specs.Target.{IsTarget}
+use Rattle.coap_target.specs.Target.{IsShort, IsTarget}
 use Rattle.coap_cache.specs.Renewing.{below, above}
 use Rattle.coap_cache.proofs.Picked.{AreOptions-above, AreOptions-weaken}
 use Rattle.coap_model.specs.Forms.{is_used_up, goes_on, put_in, merged, host_options, target_options}
 use Rattle.coap_model.proofs.Forms.{AreUnused, AreOptions-merged, sent-screened, sent-unused, sent-options}
 use Rattle.coap_core.specs.declared.form.Gap.{Gap}
 use Rattle.coap_core.specs.declared.form.Gap.TheVariants.{BeforeHost, BeforePath, BeforeQuery, Last}
-use Rattle.coap_core.specs.Forms.{is_in, floor_of, end_of, others_in}
+use Rattle.coap_core.specs.Forms.{host_values, is_in, floor_of, end_of, others_in}
 
 -- ---- writing
 
@@ -61,26 +61,6 @@ error-as old new room bytes e f a = a
 pub ok-both : (before last : ℕ) (xs ys : List Opt) (r : Result ℕ Full) → last ≡ last_number before xs → IfOk r (λ n. n ≡ last_number last ys) → IfOk r (λ n. n ≡ last_number before (xs ++ ys))
 ok-both before last xs ys (Ok n) is more = more ∙ ap (λ (k : ℕ). last_number k ys) is ∙ sym (last_number-append before xs ys)
 ok-both before last xs ys (Err e) is more = tt
-
--- values in two parts are spelled one part behind the other
-pub values-parts : (before number : ℕ) (xs ys : List (List ℕ)) → options_spelling before (map (option_of number) xs) ++ options_spelling (last_number before (map (option_of number) xs)) (map (option_of number) ys) ≡ options_spelling before (map (option_of number) (xs ++ ys))
-values-parts before number xs ys =
-    sym (ap (options_spelling before) (map-append (option_of number) xs ys) ∙ options_spelling-append before (map (option_of number) xs) (map (option_of number) ys))
-
--- and their last number is that of the second part
-pub last-parts : (before number : ℕ) (xs ys : List (List ℕ)) → last_number (last_number before (map (option_of number) xs)) (map (option_of number) ys) ≡ last_number before (map (option_of number) (xs ++ ys))
-last-parts before number xs ys =
-    sym (ap (last_number before) (map-append (option_of number) xs ys) ∙ last_number-append before (map (option_of number) xs) (map (option_of number) ys))
-
--- the last number stays at or below that of the values
-pub last-values : (before number : ℕ) (values : List (List ℕ)) → before ≤ number → last_number before (map (option_of number) values) ≤ number
-last-values before number [] le = le
-last-values before number (v ∷ values) le = last-values number number values (omega arith)
-
--- it is that of a host or the one before
-pub last-host : (before : ℕ) (host : Option (List ℕ)) → before ≤ 3 → last_number before (host_options host) ≤ 3
-last-host before None le = le
-last-host before (Some h) le = omega arith
 
 -- ---- options in gaps
 
@@ -345,10 +325,20 @@ form-options t m is are screened get =
     pairs (others_in BeforeHost m.options) (host_options t.host) (others_in BeforePath m.options) (map (option_of 11) t.path) (others_in BeforeQuery m.options) (map (option_of 15) t.query) (others_in Last m.options)
     ∙ rw (before_host, before_path, before_query, last) (sym (all-parts t is os (sent-options m are screened) (sent-unused m screened)))
 
+-- the values of a host are its options
+pub hosts-are : (host : Option (List ℕ)) → map (option_of 3) (host_values host) ≡ host_options host
+hosts-are None = refl
+hosts-are (Some h) = refl
+
+-- a host that is short is short as a value
+pub hosts-short : (host : Option (List ℕ)) → IfSome host IsShort → AllByRecursion IsShort (host_values host)
+hosts-short None short = tt
+hosts-short (Some h) short = (short, tt)
+
 -- the four parts, of the options of a request
-module _ (t : Target) (m : Message) (os : List Opt) (same : os ≡ m.options) (is : IsTarget t) (are : AreOptions 0 os) (screened : first_refused Request m.options ≡ None) (get : m.code ≡ GET) where
+module _ (t : Target) (os : List Opt) where
   abbrev pub part-1 : List Opt
-  part-1 = others_in BeforeHost os ++ host_options t.host
+  part-1 = others_in BeforeHost os ++ map (option_of 3) (host_values t.host)
 
   abbrev pub part-2 : List Opt
   part-2 = others_in BeforePath os ++ map (option_of 11) t.path
@@ -360,7 +350,8 @@ module _ (t : Target) (m : Message) (os : List Opt) (same : os ≡ m.options) (i
   part-4 = others_in Last os
 
   -- what is written of them is written of all options
-  pub of-all : (old new : Datagram) (room : ℕ) (r : Result (Unit {0}) Full) → Appends old new room (options_spelling 0 (part-1 ++ (part-2 ++ (part-3 ++ part-4)))) r → Appends old new room (options_spelling 0 (merged (target_options t) (sent_on m))) r
-  of-all old new room r a =
-      let whole : part-1 ++ (part-2 ++ (part-3 ++ part-4)) ≡ merged (target_options t) (sent_on m) = rw same (form-options t m is (subst (AreOptions 0) same are) screened get) in
+  pub of-all : (m : Message) → os ≡ m.options → IsTarget t → AreOptions 0 os → first_refused Request m.options ≡ None → m.code ≡ GET
+      → (old new : Datagram) (room : ℕ) (r : Result (Unit {0}) Full) → Appends old new room (options_spelling 0 (part-1 ++ (part-2 ++ (part-3 ++ part-4)))) r → Appends old new room (options_spelling 0 (merged (target_options t) (sent_on m))) r
+  of-all m same is are screened get old new room r a =
+      let whole : part-1 ++ (part-2 ++ (part-3 ++ part-4)) ≡ merged (target_options t) (sent_on m) = rw (same, hosts-are t.host) (form-options t m is (subst (AreOptions 0) same are) screened get) in
       subst (λ (l : List Opt). Appends old new room (options_spelling 0 l) r) whole a

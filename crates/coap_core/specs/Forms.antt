@@ -1,6 +1,6 @@
 -- How the request that is sent on is written: the options of its target, and the others in the gaps
 -- between them.
-use Rattle.std.specs.Prelude.{ℕ, ◌&&◌, Bool, nat_lt, List, filter}
+use Rattle.std.specs.Prelude.{ℕ, ◌&&◌, Bool, nat_lt, List, [], ◌∷◌, ◌++◌, filter, Option, Some, None}
 use Rattle.coap_message.specs.declared.code.TheConstants.Code.{GET}
 use Rattle.coap_message.specs.declared.options.Opt.{Opt}
 use Rattle.coap_option.specs.declared.numbers.TheConstants.{URI_HOST, URI_PATH, URI_QUERY}
@@ -11,11 +11,26 @@ use Rattle.coap_core.specs.declared.form.Gap.{Gap}
 use Rattle.coap_core.specs.declared.form.Gap.TheVariants.{BeforeHost, BeforePath, BeforeQuery, Last}
 use Rattle.coap_core.specs.declared.request_target.RequestTarget.{RequestTarget}
 use Rattle.coap_core.specs.declared.request_target.RequestTarget.TheVariants.{Mapped, Named}
+use Rattle.coap_core.specs.declared.request_target.PartValues.{PartValues}
+use Rattle.coap_core.specs.declared.request_target.PartValues.TheVariants.{Host, Kept, Lent, Both}
 
 -- the target
 abbrev pub seen : RequestTarget → Target
 seen (Mapped t) = mapped.seen t
 seen (Named t) = t
+
+-- the value that says a host, if there is one
+abbrev pub host_values : Option (List ℕ) → List (List ℕ)
+host_values None = []
+host_values (Some host) = host ∷ []
+
+-- the values that are left of a part of a target
+abbrev pub values_left : PartValues → List (List ℕ)
+values_left (Host None) = []
+values_left (Host (Some host)) = host.now ∷ []
+values_left (Kept pieces) = pieces
+values_left (Lent values) = values
+values_left (Both pieces values) = pieces ++ values
 
 -- an option of this number stands in this gap
 abbrev pub is_in : Gap → ℕ → Bool

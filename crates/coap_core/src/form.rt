@@ -10,17 +10,16 @@ ghost use Rattle.coap_option.specs.declared.side.Side.{Side};
 ghost use Rattle.coap_option.specs.Screening.{first_refused};
 ghost use Rattle.coap_option.specs.Selection.{sent_on};
 ghost use Rattle.coap_target.specs.Target.{IsTarget, IsShort};
-ghost use Rattle.coap_routes.specs.MappedTarget as mapped;
-ghost use Rattle.coap_model.specs.Forms.{host_options, merged, target_options, forwarded, goes_on};
+ghost use Rattle.coap_model.specs.Forms.{merged, target_options, forwarded, goes_on};
 ghost use Rattle.coap_model.specs.Ticks.{with_id};
-ghost use Rattle.coap_core.specs.Forms.{end_of, floor_of, is_in, others_in, seen};
+ghost use Rattle.coap_core.specs.Forms.{end_of, floor_of, is_in, others_in, seen, values_left};
 
-use crate::request_target::RequestTarget;
+use crate::request_target::{PartValues, RequestTarget};
 use coap_message::{
     Code, Datagram, Full, Head, Kind, MessageRef, OptRef, OptRefs, Seq, Token, put_head, put_option,
 };
 use coap_option::{Side, numbers, recognised};
-use coap_routes::{MappedTarget, Segments};
+use coap_routes::Segments;
 
 /// Where other options stand among those of a target.
 #[derive(Clone, Copy)]
@@ -45,6 +44,18 @@ impl Gap {
             Gap::BeforePath => numbers::URI_HOST < number && number < numbers::URI_PATH,
             Gap::BeforeQuery => numbers::URI_PATH < number && number < numbers::URI_QUERY,
             Gap::Last => numbers::URI_QUERY < number,
+        }
+    }
+
+    /// The number of the options of the target that stand behind it. None do behind the last gap.
+    fn end(self) -> u16
+        ensures { result ≡ end_of self }
+    {
+        match self {
+            Gap::BeforeHost => numbers::URI_HOST,
+            Gap::BeforePath => numbers::URI_PATH,
+            Gap::BeforeQuery => numbers::URI_QUERY,
+            Gap::Last => u16::MAX,
         }
     }
 }
@@ -122,180 +133,32 @@ fn put_values<'a, P: Segments<'a>>(
     Ok(last)
 }
 
-/// Adds a Uri-Host where there is a host.
-fn put_host(
-    out: &mut Datagram,
-    room: usize,
-    before: u16,
-    host: &Option<Seq<u8>>,
-) -> Result<u16, Full>
-    requires room { room ≤ out.old.room }
-    requires held { length out.old.bytes ≤ room }
-    requires above { before ≤ 3 }
-    requires within { IfSome host.now IsShort }
-    ensures written { Appends out.old out.new room
-        (options_spelling before (host_options host.now)) (unit_of result) }
-    ensures last { IfOk result (λ last. last ≡ last_number before (host_options host.now)) }
-    ensures below { IfOk result (λ last. last ≤ 3) }
-{
-    match host {
-        Some(host) => {
-            put_option(out, room, before, numbers::URI_HOST, host.as_slice())?;
-            Ok(numbers::URI_HOST)
-        }
-        None => Ok(before),
-    }
-}
-
-/// Adds a Uri-Path for each segment of a target that is lent, those of the map's origin first.
-fn put_mapped_path(
-    out: &mut Datagram,
-    room: usize,
-    before: u16,
-    target: &MappedTarget<'_, '_>,
-) -> Result<u16, Full>
-    requires room { room ≤ out.old.room }
-    requires held { length out.old.bytes ≤ room }
-    requires above { before ≤ 11 }
-    requires within { AllByRecursion IsShort (mapped.seen target.now).path }
-    ensures written { Appends out.old out.new room
-        (options_spelling before (map (option_of 11) (mapped.seen target.now).path)) (unit_of result) }
-    ensures last { IfOk result (λ last.
-        last ≡ last_number before (map (option_of 11) (mapped.seen target.now).path)) }
-    ensures below { IfOk result (λ last. last ≤ 11) }
-{
-    let path = target.origin.path.iter();
-    let last = put_values(out, room, before, numbers::URI_PATH, path)?;
-    let rest = target.rest.again();
-    put_values(out, room, last, numbers::URI_PATH, rest)
-}
-
-/// Adds a Uri-Path for each segment of a target.
-fn put_path(
-    out: &mut Datagram,
-    room: usize,
-    before: u16,
-    target: &RequestTarget<'_, '_>,
-) -> Result<u16, Full>
-    requires room { room ≤ out.old.room }
-    requires held { length out.old.bytes ≤ room }
-    requires above { before ≤ 11 }
-    requires within { AllByRecursion IsShort (seen target.now).path }
-    ensures written { Appends out.old out.new room
-        (options_spelling before (map (option_of 11) (seen target.now).path)) (unit_of result) }
-    ensures last { IfOk result (λ last. last ≡ last_number before (map (option_of 11) (seen target.now).path)) }
-    ensures below { IfOk result (λ last. last ≤ 11) }
-{
-    match target {
-        RequestTarget::Mapped(target) => put_mapped_path(out, room, before, target),
-        RequestTarget::Named(target) => {
-            put_values(out, room, before, numbers::URI_PATH, target.path.iter())
-        }
-    }
-}
-
-/// Adds a Uri-Query for each part of a target's query.
-fn put_query(
-    out: &mut Datagram,
-    room: usize,
-    before: u16,
-    target: &RequestTarget<'_, '_>,
-) -> Result<u16, Full>
-    requires room { room ≤ out.old.room }
-    requires held { length out.old.bytes ≤ room }
-    requires above { before ≤ 15 }
-    requires within { AllByRecursion IsShort (seen target.now).query }
-    ensures written { Appends out.old out.new room
-        (options_spelling before (map (option_of 15) (seen target.now).query)) (unit_of result) }
-    ensures last { IfOk result (λ last. last ≡ last_number before (map (option_of 15) (seen target.now).query)) }
-    ensures below { IfOk result (λ last. last ≤ 15) }
-{
-    match target {
-        RequestTarget::Mapped(target) => {
-            put_values(out, room, before, numbers::URI_QUERY, target.query.again())
-        }
-        RequestTarget::Named(target) => {
-            put_values(out, room, before, numbers::URI_QUERY, target.query.iter())
-        }
-    }
-}
-
-// ---- the parts of a target, each behind the other options that stand before it
-
-/// Adds what stands before any Uri-Path.
-fn put_host_part(
-    out: &mut Datagram,
-    room: usize,
-    options: &OptRefs<'_>,
-    target: &RequestTarget<'_, '_>,
-) -> Result<u16, Full>
-    requires room { room ≤ out.old.room }
-    requires held { length out.old.bytes ≤ room }
-    requires in_order { AreOptions 0 options.now }
-    requires target { IsTarget (seen target.now) }
-    ensures written { Appends out.old out.new room
-        (options_spelling 0 (others_in Gap.BeforeHost options.now ++ host_options (seen target.now).host))
-        (unit_of result) }
-    ensures last { IfOk result (λ last.
-        last ≡ last_number 0 (others_in Gap.BeforeHost options.now ++ host_options (seen target.now).host)) }
-    ensures below { IfOk result (λ last. last ≤ 3) }
-{
-    let last = put_others(out, room, 0, options, Gap::BeforeHost)?;
-    put_host(out, room, last, target.host())
-}
-
-/// Adds the Uri-Paths, and what stands between them and a Uri-Host.
-fn put_path_part(
+/// Adds a part of a target, and what stands between it and the part before it.
+fn put_part(
     out: &mut Datagram,
     room: usize,
     before: u16,
     options: &OptRefs<'_>,
-    target: &RequestTarget<'_, '_>,
+    gap: Gap,
+    part: PartValues<'_>,
 ) -> Result<u16, Full>
     requires room { room ≤ out.old.room }
     requires held { length out.old.bytes ≤ room }
-    requires above { before ≤ 3 }
+    requires above { before ≤ floor_of gap }
     requires in_order { AreOptions 0 options.now }
-    requires target { IsTarget (seen target.now) }
+    requires within { AllByRecursion IsShort (values_left part) }
     ensures written { Appends out.old out.new room
         (options_spelling before
-        (others_in Gap.BeforePath options.now ++ map (option_of 11) (seen target.now).path))
+        (others_in gap options.now ++ map (option_of (end_of gap)) (values_left part.entry)))
         (unit_of result) }
     ensures last { IfOk result (λ last.
         last
         ≡ last_number before
-        (others_in Gap.BeforePath options.now ++ map (option_of 11) (seen target.now).path)) }
-    ensures below { IfOk result (λ last. last ≤ 11) }
+        (others_in gap options.now ++ map (option_of (end_of gap)) (values_left part.entry))) }
+    ensures below { IfOk result (λ last. last ≤ end_of gap) }
 {
-    let last = put_others(out, room, before, options, Gap::BeforePath)?;
-    put_path(out, room, last, target)
-}
-
-/// Adds the Uri-Queries, and what stands between them and the Uri-Paths.
-fn put_query_part(
-    out: &mut Datagram,
-    room: usize,
-    before: u16,
-    options: &OptRefs<'_>,
-    target: &RequestTarget<'_, '_>,
-) -> Result<u16, Full>
-    requires room { room ≤ out.old.room }
-    requires held { length out.old.bytes ≤ room }
-    requires above { before ≤ 11 }
-    requires in_order { AreOptions 0 options.now }
-    requires target { IsTarget (seen target.now) }
-    ensures written { Appends out.old out.new room
-        (options_spelling before
-        (others_in Gap.BeforeQuery options.now ++ map (option_of 15) (seen target.now).query))
-        (unit_of result) }
-    ensures last { IfOk result (λ last.
-        last
-        ≡ last_number before
-        (others_in Gap.BeforeQuery options.now ++ map (option_of 15) (seen target.now).query)) }
-    ensures below { IfOk result (λ last. last ≤ 15) }
-{
-    let last = put_others(out, room, before, options, Gap::BeforeQuery)?;
-    put_query(out, room, last, target)
+    let last = put_others(out, room, before, options, gap)?;
+    put_values(out, room, last, gap.end(), part)
 }
 
 /// Adds all options that are sent on.
@@ -314,9 +177,9 @@ fn put_form_options(
         (options_spelling 0 (merged (target_options (seen target.now)) (sent_on request.now))) result }
 {
     let options = request.options.iter();
-    let last = put_host_part(out, room, &options, target)?;
-    let last = put_path_part(out, room, last, &options, target)?;
-    let last = put_query_part(out, room, last, &options, target)?;
+    let last = put_part(out, room, 0, &options, Gap::BeforeHost, target.host())?;
+    let last = put_part(out, room, last, &options, Gap::BeforePath, target.path())?;
+    let last = put_part(out, room, last, &options, Gap::BeforeQuery, target.query())?;
     put_others(out, room, last, &options, Gap::Last)?;
     Ok(())
 }

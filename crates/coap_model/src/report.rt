@@ -15,7 +15,7 @@ pub enum Storing {
     NotStored,
 }
 
-/// What a step did. Of the first path are `Ignored`, `Rejected`, `Refused`, `Opened`, `Overloaded`,
+/// What a step did. Those that come so far are `Ignored`, `Rejected`, `Refused`, `Opened`, `Overloaded`,
 /// `NoId`, `Answered` with `NotStored`, `SentRequest`, `Delivered` and `Idle`; the others don't
 /// come yet.
 #[derive(Clone, Copy, Debug, PartialEq, Eq)]

@@ -10,7 +10,7 @@ use Rattle.coap_proxyd.specs.declared.fault.Fault.TheVariants.{OutOfMemory}
 use Rattle.coap_proxyd.specs.Faults.{fault_of}
 use Rattle.coap_proxyd.specs.Replays.{IsReplayed}
 
--- the proxy of the first path: the default limits, the one map, message ids from 1 on, tokens without salt
+-- the proxy that the program makes: the default limits, the one map, message ids from 1 on, tokens without salt
 abbrev pub first_proxy : World
 first_proxy = new_world
     (record { limits = default_limits; routes = fixed_routes; first_id = 1; salt = 0 })
@@ -20,7 +20,7 @@ abbrev pub ended_as : Result ℕ ReplayError → Result (Unit {0}) Fault
 ended_as (Ok count) = Ok tt
 ended_as (Err e) = Err (fault_of e)
 
--- a replay by the proxy of the first path; or there was no memory for the proxy, and nothing was written
+-- a replay by that proxy; or there was no memory for the proxy, and nothing was written
 abbrev pub IsServed : Option (List ℕ) → Option (List ℕ) → Option (List ℕ) → Result (Unit {0}) Fault
     → Type 0
 IsServed input old new result = ((result ≡ Err OutOfMemory) × Appends old new [])
