@@ -1,5 +1,5 @@
 -- Options that are taken one by one from the front of those left.
-use Rattle.std.proofs.Common.{◌≡◌, ◌≢◌, ℕ, ◌<◌, ◌≤◌, true, false, nat_le, nat_lt, List, [], ◌∷◌, ◌++◌, refl, sym, subst, ◌∙◌, append_assoc, arith}
+use Rattle.std.proofs.Common.{◌≡◌, ◌≢◌, ℕ, ◌<◌, ◌≤◌, true, false, nat_le, nat_lt, List, [], ◌∷◌, ◌++◌, refl, sym, subst, ◌∙◌, append_assoc, append-nil, arith}
 use Rattle.std.proofs.lemmas.Bool.{leb-true, lt-ltb, le-ltb, lt-leb}
 use Rattle.coap_message.specs.declared.options.Opt.{Opt}
 use Rattle.coap_message.specs.Options.{AreOptions, last_number}
@@ -7,6 +7,10 @@ use Rattle.coap_message.proofs.Counting.{last_number-push}
 use Rattle.coap_option.specs.Classes.{is_unsafe}
 use Rattle.coap_cache.specs.Renewing.{above, below, from, safe_options, updated}
 use Rattle.coap_cache.proofs.Picked.{AreOptions-above, AreOptions-filter, AreOptions-weaken, above-all, above-from, below-none, from-all, last-below, last_number-append}
+
+-- none is left, and all safe ones were added
+pub all-safe : (all list left : List Opt) → left ≡ [] → safe_options all ≡ list ++ safe_options left → list ≡ safe_options all
+all-safe all list left none picked = sym (picked ∙ rw none (append-nil list))
 
 -- x is the first of those left
 module _ (left rest : List Opt) (x : Opt) (next : left ≡ x ∷ rest) where

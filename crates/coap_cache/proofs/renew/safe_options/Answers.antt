@@ -1,6 +1,6 @@
 use Rattle.std.proofs.Common.{sym, ◌∙◌, ap, ◌++◌}
 use Rattle.coap_message.specs.OptRef.{seen}
-use Rattle.coap_cache.proofs.Renewals.{next-in_order, pushed-in_order, pushed-safe, skipped-in_order, skipped-safe}
+use Rattle.coap_cache.proofs.Renewals.{all-safe, next-in_order, pushed-in_order, pushed-safe, skipped-in_order, skipped-safe}
 use Rattle.coap_cache.proofs.renew.safe_options.Goals as goal
 
 pub push-requires-clause-in_order : goal.push-requires-clause-in_order
@@ -26,3 +26,6 @@ loop-option-preserved c =
       in_order = skipped-in_order _ _ x steps _ c.loop-option.invariant.in_order;
       picked = c.loop-option.invariant.picked ∙ ap (λ l. c.loop-option.list ++ l) (sym (skipped-safe _ _ x steps (sym c.is_unsafe.ensures ∙ c.if-not-is_unsafe.false)));
     }
+
+pub returns : goal.returns
+returns c = all-safe c.args.options.now c.loop-option.list c.loop-option.option-iterator c.in-None.ensures.steps.0 c.loop-option.invariant.picked
