@@ -138,8 +138,8 @@ module _ {P : Type 0} (gives : P → ℕ → Turn → P → Type 0)
   Ends clock failures turns w p v q (Err OutOfMemory) = (v ≡ w) × (q ≡ p)
 
   -- One turn, after one that was a datagram or not.
-  pub record DidTurn (clock failures : P → ℕ) (came : Bool) (v : World) (p : P) (s : Stats) (v' : World) (q : P)
-      (s' : Stats) (arrived : Bool) : Type 0 where
+  pub record DidTurn (clock failures : P → ℕ) (came : Bool) (v : World) (p : P) (s : Stats)
+      (v' : World) (q : P) (s' : Stats) (arrived : Bool) : Type 0 where
     pub given : Given
     pub does : DoesTurn v p given q
     pub asked : given.wait ≡ wait_for came (clock p) (next_due v)

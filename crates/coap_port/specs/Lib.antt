@@ -1,3 +1,4 @@
 pub mod Given
 pub mod Stats
 pub mod Driven
+pub mod Memory

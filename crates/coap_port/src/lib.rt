@@ -3,11 +3,16 @@
 
 mod drives;
 mod error;
+mod memory;
 mod port;
 mod stats;
 mod turns;
 
 pub use drives::drive;
 pub use error::{DriveError, PortFault};
+pub use memory::{Handed, MemoryPort, Scripted};
 pub use port::{Port, Turn};
 pub use stats::Stats;
+
+#[cfg(test)]
+mod tests;

@@ -52,7 +52,8 @@ fn are_bytes(bytes: &[u8])
 
 /// Hands a datagram over, if there is one. Answers whether it was taken.
 fn hand_over<P: Port>(port: &mut P, to: Option<Endpoint>, bytes: &[u8]) -> bool
-    ensures takes { spec.HandsOver P.takes port.old (option_map (λ e. (e, bytes.now)) to) result port.new }
+    ensures takes { spec.HandsOver P.takes port.old (option_map (λ e. (e, bytes.now)) to) result
+        port.new }
     ensures clock { P.clock port.new ≡ P.clock port.old }
     ensures failures { P.failures port.new ≡ P.failures port.old }
 {

@@ -1,0 +1,56 @@
+-- A port in memory.
+use Rattle.std.specs.Prelude.{◌≡◌, ◌⊎◌, ◌==◌, ◌^◌, ℕ, min, max, take, Bool, true, false, List, [], ◌∷◌, ◌++◌, Option, Some, None}
+use Rattle.coap_model.specs.Events.{Event, arrival, tick}
+use Rattle.coap_model.specs.Runs.{Turn}
+use Rattle.coap_target.specs.declared.endpoint.Endpoint.{Endpoint}
+use Rattle.coap_port.specs.declared.memory.Handed.{Handed}
+use Rattle.coap_port.specs.declared.memory.Scripted.{Scripted}
+
+-- what is left of its script, what it was handed, the number of the datagram that it refuses, its
+-- last moment, and how often it failed
+pub record Memory : Type 0 where
+  pub script : List Scripted
+  pub handed : List Handed
+  pub refused : Option ℕ
+  pub last : ℕ
+  pub failures : ℕ
+
+abbrev pub new_port : Option ℕ → Memory
+new_port refused =
+    record { script = []; handed = []; refused = refused; last = 0; failures = 0 }
+
+-- a datagram is cut to the room that there is for it
+abbrev pub event_of : ℕ → Option (Endpoint × List ℕ) → Event
+event_of room None = tick
+event_of room (Some d) = arrival d.0 (take room d.1)
+
+-- a moment doesn't go back, and is at most 2^62; a draw is at most 1,000
+abbrev pub turn_of : ℕ → ℕ → Scripted → Turn
+turn_of room last s = record {
+  now = max (min s.now (2 ^ 62)) last;
+  draw = min s.draw 1000;
+  event = event_of room s.datagram;
+}
+
+-- the next turn of the script, for a buffer of some room
+pub record GivesNext (p : Memory) (t : Turn) (q : Memory) : Type 0 where
+  pub room : ℕ
+  pub scripted : Scripted
+  pub rest : List Scripted
+  pub split : p.script ≡ scripted ∷ rest
+  pub turn : t ≡ turn_of room p.last scripted
+  pub left : q ≡ record p { script = rest; last = t.now }
+
+-- without a wait a tick, and nothing is read
+abbrev pub GivesAfter : Bool → Memory → Turn → Memory → Type 0
+GivesAfter true p t q = (t ≡ record { now = p.last; draw = 0; event = tick }) × (q ≡ p)
+GivesAfter false p t q = GivesNext p t q
+
+abbrev pub Gives : Memory → ℕ → Turn → Memory → Type 0
+Gives p wait = GivesAfter (wait == 0) p
+
+-- what is taken is kept; what isn't leaves what was kept
+abbrev pub Takes : Memory → Endpoint → List ℕ → Bool → Memory → Type 0
+Takes p to bytes true q =
+    q ≡ record p { handed = p.handed ++ (record { to = to; bytes = bytes }) ∷ [] }
+Takes p to bytes false q = (q ≡ p) ⊎ (q ≡ record p { refused = None })

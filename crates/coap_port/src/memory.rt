@@ -1,0 +1,168 @@
+//! A port in memory.
+ghost use Rattle.std.specs.Prelude.{◌≡◌, ◌∷◌, ◌++◌, [], OnErr, OnOk};
+ghost use Rattle.coap_port.specs.Given.{given_by};
+ghost use Rattle.coap_port.specs.Memory as spec;
+
+use crate::error::PortFault;
+use crate::port::{Port, Turn};
+use coap_message::{Datagram, OutOfMemory, Seq};
+use coap_target::Endpoint;
+use std::alloc::Global;
+use std::collections::VecDeque;
+use std::marker::Model;
+
+/// The last moment that a port may give: 2^62.
+const LAST_MOMENT: u64 = 1 << 62;
+
+/// A turn of a script: a moment, a draw, and a datagram with its source, or none for a tick.
+#[derive(Debug, Drop)]
+pub struct Scripted {
+    pub now: u64,
+    pub draw: u16,
+    pub datagram: Option<(Endpoint, Seq<u8>)>,
+}
+
+/// Bytes that were handed to a port for an endpoint.
+#[derive(Debug, Drop)]
+pub struct Handed {
+    pub to: Endpoint,
+    pub bytes: Seq<u8>,
+}
+
+/// A port in memory, for tests. It gives the turns of its script, one for each call with a wait, and
+/// fails behind the last; a call without a wait gets a tick at the last moment. A moment that goes
+/// back is the last one, and one beyond 2^62 is that; a draw above 1,000 is that. It keeps what it
+/// is handed, and can refuse one datagram.
+#[derive(Drop)]
+pub struct MemoryPort {
+    alloc: Global,
+    script: VecDeque<Scripted>,
+    handed: Seq<Handed>,
+    refused: Option<usize>,
+    last: u64,
+    failures: u64,
+}
+
+impl Model for MemoryPort {
+    ghost use Rattle.std.specs.Prelude.{◌≤◌, ◌^◌};
+    ghost use Rattle.coap_port.specs.Memory.{Memory};
+
+    ghost Value = { Memory };
+
+    ghost view = { λ p.
+        record {
+          script = p.script.items;
+          handed = p.handed;
+          refused = p.refused;
+          last = p.last;
+          failures = p.failures;
+        } };
+
+    ghost invariant = { λ p. p.last ≤ 2 ^ 62 };
+}
+
+impl MemoryPort {
+    ghost use Rattle.coap_port.specs.Memory.{new_port};
+
+    /// A port without a script. It refuses the datagram that comes after so many others, if that is
+    /// said.
+    pub fn new(alloc: Global, refused: Option<usize>) -> MemoryPort
+        ensures { result ≡ new_port refused }
+    {
+        MemoryPort {
+            alloc,
+            script: VecDeque::new(alloc),
+            handed: Seq::new(alloc),
+            refused,
+            last: 0,
+            failures: 0,
+        }
+    }
+
+    /// Adds a turn at the end of its script.
+    pub fn add(&mut self, turn: Scripted) -> Result<(), OutOfMemory>
+        ensures ok { OnOk result (self.new
+            ≡ record self.old { script = self.old.script ++ turn ∷ [] }) }
+        ensures err { OnErr result (self.new ≡ self.old) }
+    {
+        self.script.push_back(turn)?;
+        Ok(())
+    }
+
+    /// What it was handed, in order.
+    pub fn handed(&self) -> &[Handed]
+        ensures { result.now ≡ self.now.handed }
+    {
+        self.handed.as_slice()
+    }
+
+    /// How often `next` failed.
+    pub fn failures(&self) -> u64
+        ensures { result ≡ self.now.failures }
+    {
+        self.failures
+    }
+}
+
+/// The turn that a script says after a moment. Its datagram is put into a buffer, which is empty.
+fn turn_of(scripted: Scripted, last: u64, into: &mut Datagram) -> Turn
+    requires { into.old.bytes ≡ [] }
+    ensures turn { given_by result into.new.bytes ≡ spec.turn_of into.old.room last scripted }
+    ensures room { into.new.room ≡ into.old.room }
+{
+    let now = scripted.now.min(LAST_MOMENT).max(last);
+    let draw = scripted.draw.min(1000);
+    let from = match scripted.datagram {
+        Some((from, bytes)) => {
+            into.put(bytes.as_slice());
+            Some(from)
+        }
+        None => None,
+    };
+    Turn { now, draw, from }
+}
+
+impl Port for MemoryPort {
+    ghost use Rattle.coap_port.specs.Memory.{Gives, Takes};
+
+    ghost clock = { λ p. p.last };
+
+    ghost failures = { λ p. p.failures };
+
+    ghost gives = { Gives };
+
+    ghost takes = { Takes };
+
+    fn last(&self) -> u64 {
+        self.last
+    }
+
+    fn next(&mut self, wait: u64, into: &mut Datagram) -> Result<Turn, PortFault> {
+        into.clear();
+        if wait == 0 {
+            return Ok(Turn {
+                now: self.last,
+                draw: 0,
+                from: None,
+            });
+        }
+        let Some(scripted) = self.script.pop_front() else {
+            self.failures += 1;
+            return Err(PortFault);
+        };
+        let turn = turn_of(scripted, self.last, into);
+        self.last = turn.now;
+        Ok(turn)
+    }
+
+    fn send(&mut self, to: Endpoint, bytes: &[u8]) -> bool {
+        if self.refused == Some(self.handed.len()) {
+            self.refused = None;
+            return false;
+        }
+        match Seq::from_slice(self.alloc, bytes) {
+            Ok(bytes) => self.handed.push(Handed { to, bytes }).is_ok(),
+            Err(_) => false,
+        }
+    }
+}
