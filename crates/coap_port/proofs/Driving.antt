@@ -2,13 +2,12 @@
 use Rattle.std.proofs.Common.{◌≡◌, ◌+◌, ◌≤◌, ◌<◌, ℕ, Bool, true, false, cond, List, [], ◌∷◌, refl, sym, ap, ◌∙◌, subst, arith}
 use Rattle.coap_model.specs.Carries.{Carries}
 use Rattle.coap_model.specs.History.{Entry}
-use Rattle.coap_model.specs.Memory.{takes_memory}
 use Rattle.coap_model.specs.Runs.{Run, Turn, one_turn}
 use Rattle.coap_model.specs.Ticks.{next_due}
 use Rattle.coap_model.specs.World.{World}
 use Rattle.coap_target.specs.declared.endpoint.Endpoint.{Endpoint}
 use Rattle.std.specs.Prelude.{is_some}
-use Rattle.coap_port.specs.Driven.{DidTurn, DoesTurn, Given, IsDriven, came_last, last_moment, run_at, run_by, run_given, sent_at, stats_of, step_at, wait_for, world_by}
+use Rattle.coap_port.specs.Driven.{takes_some, DidTurn, DoesTurn, Given, IsDriven, came_last, last_moment, run_at, run_by, run_given, sent_at, stats_of, step_at, wait_for, world_by}
 use Rattle.coap_port.specs.Stats.{no_stats, with_turn}
 use Rattle.coap_port.specs.declared.stats.Stats.{Stats}
 
@@ -70,8 +69,8 @@ module _ {P : Type 0} (gives : P → ℕ → Turn → P → Type 0) (takes : P �
         ∙ ap (λ (n : ℕ). wait_for (came_last givens) n (next_due v)) at.moment
         ∙ ap (λ (u : World). wait_for (came_last givens) (last_moment first givens) (next_due u)) before
 
-    lost : g.lost ≡ true → takes_memory (step_at (world_by w givens) g.turn).report.outcome ≡ true
-    lost = subst (λ (u : World). g.lost ≡ true → takes_memory (step_at u g.turn).report.outcome ≡ true) before did.lost
+    lost : g.lost ≡ true → takes_some (world_by w givens) g.turn ≡ true
+    lost = subst (λ (u : World). g.lost ≡ true → takes_some u g.turn ≡ true) before did.lost
 
     world : v' ≡ world_by w (g ∷ givens)
     world = did.world ∙ given-apart (run_at v []) (run_by (run_at w []) givens) g before

@@ -6,7 +6,7 @@ use Rattle.coap_model.proofs.Running.{clock_after}
 use Rattle.coap_model.specs.Carries.{Carries}
 use Rattle.coap_model.specs.Events.{Event, IsEvent}
 use Rattle.coap_model.specs.History.{Entry}
-use Rattle.coap_model.specs.Memory.{takes_memory}
+use Rattle.coap_model.specs.Memory.{brings_uri, takes_memory}
 use Rattle.coap_model.specs.Runs.{Turn}
 use Rattle.coap_model.specs.Step.{step_of}
 use Rattle.coap_model.specs.Ticks.{next_due}
@@ -76,13 +76,13 @@ module _ {P : Type 0} (gives : P → ℕ → Turn → P → Type 0) (takes : P �
       clock-is = clock_after v t.now t.draw t.event bytes
 
   -- a step found no memory
-  pub did-nothing : (v' : World) (s' : Stats) (event : Event) → event ≡ t.event → v' ≡ v → takes_memory (step_of v t.now t.draw event).report.outcome ≡ true
+  pub did-nothing : (v' : World) (s' : Stats) (event : Event) → event ≡ t.event → v' ≡ v → takes_memory (brings_uri v.setting.limits.datagram event) (step_of v t.now t.draw event).report.outcome ≡ true
       → v.last ≤ t.now → failures m ≡ failures p → s' ≡ with_turn true false false s → DidTurn gives takes clock failures came v p s v' m s' arrived
   did-nothing v' s' event same nothing memory onward still counted = record {
     given = record { wait = wait; turn = t; lost = true; went = false };
     does = (m, gave, refl);
     asked = asked;
-    lost = λ h. subst (λ (e : Event). takes_memory (step_of v t.now t.draw e).report.outcome ≡ true) same memory;
+    lost = λ h. subst (λ (e : Event). takes_memory (brings_uri v.setting.limits.datagram e) (step_of v t.now t.draw e).report.outcome ≡ true) same memory;
     world = nothing;
     carries = λ history c. subst (λ (w : World). Carries history w) (sym nothing) c;
     counted = counted;

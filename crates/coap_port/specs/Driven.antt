@@ -5,7 +5,7 @@ use Rattle.coap_target.specs.declared.endpoint.Endpoint.{Endpoint}
 use Rattle.coap_model.specs.Carries.{Carries}
 use Rattle.coap_model.specs.Events.{Event, arrival, tick}
 use Rattle.coap_model.specs.History.{Entry}
-use Rattle.coap_model.specs.Memory.{takes_memory}
+use Rattle.coap_model.specs.Memory.{brings_uri, takes_memory}
 use Rattle.coap_model.specs.Runs.{Run, Turn, one_turn}
 use Rattle.coap_model.specs.Step.{step_of}
 use Rattle.coap_model.specs.Ticks.{next_due}
@@ -80,11 +80,16 @@ AreAsked w first (g ∷ before) =
     (g.wait ≡ wait_for (came_last before) (last_moment first before) (next_due (world_by w before)))
     × AreAsked w first before
 
+-- a turn whose step takes memory
+abbrev pub takes_some : World → Turn → Bool
+takes_some w t =
+    takes_memory (brings_uri w.setting.limits.datagram t.event) (step_at w t).report.outcome
+
 -- only what takes memory is lost
 abbrev pub AreLostForMemory : World → List Given → Type 0
 AreLostForMemory w [] = Unit {0}
 AreLostForMemory w (g ∷ before) =
-    (g.lost ≡ true → takes_memory (step_at (world_by w before) g.turn).report.outcome ≡ true)
+    (g.lost ≡ true → takes_some (world_by w before) g.turn ≡ true)
     × AreLostForMemory w before
 
 -- what is counted of them
@@ -143,7 +148,7 @@ module _ {P : Type 0} (gives : P → ℕ → Turn → P → Type 0)
     pub given : Given
     pub does : DoesTurn v p given q
     pub asked : given.wait ≡ wait_for came (clock p) (next_due v)
-    pub lost : given.lost ≡ true → takes_memory (step_at v given.turn).report.outcome ≡ true
+    pub lost : given.lost ≡ true → takes_some v given.turn ≡ true
     pub world : v' ≡ (run_given (run_at v []) given).world
     pub carries : (history : List Entry) → Carries history v
         → Carries (run_given (run_at v history) given).history v'

@@ -4,7 +4,7 @@ use Rattle.std.specs.List.{after_first, before_first, position_or_len, slice_spl
 use Rattle.std.proofs.lemmas.Bool.{cases_Bool, le-ltb, lt-ltb, ltb-true}
 use Rattle.std.proofs.lemmas.List.Splits.{slice_split_first}
 use Rattle.std.proofs.lemmas.Option.{none-some}
-use Rattle.coap_routes.proofs.Cutting.{slice_split-whole}
+use Rattle.coap_uri.proofs.Cutting.{slice_split-whole}
 use Rattle.coap_words.specs.ProxyOption.{comma, parts}
 use Rattle.coap_words.specs.Texts.{Text, cut_at}
 

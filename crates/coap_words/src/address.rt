@@ -1,6 +1,6 @@
 //! The value of `-A`: a local address.
 ghost use Rattle.std.specs.Prelude.{ok_or};
-ghost use Rattle.coap_routes.specs.Answer.{Answers};
+ghost use Rattle.coap_uri.specs.Answer.{Answers};
 ghost use Rattle.coap_uri.specs.declared.error.UriError.TheVariants as errors;
 ghost use Rattle.coap_words.specs.LocalAddress.{local_address_of};
 

@@ -2,7 +2,7 @@
 ghost use Rattle.std.specs.Prelude.{◌≡◌, option_map};
 ghost use Rattle.toml.specs.Data.{get_member};
 ghost use Rattle.toml.specs.View.{table_view, view};
-ghost use Rattle.coap_routes.specs.Answer.{Answers};
+ghost use Rattle.coap_uri.specs.Answer.{Answers};
 ghost use Rattle.coap_words.specs.Config as spec;
 ghost use Rattle.coap_words.specs.declared.config_error.ConfigError.TheVariants as errors;
 

@@ -3,7 +3,7 @@ use Rattle.std.specs.Str.{is_utf8}
 use Rattle.std.proofs.lemmas.Str.{is_utf8-from_IsUtf8}
 use Rattle.toml.specs.Parse.{parse_document}
 use Rattle.toml.specs.View.{table_view}
-use Rattle.coap_routes.proofs.Texts.{not_utf8}
+use Rattle.coap_uri.proofs.Texts.{not_utf8}
 use Rattle.coap_words.proofs.config.read_document.Goals as goal
 
 pub returns-in_default : goal.returns-in_default
