@@ -45,8 +45,8 @@ CarriesOn before e after = (history : List Entry) → Carries history before →
 abbrev pub PromisesOn : World → Entry → World → Type 0
 PromisesOn before e after = (history : List Entry) → Carries history before → Promised (e ∷ history) after
 
--- What a step needs of the tables before it: origins are targets, the tables are in order of number, there are numbers left to
--- count with, and an id is left for whoever it is kept for.
+-- What a step needs of the tables before it: origins are targets, the tables are in order of number,
+-- there are numbers left to count with, and an id is left for whoever it is kept for.
 pub record CanGoOn (w : World) : Type 0 where
   pub routes : AreRoutes w.setting.routes
   pub exchanges : IsRising 0 w.exchanges

@@ -16,7 +16,7 @@ ghost use Rattle.coap_core.specs.Forms.{end_of, floor_of, is_in, others_in, seen
 
 use crate::request_target::{PartValues, RequestTarget};
 use coap_message::{
-    Code, Datagram, Full, Head, Kind, MessageRef, OptRef, OptRefs, Seq, Token, put_head, put_option,
+    Code, Datagram, Full, Head, Kind, MessageRef, OptRef, OptRefs, Token, put_head, put_option,
 };
 use coap_option::{Side, numbers, recognised};
 use coap_routes::Segments;
