@@ -26,7 +26,7 @@ has_id id (Done a) = false
 abbrev pub awaits : ℕ → Endpoint → Message → Numbered Exchange → Bool
 awaits salt source m x =
     has_id m.id x.1.state
-    && (same_endpoint x.1.target.at source && same_bytes (token_of salt x.0) m.token)
+    && (same_endpoint x.1.key.target.at source && same_bytes (token_of salt x.0) m.token)
 
 abbrev pub awaiting : World → Endpoint → Message → Option (Numbered Exchange)
 awaiting w source m = find (awaits w.setting.salt source m) w.exchanges
