@@ -49,13 +49,15 @@ entry_told now draw event report bytes =
 -- Whatever history is carried before an entry is carried after it with the entry in front, and what
 -- is carried then is promised.
 abbrev pub CarriesOn : World → Entry → World → Type 0
-CarriesOn before e after = (history : List Entry) → Carries history before → Carries (e ∷ history) after
+CarriesOn before e after =
+    (history : List Entry) → Carries history before → Carries (e ∷ history) after
 
 abbrev pub PromisesOn : World → Entry → World → Type 0
-PromisesOn before e after = (history : List Entry) → Carries history before → Promised (e ∷ history) after
+PromisesOn before e after =
+    (history : List Entry) → Carries history before → Promised (e ∷ history) after
 
--- What a step needs of the tables before it: origins are targets, the tables are in order of number,
--- there are numbers left to count with, and an id is left for whoever it is kept for.
+-- What a step needs of the tables before it: origins are targets, the tables are in order of
+-- number, there are numbers left to count with, and an id is left for whoever it is kept for.
 pub record CanGoOn (w : World) : Type 0 where
   pub routes : AreRoutes w.setting.routes
   pub exchanges : IsRising 0 w.exchanges

@@ -103,8 +103,8 @@ impl World {
         }
     }
 
-    /// What is to be done for a request. Where an exchange is to be opened, `out` holds what is sent
-    /// on.
+    /// What is to be done for a request. Where an exchange is to be opened, `out` holds what is
+    /// sent on.
     fn plan(&self, request: &MessageRef<'_>, out: &mut Datagram) -> Result<Plan, OutOfMemory>
         requires can { CanGoOn self.now }
         requires room { self.now.setting.limits.datagram ≤ out.old.room }

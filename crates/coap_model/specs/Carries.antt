@@ -110,7 +110,8 @@ pub record AreWhole (history : List Deed) (w : World) : Type 0 where
   pub rising : IsRising 0 w.exchanges
   pub paired : ArePaired w.exchanges w.waiters
   pub complete :
-      (n : ℕ) → 0 < n → n ≤ opened_in history → HasNumber n w.exchanges ⊎ Somewhere (Serves n) history
+      (n : ℕ) → 0 < n → n ≤ opened_in history
+      → HasNumber n w.exchanges ⊎ Somewhere (Serves n) history
   pub under_way : length w.exchanges + served_in history ≡ opened_in history
   pub unsent : count_where is_queued w.exchanges + sent_in history ≡ opened_in history
 

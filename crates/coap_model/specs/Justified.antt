@@ -141,7 +141,9 @@ pub record IsForwarding (setting : Setting) (past : List Deed) (d : Deed) : Type
   pub target_is : request_target setting.routes opened.request ≡ Ok target
   pub first : Never (Sends setting.salt exchange) past
   pub acting : IsActing setting past d
-  pub tells : Tells target.at (forwarded (token_of setting.salt exchange) target (sent_on opened.request) id) d.entry
+  pub tells :
+      Tells target.at
+      (forwarded (token_of setting.salt exchange) target (sent_on opened.request) id) d.entry
 
 -- an answer is got for an exchange that had none
 pub record IsAnswer (setting : Setting) (past : List Deed) (d : Deed) : Type 0 where
@@ -150,10 +152,10 @@ pub record IsAnswer (setting : Setting) (past : List Deed) (d : Deed) : Type 0 w
   pub first : Never (Gets setting exchange) past
   pub silent : IsSilent d.entry
 
--- A delivery: the exchange that was opened for this client's request was got after that, the request
--- that was sent for it has the cache key of the client's, and the datagram is what this client is
--- shown of the answer: with what is left of its Max-Age, or as a 2.03 where one of its tags is the
--- answer's.
+-- A delivery: the exchange that was opened for this client's request was got after that, the
+-- request that was sent for it has the cache key of the client's, and the datagram is what this
+-- client is shown of the answer: with what is left of its Max-Age, or as a 2.03 where one of its
+-- tags is the answer's.
 pub record IsDelivery (setting : Setting) (past : List Deed) (d : Deed) : Type 0 where
   pub waiter : ℕ
   pub act : d.act ≡ serves waiter
@@ -172,8 +174,9 @@ pub record IsDelivery (setting : Setting) (past : List Deed) (d : Deed) : Type 0
   pub acting : IsActing setting past d
   pub tells :
       Tells opened.client
-      (shown d.entry.now (answer_of setting.limits.datagram getting.deed.entry.now gets.meets.response) id opened.request.token
-      (tags_of opened.request)) d.entry
+      (shown d.entry.now
+      (answer_of setting.limits.datagram getting.deed.entry.now gets.meets.response) id
+      opened.request.token (tags_of opened.request)) d.entry
 
 -- ---- what isn't processed
 

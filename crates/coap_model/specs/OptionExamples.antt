@@ -155,8 +155,8 @@ forward_proxy =
 abbrev pub with_scheme : List ℕ → List ℕ
 with_scheme options = 0x50 ∷ 1 ∷ 0 ∷ 7 ∷ (options ++ codes "coap")
 
--- A Uri-Port of 0; the host `b`, which isn't known; a path without a map, at the proxy itself; then an
--- unsafe option and a Uri-Port of 0 at once: the options come before the target.
+-- A Uri-Port of 0; the host `b`, which isn't known; a path without a map, at the proxy itself; then
+-- an unsafe option and a Uri-Port of 0 at once: the options come before the target.
 abbrev pub refused_targets : List Turn
 refused_targets =
     from 0 (client 1) (with_scheme (0x31 ∷ 0x62 ∷ 0x40 ∷ 0xD4 ∷ 19 ∷ []))

@@ -35,7 +35,9 @@ awaiting w source m = find (awaits w.setting.salt source m) w.exchanges
 abbrev pub answers : World → ℕ → Message → Numbered Exchange → Step
 answers w now m x =
     silent (Answered NotStored)
-    (record (later w now) { exchanges = with_state x.0 (Done (answer_of w.setting.limits.datagram now m)) w.exchanges })
+    (record (later w now) {
+      exchanges = with_state x.0 (Done (answer_of w.setting.limits.datagram now m)) w.exchanges;
+    })
 
 abbrev pub on_awaited : World → ℕ → Message → Option (Numbered Exchange) → Step
 on_awaited w now m None = ignores w now

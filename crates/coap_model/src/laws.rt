@@ -246,8 +246,8 @@ pub fn what_is_owed_is_given()
 {}
 
 /// The histories allow one answer: two deeds that may follow the same deeds, of one event at one
-/// moment with one draw, are one deed; and the entry of what may follow what a proxy carries is what
-/// its step answers. So the traffic alone says all that a proxy does.
+/// moment with one draw, are one deed; and the entry of what may follow what a proxy carries is
+/// what its step answers. So the traffic alone says all that a proxy does.
 pub fn one_answer_is_justified()
     ensures one { (setting : Setting) (past : List Deed) (d e : Deed)
         → AllJustified setting past
