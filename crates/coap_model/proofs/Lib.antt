@@ -28,4 +28,5 @@ pub mod Fitting
 pub mod Arrivals
 pub mod Owing
 pub mod OneAnswer
+pub mod Asking
 pub mod Forging
