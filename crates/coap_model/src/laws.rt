@@ -1,5 +1,5 @@
 //! Laws of the step: public functions that do nothing, whose contracts are the laws.
-ghost use Rattle.std.specs.Prelude.{◌≡◌, ◌≢◌, ℕ, ◌+◌, ◌-◌, ◌*◌, ◌<◌, ◌≤◌, true, List, [], ◌∷◌, filter, length, Some, None};
+ghost use Rattle.std.specs.Prelude.{◌≡◌, ◌≢◌, ℕ, ◌+◌, ◌-◌, ◌*◌, ◌<◌, ◌≤◌, true, false, List, [], ◌∷◌, filter, length, Some, None};
 ghost use Rattle.coap_message.specs.declared.kind.Kind.TheVariants.{Con};
 ghost use Rattle.coap_message.specs.declared.message.Head.{Head};
 ghost use Rattle.coap_message.specs.Message.{Message};
@@ -11,7 +11,7 @@ ghost use Rattle.coap_routes.specs.Routes.{AreRoutes};
 ghost use Rattle.coap_exchange.specs.declared.exchange.Answer.{Answer};
 ghost use Rattle.coap_model.specs.Limits.{AreLimits, default_limits};
 ghost use Rattle.coap_model.specs.Setting.{Setting};
-ghost use Rattle.coap_model.specs.declared.report.Outcome.TheVariants.{Rejected, Opened, Answered, Idle};
+ghost use Rattle.coap_model.specs.declared.report.Outcome.TheVariants.{Rejected, Refused, Opened, Overloaded, NoId, Answered, Idle};
 ghost use Rattle.coap_model.specs.declared.report.Storing.TheVariants.{NotStored};
 ghost use Rattle.coap_model.specs.Messages.{eight_zeros};
 ghost use Rattle.coap_option.specs.declared.side.Side.{Side};
@@ -23,6 +23,8 @@ ghost use Rattle.coap_model.specs.Verdicts.{may_ask};
 ghost use Rattle.coap_model.specs.Answers.{left_of};
 ghost use Rattle.coap_model.specs.Events.{Event, arrival, tick, IsEvent};
 ghost use Rattle.coap_model.specs.World.{World, new_world, counts};
+ghost use Rattle.coap_message.specs.declared.code.Code.{Code};
+ghost use Rattle.coap_model.specs.Memory.{takes_memory};
 ghost use Rattle.coap_model.specs.Step.{step_of};
 ghost use Rattle.coap_model.specs.Ticks.{next_due};
 ghost use Rattle.coap_model.specs.History.{Entry, Act, no_item, serves, Deed, HasRoom};
@@ -78,7 +80,7 @@ pub fn examples_at_limits()
 
 /// Words that the step and the history share, computed at their edges: a client's token, two faults
 /// in one request, what a response gives at some age, what is due first, the form of a target with
-/// a host and a query, which is read back off it, and what is held.
+/// a host and a query, which is read back off it, what is held, and which replies need no memory.
 pub fn examples_at_edges()
     ensures tokens { play one_exchange tokens ≡ tokens_sent }
     ensures two_faults { play proxy two_faults ≡ two_faults_sent }
@@ -98,6 +100,7 @@ pub fn examples_at_edges()
     ensures held_when_opened { held (after proxy (asks_at 0 1 ∷ [])) ≡ 22 }
     ensures held_with_token { held (after proxy (from 0 (client 1) (with_token 0x74) ∷ [])) ≡ 24 }
     ensures held_with_host { target_bytes named ≡ 11 }
+    ensures held_with_accept { held (after proxy accepted) ≡ 27 }
     ensures held_when_answered { held (after proxy (asks_at 0 1 ∷ tick_at 0 ∷ from 0 origin (got 1 1) ∷ [])) ≡ 27 }
     ensures bound { most_held default_limits ≡ 16998400 }
     ensures counted { counts (after proxy (asks_at 0 1 ∷ asks_at 0 2 ∷ []))
@@ -109,6 +112,9 @@ pub fn examples_at_edges()
           exchanges = 2;
           waiters = 2;
         } }
+    ensures no_memory_to_refuse { (code : Code) → takes_memory false (Refused code) ≡ false }
+    ensures no_memory_to_turn_away { takes_memory false Overloaded ≡ false }
+    ensures no_memory_for_silence { takes_memory false NoId ≡ false }
     ensures none_due { next_due proxy ≡ None }
     ensures due_at_opening { next_due (after proxy (asks_at 5 1 ∷ [])) ≡ Some 5 }
 {}
