@@ -29,3 +29,5 @@ pub mod Arrivals
 pub mod Owing
 pub mod OneAnswer
 pub mod Forging
+pub mod Pairs
+pub mod Cached
