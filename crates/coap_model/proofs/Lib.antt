@@ -31,3 +31,4 @@ pub mod OneAnswer
 pub mod Forging
 pub mod Pairs
 pub mod Cached
+pub mod Stores

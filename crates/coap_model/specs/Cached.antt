@@ -164,3 +164,14 @@ pub record WasObtained (setting : Setting) (history : List Deed) (c : Cached) : 
   pub was_asked : IsPlaceOf history c.asking
   pub was_got : IsPlaceOf history c.getting
   pub obtained : IsObtained setting c.key c.response c.asking c.getting
+
+-- what is stored for a key is what is kept of the cache's entry of the key, which was obtained
+pub record IsEntryOf
+    (setting : Setting) (history : List Deed) (cached : List Cached) (key : CacheKey)
+    (stored : entries.Entry)
+    : Type 0 where
+  pub entry : Cached
+  pub is_there : of_key cached_key key cached ≡ Some entry
+  pub key_is : entry.key ≡ key
+  pub stored_is : IsStored stored entry
+  pub was_obtained : WasObtained setting history entry
