@@ -32,3 +32,4 @@ pub mod Forging
 pub mod Pairs
 pub mod Cached
 pub mod Stores
+pub mod CacheExamples

@@ -25,3 +25,4 @@ pub mod Runs
 pub mod Forged
 pub mod Pairs
 pub mod Cached
+pub mod CacheExamples
