@@ -1,6 +1,6 @@
 -- Histories and their caches, computed.
-use Rattle.std.proofs.Common.{◌≡◌, ◌≢◌, inl, inr, ℕ, ◌<◌, true, false, Bool, List, [], ◌∷◌, Some, Ok, refl, arith, nat_lt}
-use Rattle.std.specs.Prelude.{slice_index, zero, suc, codes}
+use Rattle.std.proofs.Common.{◌≡◌, ◌≢◌, inl, ℕ, true, List, [], ◌∷◌, refl, sym, ap, ◌∙◌, arith, nat_lt}
+use Rattle.std.specs.Prelude.{zero, suc, codes}
 use Rattle.std.specs.List.{list_all}
 use Rattle.std.proofs.lemmas.Bool.{and_parts, ltb-true}
 use Rattle.coap_message.specs.Uint.{IsBytes, uint_spelling}
@@ -11,23 +11,24 @@ use Rattle.coap_message.specs.Options.{option_of}
 use Rattle.coap_message.specs.Reading.{read_message, body_at, options_within, option_at, extended}
 use Rattle.coap_message.specs.Spelling.{Spells, spelling, option_spelling}
 use Rattle.coap_message.proofs.WholeMessages.{read_is}
+use Rattle.coap_target.specs.declared.endpoint.Endpoint.{Endpoint}
 use Rattle.coap_option.specs.declared.numbers.TheConstants.{URI_PATH}
 use Rattle.coap_routes.specs.Routes.{mapped_target}
 use Rattle.coap_routes.specs.Request.{request_target}
-use Rattle.coap_model.specs.declared.report.Outcome.{Outcome}
 use Rattle.coap_model.specs.declared.report.Outcome.TheVariants.{Answered, SentRequest}
 use Rattle.coap_model.specs.declared.report.Storing.{Storing}
 use Rattle.coap_model.specs.declared.report.Storing.TheVariants.{Kept, TooLarge}
+use Rattle.coap_model.specs.Events.{arrival}
 use Rattle.coap_model.specs.Messages.{token_of}
 use Rattle.coap_model.specs.Forms.{target_options, target_sent, key_sent}
 use Rattle.coap_model.specs.Answers.{answer_of}
 use Rattle.coap_model.specs.Examples.{origin, client, get_t, get_temp}
 use Rattle.coap_model.specs.LimitExamples as limited
 use Rattle.coap_model.specs.OptionExamples.{key_of_temp}
-use Rattle.coap_model.specs.History.{Deed, moves, Never, Sends, Asks, Meets}
+use Rattle.coap_model.specs.History.{Deed, Place, IsPlaceOf, Never, Sends, Asks}
 use Rattle.coap_model.specs.Forged as forged
 use Rattle.coap_model.specs.Forged.{setting, opened, asked}
-use Rattle.coap_model.specs.Cached.{takes, Gains, IsObtained, Cached, IsCacheOf, empty, kept, too_large, hit, otherwise}
+use Rattle.coap_model.specs.Cached.{IsObtained, IsCacheOf, empty, kept, too_large, hit, otherwise}
 use Rattle.coap_model.specs.CacheExamples.{content_for, get_for, answered, kept_past, hits, hit_past, asks_again, asked_past, first_entry, second_entry}
 use Rattle.coap_model.proofs.Places.{here, same_moves}
 
@@ -87,53 +88,40 @@ second_got : Spells (limited.got 3 2) (content_for 3 2)
 unfolding read_message body_at options_within option_at extended token_of
 second_got = read_is (limited.got 3 2) (content_for 3 2) (are-bytes (limited.got 3 2) refl) refl
 
--- the first is obtained, however it is stored
-first_obtained : (storing : Storing) → IsObtained setting key_of_temp (content_for 1 1) (here (opened ∷ []) asked) (here (asked ∷ opened ∷ []) (answered 5 1 1 (Answered storing)))
-unfolding answer_of spelling option_spelling uint_spelling token_of target_options target_sent key_sent
-first_obtained storing = record {
-  exchange = 1;
+-- so what was asked is obtained at its answer, however it is stored
+content_obtained : (past : List Deed) (now id x : ℕ) (storing : Storing) (asking : Place) → IsPlaceOf past asking → (asks : Asks 0 x asking) → asks.sends.to ≡ origin → asks.sends.message ≡ get_for id x → key_sent origin (get_for id x) ≡ key_of_temp → IsBytes (limited.got id x) → Spells (limited.got id x) (content_for id x)
+    → IsObtained setting key_of_temp (content_for id x) asking (here past (answered now id x (Answered storing)))
+unfolding answer_of spelling option_spelling uint_spelling
+content_obtained past now id x storing asking was_asked asks to message key fits spells = record {
+  exchange = x;
   gets = record {
     act = refl;
     outcome = refl;
     meets = record {
-      asking = here (opened ∷ []) asked;
-      was_asked = inl refl;
-      asks = first_asks;
-      response = content_for 1 1;
-      brings = record { bytes = limited.got 1 1; came = refl; spells = first_got; short = omega arith };
-      matches = record { kind = refl; code = refl; same_token = refl; same_id = refl };
+      asking = asking;
+      was_asked = was_asked;
+      asks = asks;
+      response = content_for id x;
+      brings = record { bytes = limited.got id x; came = ap (λ (e : Endpoint). arrival e (limited.got id x)) (sym to); spells = spells; short = omega arith };
+      matches = record { kind = refl; code = refl; same_token = refl; same_id = ap (λ (m : Message). m.id) (sym message) };
     };
-    fits = are-bytes (limited.got 1 1) refl;
+    fits = fits;
   };
   asking_is = refl;
-  asked_key = refl;
+  asked_key = (λ i. key_sent (to i) (message i)) ∙ key;
   storable = refl;
   response_is = refl;
 }
 
--- and so is the second
+-- the first answer
+first_obtained : (storing : Storing) → IsObtained setting key_of_temp (content_for 1 1) (here (opened ∷ []) asked) (here (asked ∷ opened ∷ []) (answered 5 1 1 (Answered storing)))
+unfolding token_of target_options target_sent key_sent
+first_obtained storing = content_obtained (asked ∷ opened ∷ []) 5 1 1 storing (here (opened ∷ []) asked) (inl refl) first_asks refl refl refl (are-bytes (limited.got 1 1) refl) first_got
+
+-- the second
 second_obtained : (storing : Storing) → IsObtained setting key_of_temp (content_for 3 2) (here hit_past asks_again) (here asked_past (answered 20 3 2 (Answered storing)))
-unfolding answer_of spelling option_spelling uint_spelling token_of target_options target_sent key_sent
-second_obtained storing = record {
-  exchange = 2;
-  gets = record {
-    act = refl;
-    outcome = refl;
-    meets = record {
-      asking = here hit_past asks_again;
-      was_asked = inl refl;
-      asks = second_asks;
-      response = content_for 3 2;
-      brings = record { bytes = limited.got 3 2; came = refl; spells = second_got; short = omega arith };
-      matches = record { kind = refl; code = refl; same_token = refl; same_id = refl };
-    };
-    fits = are-bytes (limited.got 3 2) refl;
-  };
-  asking_is = refl;
-  asked_key = refl;
-  storable = refl;
-  response_is = refl;
-}
+unfolding token_of target_options target_sent key_sent
+second_obtained storing = content_obtained asked_past 20 3 2 storing (here hit_past asks_again) (inl refl) second_asks refl refl refl (are-bytes (limited.got 3 2) refl) second_got
 
 -- ---- the caches
 

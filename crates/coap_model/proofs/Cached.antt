@@ -1,5 +1,5 @@
 -- The cache of a history: it is one, and its entries were obtained.
-use Rattle.std.proofs.Common.{◌≡◌, ◌≢◌, inl, inr, ℕ, ◌-◌, ◌&&◌, true, false, Bool, cond, nat_le, List, [], ◌∷◌, Option, Some, Result, Ok, refl, sym, ap, ◌∙◌, subst}
+use Rattle.std.proofs.Common.{◌≡◌, ◌≢◌, inl, inr, ℕ, ◌-◌, ◌&&◌, true, false, Bool, cond, nat_le, List, [], ◌∷◌, Some, Result, Ok, refl, sym, ap, ◌∙◌, subst}
 use Rattle.std.specs.List.{AllByRecursion}
 use Rattle.std.proofs.lemmas.Option.{same_Some}
 use Rattle.coap_message.specs.Message.{Message}
@@ -13,8 +13,6 @@ use Rattle.coap_routes.specs.Request.{request_target}
 use Rattle.coap_cache.specs.declared.key.CacheKey.{CacheKey}
 use Rattle.coap_cache.specs.Lists.{has_key, has_other_key, of_key, others, cut, used}
 use Rattle.coap_model.specs.declared.report.Outcome.{Outcome}
-use Rattle.coap_model.specs.declared.report.Outcome.TheVariants.{Answered, Hit}
-use Rattle.coap_model.specs.declared.report.Storing.TheVariants.{Kept, TooLarge}
 use Rattle.coap_model.specs.Setting.{Setting}
 use Rattle.coap_model.specs.Forms.{key_sent, request_key}
 use Rattle.coap_model.specs.Answers.{answer_of}
@@ -35,9 +33,10 @@ record GetTheSame {setting : Setting} {x y : ℕ} {p : Place} (g : Gains setting
 
 -- what was sent at a place is one message to one endpoint
 one-sent : (salt x y : ℕ) (p q : Place) → p ≡ q → (s : Sends salt x p) (t : Sends salt y q) → (s.to ≡ t.to) × (s.message ≡ t.message)
-one-sent salt x y p q same s t =
-    (same_Some s.to t.to (sym s.sent ∙ ap (λ (r : Place). r.deed.entry.report.send) same ∙ t.sent),
-    one_message q.deed.entry.bytes s.message t.message (subst (λ (r : Place). Spells r.deed.entry.bytes s.message) same s.spells) t.spells)
+one-sent salt x y p q same s t = (
+  same_Some s.to t.to (sym s.sent ∙ ap (λ (r : Place). r.deed.entry.report.send) same ∙ t.sent),
+  one_message q.deed.entry.bytes s.message t.message (subst (λ (r : Place). Spells r.deed.entry.bytes s.message) same s.spells) t.spells,
+)
 
 -- the exchange, where it was asked, and the response
 gets-unique : (setting : Setting) (x y : ℕ) (p : Place) (g : Gains setting x p) (h : Gains setting y p) → GetTheSame g h
@@ -54,10 +53,11 @@ gets-unique setting x y p g h =
 pub obtained-unique : (setting : Setting) (k l : CacheKey) (m n : Message) (a b getting : Place) → IsObtained setting k m a getting → IsObtained setting l n b getting → (k ≡ l) × (m ≡ n) × (a ≡ b)
 obtained-unique setting k l m n a b getting o p =
     let same = gets-unique setting o.exchange p.exchange getting o.gets p.gets in
-    let key : key_sent o.gets.meets.asks.sends.to o.gets.meets.asks.sends.message ≡ key_sent p.gets.meets.asks.sends.to p.gets.meets.asks.sends.message = λ i. key_sent (same.to i) (same.message i) in
-    (sym o.asked_key ∙ key ∙ p.asked_key,
-    o.response_is ∙ ap (λ (r : Message). (answer_of setting.limits.datagram getting.deed.entry.now r).message) same.response ∙ sym p.response_is,
-    sym o.asking_is ∙ same.asking ∙ p.asking_is)
+    let key : key_sent o.gets.meets.asks.sends.to o.gets.meets.asks.sends.message ≡ key_sent p.gets.meets.asks.sends.to p.gets.meets.asks.sends.message = λ i. key_sent (same.to i) (same.message i) in (
+      sym o.asked_key ∙ key ∙ p.asked_key,
+      o.response_is ∙ ap (λ (r : Message). (answer_of setting.limits.datagram getting.deed.entry.now r).message) same.response ∙ sym p.response_is,
+      sym o.asking_is ∙ same.asking ∙ p.asking_is,
+    )
 
 -- ---- the cache is one
 

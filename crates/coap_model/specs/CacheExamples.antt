@@ -8,25 +8,23 @@ use Rattle.coap_message.specs.declared.code.TheConstants.Code.{CONTENT}
 use Rattle.coap_message.specs.Message.{Message}
 use Rattle.coap_message.specs.Options.{option_of}
 use Rattle.coap_message.specs.Reading.{read_message}
-use Rattle.coap_target.specs.declared.target.Target.{Target}
 use Rattle.coap_option.specs.declared.numbers.TheConstants.{MAX_AGE}
-use Rattle.coap_cache.specs.declared.key.CacheKey.{CacheKey}
 use Rattle.coap_cache.specs.declared.stored.Stored.{Stored}
 use Rattle.coap_model.specs.declared.report.Outcome.{Outcome}
-use Rattle.coap_model.specs.declared.report.Outcome.TheVariants.{Answered, Hit, SentRequest}
-use Rattle.coap_model.specs.declared.report.Storing.TheVariants.{Kept, TooLarge}
+use Rattle.coap_model.specs.declared.report.Outcome.TheVariants.{Answered, Hit}
+use Rattle.coap_model.specs.declared.report.Storing.TheVariants.{Kept}
 use Rattle.coap_model.specs.Limits.{default_limits}
-use Rattle.coap_model.specs.Setting.{Setting}
-use Rattle.coap_model.specs.Events.{arrival, tick}
+use Rattle.coap_model.specs.Events.{arrival}
 use Rattle.coap_model.specs.Messages.{token_of}
 use Rattle.coap_model.specs.Forms.{forwarded}
 use Rattle.coap_model.specs.Answers.{answer_of}
 use Rattle.coap_model.specs.Examples.{origin, client, get_t, answer}
 use Rattle.coap_model.specs.LimitExamples as limited
 use Rattle.coap_model.specs.OptionExamples.{key_of_temp}
-use Rattle.coap_model.specs.History.{no_item, moves, Deed, Place}
+use Rattle.coap_model.specs.History.{no_item, moves, Deed}
+use Rattle.coap_model.specs.Forged as forged
 use Rattle.coap_model.specs.Forged.{setting, opened, asked}
-use Rattle.coap_model.specs.Cached.{is_storable, Cached, cached_key, cached_with}
+use Rattle.coap_model.specs.Cached.{is_storable, Cached, cached_with}
 
 -- ---- what may be kept
 
@@ -89,12 +87,10 @@ kept_within bytes entries new cached =
 abbrev pub answered : ℕ → ℕ → ℕ → Outcome → Deed
 answered now id exchange outcome =
     record {
-      entry = record {
+      entry = record forged.answered.entry {
         now = now;
-        draw = 0;
         event = arrival origin (limited.got id exchange);
         report = record { send = None; outcome = outcome };
-        bytes = [];
       };
       act = moves exchange;
     }
@@ -105,32 +101,23 @@ kept_past = answered 5 1 1 (Answered Kept) ∷ asked ∷ opened ∷ []
 
 -- another client asks for the same
 abbrev pub hits : Deed
-hits = record {
-  entry = record {
-    now = 10;
-    draw = 0;
-    event = arrival (client 2) (get_t []);
-    report = record { send = Some (client 2); outcome = Hit };
-    bytes = [];
-  };
-  act = no_item;
-}
+hits =
+    record {
+      entry = record opened.entry {
+        now = 10;
+        event = arrival (client 2) (get_t []);
+        report = record { send = Some (client 2); outcome = Hit };
+      };
+      act = no_item;
+    }
 
 abbrev pub hit_past : List Deed
 hit_past = hits ∷ kept_past
 
 -- the origin is asked for it anew
 abbrev pub asks_again : Deed
-asks_again = record {
-  entry = record {
-    now = 15;
-    draw = 0;
-    event = tick;
-    report = record { send = Some origin; outcome = SentRequest };
-    bytes = limited.asked 3 2;
-  };
-  act = moves 2;
-}
+asks_again =
+    record { entry = record asked.entry { now = 15; bytes = limited.asked 3 2 }; act = moves 2 }
 
 abbrev pub asked_past : List Deed
 asked_past = asks_again ∷ hit_past

@@ -69,14 +69,16 @@ pub record Cached : Type 0 where
 
 -- what a store keeps of it
 abbrev pub entry_of_cached : Cached → entries.Entry
-entry_of_cached c =
-    (c.key, record {
-      response = c.response;
-      asked = index c.asking;
-      got_no = index c.getting;
-      got = c.getting.deed.entry.now;
-      marked = false;
-    })
+entry_of_cached c = (
+  c.key,
+  record {
+    response = c.response;
+    asked = index c.asking;
+    got_no = index c.getting;
+    got = c.getting.deed.entry.now;
+    marked = false;
+  },
+)
 
 -- its key, and the bytes that it counts
 abbrev pub cached_key : Cached → CacheKey
@@ -123,7 +125,7 @@ pub data IsCacheOf (setting : Setting) : List Deed → List Cached → Type 0 wh
       → IsObtained setting key response asking (record { before = past; deed = d })
       → IsCacheOf setting past cached
       → IsCacheOf setting (d ∷ past)
-          (cached_with setting (cached_here key response asking past d) cached)
+      (cached_with setting (cached_here key response asking past d) cached)
   -- an answer alone counts more than may be kept: the entry of its key is given up
   too_large : {past : List Deed} {cached : List Cached} (d : Deed) (key : CacheKey)
       (response : Message) (asking : Place)
