@@ -53,12 +53,12 @@ token-back salt sum bs small less eight bytes is =
 
 module _ (salt : ℕ) (source : Endpoint) (m : Message) where
   abbrev is_right : Exchange → Bool
-  is_right x = has_id m.id x.state && same_endpoint x.target.at source
+  is_right x = has_id m.id x.state && same_endpoint x.key.target.at source
 
   -- an exchange of another token doesn't
   others-do-not : (x : Numbered Exchange) → token_of salt x.0 ≢ m.token → awaits salt source m x ≡ false
   others-do-not x other =
-      go (has_id m.id x.1.state) (same_endpoint x.1.target.at source) (same_bytes (token_of salt x.0) m.token) refl
+      go (has_id m.id x.1.state) (same_endpoint x.1.key.target.at source) (same_bytes (token_of salt x.0) m.token) refl
     where
       go : (a b t : Bool) → same_bytes (token_of salt x.0) m.token ≡ t → (a && (b && t)) ≡ false
       go a b true e = absurd (other (Tells-bytes.only (token_of salt x.0) m.token e))
@@ -70,7 +70,7 @@ module _ (salt : ℕ) (source : Endpoint) (m : Message) where
   this-does : (x : Numbered Exchange) → token_of salt x.0 ≡ m.token → awaits salt source m x ≡ is_right x.1
   this-does x same =
       let t : same_bytes (token_of salt x.0) m.token ≡ true = rw same (Tells-bytes.itself m.token) in
-      rw t (go (has_id m.id x.1.state) (same_endpoint x.1.target.at source))
+      rw t (go (has_id m.id x.1.state) (same_endpoint x.1.key.target.at source))
     where
       go : (a b : Bool) → (a && (b && true)) ≡ (a && b)
       go true true = refl
@@ -129,7 +129,7 @@ awaits-none salt source m number t small token is few e =
 
 -- where it is of one, that one awaits the response if its endpoint and its id are right
 pub awaits-one : (salt : ℕ) (source : Endpoint) (m : Message) (number : ℕ) (t : Table Exchange) → number < 2 ^ 64 → token_of salt number ≡ m.token → IsTable t → t.admitted < 2 ^ 64 → (x : Exchange) → item_at number t.items ≡ Some x
-    → (b : Bool) → b ≡ (has_id m.id x.state && same_endpoint x.target.at source) → awaiting_in salt source m t ≡ (if b then Some number else None)
+    → (b : Bool) → b ≡ (has_id m.id x.state && same_endpoint x.key.target.at source) → awaiting_in salt source m t ≡ (if b then Some number else None)
 awaits-one salt source m number t small token is few x e b f =
     found-by-number salt source m number small token 0 t.items is.rising (all-small t.admitted t.items few is.below) ∙ rw (e, f) refl
 

@@ -1,17 +1,19 @@
 -- How many bytes messages take.
-use Rattle.std.proofs.Common.{◌≡◌, ℕ, leb, List, [], length, Result, Ok, Err, sym, arith}
+use Rattle.std.proofs.Common.{◌≡◌, ℕ, List, [], length, Result, Ok, Err, sym, arith}
 use Rattle.std.specs.Result.{is_ok}
 use Rattle.std.proofs.lemmas.Bool.{le-leb, lt-leb}
 use Rattle.coap_message.specs.declared.error.Full.{Full}
-use Rattle.coap_message.specs.declared.options.Opt.{Opt}
+use Rattle.coap_message.specs.Message.{Message}
+use Rattle.coap_option.specs.Selection.{sent_on}
 use Rattle.coap_message.specs.Datagram.{Datagram, Appends, holding}
 use Rattle.coap_message.specs.Spelling.{spelling}
 use Rattle.coap_target.specs.declared.target.Target.{Target}
-use Rattle.coap_model.specs.Messages.{eight_zeros}
+use Rattle.coap_model.specs.Verdicts.{form_fits}
 use Rattle.coap_model.specs.Forms.{forwarded}
 use Rattle.coap_model.proofs.Verdicts.{form-length}
 
 -- a form fits with any token of eight bytes where it does with zeros
-pub form-fits : (old new : Datagram) (room : ℕ) (token : List ℕ) (t : Target) (others : List Opt) (r : Result (Unit {0}) Full) → length token ≡ 8 → Appends (holding old []) new room (spelling (forwarded token t others 0)) r → is_ok r ≡ leb (length (spelling (forwarded eight_zeros t others 0))) room
-form-fits old new room token t others (Ok u) eight a = sym (le-leb _ _ (omega (arith, a.1, form-length token t others, eight)))
-form-fits old new room token t others (Err e) eight a = sym (lt-leb _ _ (omega (arith, a.1, form-length token t others, eight)))
+pub form-fits : (old new : Datagram) (room : ℕ) (token : List ℕ) (t : Target) (m : Message) (r : Result (Unit {0}) Full) → length token ≡ 8 → Appends (holding old []) new room (spelling (forwarded token t (sent_on m) 0)) r → is_ok r ≡ form_fits room t m
+unfolding form_fits
+form-fits old new room token t m (Ok u) eight a = sym (le-leb _ _ (omega (arith, a.1, form-length token t (sent_on m), eight)))
+form-fits old new room token t m (Err e) eight a = sym (lt-leb _ _ (omega (arith, a.1, form-length token t (sent_on m), eight)))

@@ -1,10 +1,14 @@
 //! The target of a request, before anything of it is kept.
-ghost use Rattle.std.specs.Prelude.{◌≡◌};
+ghost use Rattle.std.specs.Prelude.{◌≡◌, IfOk};
+ghost use Rattle.coap_model.specs.Forms.{request_key};
 ghost use Rattle.coap_core.specs.Forms.{host_values, seen, values_left};
 
-use coap_message::PieceRefs;
+use coap_cache::CacheKey;
+use coap_message::{MessageRef, OutOfMemory, PieceRefs};
+use coap_option::key_options;
 use coap_routes::{MappedTarget, Segments, Values};
 use coap_target::Target;
+use std::alloc::Global;
 
 /// The target of a request.
 #[derive(Drop)]
@@ -16,6 +20,22 @@ pub(crate) enum RequestTarget<'m, 'a> {
 }
 
 impl RequestTarget<'_, '_> {
+    /// The cache key of a request for it.
+    pub(crate) fn to_key(
+        self,
+        alloc: Global,
+        request: &MessageRef<'_>,
+    ) -> Result<CacheKey, OutOfMemory>
+        ensures { IfOk result (λ key. key ≡ request_key (seen self.entry) request.now) }
+    {
+        let target = match self {
+            RequestTarget::Mapped(target) => target.to_target(alloc)?,
+            RequestTarget::Named(target) => target,
+        };
+        let options = key_options(alloc, request)?;
+        Ok(CacheKey { target, options })
+    }
+
     /// The host, if it has one.
     pub(crate) fn host(&self) -> PartValues<'_>
         ensures { values_left result ≡ host_values (seen self.now).host }

@@ -1,47 +1,57 @@
 //! The step of a request (RFC 7252, 5.7.3).
-ghost use Rattle.std.specs.Prelude.{◌≡◌, ◌⊎◌, ◌+◌, ◌≤◌, true, nat_le, length, None, Ok, Err, IfOk, IfErr, OnErr};
+ghost use Rattle.std.specs.Prelude.{◌≡◌, ◌⊎◌, ℕ, ◌+◌, ◌≤◌, true, length, None, Ok, Err, IfOk, IfErr, OnErr};
 ghost use Rattle.coap_message.specs.declared.code.TheConstants.Code.{GET};
 ghost use Rattle.coap_message.specs.Spelling.{spelling};
 ghost use Rattle.coap_message.specs.declared.kind.Kind.{Kind};
 ghost use Rattle.coap_option.specs.declared.side.Side.{Side};
 ghost use Rattle.coap_option.specs.Screening.{first_refused};
 ghost use Rattle.coap_option.specs.Selection.{sent_on};
+ghost use Rattle.coap_target.specs.declared.endpoint.Endpoint.{Endpoint};
 ghost use Rattle.coap_target.specs.Target.{IsTarget};
 ghost use Rattle.coap_routes.specs.declared.error.TargetError.TheVariants as errors;
 ghost use Rattle.coap_routes.specs.Request.{request_target};
 ghost use Rattle.coap_model.specs.Memory.{says_uri, takes_memory};
-ghost use Rattle.coap_model.specs.Messages.{eight_zeros};
 ghost use Rattle.coap_model.specs.Forms.{forwarded};
-ghost use Rattle.coap_model.specs.Verdicts.{verdict_of_target};
-ghost use Rattle.coap_model.specs.Requests.{lacks_id, refuses, overloads, opens, turns_away, next_token, on_request};
+ghost use Rattle.coap_model.specs.Verdicts.{form_fits};
+ghost use Rattle.coap_model.specs.Requests.{lacks_id, refuses, overloads, opens, turns_away, turns_down, next_token, on_request};
 ghost use Rattle.coap_model.specs.World.{has_ids};
 ghost use Rattle.coap_core.specs.Forms.{seen};
-ghost use Rattle.coap_core.specs.Steps.{Does, CanGoOn, FormIs, IsVerdict, IsVerdictOn};
+ghost use Rattle.coap_core.specs.Steps.{Does, CanGoOn, FormIs, IsVerdictOn, planned};
 
 use crate::form::put_forwarded;
 use crate::request_target::RequestTarget;
 use crate::token::token_of;
 use crate::world::{World, silent};
 use crate::writing::{put_message, put_with_max_age};
+use coap_cache::CacheKey;
 use coap_exchange::Waiter;
 use coap_message::{Code, Datagram, Head, Kind, MessageRef, Options, OutOfMemory, Seq};
 use coap_model::{Outcome, Report};
 use coap_option::{numbers, screen_request, tags};
+use coap_routes::TargetError;
 use coap_routes::laws::{requests_to_the_proxy_are_mapped, targets_fit_options};
-use coap_routes::{MappedTarget, TargetError};
-use coap_target::{Endpoint, Target};
+use coap_target::Endpoint;
 
-/// What becomes of a request.
+/// What becomes of a request, leaving room aside.
 #[derive(Drop)]
 pub(crate) enum Verdict<'m, 'a> {
     /// It is refused with this code.
     RefusedWith(Code),
-    /// An exchange may be opened for this target, which is lent: the request was mapped.
-    MayOpen(MappedTarget<'m, 'a>),
-    /// An exchange may be opened for this target, which the request said by a URI.
-    MayOpenNamed(Target),
+    /// It may be asked for at this target.
+    MayAsk(RequestTarget<'m, 'a>),
     /// It says its target by a URI, for which there is no memory.
     NoMemory,
+}
+
+/// What is to be done for a request.
+#[derive(Drop)]
+enum Plan {
+    /// The client is refused with this code, if an id is free to tell it.
+    TurnDown(Code),
+    /// There is no room for an exchange.
+    TurnAway,
+    /// An exchange is opened for this key.
+    Open(CacheKey),
 }
 
 /// Whether a request says its target by a URI (RFC 7252, 5.10.2).
@@ -86,41 +96,48 @@ impl World {
             (takes_memory (says_uri request.now) (on_request self.old now client request.now).report.outcome
             ≡ true) }
     {
-        match self.verdict_of(request, out) {
-            Verdict::MayOpen(target) => {
-                if !self.has_room() {
-                    return Ok(self.turn_away(now, client, request, out));
-                }
-                let target = target.to_target(self.alloc)?;
-                self.open(now, client, request, target, out)
-            }
-            Verdict::MayOpenNamed(target) => {
-                if !self.has_room() {
-                    return Ok(self.turn_away(now, client, request, out));
-                }
-                self.open(now, client, request, target, out)
-            }
-            Verdict::RefusedWith(code) => {
-                if self.has_ids(1) {
-                    Ok(self.refuse(now, client, request, code, out))
-                } else {
-                    Ok(self.lack_id(now, out))
-                }
-            }
-            Verdict::NoMemory => Err(OutOfMemory),
+        match self.plan(request, out)? {
+            Plan::TurnDown(code) => Ok(self.turn_down(now, client, request, code, out)),
+            Plan::TurnAway => Ok(self.turn_away(now, client, request, out)),
+            Plan::Open(key) => self.open(now, client, request, key, out),
         }
     }
 
-    /// What becomes of a request: the method, the options, the target, the length of what is sent
-    /// on; the first that is at fault decides. Where an exchange may be opened, `out` holds what is
+    /// What is to be done for a request. Where an exchange is to be opened, `out` holds what is
     /// sent on.
-    #[tactic(auto, unfolding(coap_model::specs::Verdicts::verdict_of))]
-    fn verdict_of<'m, 'a>(&'m self, request: &MessageRef<'a>, out: &mut Datagram) -> Verdict<'m, 'a>
+    fn plan(&self, request: &MessageRef<'_>, out: &mut Datagram) -> Result<Plan, OutOfMemory>
         requires can { CanGoOn self.now }
         requires room { self.now.setting.limits.datagram ≤ out.old.room }
-        ensures exact { IsVerdictOn self.now request.now result }
-        ensures form { FormIs (next_token self.now) request.now result out.new.bytes }
+        ensures exact { (now : ℕ) (client : Endpoint)
+            → IfOk result (λ plan.
+            on_request self.now now client request.now ≡ planned self.now now client request.now plan) }
+        ensures form { IfOk result (λ plan. FormIs (next_token self.now) request.now plan out.new.bytes) }
+        ensures memory { (now : ℕ) (client : Endpoint)
+            → OnErr result
+            (takes_memory (says_uri request.now) (on_request self.now now client request.now).report.outcome
+            ≡ true) }
         ensures kept { out.new.room ≡ out.old.room }
+    {
+        let target = match self.verdict_of(request) {
+            Verdict::RefusedWith(code) => return Ok(Plan::TurnDown(code)),
+            Verdict::MayAsk(target) => target,
+            Verdict::NoMemory => return Err(OutOfMemory),
+        };
+        if !self.fits(request, &target, out) {
+            return Ok(Plan::TurnDown(Code::REQUEST_ENTITY_TOO_LARGE));
+        }
+        if !self.has_room() {
+            return Ok(Plan::TurnAway);
+        }
+        Ok(Plan::Open(target.to_key(self.alloc, request)?))
+    }
+
+    /// What becomes of a request: the method, the options, the target; the first that is at fault
+    /// decides.
+    #[tactic(auto, unfolding(coap_model::specs::Verdicts::verdict_of))]
+    fn verdict_of<'m, 'a>(&'m self, request: &MessageRef<'a>) -> Verdict<'m, 'a>
+        requires { CanGoOn self.now }
+        ensures exact { IsVerdictOn self.now request.now result }
     {
         if request.code != Code::GET {
             return Verdict::RefusedWith(Code::METHOD_NOT_ALLOWED);
@@ -129,7 +146,7 @@ impl World {
             return Verdict::RefusedWith(Code::BAD_OPTION);
         }
         match self.target_of(request) {
-            Ok(target) => self.verdict_of_target(request, target, out),
+            Ok(target) => Verdict::MayAsk(target),
             Err(TargetError::BadUri) => Verdict::RefusedWith(Code::BAD_REQUEST),
             Err(TargetError::NotProxied) => Verdict::RefusedWith(Code::PROXYING_NOT_SUPPORTED),
             Err(TargetError::NotFound) => Verdict::RefusedWith(Code::NOT_FOUND),
@@ -163,32 +180,6 @@ impl World {
         }
     }
 
-    /// A form that is too long for a datagram isn't sent on.
-    fn verdict_of_target<'m, 'a>(
-        &self,
-        request: &MessageRef<'a>,
-        target: RequestTarget<'m, 'a>,
-        out: &mut Datagram,
-    ) -> Verdict<'m, 'a>
-        requires can { CanGoOn self.now }
-        requires room { self.now.setting.limits.datagram ≤ out.old.room }
-        requires get { request.now.code ≡ GET }
-        requires screened { first_refused Side.Request request.now.options ≡ None }
-        requires target { IsTarget (seen target) }
-        ensures exact { IsVerdict result
-            (verdict_of_target self.now.setting.limits.datagram request.now (Ok (seen target.entry))) }
-        ensures form { FormIs (next_token self.now) request.now result out.new.bytes }
-        ensures kept { out.new.room ≡ out.old.room }
-    {
-        if !self.fits(request, &target, out) {
-            return Verdict::RefusedWith(Code::REQUEST_ENTITY_TOO_LARGE);
-        }
-        match target {
-            RequestTarget::Mapped(target) => Verdict::MayOpen(target),
-            RequestTarget::Named(target) => Verdict::MayOpenNamed(target),
-        }
-    }
-
     /// Whether the form that is sent on fits a datagram. Then `out` holds it.
     fn fits(
         &self,
@@ -202,8 +193,7 @@ impl World {
         requires screened { first_refused Side.Request request.now.options ≡ None }
         requires target { IsTarget (seen target.now) }
         ensures exact { result
-            ≡ nat_le (length (spelling (forwarded eight_zeros (seen target.now) (sent_on request.now) 0)))
-            self.now.setting.limits.datagram }
+            ≡ form_fits self.now.setting.limits.datagram (seen target.now) request.now }
         ensures form { result ≡ true
             → out.new.bytes ≡ spelling (forwarded (next_token self.now) (seen target.now) (sent_on request.now) 0) }
         ensures kept { out.new.room ≡ out.old.room }
@@ -211,6 +201,26 @@ impl World {
         let token = token_of(self.salt, self.exchanges.admitted() + 1);
         let room = self.limits.values().datagram as usize;
         put_forwarded(out, room, &token, request, target).is_ok()
+    }
+
+    /// The client is refused with a code, if an id is free to tell it.
+    fn turn_down(
+        &mut self,
+        now: u64,
+        client: Endpoint,
+        request: &MessageRef<'_>,
+        code: Code,
+        out: &mut Datagram,
+    ) -> Report
+        requires can { CanGoOn self.old }
+        requires fits { length (turns_down self.old now client request.now code).bytes ≤ out.old.room }
+        ensures { Does (turns_down self.old now client request.now code) result out.old out.new self.new }
+    {
+        if self.has_ids(1) {
+            self.refuse(now, client, request, code, out)
+        } else {
+            self.lack_id(now, out)
+        }
     }
 
     /// The client is refused with a code.
@@ -294,26 +304,26 @@ impl World {
         silent(Outcome::NoId)
     }
 
-    /// An exchange is opened for a target, and the client waits for it. `out` holds what is sent
-    /// on.
+    /// An exchange is opened for a key, and the client waits for it. `out` holds what is sent on.
     fn open(
         &mut self,
         now: u64,
         client: Endpoint,
         request: &MessageRef<'_>,
-        target: Target,
+        key: CacheKey,
         out: &mut Datagram,
     ) -> Result<Report, OutOfMemory>
         requires can { CanGoOn self.old }
-        requires form { out.old.bytes ≡ spelling (forwarded (next_token self.old) target (sent_on request.now) 0) }
+        requires form { out.old.bytes
+            ≡ spelling (forwarded (next_token self.old) key.target (sent_on request.now) 0) }
         ensures exact { IfOk result (λ report.
-            Does (opens self.old now client request.now target) report out.old out.new self.new) }
+            Does (opens self.old now client request.now key) report out.old out.new self.new) }
         ensures err { OnErr result (self.new ≡ self.old) }
         ensures kept { out.new.room ≡ out.old.room }
     {
         let form = Seq::from_slice(self.alloc, out.bytes())?;
         let tags = tags(self.alloc, request)?;
-        let Ok(number) = self.exchanges.admit(target, form, now) else {
+        let Ok(number) = self.exchanges.admit(key, form, now) else {
             return Err(OutOfMemory);
         };
         let waiter = Waiter {

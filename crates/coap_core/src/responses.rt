@@ -26,9 +26,9 @@ fn has_id(id: u16, state: &ExchangeState) -> bool
 
 /// Whether an exchange of the right token awaits a response of this endpoint with this id.
 fn awaits(exchange: &Exchange, source: Endpoint, id: u16) -> bool
-    ensures { result ≡ (has_id id exchange.now.state && same_endpoint exchange.now.target.at source) }
+    ensures { result ≡ (has_id id exchange.now.state && same_endpoint exchange.now.key.target.at source) }
 {
-    has_id(id, &exchange.state) && exchange.target.at.is(&source)
+    has_id(id, &exchange.state) && exchange.key.target.at.is(&source)
 }
 
 impl World {

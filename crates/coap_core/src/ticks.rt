@@ -74,7 +74,7 @@ impl World {
         let Some(exchange) = self.exchanges.get(number) else {
             unreachable!();
         };
-        let to = exchange.target.at;
+        let to = exchange.key.target.at;
         let id = self.ids.next();
         put_with_id(out, exchange.form.as_slice(), id);
         let asked = self.events;

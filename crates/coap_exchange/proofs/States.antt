@@ -10,10 +10,10 @@ use Rattle.coap_exchange.specs.Table.{Numbered, Table, IsRising, IsTable}
 use Rattle.coap_exchange.specs.Exchanges.{moved, with_state}
 
 -- what holds in either case holds of an exchange that may come to another state
-pub moved-cases : (P : Numbered Exchange → Type 0) (n : ℕ) (s : ExchangeState) (y : Numbered Exchange) → (y.0 ≡ n → P (y.0, record { target = y.1.target; form = y.1.form; since = y.1.since; state = s })) → (y.0 ≢ n → P y) → P (moved n s y)
+pub moved-cases : (P : Numbered Exchange → Type 0) (n : ℕ) (s : ExchangeState) (y : Numbered Exchange) → (y.0 ≡ n → P (y.0, record { key = y.1.key; form = y.1.form; since = y.1.since; state = s })) → (y.0 ≢ n → P y) → P (moved n s y)
 moved-cases P n s y same other = go (eqb y.0 n) refl
   where
-    go : (b : Bool) → eqb y.0 n ≡ b → P (cond b (y.0, record { target = y.1.target; form = y.1.form; since = y.1.since; state = s }) y)
+    go : (b : Bool) → eqb y.0 n ≡ b → P (cond b (y.0, record { key = y.1.key; form = y.1.form; since = y.1.since; state = s }) y)
     go true e = same (eqb-true y.0 n e)
     go false e = other (eqb-false y.0 n e)
 
@@ -60,13 +60,13 @@ written-lookup n least s [] r x e = absurd cc
 written-lookup n least s (y ∷ ys) r x e = go (eqb y.0 n) refl (λ f. written-lookup n y.0 s ys r.1 x f)
   where
     go : (b : Bool) → eqb y.0 n ≡ b → (lookup (nat_eq n) ys ≡ Some x → set_value (nat_eq n) ys (record x { state = s }) ≡ with_state n s ys)
-        → set_value (nat_eq n) (y ∷ ys) (record x { state = s }) ≡ cond b (y.0, record { target = y.1.target; form = y.1.form; since = y.1.since; state = s }) y ∷ with_state n s ys
+        → set_value (nat_eq n) (y ∷ ys) (record x { state = s }) ≡ cond b (y.0, record { key = y.1.key; form = y.1.form; since = y.1.since; state = s }) y ∷ with_state n s ys
     go true t rest =
         let same : y.0 ≡ n = eqb-true y.0 n t in
         let turned : eqb n y.0 ≡ true = eq-eqb n y.0 (sym same) in
         let found : Some y.1 ≡ Some x = rw turned at e in
         let value : y.1 ≡ x = cc in
-        rw (turned, ← value) (ap (λ (l : List (Numbered Exchange)). (y.0, record { target = y.1.target; form = y.1.form; since = y.1.since; state = s }) ∷ l) (sym (with_state-below n y.0 s ys (omega arith) r.1)))
+        rw (turned, ← value) (ap (λ (l : List (Numbered Exchange)). (y.0, record { key = y.1.key; form = y.1.form; since = y.1.since; state = s }) ∷ l) (sym (with_state-below n y.0 s ys (omega arith) r.1)))
     go false t rest =
         let turned : eqb n y.0 ≡ false = ne_eqb n y.0 (λ f. eqb-false y.0 n t (sym f)) in
         let found : lookup (nat_eq n) ys ≡ Some x = rw turned at e in
@@ -77,7 +77,7 @@ missing-lookup : (n : ℕ) (s : ExchangeState) (xs : List (Numbered Exchange)) �
 missing-lookup n s [] e = refl
 missing-lookup n s (y ∷ ys) e = go (eqb y.0 n) refl (λ f. missing-lookup n s ys f)
   where
-    go : (b : Bool) → eqb y.0 n ≡ b → (lookup (nat_eq n) ys ≡ None → ys ≡ with_state n s ys) → y ∷ ys ≡ cond b (y.0, record { target = y.1.target; form = y.1.form; since = y.1.since; state = s }) y ∷ with_state n s ys
+    go : (b : Bool) → eqb y.0 n ≡ b → (lookup (nat_eq n) ys ≡ None → ys ≡ with_state n s ys) → y ∷ ys ≡ cond b (y.0, record { key = y.1.key; form = y.1.form; since = y.1.since; state = s }) y ∷ with_state n s ys
     go true t rest =
         let turned : eqb n y.0 ≡ true = eq-eqb n y.0 (sym (eqb-true y.0 n t)) in
         absurd (let found : Some y.1 ≡ None = rw turned at e in cc)

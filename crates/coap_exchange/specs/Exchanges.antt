@@ -7,7 +7,7 @@ use Rattle.coap_exchange.specs.Table.{Numbered}
 
 -- the exchange in this state
 abbrev pub in_state : ExchangeState → Exchange → Exchange
-in_state state x = record { target = x.target; form = x.form; since = x.since; state = state }
+in_state state x = record { key = x.key; form = x.form; since = x.since; state = state }
 
 -- the exchange of this number comes to this state
 abbrev pub moved : ℕ → ExchangeState → Numbered Exchange → Numbered Exchange

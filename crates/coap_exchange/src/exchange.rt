@@ -4,8 +4,8 @@ ghost use Rattle.std.specs.Option.{option_copied};
 ghost use Rattle.coap_exchange.specs.Due.{answer_at};
 ghost use Rattle.coap_exchange.specs.Exchanges.{is_queued};
 
+use coap_cache::CacheKey;
 use coap_message::{Message, Seq};
-use coap_target::Target;
 
 /// The sending of a request.
 #[derive(Clone, Copy, Debug, PartialEq, Eq)]
@@ -67,7 +67,8 @@ impl ExchangeState {
 /// A request on its way to an origin.
 #[derive(Clone, Debug, Drop, PartialEq, Eq)]
 pub struct Exchange {
-    pub target: Target,
+    /// What its response answers: the target, and the options that take part in the cache key.
+    pub key: CacheKey,
     /// The bytes of the request that is sent on, with the message id 0.
     pub form: Seq<u8>,
     /// The moment at which it was opened, in milliseconds.

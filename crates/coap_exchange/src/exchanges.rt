@@ -12,8 +12,8 @@ ghost use Rattle.coap_exchange.specs.Table.{empty_table, item_at, admitted_to, w
 use crate::due::Due;
 use crate::exchange::{Answer, Exchange, ExchangeState, Sending};
 use crate::table::{AdmitError, Table};
+use coap_cache::CacheKey;
 use coap_message::{OutOfMemory, Seq};
-use coap_target::Target;
 use indexmap::IndexMap;
 use std::alloc::Global;
 use std::marker::Model;
@@ -91,13 +91,13 @@ impl Exchanges {
     ///
     /// # Errors
     /// 1. `Full` where the table holds as many as it may. 2. `OutOfMemory`. Nothing is changed then.
-    pub fn admit(&mut self, target: Target, form: Seq<u8>, now: u64) -> Result<u64, AdmitError>
+    pub fn admit(&mut self, key: CacheKey, form: Seq<u8>, now: u64) -> Result<u64, AdmitError>
         requires { self.old.admitted < 2 ^ 64 - 1 }
         ensures number { IfOk result (λ number. number ≡ self.old.admitted + 1) }
         ensures ok { OnOk result
             (self.new
             ≡ admitted_to
-            (record { target = target; form = form; since = now; state = Queued })
+            (record { key = key; form = form; since = now; state = Queued })
             self.old) }
         ensures full { IfErr result (λ error.
             (error ≡ Full) ↔ (length self.old.items ≡ self.old.limit)) }
@@ -106,7 +106,7 @@ impl Exchanges {
         ensures sound { IsTable self.old }
     {
         let exchange = Exchange {
-            target,
+            key,
             form,
             since: now,
             state: ExchangeState::Queued,

@@ -15,7 +15,6 @@ use Rattle.coap_exchange.specs.declared.waiter.Waiter.{Waiter}
 use Rattle.coap_exchange.specs.Table.{Numbered, IsRising}
 use Rattle.coap_exchange.specs.Exchanges.{is_queued}
 use Rattle.coap_exchange.specs.Due.{Item, sending, serving, due_of, exchange_items, answer_at, answer_in, with_item, waiter_items, earlier, least}
-use Rattle.coap_model.specs.Forms.{request_key}
 use Rattle.coap_model.specs.declared.report.Outcome.TheVariants.{Answered}
 use Rattle.coap_model.specs.declared.report.Storing.TheVariants.{NotStored}
 use Rattle.coap_model.specs.Setting.{Setting}
@@ -192,12 +191,12 @@ queued-unsent setting history x t (Done a) state e = absurd cc
 
 -- an item of the tables is due by the history
 item-due : (w : World) (history : List Deed) (c : Bears history w) (i : Item) → IsDueOf (IsExchangeOf w.setting history) (IsWaiterOf w.setting history) w.exchanges i → IsDueAt w.setting history (act_of i) (due_of i)
-item-due w history c (sending x) d = let f = d.0 in let o = f.opened in record { opening = o.opening; was_opened = o.was_opened; opens = o.opens; unsent = queued-unsent w.setting history x.0 (request_key x.1.target o.request) x.1.state f.state d.1; at_is = f.since }
+item-due w history c (sending x) d = let f = d.0 in let o = f.opened in record { opening = o.opening; was_opened = o.was_opened; opens = o.opens; unsent = queued-unsent w.setting history x.0 x.1.key x.1.state f.state d.1; at_is = f.since }
 item-due w history c (serving v a) d =
     let g = d.0 in
     let found = answer-holds (IsExchangeOf w.setting history) w.exchanges v.1.exchange a c.exchanges d.1 in
     let x = found.0 in
-    let state = subst (IsState w.setting history x.0 (request_key x.1.target found.1.opened.request)) found.3 found.1.state in
+    let state = subst (IsState w.setting history x.0 x.1.key) found.3 found.1.state in
     record {
       admission = g.opened.opening;
       was_admitted = g.opened.was_opened;
@@ -272,7 +271,7 @@ send-item w history c x at d = ⊎_elim in_table was_served (c.whole.complete x 
         let f = at-number (IsExchangeOf w.setting history) (λ y. Has y w.exchanges) x w.exchanges there c.exchanges (Has-all w.exchanges) in
         let y = f.0 in
         let unsent = subst (λ (n : ℕ). Never (Sends w.setting.salt n) history) f.1 d.unsent in
-        let queued = unsent-queued w.setting history y.0 (request_key y.1.target f.2.opened.request) y.1.state f.2.state unsent in
+        let queued = unsent-queued w.setting history y.0 y.1.key y.1.state f.2.state unsent in
         let o = f.2.opened in
         let place = Opens-unique history o.opening d.opening x o.was_opened d.was_opened (subst (λ (n : ℕ). Opens n o.opening) (sym f.1) o.opens) d.opens in
         record { item = sending y; there = Has-left (sending y) (exchange_items w.exchanges) (waiter_items w.exchanges w.waiters) (sending-there y w.exchanges f.3 queued); act = ap moves (sym f.1); due = f.2.since ∙ ap (λ (p : Place). p.deed.entry.now) place ∙ sym d.at_is }
@@ -325,7 +324,7 @@ serve-item w history c v at d = ⊎_elim in_table was_served (c.whole.complete v
         let f = at-number (IsExchangeOf w.setting history) (λ y. answer_in y.0 w.exchanges ≡ answer_at y.1.state) v w.exchanges there c.exchanges (answers-own 0 w.exchanges c.whole.rising) in
         let y = f.0 in
         let g = at-number (IsWaiterOf w.setting history) (λ u. Has u w.waiters) v w.waiters (HasNumber-paired v w.exchanges w.waiters c.whole.paired there) c.waiters (Has-all w.waiters) in
-        with_answer g.0 g.1 g.2 g.3 (request_key y.1.target f.2.opened.request) y.1.state (subst (λ (n : ℕ). IsState w.setting history n (request_key y.1.target f.2.opened.request) y.1.state) (sym f.1) f.2.state) (ap (λ (n : ℕ). answer_in n w.exchanges) f.1 ∙ f.3)
+        with_answer g.0 g.1 g.2 g.3 y.1.key y.1.state (subst (λ (n : ℕ). IsState w.setting history n y.1.key y.1.state) (sym f.1) f.2.state) (ap (λ (n : ℕ). answer_in n w.exchanges) f.1 ∙ f.3)
 
 -- whatever is due by the history is an item
 item-of : (w : World) (history : List Deed) (c : Bears history w) (a : Act) (at : ℕ) → IsDueAt w.setting history a at → IsItem (items_of w) a at

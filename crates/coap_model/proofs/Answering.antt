@@ -22,7 +22,6 @@ use Rattle.coap_exchange.proofs.States.{moved-cases, length-with_state, IsRising
 use Rattle.coap_model.specs.Events.{arrival}
 use Rattle.coap_message.specs.Codes.{is_response}
 use Rattle.coap_model.specs.Messages.{is_ack, token_of}
-use Rattle.coap_model.specs.Forms.{request_key}
 use Rattle.coap_model.specs.Answers.{answer_of}
 use Rattle.coap_model.specs.World.{World}
 use Rattle.coap_model.specs.Step.{message_in}
@@ -58,9 +57,9 @@ record IsAwaited (w : World) (history : List Deed) (source : Endpoint) (m : Mess
   pub there : Has x w.exchanges
   pub sending : Sending
   pub state_is : x.1.state ≡ Sent sending
-  pub was : WasAsked w.setting history x.0 (request_key x.1.target exchange.opened.request) sending.id sending.asked
+  pub was : WasAsked w.setting history x.0 x.1.key sending.id sending.asked
   pub ungot : Never (Gets w.setting x.0) history
-  pub source_is : x.1.target.at ≡ source
+  pub source_is : x.1.key.target.at ≡ source
   pub id_is : sending.id ≡ m.id
   pub token_is : m.token ≡ token_of w.setting.salt x.0
 
@@ -68,12 +67,12 @@ record IsAwaited (w : World) (history : List Deed) (source : Endpoint) (m : Mess
 awaited : (w : World) (history : List Deed) → Bears history w → (source : Endpoint) (m : Message) (x : Numbered Exchange) → awaiting w source m ≡ Some x → IsAwaited w history source m x
 awaited w history c source m x found =
     let f = find-holds (λ y. IsExchangeOf w.setting history y × Has y w.exchanges) (awaits w.setting.salt source m) w.exchanges x (All-there (IsExchangeOf w.setting history) w.exchanges c.exchanges) found in
-    let parts = and_parts (has_id m.id x.1.state) (same_endpoint x.1.target.at source && same_bytes (token_of w.setting.salt x.0) m.token) f.1 in
-    let more = and_parts (same_endpoint x.1.target.at source) (same_bytes (token_of w.setting.salt x.0) m.token) parts.1 in
+    let parts = and_parts (has_id m.id x.1.state) (same_endpoint x.1.key.target.at source && same_bytes (token_of w.setting.salt x.0) m.token) f.1 in
+    let more = and_parts (same_endpoint x.1.key.target.at source) (same_bytes (token_of w.setting.salt x.0) m.token) parts.1 in
     let sent = sent_with m.id x.1.state parts.0 in
-    let key = request_key x.1.target f.0.0.opened.request in
+    let key = x.1.key in
     let state : IsState w.setting history x.0 key (Sent sent.0) = subst (IsState w.setting history x.0 key) sent.1 f.0.0.state in
-    record { exchange = f.0.0; there = f.0.1; sending = sent.0; state_is = sent.1; was = state.0; ungot = state.1; source_is = Tells-endpoint.only x.1.target.at source more.0; id_is = sent.2; token_is = sym (same_text _ _ (sym more.1)) }
+    record { exchange = f.0.0; there = f.0.1; sending = sent.0; state_is = sent.1; was = state.0; ungot = state.1; source_is = Tells-endpoint.only x.1.key.target.at source more.0; id_is = sent.2; token_is = sym (same_text _ _ (sym more.1)) }
 
 -- ---- the rule
 
@@ -119,7 +118,7 @@ keeps_answering w history c now draw source bytes m x onward fits read response 
           (λ y g.
           moved-cases (IsExchangeOf w.setting (e ∷ history)) x.0 next y
           (λ same. exchange_moved w.setting history e y next g (
-          subst (λ (n : ℕ). IsState w.setting (e ∷ history) n (request_key y.1.target g.opened.request) next) (sym same) (
+          subst (λ (n : ℕ). IsState w.setting (e ∷ history) n y.1.key next) (sym same) (
           record { getting = p; was_got = inl refl; gets = gets; asked_key = a.was.asked_key ∙ same_key w history x y f g (sym same); answer_is = refl }
           )
           ))

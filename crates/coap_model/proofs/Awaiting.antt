@@ -20,7 +20,6 @@ use Rattle.coap_model.specs.Setting.{Setting}
 use Rattle.coap_model.specs.Events.{Event, arrival}
 use Rattle.coap_message.specs.Codes.{is_response}
 use Rattle.coap_model.specs.Messages.{is_ack, token_of}
-use Rattle.coap_model.specs.Forms.{request_key}
 use Rattle.coap_model.specs.World.{World}
 use Rattle.coap_model.specs.Responses.{has_id, awaits, awaiting}
 use Rattle.coap_model.specs.History.{Deed, Place, IsPlaceOf, Somewhere, opened_in, Opens, Sends, Meets, Gets, Serves}
@@ -101,11 +100,11 @@ not-ignored w history c x source bytes a none = ⊎_elim in_table was_served (c.
         let salt = w.setting.salt in
         let f = at-number (IsExchangeOf w.setting history) (λ y. awaits salt source m.response y ≡ false) x w.exchanges there c.exchanges (none-found (awaits salt source m.response) w.exchanges unfound) in
         let y = f.0 in
-        let key = request_key y.1.target f.2.opened.request in
+        let key = y.1.key in
         let state = subst (λ (n : ℕ). IsState w.setting history n key y.1.state) (sym f.1) f.2.state in
         let test = passes w.setting history x (arrival source bytes) a key y.1.state state in
         let token : token_of salt y.0 ≡ m.response.token = ap (token_of salt) (sym f.1) ∙ sym m.matches.same_token in
-        let right = and_from (same_endpoint y.1.target.at source) (same_bytes (token_of salt y.0) m.response.token) ((Tells-both same_endpoint Tells-endpoint y.1.target.at source).1 (test.1 ∙ sym came.0)) (rw token (nat_list_eq_equiv.refl m.response.token)) in
-        let found = and_from (has_id m.response.id y.1.state) (same_endpoint y.1.target.at source && same_bytes (token_of salt y.0) m.response.token) test.0 right in
+        let right = and_from (same_endpoint y.1.key.target.at source) (same_bytes (token_of salt y.0) m.response.token) ((Tells-both same_endpoint Tells-endpoint y.1.key.target.at source).1 (test.1 ∙ sym came.0)) (rw token (nat_list_eq_equiv.refl m.response.token)) in
+        let found = and_from (has_id m.response.id y.1.state) (same_endpoint y.1.key.target.at source && same_bytes (token_of salt y.0) m.response.token) test.0 right in
         let both : true ≡ false = sym found ∙ f.3 in
         cc

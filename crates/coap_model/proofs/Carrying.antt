@@ -24,10 +24,10 @@ pub record IsKept (history : List Deed) (e : Entry) (w : World) : Type 0 where
 
 -- each case of a step keeps what is carried
 keeps_rule : {w : World} {now draw : ℕ} {event : Event} {s : Step} (history : List Deed) → Bears history w → w.last ≤ now → Rule w now draw event s → IsKept history (entry_of now draw event s) s.world
-keeps_rule {w = w} {now = now} {draw = draw} history c onward (refusing client bytes m code fits asked verdict free) = record { act = no_item; bears = keeps_refusing w history c now draw client bytes m code onward fits asked verdict free }
-keeps_rule {w = w} {now = now} {draw = draw} history c onward (lacking client bytes m fits asked full free) = record { act = no_item; bears = keeps_lacking w history c now draw client bytes m onward fits asked full free }
-keeps_rule {w = w} {now = now} {draw = draw} history c onward (overloading client bytes m t fits asked verdict full free) = record { act = no_item; bears = keeps_overloading w history c now draw client bytes m t onward fits asked verdict full free }
-keeps_rule {w = w} {now = now} {draw = draw} history c onward (opening client bytes m t fits asked verdict room) = record { act = admits (opened_in history + 1) (opened_in history + 1); bears = keeps_opening w history c now draw client bytes m t onward fits asked verdict room }
+keeps_rule {w = w} {now = now} {draw = draw} history c onward (refusing client bytes m code fits asked deserved free) = record { act = no_item; bears = keeps_refusing w history c now draw client bytes m code onward fits asked deserved free }
+keeps_rule {w = w} {now = now} {draw = draw} history c onward (lacking client bytes m fits asked free) = record { act = no_item; bears = keeps_lacking w history c now draw client bytes m onward fits asked free }
+keeps_rule {w = w} {now = now} {draw = draw} history c onward (overloading client bytes m key fits asked verdict short full free) = record { act = no_item; bears = keeps_overloading w history c now draw client bytes m key onward fits asked verdict short full free }
+keeps_rule {w = w} {now = now} {draw = draw} history c onward (opening client bytes m key fits asked verdict short room) = record { act = admits (opened_in history + 1) (opened_in history + 1); bears = keeps_opening w history c now draw client bytes m key onward fits asked verdict short room }
 keeps_rule {w = w} {now = now} {draw = draw} history c onward (answering source bytes m x fits read response found) = record { act = moves x.0; bears = keeps_answering w history c now draw source bytes m x onward fits read response found }
 keeps_rule {w = w} {now = now} {draw = draw} history c onward (rejecting source bytes head is con) = record { act = no_item; bears = keeps_rejecting w history c now draw source bytes head onward is con }
 keeps_rule {w = w} {now = now} {draw = draw} history c onward (ignoring source bytes none) = record { act = no_item; bears = keeps_ignoring w history c now draw source bytes onward none }

@@ -6,7 +6,7 @@ use Rattle.std.proofs.lemmas.Bool.{eqb-true, eqb-false, eq-eqb}
 use Rattle.coap_message.specs.Spelling.{IsMessage, Spells, spelling}
 use Rattle.coap_message.proofs.Spellings.{spelled}
 use Rattle.coap_target.specs.declared.target.Target.{Target}
-use Rattle.coap_message.specs.Message.{Message}
+use Rattle.coap_cache.specs.declared.key.CacheKey.{CacheKey}
 use Rattle.coap_routes.specs.Request.{request_target}
 use Rattle.coap_target.proofs.Lists.{All-weaken}
 use Rattle.coap_exchange.specs.declared.exchange.Answer.{Answer}
@@ -32,7 +32,7 @@ use Rattle.coap_model.specs.Carries.{WasGot, IsState, IsExchangeOf, IsWaiterOf, 
 use Rattle.coap_model.proofs.Lists.{All-filter, Has, All-there}
 use Rattle.coap_model.proofs.Places.{in-order, here, doing, same_serves, Never-at, one-opened}
 use Rattle.coap_model.proofs.Showing.{shown-is}
-use Rattle.coap_model.proofs.Verdicts.{openable}
+use Rattle.coap_model.proofs.Verdicts.{askable}
 use Rattle.coap_model.proofs.Tables.{due-serving, answer-holds, answer-number, ArePaired-without, length-paired, length-without, HasNumber-without, HasNumber-paired, count-without, not_awaited}
 use Rattle.coap_model.proofs.Frames.{clock_frame, numbers_frame, exchange_frame, waiter_frame, fresh_frame, later_served, sends-not, gets-not}
 use Rattle.coap_model.proofs.Acting.{acting}
@@ -59,8 +59,8 @@ served w history c now v a due =
     let x = found.0 in
     let f = found.1.0 in
     let same : x.0 ≡ v.0 = found.2 in
-    let key = request_key x.1.target f.opened.request in
-    let may = openable w.setting.routes w.setting.limits.datagram f.opened.request c.routes x.1.target f.verdict in
+    let key = x.1.key in
+    let may = askable w.setting.routes f.opened.request c.routes x.1.key f.verdict in
     let state : WasGot w.setting history x.0 key a = subst (IsState w.setting history x.0 key) found.3 f.state in
     let request = (one-opened same f.opened g.opened).2 in
     record {
@@ -69,9 +69,9 @@ served w history c now v a due =
       counted = λ t.
           subst (λ (s : ExchangeState). count_where t (without v.0 w.exchanges) + one_if (t s) ≡ count_where t w.exchanges) found.3
           (subst (λ (n : ℕ). count_where t (without n w.exchanges) + one_if (t x.1.state) ≡ count_where t w.exchanges) same (count-without t x 0 w.exchanges c.whole.rising found.1.1));
-      target = x.1.target;
+      target = x.1.key.target;
       target_is = sym (ap (request_target w.setting.routes) request) ∙ may.target_is;
-      got = subst (λ (n : ℕ). WasGot w.setting history n (request_key x.1.target g.opened.request) a) same (subst (λ (m : Message). WasGot w.setting history x.0 (request_key x.1.target m) a) request state);
+      got = subst (λ (n : ℕ). WasGot w.setting history n (request_key x.1.key.target g.opened.request) a) same (subst (λ (k : CacheKey). WasGot w.setting history x.0 k a) (may.key_is ∙ ap (request_key x.1.key.target) request) state);
     }
 
 -- ---- what is told

@@ -56,10 +56,10 @@ length-with_id id (a ∷ b ∷ c ∷ d ∷ rest) = refl
 
 -- in each case of a step its datagram fits
 rule_fits : {w : World} {now draw : ℕ} {event : Event} {s : Step} (history : List Deed) → Bears history w → AreLimits w.setting.limits → Rule w now draw event s → length s.bytes ≤ w.setting.limits.datagram
-rule_fits {w = w} history c are (refusing client bytes m code fit asked verdict free) = let came = request-came w client bytes m fit asked in omega (arith, (are Datagram).0, own-short code (next_id w) m.token came.brings.spells.message.token)
-rule_fits {w = w} history c are (lacking client bytes m fit asked full free) = omega arith
-rule_fits {w = w} history c are (overloading client bytes m t fit asked verdict full free) = let came = request-came w client bytes m fit asked in omega (arith, (are Datagram).0, busy-short w.setting.limits.retry_s (next_id w) m.token came.brings.spells.message.token)
-rule_fits {w = w} history c are (opening client bytes m t fit asked verdict room) = omega arith
+rule_fits {w = w} history c are (refusing client bytes m code fit asked deserved free) = let came = request-came w client bytes m fit asked in omega (arith, (are Datagram).0, own-short code (next_id w) m.token came.brings.spells.message.token)
+rule_fits {w = w} history c are (lacking client bytes m fit asked free) = omega arith
+rule_fits {w = w} history c are (overloading client bytes m key fit asked verdict short full free) = let came = request-came w client bytes m fit asked in omega (arith, (are Datagram).0, busy-short w.setting.limits.retry_s (next_id w) m.token came.brings.spells.message.token)
+rule_fits {w = w} history c are (opening client bytes m key fit asked verdict short room) = omega arith
 rule_fits {w = w} history c are (answering source bytes m x fit read response found) = omega arith
 rule_fits {w = w} history c are (rejecting source bytes head is con) = omega (arith, (are Datagram).0, reset-short head.id)
 rule_fits {w = w} history c are (ignoring source bytes none) = omega arith

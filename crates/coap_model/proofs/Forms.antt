@@ -42,7 +42,7 @@ all-any test number (n ∷ ns) all any =
     go false e first rest any' = rest any'
 
 -- an option that goes on is part of the key
-abbrev in_key : Code → Opt → Bool
+abbrev pub in_key : Code → Opt → Bool
 in_key code o = goes_on code o && not (is_no_cache_key o.number)
 
 -- in its place an option that is used up is recognised
@@ -137,6 +137,10 @@ key-clean : (m : Message) → AreClean m.options → key_of m ≡ filter (in_key
 key-clean m are =
     picked (is_key m.code) (in_key m.code) (places m.options) (All-weaken IsClean (λ p. is_key m.code p ≡ in_key m.code p.option) (places m.options) (λ p is. ap (λ (b : Bool). b && not (is_no_cache_key p.option.number)) (goes-on m.code p is)) are)
     ∙ ap (filter (in_key m.code)) (of-places [] m.options)
+
+-- the key of a request that was screened
+pub key-screened : (m : Message) → first_refused Request m.options ≡ None → key_of m ≡ filter (in_key m.code) m.options
+key-screened m screened = key-clean m (screened-clean m.options screened)
 
 -- what is sent on of a request that was screened
 pub sent-screened : (m : Message) → first_refused Request m.options ≡ None → sent_on m ≡ filter (goes_on m.code) m.options
@@ -423,7 +427,7 @@ key-forwarded token t m id screened get =
     let options : sent.options ≡ sent_on m = filter-merged (λ o. not (says_target o.number)) (target_options t) (sent_on m) (All-weaken (λ o. says_target o.number ≡ true) (λ o. not (says_target o.number) ≡ false) (target_options t) (λ o says. ap not says) (all-say t)) ∙ unused-beside (sent_on m) none in
     let unused : AreUnused sent.options = subst AreUnused (sym options) none in
     let of_sent : key_of sent ≡ filter (in_key GET) sent.options = key-clean sent (unused-clean sent.options unused) in
-    let of_all : key_of m ≡ filter (in_key m.code) m.options = key-clean m (screened-clean m.options screened) in
+    let of_all : key_of m ≡ filter (in_key m.code) m.options = key-screened m screened in
     let same : filter (in_key GET) (sent_on m) ≡ filter (in_key m.code) m.options =
     subst (λ (c : Code). filter (in_key c) (sent_on m) ≡ filter (in_key m.code) m.options) get (ap (filter (in_key m.code)) (sent-screened m screened) ∙ key-of-sent m.code m.options)
     in

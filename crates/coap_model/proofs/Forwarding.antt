@@ -3,7 +3,6 @@ use Rattle.std.proofs.Common.{◌≡◌, inl, inr, ⊎_elim, ℕ, ◌≤◌, tru
 use Rattle.coap_message.specs.Spelling.{Spells, spelling}
 use Rattle.coap_message.proofs.Spellings.{spelled}
 use Rattle.coap_option.specs.Selection.{sent_on}
-use Rattle.coap_target.specs.declared.target.Target.{Target}
 use Rattle.coap_cache.specs.declared.key.CacheKey.{CacheKey}
 use Rattle.coap_exchange.specs.declared.exchange.ExchangeState.{ExchangeState}
 use Rattle.coap_exchange.specs.declared.exchange.ExchangeState.TheVariants.{Queued, Sent, Done}
@@ -14,8 +13,8 @@ use Rattle.coap_exchange.proofs.Counts.{one_if}
 use Rattle.coap_exchange.proofs.States.{moved-cases, length-with_state, IsRising-with_state}
 use Rattle.coap_model.specs.Events.{tick}
 use Rattle.coap_model.specs.Messages.{token_of}
-use Rattle.coap_model.specs.Forms.{forwarded, request_key}
-use Rattle.coap_model.specs.Verdicts.{may_open}
+use Rattle.coap_model.specs.Forms.{forwarded}
+use Rattle.coap_model.specs.Verdicts.{may_ask}
 use Rattle.coap_model.specs.World.{World, next_id}
 use Rattle.coap_exchange.specs.Due.{sending, least}
 use Rattle.coap_model.specs.Ticks.{items_of, if_due, with_id, sends}
@@ -27,7 +26,7 @@ use Rattle.coap_model.proofs.Lists.{All-map, Has, All-there}
 use Rattle.coap_model.proofs.Places.{here, doing, same_moves, opened-number, one-opened}
 use Rattle.coap_model.proofs.Forms.{forwarded-is, with_id-forwarded, key-forwarded}
 use Rattle.coap_model.proofs.Spelled.{length-token_of}
-use Rattle.coap_model.proofs.Verdicts.{openable}
+use Rattle.coap_model.proofs.Verdicts.{askable}
 use Rattle.coap_model.proofs.Tables.{due-sending, ArePaired-with_state, HasNumber-with_state, count-moved}
 use Rattle.coap_model.proofs.Frames.{clock_frame, numbers_frame, exchange_moved, exchange_frame, waiters_frame, fresh_frame, later_served, gets-not, serves-not}
 use Rattle.coap_model.proofs.Acting.{acting}
@@ -39,17 +38,16 @@ queued_state Queued e = refl
 queued_state (Sent s) e = absurd cc
 queued_state (Done a) e = absurd cc
 
--- what may be opened is for one target
-one_target : {a b : Target} → may_open a ≡ may_open b → a ≡ b
-one_target e = cc
+-- what may be asked for has one key
+one_key : {a b : CacheKey} → may_ask a ≡ may_ask b → a ≡ b
+one_key e = cc
 
 -- exchanges of one number have one key
 pub same_key : (w : World) (history : List Deed) (x y : Numbered Exchange) → (f : IsExchangeOf w.setting history x) (g : IsExchangeOf w.setting history y) → x.0 ≡ y.0
-    → request_key x.1.target f.opened.request ≡ request_key y.1.target g.opened.request
+    → x.1.key ≡ y.1.key
 same_key w history x y f g same =
     let request = (one-opened same f.opened g.opened).2 in
-    let target = one_target (sym f.verdict ∙ ap (verdict_on w.setting) request ∙ g.verdict) in
-    rw (target, request) refl
+    one_key (sym f.verdict ∙ ap (verdict_on w.setting) request ∙ g.verdict)
 
 -- sending a request on keeps what is carried
 pub keeps_forwarding : (w : World) (history : List Deed) (c : Bears history w) → (now draw : ℕ) (x : Numbered Exchange) → w.last ≤ now → if_due now (least (items_of w)) ≡ Some (sending x)
@@ -64,19 +62,19 @@ keeps_forwarding w history c now draw x onward due =
     let there = found.0.1 in
     let queued = queued_state x.1.state found.1 in
     let asked = f.opened.request in
-    let key = request_key x.1.target asked in
-    let may = openable w.setting.routes w.setting.limits.datagram asked c.routes x.1.target f.verdict in
+    let key = x.1.key in
+    let may = askable w.setting.routes asked c.routes x.1.key f.verdict in
     let state : IsState w.setting history x.0 key Queued = subst (IsState w.setting history x.0 key) queued f.state in
-    let request = forwarded (token_of salt x.0) x.1.target (sent_on asked) id in
-    let is = forwarded-is (token_of salt x.0) x.1.target asked id may.sound f.opened.asked.brings.spells.message.options may.screened (omega (arith, length-token_of salt x.0)) in
-    let bytes_are : e.entry.bytes ≡ spelling request = ap (with_id id) f.form_is ∙ with_id-forwarded id (token_of salt x.0) x.1.target (sent_on asked) in
+    let request = forwarded (token_of salt x.0) x.1.key.target (sent_on asked) id in
+    let is = forwarded-is (token_of salt x.0) x.1.key.target asked id may.sound f.opened.asked.brings.spells.message.options may.screened (omega (arith, length-token_of salt x.0)) in
+    let bytes_are : e.entry.bytes ≡ spelling request = ap (with_id id) f.form_is ∙ with_id-forwarded id (token_of salt x.0) x.1.key.target (sent_on asked) in
     let spells : Spells e.entry.bytes request = subst (λ (b : List ℕ). Spells b request) (sym bytes_are) (spelled request is) in
     let ungot : (n : ℕ) → Gets w.setting n p → ⊥ = gets-not w.setting history e (λ o. cc) in
     let number : (n : ℕ) → Sends salt n p → n ≡ x.0 = λ n s. same_moves n x.0 (sym s.act) in
     let next : ExchangeState = Sent (record { asked = w.events; id = id }) in
     let fewer_queued = count-moved is_queued x 0 next w.exchanges c.whole.rising there in
     let was_queued : one_if (is_queued x.1.state) ≡ 1 = ap one_if found.1 in
-    let first_is : Sends salt x.0 p = record { act = refl; outcome = refl; to = x.1.target.at; sent = refl; message = request; spells = spells; token = refl } in
+    let first_is : Sends salt x.0 p = record { act = refl; outcome = refl; to = x.1.key.target.at; sent = refl; message = request; spells = spells; token = refl } in
     record {
       routes = c.routes;
       clock = clock_frame c.clock onward refl refl;
@@ -88,12 +86,12 @@ keeps_forwarding w history c now draw x onward due =
           (λ y g.
           moved-cases (IsExchangeOf w.setting (e ∷ history)) x.0 next y
           (λ same. exchange_moved w.setting history e y next g (
-          subst (λ (n : ℕ). IsState w.setting (e ∷ history) n (request_key y.1.target g.opened.request) next) (sym same) (
+          subst (λ (n : ℕ). IsState w.setting (e ∷ history) n y.1.key next) (sym same) (
             record {
               asking = p;
               was_asked = inl refl;
               asks = record { sends = first_is; first = state.0 };
-              asked_key = key-forwarded (token_of salt x.0) x.1.target asked id may.screened may.get ∙ same_key w history x y f g (sym same);
+              asked_key = key-forwarded (token_of salt x.0) x.1.key.target asked id may.screened may.get ∙ sym may.key_is ∙ same_key w history x y f g (sym same);
               to = ap (λ (k : CacheKey). k.target.at) (same_key w history x y f g (sym same));
               id_is = refl;
               number = c.clock.events;
@@ -117,7 +115,7 @@ keeps_forwarding w history c now draw x onward due =
           exchange = x.0;
           act = refl;
           opened = f.opened;
-          target = x.1.target;
+          target = x.1.key.target;
           id = id;
           target_is = may.target_is;
           first = state.0;

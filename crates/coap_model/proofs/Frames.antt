@@ -14,7 +14,6 @@ use Rattle.coap_model.specs.declared.report.Storing.TheVariants.{NotStored}
 use Rattle.coap_model.specs.Setting.{Setting}
 use Rattle.coap_model.specs.World.{World}
 use Rattle.coap_model.specs.History.{Deed, Somewhere, opens_one, serves_one, gives_id, opened_in, served_in, ids_in, Sends, Gets, Serves}
-use Rattle.coap_model.specs.Forms.{request_key}
 use Rattle.coap_model.specs.Carries.{Clock, Numbers, IsState, IsExchangeOf, IsWaiterOf, HasNumber, IsFresh, Bears}
 use Rattle.coap_model.proofs.Places.{here, opened-later}
 use Rattle.coap_model.proofs.Tables.{length-paired}
@@ -37,14 +36,14 @@ state_frame setting history e x key (Done answer) unsent ungot s =
     record { getting = s.getting; was_got = inr s.was_got; gets = s.gets; asked_key = s.asked_key; answer_is = s.answer_is }
 
 -- an exchange comes to another state, which is how far the history brought it
-pub exchange_moved : (setting : Setting) (history : List Deed) (e : Deed) (x : Numbered Exchange) (next : ExchangeState) (f : IsExchangeOf setting history x) → IsState setting (e ∷ history) x.0 (request_key x.1.target f.opened.request) next → IsExchangeOf setting (e ∷ history) (x.0, record { target = x.1.target; form = x.1.form; since = x.1.since; state = next })
+pub exchange_moved : (setting : Setting) (history : List Deed) (e : Deed) (x : Numbered Exchange) (next : ExchangeState) (f : IsExchangeOf setting history x) → IsState setting (e ∷ history) x.0 x.1.key next → IsExchangeOf setting (e ∷ history) (x.0, record { key = x.1.key; form = x.1.form; since = x.1.since; state = next })
 exchange_moved setting history e x next f state =
     record { opened = opened-later e f.opened; since = f.since; verdict = f.verdict; form_is = f.form_is; form_short = f.form_short; state = state }
 
 -- an exchange stays for which nothing is sent or got
 pub exchange_frame : (setting : Setting) (history : List Deed) (e : Deed) (x : Numbered Exchange) → ¬ Sends setting.salt x.0 (here history e) → ¬ Gets setting x.0 (here history e) → IsExchangeOf setting history x → IsExchangeOf setting (e ∷ history) x
 exchange_frame setting history e x unsent ungot f =
-    exchange_moved setting history e x x.1.state f (state_frame setting history e x.0 (request_key x.1.target f.opened.request) x.1.state unsent ungot f.state)
+    exchange_moved setting history e x x.1.state f (state_frame setting history e x.0 x.1.key x.1.state unsent ungot f.state)
 
 -- all exchanges stay where nothing is sent or got
 pub exchanges_frame : (setting : Setting) (history : List Deed) (e : Deed) (xs : List (Numbered Exchange)) → ((x : ℕ) → ¬ Sends setting.salt x (here history e)) → ((x : ℕ) → ¬ Gets setting x (here history e))

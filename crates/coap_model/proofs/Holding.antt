@@ -1,8 +1,8 @@
 -- The bytes that a proxy holds are within its bound.
-use Rattle.std.proofs.Common.{◌≡◌, ℕ, ◌+◌, ◌*◌, ◌≤◌, Bool, true, false, cond, leb, List, [], ◌∷◌, ◌++◌, map, length, Option, Some, None, refl, sym, ap, subst, arith}
+use Rattle.std.proofs.Common.{◌≡◌, ℕ, ◌+◌, ◌*◌, ◌/◌, ◌≤◌, Bool, true, false, cond, leb, ltb, List, [], ◌∷◌, ◌++◌, map, length, Option, Some, None, refl, sym, ap, subst, arith}
 use Rattle.std.specs.Prelude.{◌&&◌, ◌==◌, not, filter}
-use Rattle.std.specs.List.{sum_by}
-use Rattle.std.proofs.lemmas.Bool.{eqb-true, leb-true, and_parts}
+use Rattle.std.specs.List.{AllByRecursion, sum_by}
+use Rattle.std.proofs.lemmas.Bool.{eqb-true, leb-true, ltb-true, and_parts}
 use Rattle.std.proofs.lemmas.Nat.{mul-le}
 use Rattle.std.proofs.lemmas.List.{append-nil}
 use Rattle.std.proofs.lemmas.List.Elements.{All-from_recursion}
@@ -11,10 +11,11 @@ use Rattle.coap_message.specs.declared.code.TheConstants.Code.{VALID}
 use Rattle.coap_message.specs.declared.options.Opt.{Opt}
 use Rattle.coap_message.specs.Message.{Message}
 use Rattle.coap_message.specs.Pieces.{pieces_spelling}
-use Rattle.coap_message.specs.Spelling.{spelling, options_length, payload_length}
+use Rattle.coap_message.specs.Spelling.{spelling, options_spelling, more_length, options_length, payload_length}
 use Rattle.coap_message.proofs.PieceSpellings.{pieces-length}
 use Rattle.coap_message.proofs.Spellings.{options-length, spelled_once, spelling-length}
 use Rattle.coap_target.specs.declared.target.Target.{Target}
+use Rattle.coap_cache.specs.declared.key.CacheKey.{CacheKey}
 use Rattle.coap_target.proofs.Lists.{All-weaken}
 use Rattle.coap_exchange.specs.declared.exchange.Answer.{Answer}
 use Rattle.coap_exchange.specs.declared.exchange.ExchangeState.{ExchangeState}
@@ -29,61 +30,69 @@ use Rattle.coap_option.specs.declared.side.Side.{Side}
 use Rattle.coap_option.specs.declared.side.Side.TheVariants.{Request, Response}
 use Rattle.coap_option.specs.Places.{PlacedOption, places_behind, count_of, is_recognised_at}
 use Rattle.coap_option.specs.Recognition.{is_recognised}
-use Rattle.coap_option.specs.Selection.{sent_on, is_of}
+use Rattle.coap_option.specs.Selection.{sent_on, key_of, is_of}
+use Rattle.coap_option.specs.Screening.{first_refused}
 use Rattle.coap_option.specs.Side.{side_of}
 use Rattle.coap_routes.specs.Routes.{AreRoutes}
-use Rattle.coap_model.specs.Forms.{host_options, target_options, merged, forwarded, request_key, says_target}
+use Rattle.coap_model.specs.Forms.{host_options, target_options, merged, forwarded, says_target}
 use Rattle.coap_model.specs.Answers.{is_screened, without_observe, widest, fits, bad_gateway, is_passed_on, answer_of}
 use Rattle.coap_model.specs.World.{World}
 use Rattle.coap_model.specs.History.{Deed}
 use Rattle.coap_model.specs.Carries.{IsState, IsExchangeOf, IsWaiterOf, Bears}
-use Rattle.coap_target.specs.Target.{IsTarget}
-use Rattle.coap_model.proofs.Forms.{AreUnused, sent-unused, AreOptions-merged, target-options, sent-options, target-kept}
-use Rattle.coap_model.proofs.Verdicts.{IsOpenable, openable}
+use Rattle.coap_target.specs.Target.{IsShort, IsTarget}
+use Rattle.coap_model.proofs.Forms.{AreUnused, in_key, key-screened, sent-unused, AreOptions-merged, target-options, sent-options, target-kept}
+use Rattle.coap_model.proofs.Verdicts.{IsAskable, askable}
 use Rattle.coap_model.proofs.OptionLengths.{filter-length}
 use Rattle.coap_model.proofs.Showing.{within-widest}
-use Rattle.coap_model.specs.Held.{host_bytes, target_bytes, response_bytes, state_bytes, exchange_bytes, waiter_bytes, held, most_held}
+use Rattle.coap_model.specs.Held.{host_bytes, target_bytes, key_bytes, response_bytes, state_bytes, exchange_bytes, waiter_bytes, held, most_held}
 
--- ---- a target is held in hardly more than its form
+-- ---- a target is held in no more than its options
 
--- what `bytes` take is at most a 255th more than `spelled`
-record IsLittleMore (bytes spelled : ℕ) : Type 0 where
-  most : 255 * bytes ≤ 256 * spelled
-
--- pieces take little more than the options of these values
-pieces-short : (before number : ℕ) (values : List (List ℕ)) (os : List Opt) (n : ℕ) → ((low : ℕ) → IsLittleMore n (options_length low os)) → IsLittleMore (length (pieces_spelling values) + n) (options_length before (map (option_of number) values ++ os))
-pieces-short before number [] os n more = record { most = omega (arith, (more before).most) }
-pieces-short before number (v ∷ values) os n more =
-    let rest = (pieces-short number number values os n more).most in
-    let here = pieces-length v values in
-    record { most = omega (arith, rest, here) }
-
--- a target takes little more than the options that say it
-target-short : (before : ℕ) (t : Target) → IsLittleMore (target_bytes t) (options_length before (target_options t))
-unfolding target_options
-target-short before t = go t.host
+-- a short piece takes no more bytes for its length than the option of it
+short-length : (n : ℕ) → n ≤ 255 → n / 255 ≤ more_length n
+short-length n le = go (ltb n 13) refl (ltb n 269) refl
   where
-    none : (low : ℕ) → IsLittleMore 0 (options_length low [])
-    none low = record { most = omega arith }
+    go : (p : Bool) → ltb n 13 ≡ p → (q : Bool) → ltb n 269 ≡ q → n / 255 ≤ cond p 0 (cond q 1 2)
+    go true e q f = omega (arith, ltb-true _ _ e)
+    go false e true f = omega arith
+    go false e false f = omega arith
 
-    query : (low : ℕ) → IsLittleMore (length (pieces_spelling t.query)) (options_length low (map (option_of 15) t.query))
+-- pieces take no more than the options of these values
+pieces-short : (before number : ℕ) (values : List (List ℕ)) (os : List Opt) (n : ℕ) → AllByRecursion IsShort values → ((low : ℕ) → n ≤ options_length low os) → length (pieces_spelling values) + n ≤ options_length before (map (option_of number) values ++ os)
+pieces-short before number [] os n are more = omega (arith, more before)
+pieces-short before number (v ∷ values) os n are more =
+    omega (arith, pieces-short number number values os n are.1 more, pieces-length v values, short-length (length v) are.0)
+
+-- a target takes no more than the options that say it
+target-short : (before : ℕ) (t : Target) → IsTarget t → target_bytes t ≤ options_length before (target_options t)
+unfolding target_options
+target-short before t is = go t.host
+  where
+    query : (low : ℕ) → length (pieces_spelling t.query) ≤ options_length low (map (option_of 15) t.query)
     query low =
-        let spelled = pieces-short low 15 t.query [] 0 none in
-        record { most = omega (arith, spelled.most, ap (options_length low) (append-nil (map (option_of 15) t.query))) }
+        let spelled = pieces-short low 15 t.query [] 0 is.query (λ _. omega arith) in
+        omega (arith, spelled, ap (options_length low) (append-nil (map (option_of 15) t.query)))
 
-    path : (low : ℕ) → IsLittleMore (length (pieces_spelling t.path) + length (pieces_spelling t.query)) (options_length low (map (option_of 11) t.path ++ map (option_of 15) t.query))
-    path low = pieces-short low 11 t.path (map (option_of 15) t.query) (length (pieces_spelling t.query)) query
+    path : (low : ℕ) → length (pieces_spelling t.path) + length (pieces_spelling t.query) ≤ options_length low (map (option_of 11) t.path ++ map (option_of 15) t.query)
+    path low = pieces-short low 11 t.path (map (option_of 15) t.query) (length (pieces_spelling t.query)) is.path query
 
-    go : (host : Option (List ℕ)) → IsLittleMore (host_bytes host + (length (pieces_spelling t.path) + length (pieces_spelling t.query))) (options_length before (host_options host ++ (map (option_of 11) t.path ++ map (option_of 15) t.query)))
-    go None = record { most = omega (arith, (path before).most) }
-    go (Some h) = record { most = omega (arith, (path 3).most) }
+    go : (host : Option (List ℕ)) → host_bytes host + (length (pieces_spelling t.path) + length (pieces_spelling t.query)) ≤ options_length before (host_options host ++ (map (option_of 11) t.path ++ map (option_of 15) t.query))
+    go None = omega (arith, path before)
+    go (Some h) = omega (arith, path 3)
 
--- and so little more than the form, which says more
-form-holds : (token : List ℕ) (t : Target) (others : List Opt) → IsTarget t → AreOptions 0 others → AreUnused others → IsLittleMore (target_bytes t) (length (spelling (forwarded token t others 0)))
+-- and so no more than the form, which says more
+form-holds : (token : List ℕ) (t : Target) (others : List Opt) → IsTarget t → AreOptions 0 others → AreUnused others → target_bytes t ≤ length (spelling (forwarded token t others 0))
 form-holds token t others is are none =
     let whole : List Opt = merged (target_options t) others in
     let less = filter-length (λ o. says_target o.number) 0 whole (AreOptions-merged 0 (target_options t) others (target-options t is) are) in
-    record { most = omega (arith, spelling-length (forwarded token t others 0), (target-short 0 t).most, less, ap (options_length 0) (target-kept t others is none)) }
+    omega (arith, spelling-length (forwarded token t others 0), target-short 0 t is, less, ap (options_length 0) (target-kept t others is none))
+
+-- ---- the options of a key are held in no more than the request
+
+-- they are some of its options
+key-held : (m : Message) → AreOptions 0 m.options → first_refused Request m.options ≡ None → length (options_spelling 0 (key_of m)) ≤ options_length 0 m.options
+key-held m are screened =
+    omega (arith, ap (λ (os : List Opt). length (options_spelling 0 os)) (key-screened m screened), options-length 0 (filter (in_key m.code) m.options), filter-length (in_key m.code) 0 m.options are)
 
 -- ---- an answer is held in no more than a datagram and a Max-Age
 
@@ -139,20 +148,31 @@ exchange-held setting history routes x f = go x.1.state f.state
     request : Message
     request = f.opened.request
 
-    may : IsOpenable setting.routes setting.limits.datagram request x.1.target
-    may = openable setting.routes setting.limits.datagram request routes x.1.target f.verdict
+    options : AreOptions 0 request.options
+    options = f.opened.asked.brings.spells.message.options
 
-    target : IsLittleMore (target_bytes x.1.target) (length x.1.form)
+    may : IsAskable setting.routes request x.1.key
+    may = askable setting.routes request routes x.1.key f.verdict
+
+    target : target_bytes x.1.key.target ≤ length x.1.form
     target =
-        subst (λ (form : List ℕ). IsLittleMore (target_bytes x.1.target) (length form)) (sym f.form_is)
-        (form-holds _ x.1.target (sent_on request) may.sound (sent-options request f.opened.asked.brings.spells.message.options may.screened) (sent-unused request may.screened))
+        subst (λ (form : List ℕ). target_bytes x.1.key.target ≤ length form) (sym f.form_is)
+        (form-holds _ x.1.key.target (sent_on request) may.sound (sent-options request options may.screened) (sent-unused request may.screened))
 
-    go : (s : ExchangeState) → IsState setting history x.0 (request_key x.1.target request) s → length x.1.form + target_bytes x.1.target + state_bytes s ≤ 4 * setting.limits.datagram + 256
-    go Queued state = omega (arith, target.most, f.form_short)
-    go (Sent s) state = omega (arith, target.most, f.form_short)
+    key : length (options_spelling 0 x.1.key.options) ≤ setting.limits.datagram
+    key =
+        let b = f.opened.asked.brings in
+        let spelled : length b.bytes ≡ length (spelling request) = ap length (spelled_once b.bytes request b.spells) in
+        let less = key-held request options may.screened in
+        let is : length (options_spelling 0 x.1.key.options) ≡ length (options_spelling 0 (key_of request)) = ap (λ (k : CacheKey). length (options_spelling 0 k.options)) may.key_is in
+        omega (arith, is, less, spelled, spelling-length request, b.short)
+
+    go : (s : ExchangeState) → IsState setting history x.0 x.1.key s → length x.1.form + key_bytes x.1.key + state_bytes s ≤ 4 * setting.limits.datagram + 256
+    go Queued state = omega (arith, target, key, f.form_short)
+    go (Sent s) state = omega (arith, target, key, f.form_short)
     go (Done a) state =
         let short = answer-short setting.limits.datagram state.getting.deed.entry.now state.gets.meets.response state.gets.meets.brings.spells.message.options in
-        omega (arith, target.most, f.form_short, subst (λ (b : Answer). response_bytes b.message ≤ setting.limits.datagram) (sym state.answer_is) short)
+        omega (arith, target, key, f.form_short, subst (λ (b : Answer). response_bytes b.message ≤ setting.limits.datagram) (sym state.answer_is) short)
 
 -- what a waiter holds is within its part
 waiter-held : (setting : Setting) (history : List Deed) (v : Numbered Waiter) → IsWaiterOf setting history v → waiter_bytes v ≤ setting.limits.datagram + 256

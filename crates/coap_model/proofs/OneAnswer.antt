@@ -211,7 +211,7 @@ one-answer setting past d e all ids f g turn =
         let head = same_Some j.head k.head (sym j.head_is ∙ ap head_at came.1 ∙ k.head_is) in
         record { outcome = is ∙ sym o; act = j.act ∙ sym k.act; say = told-same d.entry e.entry j.source k.source (reset j.head.id) (reset k.head.id) j.tells k.tells came.0 (ap (λ (h : Head). reset h.id) head) }
     by_outcome (Refused code) is j =
-        let o = given_refused e.entry.report.outcome setting past e j.client j.request code g.justified (same_request j.client j.request j.asked) j.verdict j.ids in
+        let o = given_refused e.entry.report.outcome setting past e j.client j.request code g.justified (same_request j.client j.request j.asked) j.deserved j.ids in
         let k = holds (Refused code) o in
         let one = request-unique setting e.entry.event j.client k.client j.request k.request (same_request j.client j.request j.asked) k.asked in
         let token : j.request.token ≡ k.request.token = ap (λ (m : Message). m.token) one.1 in
@@ -220,7 +220,7 @@ one-answer setting past d e all ids f g turn =
         let same = own_reply-same code j.id k.id j.request.token k.request.token (id ∙ sym other) token in
         record { outcome = is ∙ sym o; act = j.act ∙ sym k.act; say = told-same d.entry e.entry j.client k.client _ _ j.tells k.tells one.0 same }
     by_outcome Overloaded is j =
-        let o = given_overloaded e.entry.report.outcome setting past e j.client j.request j.target g.justified (same_request j.client j.request j.asked) j.verdict j.no_room j.ids in
+        let o = given_overloaded e.entry.report.outcome setting past e j.client j.request j.key g.justified (same_request j.client j.request j.asked) j.verdict j.fits j.no_room j.ids in
         let k = holds Overloaded o in
         let one = request-unique setting e.entry.event j.client k.client j.request k.request (same_request j.client j.request j.asked) k.asked in
         let token : j.request.token ≡ k.request.token = ap (λ (m : Message). m.token) one.1 in
@@ -234,7 +234,7 @@ one-answer setting past d e all ids f g turn =
         let k = holds NoId o in
         record { outcome = is ∙ sym o; act = j.act ∙ sym k.act; say = silent-same d.entry e.entry j.silent k.silent }
     by_outcome Opened is j =
-        let o = given_opened e.entry.report.outcome setting past e j.client j.request j.target g.justified (same_request j.client j.request j.asked) j.verdict j.room in
+        let o = given_opened e.entry.report.outcome setting past e j.client j.request j.key g.justified (same_request j.client j.request j.asked) j.verdict j.fits j.room in
         let k = holds Opened o in
         record { outcome = is ∙ sym o; act = j.act ∙ sym k.act; say = silent-same d.entry e.entry j.silent k.silent }
     by_outcome (Answered NotStored) is j =

@@ -6,13 +6,13 @@ use Rattle.std.proofs.lemmas.Bool.{leb-true, ltb-true, and_parts, cases_lt}
 use Rattle.coap_message.specs.Uint.{IsBytes}
 use Rattle.coap_message.specs.Message.{Message}
 use Rattle.coap_target.specs.declared.endpoint.Endpoint.{Endpoint}
-use Rattle.coap_target.specs.declared.target.Target.{Target}
+use Rattle.coap_cache.specs.declared.key.CacheKey.{CacheKey}
 use Rattle.coap_target.proofs.Lists.{All-append, All-weaken}
 use Rattle.coap_exchange.proofs.Counts.{count_where-push}
 use Rattle.coap_exchange.proofs.Tables.{IsRising-push}
 use Rattle.coap_model.specs.Setting.{Setting}
 use Rattle.coap_model.specs.Events.{arrival}
-use Rattle.coap_model.specs.Verdicts.{may_open}
+use Rattle.coap_model.specs.Verdicts.{may_ask}
 use Rattle.coap_exchange.specs.Exchanges.{is_queued, count_where}
 use Rattle.coap_model.specs.World.{World, has_ids, has_room}
 use Rattle.coap_model.specs.Requests.{opens, new_exchange, new_waiter, next_token}
@@ -23,8 +23,8 @@ use Rattle.coap_model.specs.Runs.{entry_of}
 use Rattle.coap_model.specs.Carries.{IsExchangeOf, IsWaiterOf, ArePaired, HasNumber, Bears}
 use Rattle.coap_model.proofs.Places.{here, doing, never-from, place-before, justified-at, Opens-number, opened-number}
 use Rattle.coap_model.proofs.Spelled.{length-token_of}
-use Rattle.coap_model.proofs.Verdicts.{openable}
-use Rattle.coap_model.proofs.Rules.{Asked, verdict_in}
+use Rattle.coap_model.proofs.Verdicts.{form-short}
+use Rattle.coap_model.proofs.Rules.{Asked, verdict_in, fits_in}
 use Rattle.coap_model.proofs.Tables.{ArePaired-push, HasNumber-push, HasNumber-last}
 use Rattle.coap_model.proofs.Room.{room-there}
 use Rattle.coap_model.proofs.Frames.{clock_frame, exchanges_frame, waiters_frame, fresh_frame, later_served, sends-not, gets-not, serves-not}
@@ -45,12 +45,11 @@ exchanges-below w history c =
     All-weaken (IsExchangeOf w.setting history) (λ x. x.0 < opened_in history + 1) w.exchanges (λ x f. let i = opened-number f.opened in omega (arith, i.1)) c.exchanges
 
 -- opening an exchange keeps what is carried
-pub keeps_opening : (w : World) (history : List Deed) (c : Bears history w) → (now draw : ℕ) (client : Endpoint) (bytes : List ℕ) (m : Message) (t : Target) → w.last ≤ now → IsBytes bytes → Asked w bytes m → verdict_in w m ≡ may_open t → has_room w ≡ true
-    → Bears (doing (admits (opened_in history + 1) (opened_in history + 1)) (entry_of now draw (arrival client bytes) (opens w now client m t)) ∷ history) (opens w now client m t).world
-keeps_opening w history c now draw client bytes m t onward fits asks verdict room =
-    let e = doing (admits (opened_in history + 1) (opened_in history + 1)) (entry_of now draw (arrival client bytes) (opens w now client m t)) in
+pub keeps_opening : (w : World) (history : List Deed) (c : Bears history w) → (now draw : ℕ) (client : Endpoint) (bytes : List ℕ) (m : Message) (key : CacheKey) → w.last ≤ now → IsBytes bytes → Asked w bytes m → verdict_in w m ≡ may_ask key → fits_in w key m ≡ true → has_room w ≡ true
+    → Bears (doing (admits (opened_in history + 1) (opened_in history + 1)) (entry_of now draw (arrival client bytes) (opens w now client m key)) ∷ history) (opens w now client m key).world
+keeps_opening w history c now draw client bytes m key onward fits asks verdict short room =
+    let e = doing (admits (opened_in history + 1) (opened_in history + 1)) (entry_of now draw (arrival client bytes) (opens w now client m key)) in
     let came = request-came w client bytes m fits asks in
-    let may = openable w.setting.routes w.setting.limits.datagram m c.routes t verdict in
     let number : w.opened + 1 ≡ opened_in history + 1 = let h = c.numbers.opened in omega arith in
     let same : w.admitted + 1 ≡ w.opened + 1 = let h = c.numbers.opened in let k = c.numbers.admitted in omega arith in
     let new = c.fresh (w.opened + 1) (omega arith) in
@@ -62,9 +61,9 @@ keeps_opening w history c now draw client bytes m t onward fits asks verdict roo
     let exchange_room = ltb-true (length w.exchanges) w.setting.limits.exchanges parts.0 in
     let waiter_room = ltb-true (length w.waiters) w.setting.limits.waiters more.0 in
     let ids_room = leb-true (w.given + (length w.waiters + count_where is_queued w.exchanges) + 2) 32768 more.1 in
-    let longer_exchanges = length-append w.exchanges (new_exchange w now m t ∷ []) in
+    let longer_exchanges = length-append w.exchanges (new_exchange w now m key ∷ []) in
     let longer_waiters = length-append w.waiters (new_waiter w client m ∷ []) in
-    let more_queued = count_where-push is_queued w.exchanges (new_exchange w now m t) in
+    let more_queued = count_where-push is_queued w.exchanges (new_exchange w now m key) in
     let below : AllByRecursion (λ x. x.0 < w.opened + 1) w.exchanges = subst (λ (n : ℕ). AllByRecursion (λ x. x.0 < n) w.exchanges) (sym number) (exchanges-below w history c) in
     record {
       routes = c.routes;
@@ -73,13 +72,13 @@ keeps_opening w history c now draw client bytes m t onward fits asks verdict roo
       ids = ((λ g. absurd (omega arith)), c.ids);
       fresh = fresh_frame w.setting history e (λ x above. unsent x) (λ x above. ungot x) c.fresh;
       exchanges =
-          All-append (IsExchangeOf w.setting (e ∷ history)) w.exchanges (new_exchange w now m t ∷ []) (exchanges_frame w.setting history e w.exchanges unsent ungot c.exchanges) (
+          All-append (IsExchangeOf w.setting (e ∷ history)) w.exchanges (new_exchange w now m key ∷ []) (exchanges_frame w.setting history e w.exchanges unsent ungot c.exchanges) (
             record {
               opened = record { opening = here history e; client = client; request = m; was_opened = inl refl; opens = (refl, number); asked = came };
               since = refl;
               verdict = verdict;
               form_is = refl;
-              form_short = may.short (next_token w) (length-token_of w.setting.salt (w.opened + 1));
+              form_short = form-short w.setting.limits.datagram key.target m short (next_token w) (length-token_of w.setting.salt (w.opened + 1));
               state = ((unsent (w.opened + 1), new.0), (ungot (w.opened + 1), new.1));
             },
             tt,
@@ -98,16 +97,16 @@ keeps_opening w history c now draw client bytes m t onward fits asks verdict roo
             tt,
           );
       whole = record {
-        rising = IsRising-push 0 (w.opened + 1) w.exchanges (new_exchange w now m t).1 (omega arith) below c.whole.rising;
-        paired = subst (λ (n : ℕ). ArePaired (w.exchanges ++ new_exchange w now m t ∷ []) (w.waiters ++ (n, (new_waiter w client m).1) ∷ [])) (sym same) (ArePaired-push (w.opened + 1) w.exchanges w.waiters (new_exchange w now m t).1 (new_waiter w client m).1 c.whole.paired);
+        rising = IsRising-push 0 (w.opened + 1) w.exchanges (new_exchange w now m key).1 (omega arith) below c.whole.rising;
+        paired = subst (λ (n : ℕ). ArePaired (w.exchanges ++ new_exchange w now m key ∷ []) (w.waiters ++ (n, (new_waiter w client m).1) ∷ [])) (sym same) (ArePaired-push (w.opened + 1) w.exchanges w.waiters (new_exchange w now m key).1 (new_waiter w client m).1 c.whole.paired);
         complete = λ n positive le.
             ⊎_elim
-            (λ (lt : n < w.opened + 1). ⊎_elim (λ there. inl (HasNumber-push n w.exchanges (new_exchange w now m t ∷ []) there)) (λ s. inr s) (later_served history e w.exchanges n (c.whole.complete n positive (omega arith))))
-            (λ (ge : w.opened + 1 ≤ n). let last : n ≡ w.opened + 1 = omega arith in inl (subst (λ (k : ℕ). HasNumber k (w.exchanges ++ new_exchange w now m t ∷ [])) (sym last) (HasNumber-last (w.opened + 1) w.exchanges (new_exchange w now m t).1)))
+            (λ (lt : n < w.opened + 1). ⊎_elim (λ there. inl (HasNumber-push n w.exchanges (new_exchange w now m key ∷ []) there)) (λ s. inr s) (later_served history e w.exchanges n (c.whole.complete n positive (omega arith))))
+            (λ (ge : w.opened + 1 ≤ n). let last : n ≡ w.opened + 1 = omega arith in inl (subst (λ (k : ℕ). HasNumber k (w.exchanges ++ new_exchange w now m key ∷ [])) (sym last) (HasNumber-last (w.opened + 1) w.exchanges (new_exchange w now m key).1)))
             (cases_lt n (w.opened + 1));
         under_way = let h = c.whole.under_way in omega arith;
         unsent = let h = c.whole.unsent in omega arith;
       };
       within = record { exchanges = omega arith; waiters = omega arith; ids = omega arith };
-      past = (record { act = refl; client = client; request = m; target = t; asked = came; verdict = verdict; room = room-there history w c room; silent = record { sent = refl; bytes = refl } }, c.past);
+      past = (record { act = refl; client = client; request = m; key = key; asked = came; verdict = verdict; fits = short; room = room-there history w c room; silent = record { sent = refl; bytes = refl } }, c.past);
     }

@@ -1,21 +1,21 @@
 -- What is owed is given: by exclusion, since each deed is justified by its outcome.
-use Rattle.std.proofs.Common.{◌≡◌, ◌≢◌, ℕ, ◌≤◌, List, Some, refl, sym, ap, ◌∙◌, arith}
+use Rattle.std.proofs.Common.{◌≡◌, ◌≢◌, ℕ, ◌≤◌, true, List, Some, refl, sym, ap, ◌∙◌, subst, arith}
 use Rattle.coap_message.specs.declared.code.Code.{Code}
 use Rattle.coap_message.specs.declared.kind.Kind.TheVariants.{Con}
 use Rattle.coap_message.specs.declared.message.Head.{Head}
 use Rattle.coap_message.specs.Message.{Message}
 use Rattle.coap_message.specs.Reading.{head_at}
 use Rattle.coap_target.specs.declared.endpoint.Endpoint.{Endpoint}
-use Rattle.coap_target.specs.declared.target.Target.{Target}
+use Rattle.coap_cache.specs.declared.key.CacheKey.{CacheKey}
 use Rattle.coap_model.specs.declared.report.Outcome.{Outcome}
 use Rattle.coap_model.specs.declared.report.Outcome.TheVariants.{Ignored, Rejected, Refused, Opened, Overloaded, NoId, Answered, SentRequest, Delivered, Idle}
 use Rattle.coap_model.specs.declared.report.Storing.TheVariants.{NotStored}
 use Rattle.coap_model.specs.Setting.{Setting}
 use Rattle.coap_model.specs.Events.{arrival, tick}
-use Rattle.coap_model.specs.Verdicts.{refused_with, may_open}
+use Rattle.coap_model.specs.Verdicts.{may_ask}
 use Rattle.coap_model.specs.History.{Act, Deed, HasIds, HasRoom}
 use Rattle.coap_model.specs.Due.{IsDueAt}
-use Rattle.coap_model.specs.Justified.{IsRequestOf, verdict_on, IsRefusal, IsOverload, IsLack, IsOpening, IsAwaited, IsForwarding, IsDelivery, IsIdle, IsUnprocessable, IsActing, JustifiedBy}
+use Rattle.coap_model.specs.Justified.{IsRequestOf, verdict_on, fits_on, Deserves, by_verdict, by_length, IsRefusal, IsOverload, IsLack, IsOpening, IsAwaited, IsForwarding, IsDelivery, IsIdle, IsUnprocessable, IsActing, JustifiedBy}
 use Rattle.coap_model.proofs.Arrivals.{no_tick, one_kind, head_kind, kinds}
 use Rattle.coap_model.proofs.Places.{arrival-same, request-unique}
 
@@ -42,35 +42,47 @@ on-request Delivered setting past d client request j r = no_tick r.brings.came j
 on-request Idle setting past d client request j r = no_tick r.brings.came j.ticked
 on-request _ setting past d client request j r = absurd j
 
--- a request has one verdict
-other_verdict : {A : Type 0} (setting : Setting) (d : Deed) (a b : Endpoint) (r s : Message) (code : Code) (target : Target) → IsRequestOf setting a r d.entry.event → IsRequestOf setting b s d.entry.event → verdict_on setting r ≡ refused_with code → verdict_on setting s ≡ may_open target → A
-other_verdict setting d a b r s code target asked again refusal opening =
-    absurd (let one = request-unique setting d.entry.event a b r s asked again in let e = sym refusal ∙ ap (verdict_on setting) one.1 ∙ opening in cc)
+-- what may be asked for has one key
+one_key : {a b : CacheKey} → may_ask a ≡ may_ask b → a ≡ b
+one_key e = cc
+
+-- a request that fits deserves no code
+fits_well : {A : Type 0} (setting : Setting) (request : Message) (code : Code) (key : CacheKey) → Deserves setting request code → verdict_on setting request ≡ may_ask key → fits_on setting key request ≡ true → A
+fits_well setting request code key (by_verdict refusal) verdict short = absurd (let e = sym refusal ∙ verdict in cc)
+fits_well setting request code key (by_length other asked long is) verdict short =
+    absurd (let same = one_key (sym asked ∙ verdict) in let e = sym long ∙ ap (λ (k : CacheKey). fits_on setting k request) same ∙ short in cc)
+
+-- a request deserves one code
+one_code : (setting : Setting) (request : Message) (a b : Code) → Deserves setting request a → Deserves setting request b → a ≡ b
+one_code setting request a b (by_verdict p) (by_verdict q) = let e = sym p ∙ q in cc
+one_code setting request a b (by_verdict p) (by_length key q long is) = absurd (let e = sym p ∙ q in cc)
+one_code setting request a b (by_length key p long is) (by_verdict q) = absurd (let e = sym p ∙ q in cc)
+one_code setting request a b (by_length key p long is) (by_length other q longer same) = is ∙ sym same
+
+-- an event brings one request, which deserves the same code under either name
+same_deserved : (setting : Setting) (d : Deed) (a b : Endpoint) (r s : Message) (code : Code) → IsRequestOf setting a r d.entry.event → IsRequestOf setting b s d.entry.event → Deserves setting r code → Deserves setting s code
+same_deserved setting d a b r s code asked again deserved = subst (λ (m : Message). Deserves setting m code) (request-unique setting d.entry.event a b r s asked again).1 deserved
 
 -- where two ids are free, one is
 fewer_ids : (past : List Deed) → HasIds 2 past → HasIds 1 past
 fewer_ids past h = record { free = let f = h.free in omega arith }
 
 -- a request that deserves a code is refused with it
-pub given_refused : (o : Outcome) (setting : Setting) (past : List Deed) (d : Deed) (client : Endpoint) (request : Message) (code : Code) → JustifiedBy o setting past d → IsRequestOf setting client request d.entry.event → verdict_on setting request ≡ refused_with code → HasIds 1 past → o ≡ Refused code
-given_refused o setting past d client request code j r verdict ids = go (on-request o setting past d client request j r)
+pub given_refused : (o : Outcome) (setting : Setting) (past : List Deed) (d : Deed) (client : Endpoint) (request : Message) (code : Code) → JustifiedBy o setting past d → IsRequestOf setting client request d.entry.event → Deserves setting request code → HasIds 1 past → o ≡ Refused code
+given_refused o setting past d client request code j r deserved ids = go (on-request o setting past d client request j r)
   where
     go : {p : Outcome} → OnRequest setting past d p → p ≡ Refused code
-    go (refused other k) =
-        let one = request-unique setting d.entry.event k.client client k.request request k.asked r in
-        let e = sym k.verdict ∙ ap (verdict_on setting) one.1 ∙ verdict in
-        let same : other ≡ code = cc in
-        ap Refused same
-    go (overloaded k) = other_verdict setting d client k.client request k.request code k.target r k.asked verdict k.verdict
+    go (refused other k) = ap Refused (one_code setting request other code (same_deserved setting d k.client client k.request request other k.asked r k.deserved) deserved)
+    go (overloaded k) = fits_well setting k.request code k.key (same_deserved setting d client k.client request k.request code r k.asked deserved) k.verdict k.fits
     go (lacking k) = absurd (k.no_ids ids)
-    go (opened k) = other_verdict setting d client k.client request k.request code k.target r k.asked verdict k.verdict
+    go (opened k) = fits_well setting k.request code k.key (same_deserved setting d client k.client request k.request code r k.asked deserved) k.verdict k.fits
 
--- one that may be opened is told to come later where there is no room
-pub given_overloaded : (o : Outcome) (setting : Setting) (past : List Deed) (d : Deed) (client : Endpoint) (request : Message) (target : Target) → JustifiedBy o setting past d → IsRequestOf setting client request d.entry.event → verdict_on setting request ≡ may_open target → ¬ HasRoom setting.limits past → HasIds 1 past → o ≡ Overloaded
-given_overloaded o setting past d client request target j r verdict full ids = go (on-request o setting past d client request j r)
+-- one that may be asked for is told to come later where there is no room
+pub given_overloaded : (o : Outcome) (setting : Setting) (past : List Deed) (d : Deed) (client : Endpoint) (request : Message) (key : CacheKey) → JustifiedBy o setting past d → IsRequestOf setting client request d.entry.event → verdict_on setting request ≡ may_ask key → fits_on setting key request ≡ true → ¬ HasRoom setting.limits past → HasIds 1 past → o ≡ Overloaded
+given_overloaded o setting past d client request key j r verdict short full ids = go (on-request o setting past d client request j r)
   where
     go : {p : Outcome} → OnRequest setting past d p → p ≡ Overloaded
-    go (refused code k) = other_verdict setting d k.client client k.request request code target k.asked r k.verdict verdict
+    go (refused code k) = fits_well setting request code key (same_deserved setting d k.client client k.request request code k.asked r k.deserved) verdict short
     go (overloaded k) = refl
     go (lacking k) = absurd (k.no_ids ids)
     go (opened k) = absurd (full k.room)
@@ -85,12 +97,12 @@ given_no_id o setting past d client request j r none = go (on-request o setting 
     go (lacking k) = refl
     go (opened k) = absurd (none (fewer_ids past k.room.ids))
 
--- one that may be opened, with room, is opened
-pub given_opened : (o : Outcome) (setting : Setting) (past : List Deed) (d : Deed) (client : Endpoint) (request : Message) (target : Target) → JustifiedBy o setting past d → IsRequestOf setting client request d.entry.event → verdict_on setting request ≡ may_open target → HasRoom setting.limits past → o ≡ Opened
-given_opened o setting past d client request target j r verdict room = go (on-request o setting past d client request j r)
+-- one that may be asked for, with room, is opened
+pub given_opened : (o : Outcome) (setting : Setting) (past : List Deed) (d : Deed) (client : Endpoint) (request : Message) (key : CacheKey) → JustifiedBy o setting past d → IsRequestOf setting client request d.entry.event → verdict_on setting request ≡ may_ask key → fits_on setting key request ≡ true → HasRoom setting.limits past → o ≡ Opened
+given_opened o setting past d client request key j r verdict short room = go (on-request o setting past d client request j r)
   where
     go : {p : Outcome} → OnRequest setting past d p → p ≡ Opened
-    go (refused code k) = other_verdict setting d k.client client k.request request code target k.asked r k.verdict verdict
+    go (refused code k) = fits_well setting request code key (same_deserved setting d k.client client k.request request code k.asked r k.deserved) verdict short
     go (overloaded k) = absurd (k.no_room room)
     go (lacking k) = absurd (k.no_ids (fewer_ids past room.ids))
     go (opened k) = refl

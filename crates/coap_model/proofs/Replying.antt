@@ -13,24 +13,24 @@ use Rattle.coap_message.specs.Spelling.{Spells, spelling}
 use Rattle.coap_message.proofs.Spellings.{spelled}
 use Rattle.coap_message.proofs.WholeMessages.{read_again}
 use Rattle.coap_target.specs.declared.endpoint.Endpoint.{Endpoint}
-use Rattle.coap_target.specs.declared.target.Target.{Target}
+use Rattle.coap_cache.specs.declared.key.CacheKey.{CacheKey}
 use Rattle.coap_model.specs.Events.{arrival}
 use Rattle.coap_message.specs.Codes.{is_request}
 use Rattle.coap_model.specs.Messages.{is_con, is_non, reset, own_reply, busy_reply}
-use Rattle.coap_model.specs.Verdicts.{refused_with, may_open}
+use Rattle.coap_model.specs.Verdicts.{may_ask}
 use Rattle.coap_model.specs.World.{World, reserved, next_id, has_ids, has_room, ignores}
 use Rattle.coap_model.specs.Requests.{lacks_id, refuses, overloads}
 use Rattle.coap_model.specs.Step.{rejects, message_in}
 use Rattle.coap_model.specs.History.{no_item, Deed, ids_in}
 use Rattle.coap_model.specs.Setting.{Setting}
-use Rattle.coap_model.specs.Justified.{IsRequestOf, IsUnprocessable}
+use Rattle.coap_model.specs.Justified.{IsRequestOf, IsUnprocessable, Deserves}
 use Rattle.coap_model.specs.Runs.{entry_of}
 use Rattle.coap_model.specs.Carries.{Bears}
 use Rattle.coap_model.proofs.Spelled.{reset-is, own_reply-is, busy_reply-is, message_in-is, message_in-again}
 use Rattle.coap_model.proofs.Places.{doing, arrival-same}
-use Rattle.coap_model.proofs.Verdicts.{refused-code}
+use Rattle.coap_model.proofs.Verdicts.{deserved-code}
 use Rattle.coap_model.proofs.Arrivals.{head_kind, kinds}
-use Rattle.coap_model.proofs.Rules.{Asked, IsNothing, verdict_in}
+use Rattle.coap_model.proofs.Rules.{Asked, IsNothing, verdict_in, fits_in}
 use Rattle.coap_model.proofs.Room.{ids-free, ids-none, room-none}
 use Rattle.coap_model.proofs.Awaiting.{not-ignored}
 use Rattle.coap_model.proofs.Quiet.{keeps_quiet}
@@ -69,34 +69,34 @@ free-one w e = let le = leb-true (w.given + reserved w + 1) 32768 e in omega ari
 -- ---- refusals
 
 -- a refusal keeps what is carried
-pub keeps_refusing : (w : World) (history : List Deed) (c : Bears history w) (now draw : ℕ) (client : Endpoint) (bytes : List ℕ) (m : Message) (code : Code) → w.last ≤ now → IsBytes bytes → Asked w bytes m → verdict_in w m ≡ refused_with code → has_ids 1 w ≡ true
+pub keeps_refusing : (w : World) (history : List Deed) (c : Bears history w) (now draw : ℕ) (client : Endpoint) (bytes : List ℕ) (m : Message) (code : Code) → w.last ≤ now → IsBytes bytes → Asked w bytes m → Deserves w.setting m code → has_ids 1 w ≡ true
     → Bears (doing no_item (entry_of now draw (arrival client bytes) (refuses w now client m code)) ∷ history) (refuses w now client m code).world
-keeps_refusing w history c now draw client bytes m code onward fits asked verdict free =
+keeps_refusing w history c now draw client bytes m code onward fits asked deserved free =
     let e = doing no_item (entry_of now draw (arrival client bytes) (refuses w now client m code)) in
     let came = request-came w client bytes m fits asked in
-    let some = refused-code w.setting.routes w.setting.limits.datagram m c.routes code verdict in
+    let some = deserved-code w.setting m c.routes code deserved in
     let reply = own_reply code [] (next_id w) m.token in
     let spells : Spells (spelling reply) reply = spelled reply (own_reply-is code [] (next_id w) m.token some tt came.brings.spells.message.token) in
     keeps_quiet w history c e (w.given + 1) (record { opens = refl; sends = refl; serves = refl; unsent = λ o. cc; ungot = λ o. cc; unserved = λ o. cc }) onward refl
     (λ g. record { gives = refl; message = reply; spells = spells; id_is = id-same w history c }) (free-one w free)
-    (record { act = refl; client = client; request = m; id = next_id w; asked = came; verdict = verdict; ids = ids-free 1 history w c free; tells = record { sent = refl; spells = spells } }, c.past)
+    (record { act = refl; client = client; request = m; id = next_id w; asked = came; deserved = deserved; ids = ids-free 1 history w c free; tells = record { sent = refl; spells = spells } }, c.past)
 
 -- so does 5.03
-pub keeps_overloading : (w : World) (history : List Deed) (c : Bears history w) (now draw : ℕ) (client : Endpoint) (bytes : List ℕ) (m : Message) (t : Target) → w.last ≤ now → IsBytes bytes → Asked w bytes m → verdict_in w m ≡ may_open t → has_room w ≡ false → has_ids 1 w ≡ true
+pub keeps_overloading : (w : World) (history : List Deed) (c : Bears history w) (now draw : ℕ) (client : Endpoint) (bytes : List ℕ) (m : Message) (key : CacheKey) → w.last ≤ now → IsBytes bytes → Asked w bytes m → verdict_in w m ≡ may_ask key → fits_in w key m ≡ true → has_room w ≡ false → has_ids 1 w ≡ true
     → Bears (doing no_item (entry_of now draw (arrival client bytes) (overloads w now client m)) ∷ history) (overloads w now client m).world
-keeps_overloading w history c now draw client bytes m t onward fits asked verdict full free =
+keeps_overloading w history c now draw client bytes m key onward fits asked verdict short full free =
     let e = doing no_item (entry_of now draw (arrival client bytes) (overloads w now client m)) in
     let came = request-came w client bytes m fits asked in
     let reply = busy_reply w.setting.limits.retry_s (next_id w) m.token in
     let spells : Spells (spelling reply) reply = spelled reply (busy_reply-is w.setting.limits.retry_s (next_id w) m.token came.brings.spells.message.token) in
     keeps_quiet w history c e (w.given + 1) (record { opens = refl; sends = refl; serves = refl; unsent = λ o. cc; ungot = λ o. cc; unserved = λ o. cc }) onward refl
     (λ g. record { gives = refl; message = reply; spells = spells; id_is = id-same w history c }) (free-one w free)
-    (record { act = refl; client = client; request = m; target = t; id = next_id w; asked = came; verdict = verdict; no_room = room-none history w c full; ids = ids-free 1 history w c free; tells = record { sent = refl; spells = spells } }, c.past)
+    (record { act = refl; client = client; request = m; key = key; id = next_id w; asked = came; verdict = verdict; fits = short; no_room = room-none history w c full; ids = ids-free 1 history w c free; tells = record { sent = refl; spells = spells } }, c.past)
 
 -- and silence for want of an id
-pub keeps_lacking : (w : World) (history : List Deed) (c : Bears history w) (now draw : ℕ) (client : Endpoint) (bytes : List ℕ) (m : Message) → w.last ≤ now → IsBytes bytes → Asked w bytes m → ((t : Target) → verdict_in w m ≡ may_open t → has_room w ≡ false) → has_ids 1 w ≡ false
+pub keeps_lacking : (w : World) (history : List Deed) (c : Bears history w) (now draw : ℕ) (client : Endpoint) (bytes : List ℕ) (m : Message) → w.last ≤ now → IsBytes bytes → Asked w bytes m → has_ids 1 w ≡ false
     → Bears (doing no_item (entry_of now draw (arrival client bytes) (lacks_id w now)) ∷ history) (lacks_id w now).world
-keeps_lacking w history c now draw client bytes m onward fits asked full free =
+keeps_lacking w history c now draw client bytes m onward fits asked free =
     let e = doing no_item (entry_of now draw (arrival client bytes) (lacks_id w now)) in
     keeps_quiet w history c e w.given (record { opens = refl; sends = refl; serves = refl; unsent = λ o. cc; ungot = λ o. cc; unserved = λ o. cc }) onward (omega arith) (λ g. absurd (omega arith)) c.within.ids
     (record { act = refl; client = client; request = m; asked = request-came w client bytes m fits asked; no_ids = ids-none 1 history w c free; silent = record { sent = refl; bytes = refl } }, c.past)

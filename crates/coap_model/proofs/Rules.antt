@@ -5,13 +5,14 @@ use Rattle.std.proofs.lemmas.Option.{same_Some}
 use Rattle.coap_message.specs.declared.kind.Kind.{Kind}
 use Rattle.coap_message.specs.declared.kind.Kind.TheVariants.{Con, Non, Ack, Rst}
 use Rattle.coap_message.specs.declared.code.Code.{Code}
+use Rattle.coap_message.specs.declared.code.TheConstants.Code.{REQUEST_ENTITY_TOO_LARGE}
 use Rattle.coap_message.specs.declared.message.Head.{Head}
 use Rattle.coap_message.specs.Uint.{IsBytes}
 use Rattle.coap_message.specs.Message.{Message}
 use Rattle.coap_message.specs.Reading.{head_at}
 use Rattle.coap_message.proofs.WholeMessages.{head_read}
 use Rattle.coap_target.specs.declared.endpoint.Endpoint.{Endpoint}
-use Rattle.coap_target.specs.declared.target.Target.{Target}
+use Rattle.coap_cache.specs.declared.key.CacheKey.{CacheKey}
 use Rattle.coap_exchange.specs.declared.exchange.Answer.{Answer}
 use Rattle.coap_exchange.specs.declared.exchange.Exchange.{Exchange}
 use Rattle.coap_exchange.specs.declared.waiter.Waiter.{Waiter}
@@ -19,9 +20,10 @@ use Rattle.coap_exchange.specs.Table.{Numbered}
 use Rattle.coap_model.specs.Events.{Event, arrival, tick, IsEvent}
 use Rattle.coap_message.specs.Codes.{is_request, is_response}
 use Rattle.coap_model.specs.Messages.{is_con, is_non, is_ack}
-use Rattle.coap_model.specs.Verdicts.{Verdict, refused_with, may_open, verdict_of}
+use Rattle.coap_model.specs.Verdicts.{Verdict, refused_with, may_ask, verdict_of, form_fits}
+use Rattle.coap_model.specs.Justified.{Deserves, by_verdict, by_length}
 use Rattle.coap_model.specs.World.{World, Step, has_ids, has_room, ignores}
-use Rattle.coap_model.specs.Requests.{lacks_id, refuses, overloads, opens, on_verdict, on_request}
+use Rattle.coap_model.specs.Requests.{lacks_id, refuses, overloads, opens, turns_down, turns_away, on_miss, on_verdict, on_request}
 use Rattle.coap_model.specs.Responses.{awaiting, answers, on_awaited, on_response}
 use Rattle.coap_exchange.specs.Due.{Item, sending, serving, least}
 use Rattle.coap_model.specs.Ticks.{items_of, if_due, sends, delivers, idles, on_item}
@@ -45,14 +47,18 @@ pub record IsNothing (w : World) (source : Endpoint) (bytes : List ℕ) : Type 0
 
 -- what becomes of a request in this world
 abbrev pub verdict_in : World → Message → Verdict
-verdict_in w m = verdict_of w.setting.routes w.setting.limits.datagram m
+verdict_in w m = verdict_of w.setting.routes m
+
+-- what would be sent on for a key fits a datagram of this world
+abbrev pub fits_in : World → CacheKey → Message → Bool
+fits_in w key m = form_fits w.setting.limits.datagram key.target m
 
 -- the cases of a step, each with what is known in it
 pub data Rule (w : World) (now draw : ℕ) : Event → Step → Type 0 where
-  refusing : (client : Endpoint) (bytes : List ℕ) (m : Message) (code : Code) → IsBytes bytes → Asked w bytes m → verdict_in w m ≡ refused_with code → has_ids 1 w ≡ true → Rule w now draw (arrival client bytes) (refuses w now client m code)
-  lacking : (client : Endpoint) (bytes : List ℕ) (m : Message) → IsBytes bytes → Asked w bytes m → ((t : Target) → verdict_in w m ≡ may_open t → has_room w ≡ false) → has_ids 1 w ≡ false → Rule w now draw (arrival client bytes) (lacks_id w now)
-  overloading : (client : Endpoint) (bytes : List ℕ) (m : Message) (t : Target) → IsBytes bytes → Asked w bytes m → verdict_in w m ≡ may_open t → has_room w ≡ false → has_ids 1 w ≡ true → Rule w now draw (arrival client bytes) (overloads w now client m)
-  opening : (client : Endpoint) (bytes : List ℕ) (m : Message) (t : Target) → IsBytes bytes → Asked w bytes m → verdict_in w m ≡ may_open t → has_room w ≡ true → Rule w now draw (arrival client bytes) (opens w now client m t)
+  refusing : (client : Endpoint) (bytes : List ℕ) (m : Message) (code : Code) → IsBytes bytes → Asked w bytes m → Deserves w.setting m code → has_ids 1 w ≡ true → Rule w now draw (arrival client bytes) (refuses w now client m code)
+  lacking : (client : Endpoint) (bytes : List ℕ) (m : Message) → IsBytes bytes → Asked w bytes m → has_ids 1 w ≡ false → Rule w now draw (arrival client bytes) (lacks_id w now)
+  overloading : (client : Endpoint) (bytes : List ℕ) (m : Message) (key : CacheKey) → IsBytes bytes → Asked w bytes m → verdict_in w m ≡ may_ask key → fits_in w key m ≡ true → has_room w ≡ false → has_ids 1 w ≡ true → Rule w now draw (arrival client bytes) (overloads w now client m)
+  opening : (client : Endpoint) (bytes : List ℕ) (m : Message) (key : CacheKey) → IsBytes bytes → Asked w bytes m → verdict_in w m ≡ may_ask key → fits_in w key m ≡ true → has_room w ≡ true → Rule w now draw (arrival client bytes) (opens w now client m key)
   answering : (source : Endpoint) (bytes : List ℕ) (m : Message) (x : Numbered Exchange) → IsBytes bytes → message_in w.setting.limits.datagram bytes ≡ Some m → (is_ack m.kind && is_response m.code) ≡ true → awaiting w source m ≡ Some x → Rule w now draw (arrival source bytes) (answers w now m x)
   rejecting : (source : Endpoint) (bytes : List ℕ) (head : Head) → head_at bytes ≡ Some head → is_con head.kind ≡ true → Rule w now draw (arrival source bytes) (rejects w now source head.id)
   ignoring : (source : Endpoint) (bytes : List ℕ) → IsNothing w source bytes → Rule w now draw (arrival source bytes) (ignores w now)
@@ -62,30 +68,34 @@ pub data Rule (w : World) (now draw : ℕ) : Event → Step → Type 0 where
 
 -- ---- requests
 
--- a request that is refused may not be opened
-other_verdict : (w : World) (m : Message) (code : Code) (t : Target) → verdict_in w m ≡ refused_with code → verdict_in w m ≡ may_open t → has_room w ≡ false
-other_verdict w m code t p q = absurd (let e = sym p ∙ q in cc)
+-- a request that deserves a code is refused with it, if an id is free
+rule_refusal : (w : World) (now draw : ℕ) (client : Endpoint) (bytes : List ℕ) (m : Message) (code : Code) → IsBytes bytes → Asked w bytes m → Deserves w.setting m code → Rule w now draw (arrival client bytes) (turns_down w now client m code)
+rule_refusal w now draw client bytes m code fits asked deserved = go (has_ids 1 w) refl
+  where
+    go : (b : Bool) → has_ids 1 w ≡ b → Rule w now draw (arrival client bytes) (cond b (refuses w now client m code) (lacks_id w now))
+    go true free = refusing client bytes m code fits asked deserved free
+    go false free = lacking client bytes m fits asked free
 
--- where there is no room, there is none for any target
-same_room : (w : World) → has_room w ≡ false → (m : Message) (t : Target) → verdict_in w m ≡ may_open t → has_room w ≡ false
-same_room w full m t e = full
+-- a request for a key is a case by its length and by room
+rule_miss : (w : World) (now draw : ℕ) (client : Endpoint) (bytes : List ℕ) (m : Message) (key : CacheKey) → IsBytes bytes → Asked w bytes m → verdict_in w m ≡ may_ask key → Rule w now draw (arrival client bytes) (on_miss w now client m key)
+rule_miss w now draw client bytes m key fits asked e = length (fits_in w key m) refl
+  where
+    ids : fits_in w key m ≡ true → has_room w ≡ false → (b : Bool) → has_ids 1 w ≡ b → Rule w now draw (arrival client bytes) (cond b (overloads w now client m) (lacks_id w now))
+    ids short full true free = overloading client bytes m key fits asked e short full free
+    ids short full false free = lacking client bytes m fits asked free
+
+    room : fits_in w key m ≡ true → (b : Bool) → has_room w ≡ b → Rule w now draw (arrival client bytes) (cond b (opens w now client m key) (turns_away w now client m))
+    room short true there = opening client bytes m key fits asked e short there
+    room short false full = ids short full (has_ids 1 w) refl
+
+    length : (b : Bool) → fits_in w key m ≡ b → Rule w now draw (arrival client bytes) (cond b (cond (has_room w) (opens w now client m key) (turns_away w now client m)) (turns_down w now client m REQUEST_ENTITY_TOO_LARGE))
+    length true short = room short (has_room w) refl
+    length false long = rule_refusal w now draw client bytes m REQUEST_ENTITY_TOO_LARGE fits asked (by_length key e long refl)
 
 -- a request is a case by its verdict
 rule_verdict : (w : World) (now draw : ℕ) (client : Endpoint) (bytes : List ℕ) (m : Message) → IsBytes bytes → Asked w bytes m → (v : Verdict) → verdict_in w m ≡ v → Rule w now draw (arrival client bytes) (on_verdict w now client m v)
-rule_verdict w now draw client bytes m fits asked (refused_with code) e = go (has_ids 1 w) refl
-  where
-    go : (b : Bool) → has_ids 1 w ≡ b → Rule w now draw (arrival client bytes) (cond b (refuses w now client m code) (lacks_id w now))
-    go true free = refusing client bytes m code fits asked e free
-    go false free = lacking client bytes m fits asked (λ t f. other_verdict w m code t e f) free
-rule_verdict w now draw client bytes m fits asked (may_open t) e = go (has_room w) refl
-  where
-    ids : has_room w ≡ false → (b : Bool) → has_ids 1 w ≡ b → Rule w now draw (arrival client bytes) (cond b (overloads w now client m) (lacks_id w now))
-    ids full true free = overloading client bytes m t fits asked e full free
-    ids full false free = lacking client bytes m fits asked (λ u f. same_room w full m u f) free
-
-    go : (b : Bool) → has_room w ≡ b → Rule w now draw (arrival client bytes) (cond b (opens w now client m t) (cond (has_ids 1 w) (overloads w now client m) (lacks_id w now)))
-    go true room = opening client bytes m t fits asked e room
-    go false full = ids full (has_ids 1 w) refl
+rule_verdict w now draw client bytes m fits asked (refused_with code) e = rule_refusal w now draw client bytes m code fits asked (by_verdict e)
+rule_verdict w now draw client bytes m fits asked (may_ask key) e = rule_miss w now draw client bytes m key fits asked e
 
 -- ---- what came
 

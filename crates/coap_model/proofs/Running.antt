@@ -14,10 +14,10 @@ use Rattle.coap_model.proofs.Promising.{promises}
 
 -- no case of a step changes the setting
 rule_setting : {w : World} {now draw : ℕ} {event : Event} {s : Step} → Rule w now draw event s → s.world.setting ≡ w.setting
-rule_setting (refusing client bytes m code fits asked verdict free) = refl
-rule_setting (lacking client bytes m fits asked full free) = refl
-rule_setting (overloading client bytes m t fits asked verdict full free) = refl
-rule_setting (opening client bytes m t fits asked verdict room) = refl
+rule_setting (refusing client bytes m code fits asked deserved free) = refl
+rule_setting (lacking client bytes m fits asked free) = refl
+rule_setting (overloading client bytes m key fits asked verdict short full free) = refl
+rule_setting (opening client bytes m key fits asked verdict short room) = refl
 rule_setting (answering source bytes m x fits read response found) = refl
 rule_setting (rejecting source bytes head is con) = refl
 rule_setting (ignoring source bytes none) = refl
@@ -35,10 +35,10 @@ IsOneOn w now v = (v.last ≡ now) × (v.events ≡ w.events + 1)
 
 -- in each case the clock goes on by one event
 rule_clock : {w : World} {now draw : ℕ} {event : Event} {s : Step} → Rule w now draw event s → IsOneOn w now s.world
-rule_clock (refusing client bytes m code fits asked verdict free) = (refl, refl)
-rule_clock (lacking client bytes m fits asked full free) = (refl, refl)
-rule_clock (overloading client bytes m t fits asked verdict full free) = (refl, refl)
-rule_clock (opening client bytes m t fits asked verdict room) = (refl, refl)
+rule_clock (refusing client bytes m code fits asked deserved free) = (refl, refl)
+rule_clock (lacking client bytes m fits asked free) = (refl, refl)
+rule_clock (overloading client bytes m key fits asked verdict short full free) = (refl, refl)
+rule_clock (opening client bytes m key fits asked verdict short room) = (refl, refl)
 rule_clock (answering source bytes m x fits read response found) = (refl, refl)
 rule_clock (rejecting source bytes head is con) = (refl, refl)
 rule_clock (ignoring source bytes none) = (refl, refl)

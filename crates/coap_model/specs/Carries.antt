@@ -13,8 +13,8 @@ use Rattle.coap_exchange.specs.declared.waiter.Waiter.{Waiter}
 use Rattle.coap_exchange.specs.Table.{Numbered, IsRising}
 use Rattle.coap_model.specs.Setting.{Setting}
 use Rattle.coap_model.specs.Messages.{token_of}
-use Rattle.coap_model.specs.Forms.{forwarded, key_sent, request_key}
-use Rattle.coap_model.specs.Verdicts.{may_open}
+use Rattle.coap_model.specs.Forms.{forwarded, key_sent}
+use Rattle.coap_model.specs.Verdicts.{may_ask}
 use Rattle.coap_model.specs.Answers.{answer_of}
 use Rattle.coap_exchange.specs.Exchanges.{is_queued, count_where}
 use Rattle.coap_model.specs.World.{World, reserved}
@@ -71,12 +71,12 @@ pub record IsExchangeOf
     (setting : Setting) (history : List Deed) (x : Numbered Exchange) : Type 0 where
   pub opened : WasOpened setting history x.0
   pub since : x.1.since ≡ opened.opening.deed.entry.now
-  pub verdict : verdict_on setting opened.request ≡ may_open x.1.target
+  pub verdict : verdict_on setting opened.request ≡ may_ask x.1.key
   pub form_is :
       x.1.form
-      ≡ spelling (forwarded (token_of setting.salt x.0) x.1.target (sent_on opened.request) 0)
+      ≡ spelling (forwarded (token_of setting.salt x.0) x.1.key.target (sent_on opened.request) 0)
   pub form_short : length x.1.form ≤ setting.limits.datagram
-  pub state : IsState setting history x.0 (request_key x.1.target opened.request) x.1.state
+  pub state : IsState setting history x.0 x.1.key x.1.state
 
 -- ---- waiters
 
@@ -110,7 +110,8 @@ pub record AreWhole (history : List Deed) (w : World) : Type 0 where
   pub rising : IsRising 0 w.exchanges
   pub paired : ArePaired w.exchanges w.waiters
   pub complete :
-      (n : ℕ) → 0 < n → n ≤ opened_in history → HasNumber n w.exchanges ⊎ Somewhere (Serves n) history
+      (n : ℕ) → 0 < n → n ≤ opened_in history
+      → HasNumber n w.exchanges ⊎ Somewhere (Serves n) history
   pub under_way : length w.exchanges + served_in history ≡ opened_in history
   pub unsent : count_where is_queued w.exchanges + sent_in history ≡ opened_in history
 

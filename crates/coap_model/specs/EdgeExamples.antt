@@ -1,5 +1,5 @@
--- Words that the step and the history share, computed at their edges: what a wrong word would give stands beside
--- nothing here. The bytes are those of RFC 7252 (3, 3.1, 5.10), written out.
+-- Words that the step and the history share, computed at their edges, where no law would catch a
+-- fault that both have. The bytes are those of RFC 7252 (3, 3.1, 5.10), written out.
 use Rattle.std.specs.Prelude.{ℕ, List, [], ◌∷◌, Option, Some, option_map}
 use Rattle.std.specs.Result.{result_ok}
 use Rattle.coap_message.specs.declared.code.TheConstants.Code.{METHOD_NOT_ALLOWED, BAD_OPTION, NOT_FOUND}
@@ -24,27 +24,32 @@ with_token segment = 0x52 ∷ 1 ∷ 0 ∷ 7 ∷ 0xAA ∷ 0xBB ∷ 0xB1 ∷ segme
 -- it stands in a refusal, in a 5.03 and in what is delivered (with room for one exchange)
 abbrev pub tokens : List Turn
 tokens =
-    from 0 (client 1) (with_token 0x75) ∷ from 0 (client 1) (with_token 0x74) ∷ from 0 (client 2) (with_token 0x74) ∷ tick_at 0 ∷ from 0 origin (got 3 1)
+    from 0 (client 1) (with_token 0x75) ∷ from 0 (client 1) (with_token 0x74)
+    ∷ from 0 (client 2) (with_token 0x74) ∷ tick_at 0 ∷ from 0 origin (got 3 1)
     ∷ tick_at 0 ∷ []
 
 abbrev pub tokens_sent : List Sent
 tokens_sent =
     to (Refused NOT_FOUND) (client 1) (0x52 ∷ 0x84 ∷ 0 ∷ 1 ∷ 0xAA ∷ 0xBB ∷ []) ∷ nothing Opened
-    ∷ to Overloaded (client 2) (0x52 ∷ 0xA3 ∷ 0 ∷ 2 ∷ 0xAA ∷ 0xBB ∷ 0xD1 ∷ 1 ∷ 5 ∷ []) ∷ to SentRequest origin (asked 3 1) ∷ nothing (Answered NotStored)
-    ∷ to Delivered (client 1) (0x52 ∷ 0x45 ∷ 0 ∷ 4 ∷ 0xAA ∷ 0xBB ∷ 0xD1 ∷ 1 ∷ 10 ∷ 0xFF ∷ 0x32 ∷ 0x31 ∷ []) ∷ []
+    ∷ to Overloaded (client 2) (0x52 ∷ 0xA3 ∷ 0 ∷ 2 ∷ 0xAA ∷ 0xBB ∷ 0xD1 ∷ 1 ∷ 5 ∷ [])
+    ∷ to SentRequest origin (asked 3 1) ∷ nothing (Answered NotStored)
+    ∷ to Delivered (client 1)
+    (0x52 ∷ 0x45 ∷ 0 ∷ 4 ∷ 0xAA ∷ 0xBB ∷ 0xD1 ∷ 1 ∷ 10 ∷ 0xFF ∷ 0x32 ∷ 0x31 ∷ []) ∷ []
 
 -- ---- two faults in one request
 
--- a POST with an option that isn't understood, and a GET with one of a path without a map: the method comes first,
--- then the options
+-- a POST with an option that isn't understood, and a GET with one of a path without a map: the
+-- method comes first, then the options
 abbrev pub two_faults : List Turn
 two_faults =
-    from 0 (client 1) (0x50 ∷ 2 ∷ 0 ∷ 7 ∷ 0xB1 ∷ 0x74 ∷ 0xC1 ∷ 6 ∷ []) ∷ from 0 (client 1) (0x50 ∷ 1 ∷ 0 ∷ 8 ∷ 0xB1 ∷ 0x75 ∷ 0xC1 ∷ 6 ∷ [])
+    from 0 (client 1) (0x50 ∷ 2 ∷ 0 ∷ 7 ∷ 0xB1 ∷ 0x74 ∷ 0xC1 ∷ 6 ∷ [])
+    ∷ from 0 (client 1) (0x50 ∷ 1 ∷ 0 ∷ 8 ∷ 0xB1 ∷ 0x75 ∷ 0xC1 ∷ 6 ∷ [])
     ∷ from 0 (client 1) (0x50 ∷ 2 ∷ 0 ∷ 9 ∷ 0xB1 ∷ 0x75 ∷ []) ∷ []
 
 abbrev pub two_faults_sent : List Sent
 two_faults_sent =
-    to (Refused METHOD_NOT_ALLOWED) (client 1) (0x50 ∷ 0x85 ∷ 0 ∷ 1 ∷ []) ∷ to (Refused BAD_OPTION) (client 1) (0x50 ∷ 0x82 ∷ 0 ∷ 2 ∷ [])
+    to (Refused METHOD_NOT_ALLOWED) (client 1) (0x50 ∷ 0x85 ∷ 0 ∷ 1 ∷ [])
+    ∷ to (Refused BAD_OPTION) (client 1) (0x50 ∷ 0x82 ∷ 0 ∷ 2 ∷ [])
     ∷ to (Refused METHOD_NOT_ALLOWED) (client 1) (0x50 ∷ 0x85 ∷ 0 ∷ 3 ∷ []) ∷ []
 
 -- ---- what a response gives
@@ -102,35 +107,50 @@ abbrev pub of_one_moment : List Turn
 of_one_moment = asks_at 0 1 ∷ asks_at 0 2 ∷ tick_at 0 ∷ tick_at 0 ∷ []
 
 abbrev pub of_one_moment_sent : List Sent
-of_one_moment_sent = nothing Opened ∷ nothing Opened ∷ to SentRequest origin (asked 1 1) ∷ to SentRequest origin (asked 2 2) ∷ []
+of_one_moment_sent =
+    nothing Opened ∷ nothing Opened ∷ to SentRequest origin (asked 1 1)
+    ∷ to SentRequest origin (asked 2 2) ∷ []
 
--- a client that is to be served, and a request that is to be sent from the same moment on: the request comes first
+-- a client that is to be served, and a request that is to be sent from the same moment on: the
+-- request comes first
 abbrev pub request_first : List Turn
-request_first = asks_at 0 1 ∷ tick_at 0 ∷ from 3 origin (got 1 1) ∷ asks_at 3 2 ∷ tick_at 3 ∷ tick_at 3 ∷ []
+request_first =
+    asks_at 0 1 ∷ tick_at 0 ∷ from 3 origin (got 1 1) ∷ asks_at 3 2 ∷ tick_at 3 ∷ tick_at 3 ∷ []
 
 abbrev pub request_first_sent : List Sent
 request_first_sent =
-    nothing Opened ∷ to SentRequest origin (asked 1 1) ∷ nothing (Answered NotStored) ∷ nothing Opened ∷ to SentRequest origin (asked 2 2)
+    nothing Opened ∷ to SentRequest origin (asked 1 1) ∷ nothing (Answered NotStored)
+    ∷ nothing Opened ∷ to SentRequest origin (asked 2 2)
     ∷ to Delivered (client 1) (for_client 3) ∷ []
 
 -- the same with the answer one millisecond earlier: the client comes first
 abbrev pub client_first : List Turn
-client_first = asks_at 0 1 ∷ tick_at 0 ∷ from 2 origin (got 1 1) ∷ asks_at 3 2 ∷ tick_at 3 ∷ tick_at 3 ∷ []
+client_first =
+    asks_at 0 1 ∷ tick_at 0 ∷ from 2 origin (got 1 1) ∷ asks_at 3 2 ∷ tick_at 3 ∷ tick_at 3 ∷ []
 
 abbrev pub client_first_sent : List Sent
 client_first_sent =
-    nothing Opened ∷ to SentRequest origin (asked 1 1) ∷ nothing (Answered NotStored) ∷ nothing Opened
-    ∷ to Delivered (client 1) (0x50 ∷ 0x45 ∷ 0 ∷ 2 ∷ 0xD1 ∷ 1 ∷ 9 ∷ 0xFF ∷ 0x32 ∷ 0x31 ∷ []) ∷ to SentRequest origin (asked 3 2) ∷ []
+    nothing Opened ∷ to SentRequest origin (asked 1 1) ∷ nothing (Answered NotStored)
+    ∷ nothing Opened
+    ∷ to Delivered (client 1) (0x50 ∷ 0x45 ∷ 0 ∷ 2 ∷ 0xD1 ∷ 1 ∷ 9 ∷ 0xFF ∷ 0x32 ∷ 0x31 ∷ [])
+    ∷ to SentRequest origin (asked 3 2) ∷ []
 
 -- ---- the request that is sent on
 
 -- a target with a host, two segments and a part of a query
 abbrev pub named : Target
-named = record { host = Some (0x68 ∷ 0x2E ∷ 0x74 ∷ []); at = origin; path = (0x74 ∷ []) ∷ [] ∷ []; query = (0x61 ∷ 0x3D ∷ 0x62 ∷ []) ∷ [] }
+named = record {
+  host = Some (0x68 ∷ 0x2E ∷ 0x74 ∷ []);
+  at = origin;
+  path = (0x74 ∷ []) ∷ [] ∷ [];
+  query = (0x61 ∷ 0x3D ∷ 0x62 ∷ []) ∷ [];
+}
 
 -- its form: Uri-Host is option 3, Uri-Path 11, Uri-Query 15 (RFC 7252, 5.10)
 abbrev pub named_form : List ℕ
-named_form = 0x48 ∷ 1 ∷ 0 ∷ 7 ∷ 0 ∷ 0 ∷ 0 ∷ 0 ∷ 0 ∷ 0 ∷ 0 ∷ 0 ∷ 0x33 ∷ 0x68 ∷ 0x2E ∷ 0x74 ∷ 0x81 ∷ 0x74 ∷ 0x00 ∷ 0x43 ∷ 0x61 ∷ 0x3D ∷ 0x62 ∷ []
+named_form =
+    0x48 ∷ 1 ∷ 0 ∷ 7 ∷ 0 ∷ 0 ∷ 0 ∷ 0 ∷ 0 ∷ 0 ∷ 0 ∷ 0 ∷ 0x33 ∷ 0x68 ∷ 0x2E ∷ 0x74 ∷ 0x81 ∷ 0x74
+    ∷ 0x00 ∷ 0x43 ∷ 0x61 ∷ 0x3D ∷ 0x62 ∷ []
 
 -- the target that is read off a request
 abbrev pub target_in : Endpoint → List ℕ → Option Target

@@ -24,7 +24,8 @@ sent_by s = (s.report, s.bytes)
 -- what a proxy sends at these turns, one after the other
 abbrev pub play : World → List Turn → List Sent
 play w [] = []
-play w (t ∷ turns) = sent_by (step_of w t.now t.draw t.event) ∷ play (step_of w t.now t.draw t.event).world turns
+play w (t ∷ turns) =
+    sent_by (step_of w t.now t.draw t.event) ∷ play (step_of w t.now t.draw t.event).world turns
 
 -- the origin of the fixed route, and clients by number
 abbrev pub origin : Endpoint
@@ -46,15 +47,28 @@ abbrev pub to : Outcome → Endpoint → List ℕ → Sent
 to outcome at bytes = (record { send = Some at; outcome = outcome }, bytes)
 
 abbrev pub proxy : World
-proxy = new_world (record { limits = default_limits; routes = fixed_routes; first_id = 1; salt = 0 })
+proxy = new_world
+    (record { limits = default_limits; routes = fixed_routes; first_id = 1; salt = 0 })
 
 -- a proxy with room for one exchange
 abbrev pub small_proxy : World
-small_proxy = new_world (record { limits = record default_limits { exchanges = 1 }; routes = fixed_routes; first_id = 1; salt = 0 })
+small_proxy =
+    new_world (record {
+      limits = record default_limits { exchanges = 1 };
+      routes = fixed_routes;
+      first_id = 1;
+      salt = 0;
+    })
 
 -- a proxy whose datagrams have at most 128 bytes
 abbrev pub narrow_proxy : World
-narrow_proxy = new_world (record { limits = record default_limits { datagram = 128 }; routes = fixed_routes; first_id = 1; salt = 0 })
+narrow_proxy =
+    new_world (record {
+      limits = record default_limits { datagram = 128 };
+      routes = fixed_routes;
+      first_id = 1;
+      salt = 0;
+    })
 
 -- a Non-confirmable GET of the path `t`, with the id 7, and what follows
 abbrev pub get_t : List ℕ → List ℕ
@@ -62,7 +76,8 @@ get_t more = 0x50 ∷ 1 ∷ 0 ∷ 7 ∷ 0xB1 ∷ 0x74 ∷ more
 
 -- the request that the origin is sent, with the id 1 and the token of the first exchange
 abbrev pub get_temp : List ℕ → List ℕ
-get_temp more = 0x48 ∷ 1 ∷ 0 ∷ 1 ∷ 0 ∷ 0 ∷ 0 ∷ 0 ∷ 0 ∷ 0 ∷ 0 ∷ 1 ∷ 0xB4 ∷ 0x74 ∷ 0x65 ∷ 0x6D ∷ 0x70 ∷ more
+get_temp more =
+    0x48 ∷ 1 ∷ 0 ∷ 1 ∷ 0 ∷ 0 ∷ 0 ∷ 0 ∷ 0 ∷ 0 ∷ 0 ∷ 1 ∷ 0xB4 ∷ 0x74 ∷ 0x65 ∷ 0x6D ∷ 0x70 ∷ more
 
 -- an answer to it, with its type, code, id, the last byte of its token, and what follows
 abbrev pub answer : ℕ → ℕ → ℕ → ℕ → List ℕ → List ℕ
@@ -77,10 +92,13 @@ content_for_client left = 0x50 ∷ 0x45 ∷ 0 ∷ 2 ∷ 0xD1 ∷ 1 ∷ left ∷ 
 
 -- a request, a tick that sends it on, an answer, and a tick that delivers it
 abbrev pub answered_by : ℕ → List ℕ → List Turn
-answered_by served response = from 0 (client 1) (get_t []) ∷ tick_at 0 ∷ from 0 origin response ∷ tick_at served ∷ []
+answered_by served response =
+    from 0 (client 1) (get_t []) ∷ tick_at 0 ∷ from 0 origin response ∷ tick_at served ∷ []
 
 abbrev pub delivered_as : List ℕ → List Sent
-delivered_as reply = nothing Opened ∷ to SentRequest origin (get_temp []) ∷ nothing (Answered NotStored) ∷ to Delivered (client 1) reply ∷ []
+delivered_as reply =
+    nothing Opened ∷ to SentRequest origin (get_temp []) ∷ nothing (Answered NotStored)
+    ∷ to Delivered (client 1) reply ∷ []
 
 -- the first answer
 abbrev pub first_answer : List Turn
@@ -131,46 +149,63 @@ long_max_age = answered_by 0 (answer 0x68 0x45 1 1 (0xD5 ∷ 1 ∷ 0 ∷ 0 ∷ 0
 abbrev pub replaced_sent : List Sent
 replaced_sent = delivered_as (0x50 ∷ 0xA2 ∷ 0 ∷ 2 ∷ [])
 
--- The response of another endpoint, or with another token or id, is no one's; in a confirmable message
--- it is rejected. The right one is still taken after them.
+-- The response of another endpoint, or with another token or id, is no one's; in a confirmable
+-- message it is rejected. The right one is still taken after them.
 abbrev pub impostor : List Turn
 impostor =
-    from 0 (client 1) (get_t []) ∷ tick_at 0 ∷ from 0 (client 2) content ∷ from 0 origin (answer 0x68 0x45 1 2 (0xFF ∷ 0x39 ∷ [])) ∷ from 0 origin (answer 0x68 0x45 2 1 (0xFF ∷ 0x39 ∷ []))
-    ∷ from 0 origin (answer 0x48 0x45 9 1 (0xFF ∷ 0x39 ∷ [])) ∷ from 0 origin (answer 0x58 0x45 9 1 (0xFF ∷ 0x39 ∷ [])) ∷ tick_at 0 ∷ from 0 origin content ∷ tick_at 0 ∷ []
+    from 0 (client 1) (get_t []) ∷ tick_at 0 ∷ from 0 (client 2) content
+    ∷ from 0 origin (answer 0x68 0x45 1 2 (0xFF ∷ 0x39 ∷ []))
+    ∷ from 0 origin (answer 0x68 0x45 2 1 (0xFF ∷ 0x39 ∷ []))
+    ∷ from 0 origin (answer 0x48 0x45 9 1 (0xFF ∷ 0x39 ∷ []))
+    ∷ from 0 origin (answer 0x58 0x45 9 1 (0xFF ∷ 0x39 ∷ [])) ∷ tick_at 0 ∷ from 0 origin content
+    ∷ tick_at 0 ∷ []
 
 abbrev pub impostor_sent : List Sent
 impostor_sent =
-    nothing Opened ∷ to SentRequest origin (get_temp []) ∷ nothing Ignored ∷ nothing Ignored ∷ nothing Ignored
-    ∷ to Rejected origin (0x70 ∷ 0 ∷ 0 ∷ 9 ∷ []) ∷ nothing Ignored ∷ nothing Idle ∷ nothing (Answered NotStored) ∷ to Delivered (client 1) (content_for_client 10) ∷ []
+    nothing Opened ∷ to SentRequest origin (get_temp []) ∷ nothing Ignored ∷ nothing Ignored
+    ∷ nothing Ignored
+    ∷ to Rejected origin (0x70 ∷ 0 ∷ 0 ∷ 9 ∷ []) ∷ nothing Ignored ∷ nothing Idle
+    ∷ nothing (Answered NotStored) ∷ to Delivered (client 1) (content_for_client 10) ∷ []
 
 -- refusals: a method other than GET, an option that isn't understood, a path without a map
 abbrev pub refusals : List Turn
 refusals =
-    from 0 (client 1) (0x50 ∷ 2 ∷ 0 ∷ 7 ∷ 0xB1 ∷ 0x74 ∷ []) ∷ from 0 (client 1) (0x50 ∷ 1 ∷ 0 ∷ 8 ∷ 0xB1 ∷ 0x74 ∷ 0xC1 ∷ 6 ∷ [])
+    from 0 (client 1) (0x50 ∷ 2 ∷ 0 ∷ 7 ∷ 0xB1 ∷ 0x74 ∷ [])
+    ∷ from 0 (client 1) (0x50 ∷ 1 ∷ 0 ∷ 8 ∷ 0xB1 ∷ 0x74 ∷ 0xC1 ∷ 6 ∷ [])
     ∷ from 0 (client 1) (0x50 ∷ 1 ∷ 0 ∷ 9 ∷ 0xB1 ∷ 0x75 ∷ []) ∷ []
 
 abbrev pub refusals_sent : List Sent
 refusals_sent =
-    to (Refused METHOD_NOT_ALLOWED) (client 1) (0x50 ∷ 0x85 ∷ 0 ∷ 1 ∷ []) ∷ to (Refused BAD_OPTION) (client 1) (0x50 ∷ 0x82 ∷ 0 ∷ 2 ∷ [])
+    to (Refused METHOD_NOT_ALLOWED) (client 1) (0x50 ∷ 0x85 ∷ 0 ∷ 1 ∷ [])
+    ∷ to (Refused BAD_OPTION) (client 1) (0x50 ∷ 0x82 ∷ 0 ∷ 2 ∷ [])
     ∷ to (Refused NOT_FOUND) (client 1) (0x50 ∷ 0x84 ∷ 0 ∷ 3 ∷ []) ∷ []
 
 -- a second segment of so many bytes, from 13 to 268
 abbrev pub segment : ℕ → List ℕ
 segment n = 0x0D ∷ (n - 13) ∷ replicate n 0x61
 
--- with a segment of 110 bytes the request that would be sent on has 129 bytes, with one of 109 it has 128
+-- with a segment of 110 bytes the request that would be sent on has 129 bytes, with one of 109 it
+-- has 128
 abbrev pub long_paths : List Turn
-long_paths = from 0 (client 1) (get_t (segment 110)) ∷ from 0 (client 1) (get_t (segment 109)) ∷ tick_at 0 ∷ []
+long_paths =
+    from 0 (client 1) (get_t (segment 110)) ∷ from 0 (client 1) (get_t (segment 109)) ∷ tick_at 0
+    ∷ []
 
 abbrev pub long_paths_sent : List Sent
-long_paths_sent = to (Refused REQUEST_ENTITY_TOO_LARGE) (client 1) (0x50 ∷ 0x8D ∷ 0 ∷ 1 ∷ []) ∷ nothing Opened ∷ to SentRequest origin (0x48 ∷ 1 ∷ 0 ∷ 2 ∷ 0 ∷ 0 ∷ 0 ∷ 0 ∷ 0 ∷ 0 ∷ 0 ∷ 1 ∷ 0xB4 ∷ 0x74 ∷ 0x65 ∷ 0x6D ∷ 0x70 ∷ segment 109) ∷ []
+long_paths_sent =
+    to (Refused REQUEST_ENTITY_TOO_LARGE) (client 1) (0x50 ∷ 0x8D ∷ 0 ∷ 1 ∷ []) ∷ nothing Opened
+    ∷ to SentRequest origin
+    (0x48 ∷ 1 ∷ 0 ∷ 2 ∷ 0 ∷ 0 ∷ 0 ∷ 0 ∷ 0 ∷ 0 ∷ 0 ∷ 1 ∷ 0xB4 ∷ 0x74 ∷ 0x65 ∷ 0x6D ∷ 0x70
+    ∷ segment 109) ∷ []
 
 -- a segment has at most 255 bytes
 abbrev pub long_segments : List Turn
-long_segments = from 0 (client 1) (get_t (segment 256)) ∷ from 0 (client 1) (get_t (segment 255)) ∷ []
+long_segments =
+    from 0 (client 1) (get_t (segment 256)) ∷ from 0 (client 1) (get_t (segment 255)) ∷ []
 
 abbrev pub long_segments_sent : List Sent
-long_segments_sent = to (Refused BAD_OPTION) (client 1) (0x50 ∷ 0x82 ∷ 0 ∷ 1 ∷ []) ∷ nothing Opened ∷ []
+long_segments_sent =
+    to (Refused BAD_OPTION) (client 1) (0x50 ∷ 0x82 ∷ 0 ∷ 1 ∷ []) ∷ nothing Opened ∷ []
 
 -- the payload of a GET is ignored
 abbrev pub payload_in_get : List Turn
@@ -179,24 +214,30 @@ payload_in_get = from 0 (client 1) (get_t (0xFF ∷ 0x39 ∷ [])) ∷ tick_at 0 
 abbrev pub payload_in_get_sent : List Sent
 payload_in_get_sent = nothing Opened ∷ to SentRequest origin (get_temp []) ∷ []
 
--- two clients where there is room for one exchange: the second is told to try again after five seconds
+-- two clients where there is room for one exchange: the second is told to try again after five
+-- seconds
 abbrev pub full : List Turn
 full = from 0 (client 1) (get_t []) ∷ from 0 (client 3) (get_t []) ∷ []
 
 abbrev pub full_sent : List Sent
 full_sent = nothing Opened ∷ to Overloaded (client 3) (0x50 ∷ 0xA3 ∷ 0 ∷ 1 ∷ 0xD1 ∷ 1 ∷ 5 ∷ []) ∷ []
 
--- empty and malformed messages, and one of a class that isn't used: a Reset where they are confirmable,
--- else silence; fewer than four bytes, and another version, are no messages
+-- empty and malformed messages, and one of a class that isn't used: a Reset where they are
+-- confirmable, else silence; fewer than four bytes, and another version, are no messages
 abbrev pub unprocessed_messages : List Turn
 unprocessed_messages =
-    from 0 (client 1) (0x40 ∷ 0 ∷ 0 ∷ 9 ∷ []) ∷ from 0 (client 1) (0x50 ∷ 0 ∷ 0 ∷ 9 ∷ []) ∷ from 0 (client 1) (0x40 ∷ 0 ∷ 0 ∷ 9 ∷ 0 ∷ [])
-    ∷ from 0 (client 1) (0x40 ∷ 1 ∷ 0 ∷ 7 ∷ 0xFF ∷ []) ∷ from 0 (client 1) (0x40 ∷ 0x20 ∷ 0 ∷ 4 ∷ []) ∷ from 0 (client 1) (0x40 ∷ 1 ∷ 0 ∷ []) ∷ from 0 (client 1) (0 ∷ 1 ∷ 0 ∷ 7 ∷ []) ∷ []
+    from 0 (client 1) (0x40 ∷ 0 ∷ 0 ∷ 9 ∷ []) ∷ from 0 (client 1) (0x50 ∷ 0 ∷ 0 ∷ 9 ∷ [])
+    ∷ from 0 (client 1) (0x40 ∷ 0 ∷ 0 ∷ 9 ∷ 0 ∷ [])
+    ∷ from 0 (client 1) (0x40 ∷ 1 ∷ 0 ∷ 7 ∷ 0xFF ∷ [])
+    ∷ from 0 (client 1) (0x40 ∷ 0x20 ∷ 0 ∷ 4 ∷ []) ∷ from 0 (client 1) (0x40 ∷ 1 ∷ 0 ∷ [])
+    ∷ from 0 (client 1) (0 ∷ 1 ∷ 0 ∷ 7 ∷ []) ∷ []
 
 abbrev pub unprocessed_messages_sent : List Sent
 unprocessed_messages_sent =
-    to Rejected (client 1) (0x70 ∷ 0 ∷ 0 ∷ 9 ∷ []) ∷ nothing Ignored ∷ to Rejected (client 1) (0x70 ∷ 0 ∷ 0 ∷ 9 ∷ [])
-    ∷ to Rejected (client 1) (0x70 ∷ 0 ∷ 0 ∷ 7 ∷ []) ∷ to Rejected (client 1) (0x70 ∷ 0 ∷ 0 ∷ 4 ∷ []) ∷ nothing Ignored ∷ nothing Ignored ∷ []
+    to Rejected (client 1) (0x70 ∷ 0 ∷ 0 ∷ 9 ∷ []) ∷ nothing Ignored
+    ∷ to Rejected (client 1) (0x70 ∷ 0 ∷ 0 ∷ 9 ∷ [])
+    ∷ to Rejected (client 1) (0x70 ∷ 0 ∷ 0 ∷ 7 ∷ [])
+    ∷ to Rejected (client 1) (0x70 ∷ 0 ∷ 0 ∷ 4 ∷ []) ∷ nothing Ignored ∷ nothing Ignored ∷ []
 
 -- a confirmable message that is longer than a datagram may be
 abbrev pub too_long : List Turn
@@ -205,33 +246,45 @@ too_long = from 0 (client 1) (0x40 ∷ 1 ∷ 0 ∷ 7 ∷ 0xFF ∷ replicate 124 
 abbrev pub too_long_sent : List Sent
 too_long_sent = to Rejected (client 1) (0x70 ∷ 0 ∷ 0 ∷ 7 ∷ []) ∷ []
 
--- the longest payload that still fits datagrams of 128 bytes, with a token of eight bytes and a Max-Age of four; one
--- byte more is replaced by 5.02
+-- the longest payload that still fits datagrams of 128 bytes, with a token of eight bytes and a
+-- Max-Age of four; one byte more is replaced by 5.02
 abbrev pub payload_of : ℕ → List Turn
 payload_of n = answered_by 0 (answer 0x68 0x45 1 1 (0xFF ∷ replicate n 0x39))
 
 abbrev pub payload_of_109_sent : List Sent
 payload_of_109_sent = delivered_as (0x50 ∷ 0x45 ∷ 0 ∷ 2 ∷ 0xD1 ∷ 1 ∷ 60 ∷ 0xFF ∷ replicate 109 0x39)
 
--- a proxy that has given all ids but one: with it a client is told to try again, since an exchange needs two; then
--- there is no reply
+-- a proxy that has given all ids but one: with it a client is told to try again, since an exchange
+-- needs two; then there is no reply
 abbrev pub spent_proxy : World
 spent_proxy = record proxy { given = 32767 }
 
 abbrev pub last_id : List Turn
-last_id = from 0 (client 1) (get_t []) ∷ from 0 (client 2) (get_t []) ∷ from 0 (client 3) (0x50 ∷ 1 ∷ 0 ∷ 9 ∷ 0xB1 ∷ 0x75 ∷ []) ∷ []
+last_id = from 0 (client 1) (get_t []) ∷ from 0 (client 2) (get_t [])
+    ∷ from 0 (client 3) (0x50 ∷ 1 ∷ 0 ∷ 9 ∷ 0xB1 ∷ 0x75 ∷ []) ∷ []
 
 abbrev pub last_id_sent : List Sent
-last_id_sent = to Overloaded (client 1) (0x50 ∷ 0xA3 ∷ 0x80 ∷ 0 ∷ 0xD1 ∷ 1 ∷ 5 ∷ []) ∷ nothing NoId ∷ nothing NoId ∷ []
+last_id_sent =
+    to Overloaded (client 1) (0x50 ∷ 0xA3 ∷ 0x80 ∷ 0 ∷ 0xD1 ∷ 1 ∷ 5 ∷ []) ∷ nothing NoId
+    ∷ nothing NoId ∷ []
 
 -- ids and tokens go on from 0 behind the greatest
 abbrev pub wrapping_proxy : World
-wrapping_proxy = new_world (record { limits = default_limits; routes = fixed_routes; first_id = 65535; salt = 18446744073709551615 })
+wrapping_proxy =
+    new_world (record {
+      limits = default_limits;
+      routes = fixed_routes;
+      first_id = 65535;
+      salt = 18446744073709551615;
+    })
 
 abbrev pub wrapping : List Turn
-wrapping = from 0 (client 1) (get_t []) ∷ tick_at 0 ∷ from 0 origin (0x68 ∷ 0x44 ∷ 0xFF ∷ 0xFF ∷ replicate 8 0) ∷ tick_at 0 ∷ []
+wrapping = from 0 (client 1) (get_t []) ∷ tick_at 0
+    ∷ from 0 origin (0x68 ∷ 0x44 ∷ 0xFF ∷ 0xFF ∷ replicate 8 0) ∷ tick_at 0 ∷ []
 
 abbrev pub wrapping_sent : List Sent
 wrapping_sent =
-    nothing Opened ∷ to SentRequest origin (0x48 ∷ 1 ∷ 0xFF ∷ 0xFF ∷ 0 ∷ 0 ∷ 0 ∷ 0 ∷ 0 ∷ 0 ∷ 0 ∷ 0 ∷ 0xB4 ∷ 0x74 ∷ 0x65 ∷ 0x6D ∷ 0x70 ∷ [])
+    nothing Opened
+    ∷ to SentRequest origin
+    (0x48 ∷ 1 ∷ 0xFF ∷ 0xFF ∷ 0 ∷ 0 ∷ 0 ∷ 0 ∷ 0 ∷ 0 ∷ 0 ∷ 0 ∷ 0xB4 ∷ 0x74 ∷ 0x65 ∷ 0x6D ∷ 0x70 ∷ [])
     ∷ nothing (Answered NotStored) ∷ to Delivered (client 1) (0x50 ∷ 0x44 ∷ 0 ∷ 0 ∷ []) ∷ []

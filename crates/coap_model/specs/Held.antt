@@ -6,6 +6,7 @@ use Rattle.coap_message.specs.Message.{Message}
 use Rattle.coap_message.specs.Pieces.{pieces_spelling}
 use Rattle.coap_message.specs.Spelling.{options_spelling}
 use Rattle.coap_target.specs.declared.target.Target.{Target}
+use Rattle.coap_cache.specs.declared.key.CacheKey.{CacheKey}
 use Rattle.coap_exchange.specs.declared.exchange.ExchangeState.{ExchangeState}
 use Rattle.coap_exchange.specs.declared.exchange.ExchangeState.TheVariants.{Queued, Sent, Done}
 use Rattle.coap_exchange.specs.declared.exchange.Exchange.{Exchange}
@@ -33,9 +34,13 @@ state_bytes Queued = 0
 state_bytes (Sent s) = 0
 state_bytes (Done a) = response_bytes a.message
 
--- the form that is sent on, the target and the answer
+-- the target, and the options of the key in the bytes that spell them
+abbrev pub key_bytes : CacheKey → ℕ
+key_bytes key = target_bytes key.target + length (options_spelling 0 key.options)
+
+-- the form that is sent on, the key and the answer
 abbrev pub exchange_bytes : Numbered Exchange → ℕ
-exchange_bytes x = length x.1.form + target_bytes x.1.target + state_bytes x.1.state
+exchange_bytes x = length x.1.form + key_bytes x.1.key + state_bytes x.1.state
 
 -- a client's token, and its tags, each with its length in front of it
 abbrev pub waiter_bytes : Numbered Waiter → ℕ

@@ -1,13 +1,15 @@
 -- What justifies each entry of a history: the entries before it alone. No table is named.
-use Rattle.std.specs.Prelude.{◌≡◌, ◌≢◌, ℕ, ◌+◌, ◌%◌, ◌<◌, ◌≤◌, true, List, [], ◌∷◌, Some, None, Ok}
+use Rattle.std.specs.Prelude.{◌≡◌, ◌≢◌, ℕ, ◌+◌, ◌%◌, ◌<◌, ◌≤◌, Bool, true, false, List, [], ◌∷◌, Some, None, Ok}
 use Rattle.coap_message.specs.declared.kind.Kind.TheVariants.{Con, Non}
 use Rattle.coap_message.specs.declared.code.Code.{Code}
+use Rattle.coap_message.specs.declared.code.TheConstants.Code.{REQUEST_ENTITY_TOO_LARGE}
 use Rattle.coap_message.specs.declared.message.Head.{Head}
 use Rattle.coap_message.specs.Message.{Message}
 use Rattle.coap_message.specs.Reading.{head_at}
 use Rattle.coap_message.specs.Spelling.{Spells}
 use Rattle.coap_target.specs.declared.endpoint.Endpoint.{Endpoint}
 use Rattle.coap_target.specs.declared.target.Target.{Target}
+use Rattle.coap_cache.specs.declared.key.CacheKey.{CacheKey}
 use Rattle.coap_option.specs.Selection.{sent_on, tags_of}
 use Rattle.coap_routes.specs.Request.{request_target}
 use Rattle.coap_model.specs.declared.report.Outcome.{Outcome}
@@ -18,7 +20,7 @@ use Rattle.coap_model.specs.Events.{Event, arrival, tick}
 use Rattle.coap_message.specs.Codes.{is_request}
 use Rattle.coap_model.specs.Messages.{reset, own_reply, busy_reply, token_of}
 use Rattle.coap_model.specs.Forms.{forwarded, key_sent, request_key}
-use Rattle.coap_model.specs.Verdicts.{Verdict, refused_with, may_open, verdict_of}
+use Rattle.coap_model.specs.Verdicts.{Verdict, refused_with, may_ask, verdict_of, form_fits}
 use Rattle.coap_model.specs.Answers.{answer_of, shown}
 use Rattle.coap_model.specs.Due.{IsDueAt, IsSooner}
 use Rattle.coap_model.specs.History.{Entry, Act, no_item, admits, moves, serves, Deed, Place, IsPlaceOf, Never, gives_id, opened_in, ids_in, HasIds, HasRoom, Opens, Brings, Sends, Meets, Gets, Serves, Gives}
@@ -41,9 +43,13 @@ pub record WasOpened (setting : Setting) (past : List Deed) (number : ℕ) : Typ
   pub opens : Opens number opening
   pub asked : IsRequestOf setting client request opening.deed.entry.event
 
--- what becomes of a request, leaving room aside
+-- what becomes of a request, leaving room and what is stored aside
 abbrev pub verdict_on : Setting → Message → Verdict
-verdict_on setting request = verdict_of setting.routes setting.limits.datagram request
+verdict_on setting request = verdict_of setting.routes request
+
+-- what would be sent on for a key fits a datagram
+abbrev pub fits_on : Setting → CacheKey → Message → Bool
+fits_on setting key request = form_fits setting.limits.datagram key.target request
 
 -- the datagram goes to this endpoint and is this message
 pub record Tells (to : Endpoint) (m : Message) (e : Entry) : Type 0 where
@@ -55,26 +61,38 @@ pub record IsSilent (e : Entry) : Type 0 where
   pub sent : e.report.send ≡ None
   pub bytes : e.bytes ≡ []
 
--- a refusal: the code is the one that the request deserves
+-- A request deserves a code: by its verdict, or since what would be sent on is too long for a
+-- datagram.
+pub data Deserves (setting : Setting) (request : Message) (code : Code) : Type 0 where
+  by_verdict : verdict_on setting request ≡ refused_with code → Deserves setting request code
+  by_length :
+      (key : CacheKey)
+      → verdict_on setting request ≡ may_ask key
+      → fits_on setting key request ≡ false
+      → code ≡ REQUEST_ENTITY_TOO_LARGE
+      → Deserves setting request code
+
+-- a refusal: the code is one that the request deserves
 pub record IsRefusal (setting : Setting) (past : List Deed) (d : Deed) (code : Code) : Type 0 where
   pub act : d.act ≡ no_item
   pub client : Endpoint
   pub request : Message
   pub id : ℕ
   pub asked : IsRequestOf setting client request d.entry.event
-  pub verdict : verdict_on setting request ≡ refused_with code
+  pub deserved : Deserves setting request code
   pub ids : HasIds 1 past
   pub tells : Tells client (own_reply code [] id request.token) d.entry
 
--- 5.03: the request could be opened, but there is no room
+-- 5.03: an exchange could be opened, but there is no room
 pub record IsOverload (setting : Setting) (past : List Deed) (d : Deed) : Type 0 where
   pub act : d.act ≡ no_item
   pub client : Endpoint
   pub request : Message
-  pub target : Target
+  pub key : CacheKey
   pub id : ℕ
   pub asked : IsRequestOf setting client request d.entry.event
-  pub verdict : verdict_on setting request ≡ may_open target
+  pub verdict : verdict_on setting request ≡ may_ask key
+  pub fits : fits_on setting key request ≡ true
   pub no_room : ¬ HasRoom setting.limits past
   pub ids : HasIds 1 past
   pub tells : Tells client (busy_reply setting.limits.retry_s id request.token) d.entry
@@ -88,14 +106,16 @@ pub record IsLack (setting : Setting) (past : List Deed) (d : Deed) : Type 0 whe
   pub no_ids : ¬ HasIds 1 past
   pub silent : IsSilent d.entry
 
--- an exchange is opened: the request may be opened, and there is room
+-- an exchange is opened: the request may be asked for, what would be sent on fits, and there is
+-- room
 pub record IsOpening (setting : Setting) (past : List Deed) (d : Deed) : Type 0 where
   pub act : d.act ≡ admits (opened_in past + 1) (opened_in past + 1)
   pub client : Endpoint
   pub request : Message
-  pub target : Target
+  pub key : CacheKey
   pub asked : IsRequestOf setting client request d.entry.event
-  pub verdict : verdict_on setting request ≡ may_open target
+  pub verdict : verdict_on setting request ≡ may_ask key
+  pub fits : fits_on setting key request ≡ true
   pub room : HasRoom setting.limits past
   pub silent : IsSilent d.entry
 
@@ -121,7 +141,9 @@ pub record IsForwarding (setting : Setting) (past : List Deed) (d : Deed) : Type
   pub target_is : request_target setting.routes opened.request ≡ Ok target
   pub first : Never (Sends setting.salt exchange) past
   pub acting : IsActing setting past d
-  pub tells : Tells target.at (forwarded (token_of setting.salt exchange) target (sent_on opened.request) id) d.entry
+  pub tells :
+      Tells target.at
+      (forwarded (token_of setting.salt exchange) target (sent_on opened.request) id) d.entry
 
 -- an answer is got for an exchange that had none
 pub record IsAnswer (setting : Setting) (past : List Deed) (d : Deed) : Type 0 where
@@ -130,10 +152,10 @@ pub record IsAnswer (setting : Setting) (past : List Deed) (d : Deed) : Type 0 w
   pub first : Never (Gets setting exchange) past
   pub silent : IsSilent d.entry
 
--- A delivery: the exchange that was opened for this client's request was got after that, the request
--- that was sent for it has the cache key of the client's, and the datagram is what this client is
--- shown of the answer: with what is left of its Max-Age, or as a 2.03 where one of its tags is the
--- answer's.
+-- A delivery: the exchange that was opened for this client's request was got after that, the
+-- request that was sent for it has the cache key of the client's, and the datagram is what this
+-- client is shown of the answer: with what is left of its Max-Age, or as a 2.03 where one of its
+-- tags is the answer's.
 pub record IsDelivery (setting : Setting) (past : List Deed) (d : Deed) : Type 0 where
   pub waiter : ℕ
   pub act : d.act ≡ serves waiter
@@ -152,8 +174,9 @@ pub record IsDelivery (setting : Setting) (past : List Deed) (d : Deed) : Type 0
   pub acting : IsActing setting past d
   pub tells :
       Tells opened.client
-      (shown d.entry.now (answer_of setting.limits.datagram getting.deed.entry.now gets.meets.response) id opened.request.token
-      (tags_of opened.request)) d.entry
+      (shown d.entry.now
+      (answer_of setting.limits.datagram getting.deed.entry.now gets.meets.response) id
+      opened.request.token (tags_of opened.request)) d.entry
 
 -- ---- what isn't processed
 

@@ -1,5 +1,5 @@
--- Runs of the step with other limits, another first id and another salt, and where ids run out, computed on the
--- definitions.
+-- Runs of the step with other limits, another first id and another salt, and where ids run out,
+-- computed on the definitions.
 use Rattle.std.specs.Prelude.{ℕ, List, [], ◌∷◌, ◌++◌, replicate}
 use Rattle.coap_message.specs.declared.code.TheConstants.Code.{NOT_FOUND}
 use Rattle.coap_routes.specs.Routes.{fixed_routes}
@@ -12,7 +12,13 @@ use Rattle.coap_model.specs.Examples.{Sent, origin, client, from, tick_at, nothi
 
 -- a proxy of these limits
 abbrev pub proxy_of : Limits → World
-proxy_of limits = new_world (record { limits = limits; routes = fixed_routes; first_id = 1; salt = 0 })
+proxy_of limits =
+    new_world (record {
+      limits = limits;
+      routes = fixed_routes;
+      first_id = 1;
+      salt = 0;
+    })
 
 -- with room for one exchange, and for one client that waits
 abbrev pub one_exchange : World
@@ -21,9 +27,11 @@ one_exchange = proxy_of (record default_limits { exchanges = 1 })
 abbrev pub one_waiter : World
 one_waiter = proxy_of (record default_limits { waiters = 1 })
 
--- the request of an exchange, and its answer of ten seconds, with its id and the last byte of its token
+-- the request of an exchange, and its answer of ten seconds, with its id and the last byte of its
+-- token
 abbrev pub asked : ℕ → ℕ → List ℕ
-asked id token = 0x48 ∷ 1 ∷ 0 ∷ id ∷ 0 ∷ 0 ∷ 0 ∷ 0 ∷ 0 ∷ 0 ∷ 0 ∷ token ∷ 0xB4 ∷ 0x74 ∷ 0x65 ∷ 0x6D ∷ 0x70 ∷ []
+asked id token =
+    0x48 ∷ 1 ∷ 0 ∷ id ∷ 0 ∷ 0 ∷ 0 ∷ 0 ∷ 0 ∷ 0 ∷ 0 ∷ token ∷ 0xB4 ∷ 0x74 ∷ 0x65 ∷ 0x6D ∷ 0x70 ∷ []
 
 abbrev pub got : ℕ → ℕ → List ℕ
 got id token = answer 0x68 0x45 id token (0xD1 ∷ 1 ∷ 10 ∷ 0xFF ∷ 0x32 ∷ 0x31 ∷ [])
@@ -43,18 +51,24 @@ not_found high low = 0x50 ∷ 0x84 ∷ high ∷ low ∷ []
 abbrev pub busy : ℕ → List ℕ → List ℕ
 busy id after = 0x50 ∷ 0xA3 ∷ 0 ∷ id ∷ after
 
--- a full proxy: 5.03 until its one client is served; what is refused for another cause is refused so
+-- a full proxy: 5.03 until its one client is served; what is refused for another cause is refused
+-- so
 abbrev pub until_served : List Turn
 until_served =
-    from 0 (client 1) (get_t []) ∷ from 0 (client 3) (get_t []) ∷ tick_at 1 ∷ from 2 (client 3) (0x51 ∷ 1 ∷ 0 ∷ 2 ∷ 0xAA ∷ 0xB1 ∷ 0x74 ∷ [])
+    from 0 (client 1) (get_t []) ∷ from 0 (client 3) (get_t []) ∷ tick_at 1
+    ∷ from 2 (client 3) (0x51 ∷ 1 ∷ 0 ∷ 2 ∷ 0xAA ∷ 0xB1 ∷ 0x74 ∷ [])
     ∷ from 3 origin (got 2 1) ∷ from 3 (client 3) (get_t []) ∷ from 3 (client 3) get_u ∷ tick_at 3
     ∷ from 3 (client 3) (get_t []) ∷ tick_at 4 ∷ from 5 origin (got 7 2) ∷ tick_at 5 ∷ []
 
 abbrev pub until_served_sent : List Sent
 until_served_sent =
-    nothing Opened ∷ to Overloaded (client 3) (busy 1 (0xD1 ∷ 1 ∷ 5 ∷ [])) ∷ to SentRequest origin (asked 2 1) ∷ to Overloaded (client 3) (0x51 ∷ 0xA3 ∷ 0 ∷ 3 ∷ 0xAA ∷ 0xD1 ∷ 1 ∷ 5 ∷ [])
-    ∷ nothing (Answered NotStored) ∷ to Overloaded (client 3) (busy 4 (0xD1 ∷ 1 ∷ 5 ∷ [])) ∷ to (Refused NOT_FOUND) (client 3) (not_found 0 5) ∷ to Delivered (client 1) (for_client 6)
-    ∷ nothing Opened ∷ to SentRequest origin (asked 7 2) ∷ nothing (Answered NotStored) ∷ to Delivered (client 3) (for_client 8) ∷ []
+    nothing Opened ∷ to Overloaded (client 3) (busy 1 (0xD1 ∷ 1 ∷ 5 ∷ []))
+    ∷ to SentRequest origin (asked 2 1)
+    ∷ to Overloaded (client 3) (0x51 ∷ 0xA3 ∷ 0 ∷ 3 ∷ 0xAA ∷ 0xD1 ∷ 1 ∷ 5 ∷ [])
+    ∷ nothing (Answered NotStored) ∷ to Overloaded (client 3) (busy 4 (0xD1 ∷ 1 ∷ 5 ∷ []))
+    ∷ to (Refused NOT_FOUND) (client 3) (not_found 0 5) ∷ to Delivered (client 1) (for_client 6)
+    ∷ nothing Opened ∷ to SentRequest origin (asked 7 2) ∷ nothing (Answered NotStored)
+    ∷ to Delivered (client 3) (for_client 8) ∷ []
 
 -- the time after which to try again is a limit: none, and an hour
 abbrev pub retries_after : ℕ → World
@@ -72,25 +86,39 @@ narrow = proxy_of (record default_limits { datagram = 128 })
 
 abbrev pub long_datagrams : List Turn
 long_datagrams =
-    from 0 (client 1) (0x40 ∷ 1 ∷ 0 ∷ 7 ∷ 0xB1 ∷ 0x74 ∷ 0xFF ∷ replicate 122 0x66) ∷ from 0 (client 1) (get_t (0xFF ∷ replicate 122 0x66))
+    from 0 (client 1) (0x40 ∷ 1 ∷ 0 ∷ 7 ∷ 0xB1 ∷ 0x74 ∷ 0xFF ∷ replicate 122 0x66)
+    ∷ from 0 (client 1) (get_t (0xFF ∷ replicate 122 0x66))
     ∷ from 0 (client 1) (get_t (0xFF ∷ replicate 121 0x66)) ∷ []
 
 abbrev pub long_datagrams_sent : List Sent
-long_datagrams_sent = to Rejected (client 1) (0x70 ∷ 0 ∷ 0 ∷ 7 ∷ []) ∷ nothing Ignored ∷ nothing Opened ∷ []
+long_datagrams_sent =
+    to Rejected (client 1) (0x70 ∷ 0 ∷ 0 ∷ 7 ∷ []) ∷ nothing Ignored ∷ nothing Opened ∷ []
 
 -- ids and tokens are counted on from the first id and the salt
 abbrev pub later_proxy : World
-later_proxy = new_world (record { limits = default_limits; routes = fixed_routes; first_id = 0x1234; salt = 0x0102030405060708 })
+later_proxy =
+    new_world (record {
+      limits = default_limits;
+      routes = fixed_routes;
+      first_id = 0x1234;
+      salt = 0x0102030405060708;
+    })
 
 abbrev pub counted_on : List Turn
 counted_on =
     from 0 (client 1) (get_t []) ∷ tick_at 0
-    ∷ from 0 origin (0x68 ∷ 0x45 ∷ 0x12 ∷ 0x34 ∷ 1 ∷ 2 ∷ 3 ∷ 4 ∷ 5 ∷ 6 ∷ 7 ∷ 9 ∷ 0xD1 ∷ 1 ∷ 10 ∷ 0xFF ∷ 0x32 ∷ 0x31 ∷ []) ∷ tick_at 0 ∷ []
+    ∷ from 0 origin
+    (0x68 ∷ 0x45 ∷ 0x12 ∷ 0x34 ∷ 1 ∷ 2 ∷ 3 ∷ 4 ∷ 5 ∷ 6 ∷ 7 ∷ 9 ∷ 0xD1 ∷ 1 ∷ 10 ∷ 0xFF ∷ 0x32 ∷ 0x31
+    ∷ []) ∷ tick_at 0 ∷ []
 
 abbrev pub counted_on_sent : List Sent
 counted_on_sent =
-    nothing Opened ∷ to SentRequest origin (0x48 ∷ 1 ∷ 0x12 ∷ 0x34 ∷ 1 ∷ 2 ∷ 3 ∷ 4 ∷ 5 ∷ 6 ∷ 7 ∷ 9 ∷ 0xB4 ∷ 0x74 ∷ 0x65 ∷ 0x6D ∷ 0x70 ∷ [])
-    ∷ nothing (Answered NotStored) ∷ to Delivered (client 1) (0x50 ∷ 0x45 ∷ 0x12 ∷ 0x35 ∷ 0xD1 ∷ 1 ∷ 10 ∷ 0xFF ∷ 0x32 ∷ 0x31 ∷ []) ∷ []
+    nothing Opened
+    ∷ to SentRequest origin
+    (0x48 ∷ 1 ∷ 0x12 ∷ 0x34 ∷ 1 ∷ 2 ∷ 3 ∷ 4 ∷ 5 ∷ 6 ∷ 7 ∷ 9 ∷ 0xB4 ∷ 0x74 ∷ 0x65 ∷ 0x6D ∷ 0x70 ∷ [])
+    ∷ nothing (Answered NotStored)
+    ∷ to Delivered (client 1) (0x50 ∷ 0x45 ∷ 0x12 ∷ 0x35 ∷ 0xD1 ∷ 1 ∷ 10 ∷ 0xFF ∷ 0x32 ∷ 0x31 ∷ [])
+    ∷ []
 
 -- a proxy that has given so many ids of 32,768
 abbrev pub after_ids : ℕ → World
@@ -98,14 +126,18 @@ after_ids count = record proxy { given = count }
 
 -- Where no id is free there is no reply to a request, but a Reset has the id of what it rejects.
 abbrev pub without_ids : List Turn
-without_ids = from 0 (client 1) get_u ∷ from 0 (client 1) (get_t []) ∷ from 0 (client 1) (0x40 ∷ 0 ∷ 0 ∷ 9 ∷ []) ∷ []
+without_ids =
+    from 0 (client 1) get_u ∷ from 0 (client 1) (get_t [])
+    ∷ from 0 (client 1) (0x40 ∷ 0 ∷ 0 ∷ 9 ∷ []) ∷ []
 
 abbrev pub without_ids_sent : List Sent
 without_ids_sent = nothing NoId ∷ nothing NoId ∷ to Rejected (client 1) (0x70 ∷ 0 ∷ 0 ∷ 9 ∷ []) ∷ []
 
 -- an answer to the request with the last id but one
 abbrev pub last_answer : List ℕ
-last_answer = 0x68 ∷ 0x45 ∷ 0x7F ∷ 0xFF ∷ 0 ∷ 0 ∷ 0 ∷ 0 ∷ 0 ∷ 0 ∷ 0 ∷ 1 ∷ 0xD1 ∷ 1 ∷ 10 ∷ 0xFF ∷ 0x32 ∷ 0x31 ∷ []
+last_answer =
+    0x68 ∷ 0x45 ∷ 0x7F ∷ 0xFF ∷ 0 ∷ 0 ∷ 0 ∷ 0 ∷ 0 ∷ 0 ∷ 0 ∷ 1 ∷ 0xD1 ∷ 1 ∷ 10 ∷ 0xFF ∷ 0x32 ∷ 0x31
+    ∷ []
 
 -- the last id goes to a refusal
 abbrev pub last_refusal : List Turn
@@ -116,9 +148,14 @@ last_refusal_sent = to (Refused NOT_FOUND) (client 1) (not_found 0x80 0) ∷ wit
 
 -- with two ids left an exchange is opened, which keeps both
 abbrev pub kept_ids : List Turn
-kept_ids = from 0 (client 1) (get_t []) ∷ without_ids ++ tick_at 0 ∷ without_ids ++ from 0 origin last_answer ∷ tick_at 0 ∷ without_ids
+kept_ids = from 0 (client 1) (get_t []) ∷ without_ids ++ tick_at 0 ∷ without_ids
+    ++ from 0 origin last_answer ∷ tick_at 0 ∷ without_ids
 
 abbrev pub kept_ids_sent : List Sent
 kept_ids_sent =
-    nothing Opened ∷ without_ids_sent ++ to SentRequest origin (0x48 ∷ 1 ∷ 0x7F ∷ 0xFF ∷ 0 ∷ 0 ∷ 0 ∷ 0 ∷ 0 ∷ 0 ∷ 0 ∷ 1 ∷ 0xB4 ∷ 0x74 ∷ 0x65 ∷ 0x6D ∷ 0x70 ∷ [])
-    ∷ without_ids_sent ++ nothing (Answered NotStored) ∷ to Delivered (client 1) (0x50 ∷ 0x45 ∷ 0x80 ∷ 0 ∷ 0xD1 ∷ 1 ∷ 10 ∷ 0xFF ∷ 0x32 ∷ 0x31 ∷ []) ∷ without_ids_sent
+    nothing Opened ∷ without_ids_sent
+    ++ to SentRequest origin
+    (0x48 ∷ 1 ∷ 0x7F ∷ 0xFF ∷ 0 ∷ 0 ∷ 0 ∷ 0 ∷ 0 ∷ 0 ∷ 0 ∷ 1 ∷ 0xB4 ∷ 0x74 ∷ 0x65 ∷ 0x6D ∷ 0x70 ∷ [])
+    ∷ without_ids_sent ++ nothing (Answered NotStored)
+    ∷ to Delivered (client 1) (0x50 ∷ 0x45 ∷ 0x80 ∷ 0 ∷ 0xD1 ∷ 1 ∷ 10 ∷ 0xFF ∷ 0x32 ∷ 0x31 ∷ [])
+    ∷ without_ids_sent

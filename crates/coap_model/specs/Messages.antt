@@ -38,7 +38,8 @@ reset id = record { kind = Rst; code = EMPTY; id = id; token = []; options = [];
 
 -- a reply of the proxy's own to a client's token
 abbrev pub own_reply : Code → List Opt → ℕ → List ℕ → Message
-own_reply code options id token = record { kind = Non; code = code; id = id; token = token; options = options; payload = [] }
+own_reply code options id token =
+    record { kind = Non; code = code; id = id; token = token; options = options; payload = [] }
 
 -- 5.03, with the seconds after which to try again (RFC 7252, 5.9.3.4)
 abbrev pub busy_reply : ℕ → ℕ → List ℕ → Message

@@ -1,7 +1,7 @@
 -- Words about options and targets, computed: the form that is sent on, the keys read off it and off
 -- the client's request, what is shown to clients with tags, and what is refused for which reason.
 -- The bytes are those of RFC 7252 (3, 3.1, 5.10), written out.
-use Rattle.std.specs.Prelude.{ℕ, ◌-◌, List, [], ◌∷◌, ◌++◌, codes, replicate, Option, Some, None, option_map}
+use Rattle.std.specs.Prelude.{ℕ, ◌-◌, List, [], ◌∷◌, ◌++◌, codes, replicate, Option, None, option_map}
 use Rattle.std.specs.Result.{result_ok}
 use Rattle.coap_message.specs.declared.code.TheConstants.Code.{BAD_REQUEST, BAD_OPTION, NOT_FOUND, PROXYING_NOT_SUPPORTED}
 use Rattle.coap_message.specs.declared.kind.Kind.TheVariants.{Non}
@@ -11,7 +11,6 @@ use Rattle.coap_message.specs.Options.{option_of}
 use Rattle.coap_message.specs.Reading.{read_message}
 use Rattle.coap_target.specs.declared.endpoint.Endpoint.{Endpoint}
 use Rattle.coap_target.specs.declared.endpoint.Ip.TheVariants.{V4}
-use Rattle.coap_target.specs.declared.target.Target.{Target}
 use Rattle.coap_routes.specs.declared.routes.Routes.{Routes}
 use Rattle.coap_uri.specs.declared.uri.HostPart.TheVariants.{Name}
 use Rattle.coap_routes.specs.Routes.{fixed_map}
@@ -156,8 +155,8 @@ forward_proxy =
 abbrev pub with_scheme : List ℕ → List ℕ
 with_scheme options = 0x50 ∷ 1 ∷ 0 ∷ 7 ∷ (options ++ codes "coap")
 
--- A Uri-Port of 0; the host `b`, which isn't known; a path without a map, at the proxy itself; then an
--- unsafe option and a Uri-Port of 0 at once: the options come before the target.
+-- A Uri-Port of 0; the host `b`, which isn't known; a path without a map, at the proxy itself; then
+-- an unsafe option and a Uri-Port of 0 at once: the options come before the target.
 abbrev pub refused_targets : List Turn
 refused_targets =
     from 0 (client 1) (with_scheme (0x31 ∷ 0x62 ∷ 0x40 ∷ 0xD4 ∷ 19 ∷ []))

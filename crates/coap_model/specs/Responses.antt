@@ -26,7 +26,7 @@ has_id id (Done a) = false
 abbrev pub awaits : ℕ → Endpoint → Message → Numbered Exchange → Bool
 awaits salt source m x =
     has_id m.id x.1.state
-    && (same_endpoint x.1.target.at source && same_bytes (token_of salt x.0) m.token)
+    && (same_endpoint x.1.key.target.at source && same_bytes (token_of salt x.0) m.token)
 
 abbrev pub awaiting : World → Endpoint → Message → Option (Numbered Exchange)
 awaiting w source m = find (awaits w.setting.salt source m) w.exchanges
@@ -35,7 +35,9 @@ awaiting w source m = find (awaits w.setting.salt source m) w.exchanges
 abbrev pub answers : World → ℕ → Message → Numbered Exchange → Step
 answers w now m x =
     silent (Answered NotStored)
-    (record (later w now) { exchanges = with_state x.0 (Done (answer_of w.setting.limits.datagram now m)) w.exchanges })
+    (record (later w now) {
+      exchanges = with_state x.0 (Done (answer_of w.setting.limits.datagram now m)) w.exchanges;
+    })
 
 abbrev pub on_awaited : World → ℕ → Message → Option (Numbered Exchange) → Step
 on_awaited w now m None = ignores w now

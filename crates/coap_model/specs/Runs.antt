@@ -19,7 +19,8 @@ AreTurns last (t ∷ turns) = (last ≤ t.now) × IsEvent t.event × AreTurns t.
 
 -- the entry of a step
 abbrev pub entry_of : ℕ → ℕ → Event → Step → Entry
-entry_of now draw event s = record { now = now; draw = draw; event = event; report = s.report; bytes = s.bytes }
+entry_of now draw event s =
+    record { now = now; draw = draw; event = event; report = s.report; bytes = s.bytes }
 
 -- the entry of the step of an event at a moment
 abbrev pub answer_at : World → ℕ → ℕ → Event → Entry

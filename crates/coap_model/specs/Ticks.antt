@@ -39,7 +39,7 @@ with_id id (a ∷ b ∷ c ∷ d ∷ rest) = a ∷ b ∷ id / 256 ∷ id % 256 �
 abbrev pub sends : World → ℕ → Numbered Exchange → Step
 sends w now x =
     record {
-      report = record { send = Some x.1.target.at; outcome = SentRequest };
+      report = record { send = Some x.1.key.target.at; outcome = SentRequest };
       bytes = with_id (next_id w) x.1.form;
       world = record (later w now) {
         exchanges = with_state x.0 (Sent (record { asked = w.events; id = next_id w })) w.exchanges;

@@ -53,10 +53,12 @@ abbrev pub later : World → ℕ → World
 later w now = record w { last = now; events = w.events + 1 }
 
 abbrev pub silent : Outcome → World → Step
-silent outcome w = record { report = record { send = None; outcome = outcome }; bytes = []; world = w }
+silent outcome w =
+    record { report = record { send = None; outcome = outcome }; bytes = []; world = w }
 
 abbrev pub says : Outcome → Endpoint → Message → World → Step
-says outcome to m w = record { report = record { send = Some to; outcome = outcome }; bytes = spelling m; world = w }
+says outcome to m w =
+    record { report = record { send = Some to; outcome = outcome }; bytes = spelling m; world = w }
 
 -- the datagram is no one's business
 abbrev pub ignores : World → ℕ → Step

@@ -1,12 +1,12 @@
 //! Laws of the step: public functions that do nothing, whose contracts are the laws.
-ghost use Rattle.std.specs.Prelude.{◌≡◌, ◌≢◌, ℕ, ◌+◌, ◌-◌, ◌*◌, ◌<◌, ◌≤◌, List, [], ◌∷◌, filter, length, Some, None};
+ghost use Rattle.std.specs.Prelude.{◌≡◌, ◌≢◌, ℕ, ◌+◌, ◌-◌, ◌*◌, ◌<◌, ◌≤◌, true, List, [], ◌∷◌, filter, length, Some, None};
 ghost use Rattle.coap_message.specs.declared.kind.Kind.TheVariants.{Con};
 ghost use Rattle.coap_message.specs.declared.message.Head.{Head};
 ghost use Rattle.coap_message.specs.Message.{Message};
 ghost use Rattle.coap_message.specs.Reading.{head_at};
 ghost use Rattle.coap_message.specs.Spelling.{spelling};
 ghost use Rattle.coap_target.specs.declared.endpoint.Endpoint.{Endpoint};
-ghost use Rattle.coap_target.specs.declared.target.Target.{Target};
+ghost use Rattle.coap_cache.specs.declared.key.CacheKey.{CacheKey};
 ghost use Rattle.coap_routes.specs.Routes.{AreRoutes};
 ghost use Rattle.coap_exchange.specs.declared.exchange.Answer.{Answer};
 ghost use Rattle.coap_model.specs.Limits.{AreLimits, default_limits};
@@ -18,7 +18,7 @@ ghost use Rattle.coap_option.specs.declared.side.Side.{Side};
 ghost use Rattle.coap_option.specs.Screening.{first_refused};
 ghost use Rattle.coap_option.specs.Selection.{max_age_of, sent_on};
 ghost use Rattle.coap_model.specs.Forms.{forwarded, goes_on, request_key};
-ghost use Rattle.coap_model.specs.Verdicts.{may_open};
+ghost use Rattle.coap_model.specs.Verdicts.{may_ask};
 ghost use Rattle.coap_model.specs.Answers.{left_of};
 ghost use Rattle.coap_model.specs.Events.{Event, arrival, tick, IsEvent};
 ghost use Rattle.coap_model.specs.World.{World, new_world, counts};
@@ -26,7 +26,7 @@ ghost use Rattle.coap_model.specs.Step.{step_of};
 ghost use Rattle.coap_model.specs.Ticks.{next_due};
 ghost use Rattle.coap_model.specs.History.{Entry, Act, no_item, serves, Deed, HasRoom};
 ghost use Rattle.coap_model.specs.Due.{IsDueAt, IsNextDue};
-ghost use Rattle.coap_model.specs.Justified.{IsRequestOf, verdict_on, IsAwaited, IsActing, IsDelivery, JustifiedBy, AllJustified, MayFollow, AreOfOneTurn};
+ghost use Rattle.coap_model.specs.Justified.{IsRequestOf, verdict_on, fits_on, IsAwaited, IsActing, IsDelivery, JustifiedBy, AllJustified, MayFollow, AreOfOneTurn};
 ghost use Rattle.coap_model.specs.Forged as forged;
 ghost use Rattle.coap_model.specs.Forged.{asked, delivery, right, at_an_arrival};
 ghost use Rattle.coap_model.specs.Carries.{Carries};
@@ -214,15 +214,16 @@ pub fn what_is_carried_is_promised()
 {}
 
 /// What is owed is given, where an entry is justified by what was done before it: a request that
-/// may be opened, with room, is opened; a response that an exchange awaits is its answer; a
+/// may be asked for, with room, is opened; a response that an exchange awaits is its answer; a
 /// confirmable datagram is rejected where it isn't processed, which is always so far; and a tick at
 /// which something is due does what is due first.
 pub fn what_is_owed_is_given()
     ensures opened { (setting : Setting) (past : List Deed) (d : Deed) (client : Endpoint) (request : Message)
-        (target : Target)
+        (key : CacheKey)
         → JustifiedBy d.entry.report.outcome setting past d
         → IsRequestOf setting client request d.entry.event
-        → verdict_on setting request ≡ may_open target
+        → verdict_on setting request ≡ may_ask key
+        → fits_on setting key request ≡ true
         → HasRoom setting.limits past
         → d.entry.report.outcome ≡ Opened }
     ensures answered { (setting : Setting) (past : List Deed) (d : Deed) (exchange : ℕ)
@@ -245,8 +246,8 @@ pub fn what_is_owed_is_given()
 {}
 
 /// The histories allow one answer: two deeds that may follow the same deeds, of one event at one
-/// moment with one draw, are one deed; and the entry of what may follow what a proxy carries is what
-/// its step answers. So the traffic alone says all that a proxy does.
+/// moment with one draw, are one deed; and the entry of what may follow what a proxy carries is
+/// what its step answers. So the traffic alone says all that a proxy does.
 pub fn one_answer_is_justified()
     ensures one { (setting : Setting) (past : List Deed) (d e : Deed)
         → AllJustified setting past

@@ -15,9 +15,9 @@ pub enum Storing {
     NotStored,
 }
 
-/// What a step did. Those that come so far are `Ignored`, `Rejected`, `Refused`, `Opened`, `Overloaded`,
-/// `NoId`, `Answered` with `NotStored`, `SentRequest`, `Delivered` and `Idle`; the others don't
-/// come yet.
+/// What a step did. Those that come so far are `Ignored`, `Rejected`, `Refused`, `Opened`,
+/// `Overloaded`, `NoId`, `Answered` with `NotStored`, `SentRequest`, `Delivered` and `Idle`; the
+/// others don't come yet.
 #[derive(Clone, Copy, Debug, PartialEq, Eq)]
 pub enum Outcome {
     /// Nothing: the datagram is no one's business.

@@ -6,12 +6,12 @@ use Rattle.coap_routes.specs.Request.{request_target}
 use Rattle.coap_routes.specs.Routes.{mapped_target}
 use Rattle.coap_model.specs.Messages.{token_of}
 use Rattle.coap_model.specs.Forms.{target_sent, target_options}
-use Rattle.coap_model.specs.Verdicts.{verdict_of}
+use Rattle.coap_model.specs.Verdicts.{verdict_of, form_fits}
 use Rattle.coap_model.specs.Answers.{answer_of}
 use Rattle.coap_model.specs.Ticks.{with_id}
 use Rattle.coap_model.specs.Step.{message_in}
 use Rattle.coap_model.proofs.laws.examples_at_edges.Goals as goal
 
 pub returns : goal.returns
-unfolding target_sent read_message body_at options_within option_at extended spelling option_spelling uint_spelling mapped_target request_target token_of target_options verdict_of answer_of with_id message_in
+unfolding target_sent read_message body_at options_within option_at extended spelling option_spelling uint_spelling mapped_target request_target token_of target_options verdict_of form_fits answer_of with_id message_in
 returns c = record { tokens = refl; two_faults = refl; of_class_3 = refl; changed_with_age = refl; two_ages = refl; greatest_age = refl; shorter_age = refl; last_second = refl; second_that_began = refl; none_left = refl; of_one_moment = refl; request_first = refl; client_first = refl; form = refl; read_back = refl; held_when_opened = refl; held_with_token = refl; held_with_host = refl; held_when_answered = refl; bound = refl; counted = refl; none_due = refl; due_at_opening = refl }
