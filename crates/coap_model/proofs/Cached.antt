@@ -16,15 +16,15 @@ use Rattle.coap_model.specs.declared.report.Outcome.{Outcome}
 use Rattle.coap_model.specs.Setting.{Setting}
 use Rattle.coap_model.specs.Forms.{key_sent, request_key}
 use Rattle.coap_model.specs.Answers.{answer_of}
-use Rattle.coap_model.specs.History.{Deed, Place, IsPlaceOf, Never, Brings, Sends}
-use Rattle.coap_model.specs.Cached.{Gains, IsObtained, Cached, cached_key, cached_size, cached_with, cached_here, leaves, IsCacheOf, empty, kept, too_large, hit, otherwise, WasObtained}
+use Rattle.coap_model.specs.History.{Deed, Place, IsPlaceOf, Never, Brings, Sends, Gets}
+use Rattle.coap_model.specs.Cached.{IsObtained, Cached, cached_key, cached_size, cached_with, cached_here, leaves, IsCacheOf, empty, kept, too_large, hit, otherwise, WasObtained}
 use Rattle.coap_model.proofs.Lists.{find-holds, All-filter}
 use Rattle.coap_model.proofs.Places.{here, same_moves, first-once, one-brought}
 
 -- ---- what is got at a place is one
 
 -- what two know who say what was got at one place
-record GetTheSame {setting : Setting} {x y : ℕ} {p : Place} (g : Gains setting x p) (h : Gains setting y p) : Type 0 where
+record GetTheSame {setting : Setting} {x y : ℕ} {p : Place} (g : Gets setting x p) (h : Gets setting y p) : Type 0 where
   pub exchange : x ≡ y
   pub asking : g.meets.asking ≡ h.meets.asking
   pub to : g.meets.asks.sends.to ≡ h.meets.asks.sends.to
@@ -39,7 +39,7 @@ one-sent salt x y p q same s t = (
 )
 
 -- the exchange, where it was asked, and the response
-gets-unique : (setting : Setting) (x y : ℕ) (p : Place) (g : Gains setting x p) (h : Gains setting y p) → GetTheSame g h
+gets-unique : (setting : Setting) (x y : ℕ) (p : Place) (g : Gets setting x p) (h : Gets setting y p) → GetTheSame g h
 gets-unique setting x y p g h =
     let exchange = same_moves x y (sym g.act ∙ h.act) in
     let a = g.meets in

@@ -4,9 +4,12 @@ use Rattle.coap_message.specs.Message.{Message}
 use Rattle.coap_target.specs.declared.endpoint.Endpoint.{Endpoint}
 use Rattle.coap_target.specs.declared.target.Target.{Target}
 use Rattle.std.specs.Prelude.{Ok}
+use Rattle.std.specs.Option.{option_map}
+use Rattle.std.proofs.lemmas.Option.{same_Some}
 use Rattle.coap_routes.specs.Request.{request_target}
 use Rattle.coap_cache.specs.declared.key.CacheKey.{CacheKey}
-use Rattle.coap_cache.specs.Entries.{Entry, entry_key, entry_size, IsStore}
+use Rattle.coap_cache.specs.declared.stored.Stored.{Stored}
+use Rattle.coap_cache.specs.Entries.{Entry, entry_key, entry_size, stored_for, IsStore}
 use Rattle.coap_cache.specs.Lists.{has_key, of_key, others, put, used}
 use Rattle.coap_cache.proofs.Distinct.{of_key-key}
 use Rattle.coap_cache.proofs.Held.{IsStore-others, IsStore-used, IsStore-put}
@@ -84,12 +87,31 @@ found-cached setting history store cached key stored is each found = go (of_key 
     go (Some c) e both = record { entry = c; is_there = e; key_is = of_key-key cached_key key cached c e; stored_is = both; was_obtained = (find-holds (WasObtained setting history) (has_key cached_key key) cached c (cache-obtained setting history cached is) e).0 }
 
 -- and what the cache has for it is in the store
-pub cached-found : (setting : Setting) (history : List Deed) (store : List Entry) (cached : List Cached) (key : CacheKey) (c : Cached) → Pairs IsStored store cached → of_key cached_key key cached ≡ Some c → of_key entry_key key store ≡ Some (entry_of_cached c)
-cached-found setting history store cached key c each found = go (of_key entry_key key store) refl (subst (λ (f : Option Cached). Both IsStored (of_key entry_key key store) f) found (Pairs-of_key IsStored entry_key cached_key same-key key store cached each))
+pub cached-found : (store : List Entry) (cached : List Cached) (key : CacheKey) (c : Cached) → Pairs IsStored store cached → of_key cached_key key cached ≡ Some c → of_key entry_key key store ≡ Some (entry_of_cached c)
+cached-found store cached key c each found = go (of_key entry_key key store) refl (subst (λ (f : Option Cached). Both IsStored (of_key entry_key key store) f) found (Pairs-of_key IsStored entry_key cached_key same-key key store cached each))
   where
     go : (s : Option Entry) → of_key entry_key key store ≡ s → Both IsStored s (Some c) → of_key entry_key key store ≡ Some (entry_of_cached c)
     go None e both = absurd both
     go (Some s) e both = e ∙ ap Some both
+
+-- where the store has nothing for a key, the cache has nothing
+pub none-found : (store : List Entry) (cached : List Cached) (key : CacheKey) → Pairs IsStored store cached → of_key entry_key key store ≡ None → of_key cached_key key cached ≡ None
+none-found store cached key each none = go (of_key cached_key key cached) refl (subst (λ (s : Option Entry). Both IsStored s (of_key cached_key key cached)) none (Pairs-of_key IsStored entry_key cached_key same-key key store cached each))
+  where
+    go : (c : Option Cached) → of_key cached_key key cached ≡ c → Both IsStored None c → of_key cached_key key cached ≡ None
+    go None e both = e
+    go (Some c) e both = absurd both
+
+-- what is stored for a key is an entry of the key
+pub stored-found : (key : CacheKey) (store : List Entry) (stored : Stored) → stored_for key store ≡ Some stored → of_key entry_key key store ≡ Some (key, stored)
+stored-found key store stored found = go (of_key entry_key key store) refl found
+  where
+    go : (e : Option Entry) → of_key entry_key key store ≡ e → option_map (λ entry. entry.1) e ≡ Some stored → of_key entry_key key store ≡ Some (key, stored)
+    go None is f = absurd cc
+    go (Some e) is f =
+        let its_key = of_key-key entry_key key store e is in
+        let its_stored : e.1 ≡ stored = same_Some e.1 stored f in
+        is ∙ (λ i. Some (its_key i, its_stored i))
 
 -- a request that is answered from the cache moves the entry of its key to the front
 pub store-hit : (setting : Setting) (past : List Deed) (store : List Entry) (d : Deed) (client : Endpoint) (request : Message) (target : Target) (stored : Entry) → d.entry.report.outcome ≡ Hit → Brings setting.limits.datagram client request d.entry.event → request_target setting.routes request ≡ Ok target → of_key entry_key (request_key target request) store ≡ Some stored

@@ -3,7 +3,6 @@
 -- is validated (RFC 7252, 5.9.1.3).
 use Rattle.std.specs.Prelude.{◌≡◌, ℕ, ◌&&◌, Bool, true, false, not, nat_lt, List, [], ◌∷◌, Some, Ok}
 use Rattle.coap_message.specs.Message.{Message}
-use Rattle.coap_message.specs.Uint.{IsBytes}
 use Rattle.coap_target.specs.declared.endpoint.Endpoint.{Endpoint}
 use Rattle.coap_target.specs.declared.target.Target.{Target}
 use Rattle.coap_option.specs.Selection.{max_age_of}
@@ -20,7 +19,7 @@ use Rattle.coap_model.specs.declared.report.Storing.TheVariants.{Kept, TooLarge}
 use Rattle.coap_model.specs.Setting.{Setting}
 use Rattle.coap_model.specs.Forms.{key_sent, request_key}
 use Rattle.coap_model.specs.Answers.{answer_of}
-use Rattle.coap_model.specs.History.{Deed, moves, Place, index, IsPlaceOf, Brings, Meets}
+use Rattle.coap_model.specs.History.{Deed, Place, index, IsPlaceOf, Brings, Gets}
 use Rattle.coap_model.specs.Pairs.{Pairs}
 
 -- ---- what may be kept
@@ -30,25 +29,13 @@ use Rattle.coap_model.specs.Pairs.{Pairs}
 abbrev pub is_storable : Answer → Bool
 is_storable a = not a.own && (tells_age a.message.code && nat_lt 0 (max_age_of a.message))
 
--- an answer is taken, however it is stored
-abbrev pub takes : Outcome → Bool
-takes (Answered storing) = true
-takes _ = false
-
--- the answer of this exchange was got there, however it was stored
-pub record Gains (setting : Setting) (x : ℕ) (p : Place) : Type 0 where
-  pub act : p.deed.act ≡ moves x
-  pub outcome : takes p.deed.entry.report.outcome ≡ true
-  pub meets : Meets setting x p.before p.deed.entry.event
-  pub fits : IsBytes meets.brings.bytes
-
 -- The response was obtained for this key: a request of the key was sent at one place, and at the
 -- other came what may be kept of its answer. Every request that is sent on is a GET so far.
 pub record IsObtained
     (setting : Setting) (key : CacheKey) (response : Message) (asking getting : Place)
     : Type 0 where
   pub exchange : ℕ
-  pub gets : Gains setting exchange getting
+  pub gets : Gets setting exchange getting
   pub asking_is : gets.meets.asking ≡ asking
   pub asked_key : key_sent gets.meets.asks.sends.to gets.meets.asks.sends.message ≡ key
   pub storable :

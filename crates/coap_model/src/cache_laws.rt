@@ -1,12 +1,13 @@
 //! Laws of the cache of a history: public functions that do nothing, whose contracts are the laws.
-ghost use Rattle.std.specs.Prelude.{◌≡◌, ℕ, true, false, List, [], ◌∷◌, map, Some, Ok};
+ghost use Rattle.std.specs.Prelude.{◌≡◌, ℕ, true, false, List, [], ◌∷◌, map, Some, None, Ok};
 ghost use Rattle.std.specs.List.{AllByRecursion};
 ghost use Rattle.coap_message.specs.Message.{Message};
 ghost use Rattle.coap_target.specs.declared.endpoint.Endpoint.{Endpoint};
 ghost use Rattle.coap_target.specs.declared.target.Target.{Target};
 ghost use Rattle.coap_routes.specs.Request.{request_target};
 ghost use Rattle.coap_cache.specs.declared.key.CacheKey.{CacheKey};
-ghost use Rattle.coap_cache.specs.Entries.{Entry, entry_key, entry_size, IsStore};
+ghost use Rattle.coap_cache.specs.declared.stored.Stored.{Stored};
+ghost use Rattle.coap_cache.specs.Entries.{Entry, entry_key, entry_size, stored_for, IsStore};
 ghost use Rattle.coap_cache.specs.Lists.{of_key, others, put, used};
 ghost use Rattle.coap_model.specs.declared.report.Outcome.TheVariants.{Answered, Hit};
 ghost use Rattle.coap_model.specs.declared.report.Storing.TheVariants.{Kept, TooLarge};
@@ -121,13 +122,17 @@ pub fn stores_follow_caches()
 /// it keeps within the limits, and has one entry for a key.
 pub fn stores_have_what_caches_have()
     ensures found { (setting : Setting) (history : List Deed) (store : List Entry) (s : IsStoreOf setting history store)
-        (key : CacheKey) (stored : Entry)
-        → of_key entry_key key store ≡ Some stored
-        → IsEntryOf setting history s.cached key stored }
+        (key : CacheKey) (stored : Stored)
+        → stored_for key store ≡ Some stored
+        → IsEntryOf setting history s.cached key (key, stored) }
     ensures there { (setting : Setting) (history : List Deed) (store : List Entry) (s : IsStoreOf setting history store)
         (key : CacheKey) (entry : Cached)
         → of_key cached_key key s.cached ≡ Some entry
         → of_key entry_key key store ≡ Some (entry_of_cached entry) }
+    ensures nothing { (setting : Setting) (history : List Deed) (store : List Entry) (s : IsStoreOf setting history store)
+        (key : CacheKey)
+        → of_key entry_key key store ≡ None
+        → of_key cached_key key s.cached ≡ None }
     ensures within { (setting : Setting) (history : List Deed) (store : List Entry)
         → IsStoreOf setting history store
         → IsStore (store_limits setting) store }

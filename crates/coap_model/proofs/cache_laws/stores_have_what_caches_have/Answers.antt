@@ -1,10 +1,11 @@
-use Rattle.coap_model.proofs.Stores.{found-cached, cached-found, store-within}
+use Rattle.coap_model.proofs.Stores.{found-cached, cached-found, none-found, stored-found, store-within}
 use Rattle.coap_model.proofs.cache_laws.stores_have_what_caches_have.Goals as goal
 
 pub returns : goal.returns
 returns c =
     record {
-      found = λ setting history store s key stored. found-cached setting history store s.cached key stored s.is_cache s.each;
-      there = λ setting history store s key entry. cached-found setting history store s.cached key entry s.each;
+      found = λ setting history store s key stored has. found-cached setting history store s.cached key (key, stored) s.is_cache s.each (stored-found key store stored has);
+      there = λ setting history store s key entry. cached-found store s.cached key entry s.each;
+      nothing = λ setting history store s key. none-found store s.cached key s.each;
       within = store-within;
     }
