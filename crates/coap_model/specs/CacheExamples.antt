@@ -62,7 +62,9 @@ get_for id exchange = forwarded (token_of 0 exchange) key_of_temp.target [] id
 abbrev pub entry_for : ℕ → ℕ → Cached
 entry_for segment came =
     record {
-      key = record { target = record key_of_temp.target { path = (segment ∷ []) ∷ [] }; options = [] };
+      key = record key_of_temp {
+        target = record key_of_temp.target { path = (segment ∷ []) ∷ [] };
+      };
       response = content_for 1 1;
       asking = record { before = opened ∷ []; deed = asked };
       getting =
@@ -71,6 +73,10 @@ entry_for segment came =
             deed = record asked { entry = record asked.entry { now = came } };
           };
     }
+
+-- a cache of two
+abbrev pub two : List Cached
+two = entry_for 0x61 1 ∷ entry_for 0x62 2 ∷ []
 
 -- what is kept where there is room for so many bytes and entries
 abbrev pub kept_within : ℕ → ℕ → Cached → List Cached → List Cached

@@ -17,7 +17,7 @@ ghost use Rattle.coap_model.specs.History.{Deed, Place, Brings};
 ghost use Rattle.coap_model.specs.Cached.{IsObtained, Cached, cached_key, cached_size, cached_here, entry_of_cached, store_limits, leaves, IsCacheOf, IsStored, IsStoreOf, WasObtained, IsEntryOf};
 ghost use Rattle.coap_model.specs.Forged as forged;
 ghost use Rattle.coap_model.specs.Forged.{setting};
-ghost use Rattle.coap_model.specs.CacheExamples.{storable_in, max_age, empty_max_age, entry_for, kept_within, answered, kept_past, hit_past, asked_past, first_entry, second_entry, first_stored};
+ghost use Rattle.coap_model.specs.CacheExamples.{storable_in, max_age, empty_max_age, entry_for, two, kept_within, answered, kept_past, hit_past, asked_past, first_entry, second_entry, first_stored};
 
 /// What may be kept of a response, by its code and its Max-Age: a 2.05 and the errors of an origin,
 /// if they stay fresh for at least a second, and no reply of the proxy's own.
@@ -37,23 +37,22 @@ pub fn examples_of_storing()
     ensures own_gateway { storable_in 0x43 (max_age 10) ≡ Some false }
 {}
 
-/// What is kept of a small cache: a new entry stands first, in place of the one of its key, and what
-/// no longer fits is given up; what is used moves to the front.
+/// What is kept of a small cache: a new entry stands first, in place of the one of its key, and
+/// what no longer fits is given up; what is used moves to the front.
 pub fn examples_of_keeping()
     ensures size { cached_size (entry_for 0x61 1) ≡ 70 }
-    ensures room { kept_within 210 3 (entry_for 0x63 3) (entry_for 0x61 1 ∷ entry_for 0x62 2 ∷ [])
-        ≡ entry_for 0x63 3 ∷ entry_for 0x61 1 ∷ entry_for 0x62 2 ∷ [] }
-    ensures a_byte_less { kept_within 209 3 (entry_for 0x63 3) (entry_for 0x61 1 ∷ entry_for 0x62 2 ∷ [])
+    ensures room { kept_within 210 3 (entry_for 0x63 3) two ≡ entry_for 0x63 3 ∷ two }
+    ensures a_byte_less { kept_within 209 3 (entry_for 0x63 3) two
         ≡ entry_for 0x63 3 ∷ entry_for 0x61 1 ∷ [] }
-    ensures an_entry_less { kept_within 210 2 (entry_for 0x63 3) (entry_for 0x61 1 ∷ entry_for 0x62 2 ∷ [])
+    ensures an_entry_less { kept_within 210 2 (entry_for 0x63 3) two
         ≡ entry_for 0x63 3 ∷ entry_for 0x61 1 ∷ [] }
-    ensures in_place { kept_within 140 2 (entry_for 0x62 3) (entry_for 0x61 1 ∷ entry_for 0x62 2 ∷ [])
+    ensures in_place { kept_within 140 2 (entry_for 0x62 3) two
         ≡ entry_for 0x62 3 ∷ entry_for 0x61 1 ∷ [] }
-    ensures alone { kept_within 70 1 (entry_for 0x63 3) (entry_for 0x61 1 ∷ entry_for 0x62 2 ∷ [])
-        ≡ entry_for 0x63 3 ∷ [] }
-    ensures given_up { others cached_key (entry_for 0x62 3).key (entry_for 0x61 1 ∷ entry_for 0x62 2 ∷ [])
-        ≡ entry_for 0x61 1 ∷ [] }
-    ensures to_the_front { used cached_key (entry_for 0x62 3).key (entry_for 0x61 1 ∷ entry_for 0x62 2 ∷ [])
+    ensures alone { kept_within 70 1 (entry_for 0x63 3) two ≡ entry_for 0x63 3 ∷ [] }
+    ensures alone_too_large { kept_within 69 1 (entry_for 0x63 3) two ≡ [] }
+    ensures given_up { others cached_key (entry_for 0x62 3).key two ≡ entry_for 0x61 1 ∷ [] }
+    ensures not_there { others cached_key (entry_for 0x63 3).key two ≡ two }
+    ensures to_the_front { used cached_key (entry_for 0x62 3).key two
         ≡ entry_for 0x62 2 ∷ entry_for 0x61 1 ∷ [] }
     ensures first_size { cached_size first_entry ≡ 73 }
     ensures stored { entry_of_cached first_entry ≡ (first_entry.key, first_stored) }
@@ -66,7 +65,8 @@ pub fn examples_of_caches()
     ensures kept { IsCacheOf setting kept_past (first_entry ∷ []) }
     ensures hit { IsCacheOf setting hit_past (first_entry ∷ []) }
     ensures asked { IsCacheOf setting asked_past (first_entry ∷ []) }
-    ensures in_place { IsCacheOf setting (answered 20 3 2 (Answered Kept) ∷ asked_past) (second_entry ∷ []) }
+    ensures in_place { IsCacheOf setting (answered 20 3 2 (Answered Kept) ∷ asked_past)
+        (second_entry ∷ []) }
     ensures too_large { IsCacheOf setting (answered 20 3 2 (Answered TooLarge) ∷ asked_past) [] }
 {}
 
@@ -90,22 +90,23 @@ pub fn caches_are_one()
 /// entry of its key, a request that is answered moves it to the front, and all else leaves both.
 pub fn stores_follow_caches()
     ensures new { (setting : Setting) → IsStoreOf setting [] [] }
-    ensures kept { (setting : Setting) (past : List Deed) (store : List Entry) (d : Deed) (key : CacheKey)
-        (response : Message) (asking : Place) (new : Entry)
+    ensures kept { (setting : Setting) (past : List Deed) (store : List Entry) (d : Deed)
+        (key : CacheKey) (response : Message) (asking : Place) (new : Entry)
         → d.entry.report.outcome ≡ Answered Kept
         → IsObtained setting key response asking (record { before = past; deed = d })
         → IsStored new (cached_here key response asking past d)
         → IsStoreOf setting past store
         → IsStoreOf setting (d ∷ past)
-        (put entry_key entry_size setting.limits.cache_bytes setting.limits.cache_entries new store) }
-    ensures too_large { (setting : Setting) (past : List Deed) (store : List Entry) (d : Deed) (key : CacheKey)
-        (response : Message) (asking : Place)
+        (put entry_key entry_size setting.limits.cache_bytes setting.limits.cache_entries
+        new store) }
+    ensures too_large { (setting : Setting) (past : List Deed) (store : List Entry) (d : Deed)
+        (key : CacheKey) (response : Message) (asking : Place)
         → d.entry.report.outcome ≡ Answered TooLarge
         → IsObtained setting key response asking (record { before = past; deed = d })
         → IsStoreOf setting past store
         → IsStoreOf setting (d ∷ past) (others entry_key key store) }
-    ensures hit { (setting : Setting) (past : List Deed) (store : List Entry) (d : Deed) (client : Endpoint)
-        (request : Message) (target : Target) (stored : Entry)
+    ensures hit { (setting : Setting) (past : List Deed) (store : List Entry) (d : Deed)
+        (client : Endpoint) (request : Message) (target : Target) (stored : Entry)
         → d.entry.report.outcome ≡ Hit
         → Brings setting.limits.datagram client request d.entry.event
         → request_target setting.routes request ≡ Ok target
@@ -121,16 +122,16 @@ pub fn stores_follow_caches()
 /// A store that has the cache of the history has for each key what the cache has, and nothing else;
 /// it keeps within the limits, and has one entry for a key.
 pub fn stores_have_what_caches_have()
-    ensures found { (setting : Setting) (history : List Deed) (store : List Entry) (s : IsStoreOf setting history store)
-        (key : CacheKey) (stored : Stored)
+    ensures found { (setting : Setting) (history : List Deed) (store : List Entry)
+        (s : IsStoreOf setting history store) (key : CacheKey) (stored : Stored)
         → stored_for key store ≡ Some stored
         → IsEntryOf setting history s.cached key (key, stored) }
-    ensures there { (setting : Setting) (history : List Deed) (store : List Entry) (s : IsStoreOf setting history store)
-        (key : CacheKey) (entry : Cached)
+    ensures there { (setting : Setting) (history : List Deed) (store : List Entry)
+        (s : IsStoreOf setting history store) (key : CacheKey) (entry : Cached)
         → of_key cached_key key s.cached ≡ Some entry
         → of_key entry_key key store ≡ Some (entry_of_cached entry) }
-    ensures nothing { (setting : Setting) (history : List Deed) (store : List Entry) (s : IsStoreOf setting history store)
-        (key : CacheKey)
+    ensures nothing { (setting : Setting) (history : List Deed) (store : List Entry)
+        (s : IsStoreOf setting history store) (key : CacheKey)
         → of_key entry_key key store ≡ None
         → of_key cached_key key s.cached ≡ None }
     ensures within { (setting : Setting) (history : List Deed) (store : List Entry)
