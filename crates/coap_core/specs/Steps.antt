@@ -19,7 +19,7 @@ use Rattle.coap_exchange.specs.Due.{Item, sending, serving, due_as, answer_in}
 use Rattle.coap_model.specs.declared.report.Report.{Report}
 use Rattle.coap_model.specs.Forms.{forwarded, request_key}
 use Rattle.coap_model.specs.Requests.{opens, turns_away, turns_down}
-use Rattle.coap_model.specs.Memory.{says_uri, is_before_target}
+use Rattle.coap_model.specs.Memory.{is_judged_by_uri}
 use Rattle.coap_model.specs.Verdicts as verdicts
 use Rattle.coap_model.specs.Verdicts.{verdict_of}
 use Rattle.coap_core.specs.Forms.{seen}
@@ -86,14 +86,6 @@ FormIs token request TurnAway bytes = Unit {0}
 FormIs token request (Open key) bytes =
     bytes ≡ spelling (forwarded token key.target (sent_on request) 0)
 
--- The request says its target by a URI, and isn't refused before that is read.
-pub record IsByUri (w : World) (request : Message) : Type 0 where
-  pub says : says_uri request ≡ true
-  pub judged :
-      (code : Code)
-      → verdict_of w.setting.routes request ≡ verdicts.refused_with code
-      → is_before_target code ≡ false
-
 -- The request may be asked for at the target: it is a GET that passed the screening.
 pub record IsAskableAt (w : World) (request : Message) (target : Target) : Type 0 where
   pub verdict :
@@ -108,7 +100,7 @@ IsVerdictOn w request (RefusedWith code) =
     verdict_of w.setting.routes request ≡ verdicts.refused_with code
 IsVerdictOn w request (MayAsk target) =
     IsAskableAt w request (seen target)
-IsVerdictOn w request NoMemory = IsByUri w request
+IsVerdictOn w request NoMemory = is_judged_by_uri request ≡ true
 
 -- an item by its moment and its number
 abbrev pub item_as : Item → DueItem

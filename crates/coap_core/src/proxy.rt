@@ -66,6 +66,7 @@ impl Core {
         ensures carries { IfOk result (λ core. Carries [] core) }
     {
         new_proxies_carry_nothing();
+        // Its clause says that the maps are sound, which each step relies on.
         routes.maps();
         let world = World::new(alloc, limits, routes, first_id, salt)?;
         Ok(Core { world })

@@ -10,7 +10,7 @@ ghost use Rattle.coap_target.specs.declared.endpoint.Endpoint.{Endpoint};
 ghost use Rattle.coap_target.specs.Target.{IsTarget};
 ghost use Rattle.coap_routes.specs.declared.error.TargetError.TheVariants as errors;
 ghost use Rattle.coap_routes.specs.Request.{request_target};
-ghost use Rattle.coap_model.specs.Memory.{says_uri, takes_memory};
+ghost use Rattle.coap_model.specs.Memory.{is_judged_by_uri, says_uri, takes_memory};
 ghost use Rattle.coap_model.specs.Forms.{forwarded};
 ghost use Rattle.coap_model.specs.Verdicts.{form_fits};
 ghost use Rattle.coap_model.specs.Requests.{lacks_id, refuses, overloads, opens, turns_away, turns_down, next_token, on_request};
@@ -93,7 +93,8 @@ impl World {
         ensures err { OnErr result (self.new ≡ self.old) }
         ensures kept { out.new.room ≡ out.old.room }
         ensures memory { OnErr result
-            (takes_memory (says_uri request.now) (on_request self.old now client request.now).report.outcome
+            (takes_memory (is_judged_by_uri request.now)
+            (on_request self.old now client request.now).report.outcome
             ≡ true) }
     {
         match self.plan(request, out)? {
@@ -114,7 +115,8 @@ impl World {
         ensures form { IfOk result (λ plan. FormIs (next_token self.now) request.now plan out.new.bytes) }
         ensures memory { (now : ℕ) (client : Endpoint)
             → OnErr result
-            (takes_memory (says_uri request.now) (on_request self.now now client request.now).report.outcome
+            (takes_memory (is_judged_by_uri request.now)
+            (on_request self.now now client request.now).report.outcome
             ≡ true) }
         ensures kept { out.new.room ≡ out.old.room }
     {

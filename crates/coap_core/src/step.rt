@@ -3,7 +3,7 @@ ghost use Rattle.std.specs.Prelude.{◌≡◌, ◌≤◌, ◌<◌, ◌^◌, [], 
 ghost use Rattle.coap_model.specs.Events.{arrival, tick};
 ghost use Rattle.coap_message.specs.declared.kind.Kind.{Kind};
 ghost use Rattle.coap_message.specs.Datagram.{holding};
-ghost use Rattle.coap_model.specs.Memory.{brings_uri, says_uri, takes_memory};
+ghost use Rattle.coap_model.specs.Memory.{brings_uri, is_judged_by_uri, takes_memory};
 ghost use Rattle.coap_model.specs.World.{ignores};
 ghost use Rattle.coap_model.specs.Step.{rejects, unprocessed, message_in, on_message, on_datagram, step_of};
 ghost use Rattle.coap_core.specs.Events.{IsUnread, seen};
@@ -104,7 +104,9 @@ impl World {
         ensures err { OnErr result (self.new ≡ self.old) }
         ensures kept { out.new.room ≡ out.old.room }
         ensures memory { OnErr result
-            (takes_memory (says_uri message.now) (on_message self.old now source message.now).report.outcome ≡ true) }
+            (takes_memory (is_judged_by_uri message.now)
+            (on_message self.old now source message.now).report.outcome
+            ≡ true) }
     {
         match message.kind {
             Kind::Non if message.code.is_request() => self.on_request(now, source, message, out),

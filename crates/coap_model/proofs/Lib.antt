@@ -28,6 +28,7 @@ pub mod Fitting
 pub mod Arrivals
 pub mod Owing
 pub mod OneAnswer
+pub mod Asking
 pub mod Forging
 pub mod Pairs
 pub mod Cached

@@ -17,7 +17,8 @@ ghost use Rattle.coap_model.specs.Messages.{eight_zeros};
 ghost use Rattle.coap_option.specs.declared.side.Side.{Side};
 ghost use Rattle.coap_option.specs.Screening.{first_refused};
 ghost use Rattle.coap_option.specs.Selection.{max_age_of, sent_on};
-ghost use Rattle.coap_model.specs.Forms.{forwarded, goes_on, request_key};
+ghost use Rattle.coap_message.specs.Spelling.{Spells};
+ghost use Rattle.coap_model.specs.Forms.{forwarded, goes_on, key_sent, request_key};
 ghost use Rattle.coap_model.specs.Verdicts.{may_ask};
 ghost use Rattle.coap_model.specs.Answers.{left_of};
 ghost use Rattle.coap_model.specs.Events.{Event, arrival, tick, IsEvent};
@@ -26,7 +27,7 @@ ghost use Rattle.coap_model.specs.Step.{step_of};
 ghost use Rattle.coap_model.specs.Ticks.{next_due};
 ghost use Rattle.coap_model.specs.History.{Entry, Act, no_item, serves, Deed, HasRoom};
 ghost use Rattle.coap_model.specs.Due.{IsDueAt, IsNextDue};
-ghost use Rattle.coap_model.specs.Justified.{IsRequestOf, verdict_on, fits_on, IsAwaited, IsActing, IsDelivery, JustifiedBy, AllJustified, MayFollow, AreOfOneTurn};
+ghost use Rattle.coap_model.specs.Justified.{IsRequestOf, verdict_on, fits_on, IsAwaited, IsActing, IsForwarding, IsDelivery, JustifiedBy, AllJustified, MayFollow, AreOfOneTurn};
 ghost use Rattle.coap_model.specs.Forged as forged;
 ghost use Rattle.coap_model.specs.Forged.{asked, delivery, right, at_an_arrival};
 ghost use Rattle.coap_model.specs.Carries.{Carries};
@@ -133,6 +134,16 @@ pub fn examples_of_options()
     ensures refused { play forward_proxy refused_targets ≡ refused_targets_sent }
     ensures no_map { play narrow_proxy long_without_map ≡ long_without_map_sent }
     ensures to_sensor { play forward_proxy to_sensor ≡ to_sensor_sent }
+{}
+
+/// Each request that is sent on has the cache key of the client's request for which it is sent, read
+/// off the bytes that were sent.
+pub fn requests_keep_their_key()
+    ensures { (setting : Setting) (past : List Deed) (d : Deed) (f : IsForwarding setting past d) (m : Message)
+        → AreRoutes setting.routes
+        → AllJustified setting past
+        → Spells d.entry.bytes m
+        → key_sent f.target.at m ≡ request_key f.target f.opened.request }
 {}
 
 /// Where no option of a request is refused, what is sent on of it shows by each option alone.

@@ -3,7 +3,7 @@ use Rattle.std.specs.Prelude.{IfOk}
 use Rattle.std.specs.Option.{option_map_or}
 use Rattle.coap_message.specs.Message.{Message}
 use Rattle.coap_model.specs.Events.{arrival}
-use Rattle.coap_model.specs.Memory.{says_uri, brings_uri, takes_memory}
+use Rattle.coap_model.specs.Memory.{is_judged_by_uri, brings_uri, takes_memory}
 use Rattle.coap_model.specs.Step.{on_message, on_datagram}
 use Rattle.coap_model.specs.World.{Step}
 use Rattle.coap_core.specs.Steps.{Does}
@@ -25,6 +25,6 @@ returns-in-Some-clause-exact c =
 pub returns-in-Some-clause-memory : goal.returns-in-Some-clause-memory
 returns-in-Some-clause-memory c =
     let m = c.in-Some.message in
-    let says : says_uri m ≡ brings_uri c.args.self.now.setting.limits.datagram (arrival c.args.source c.args.bytes.now) = ap (λ (o : Option Message). option_map_or says_uri o false) c.in-Some.ensures in
+    let says : is_judged_by_uri m ≡ brings_uri c.args.self.now.setting.limits.datagram (arrival c.args.source c.args.bytes.now) = ap (λ (o : Option Message). option_map_or is_judged_by_uri o false) c.in-Some.ensures in
     subst (λ (b : Bool). OnErr c.on_message.result (takes_memory b (on_datagram c.args.self.now c.args.now c.args.source c.args.bytes.now).report.outcome ≡ true)) says
-    (subst (λ (s : Step). OnErr c.on_message.result (takes_memory (says_uri m) s.report.outcome ≡ true)) (sym (same (goal.at.returns-in-Some-clause-memory c).In-Some)) c.on_message.ensures.memory)
+    (subst (λ (s : Step). OnErr c.on_message.result (takes_memory (is_judged_by_uri m) s.report.outcome ≡ true)) (sym (same (goal.at.returns-in-Some-clause-memory c).In-Some)) c.on_message.ensures.memory)

@@ -1,0 +1,5 @@
+use Rattle.coap_model.proofs.Asking.{key-kept}
+use Rattle.coap_model.proofs.laws.requests_keep_their_key.Goals as goal
+
+pub returns : goal.returns
+returns c = key-kept
