@@ -1,23 +1,27 @@
 -- The cache of a history: it is one, and its entries were obtained.
-use Rattle.std.proofs.Common.{◌≡◌, ◌≢◌, inl, inr, ℕ, ◌-◌, ◌&&◌, true, false, Bool, cond, nat_le, List, [], ◌∷◌, Some, Result, Ok, refl, sym, ap, ◌∙◌, subst}
+use Rattle.std.proofs.Common.{◌≡◌, ◌≢◌, inl, inr, ℕ, ◌-◌, ◌<◌, ◌&&◌, true, false, Bool, cond, nat_le, nat_lt, List, [], ◌∷◌, Some, Result, Ok, refl, sym, ap, ◌∙◌, subst}
 use Rattle.std.specs.List.{AllByRecursion}
 use Rattle.std.proofs.lemmas.Option.{same_Some}
+use Rattle.std.proofs.lemmas.Bool.{and_parts, ltb-true}
 use Rattle.coap_message.specs.Message.{Message}
 use Rattle.coap_message.specs.Spelling.{Spells}
 use Rattle.coap_message.proofs.WholeMessages.{one_message}
 use Rattle.coap_target.specs.declared.endpoint.Endpoint.{Endpoint}
 use Rattle.coap_target.specs.declared.target.Target.{Target}
 use Rattle.coap_target.proofs.Lists.{All-weaken}
+use Rattle.coap_option.specs.Selection.{max_age_of}
 use Rattle.coap_routes.specs.declared.error.TargetError.{TargetError}
 use Rattle.coap_routes.specs.Request.{request_target}
 use Rattle.coap_cache.specs.declared.key.CacheKey.{CacheKey}
+use Rattle.coap_cache.specs.Showing.{tells_age}
+use Rattle.coap_exchange.specs.declared.exchange.Answer.{Answer}
 use Rattle.coap_cache.specs.Lists.{has_key, has_other_key, of_key, others, cut, used}
 use Rattle.coap_model.specs.declared.report.Outcome.{Outcome}
 use Rattle.coap_model.specs.Setting.{Setting}
 use Rattle.coap_model.specs.Forms.{key_sent, request_key}
-use Rattle.coap_model.specs.Answers.{answer_of}
-use Rattle.coap_model.specs.History.{Deed, Place, IsPlaceOf, Never, Brings, Sends, Gets}
-use Rattle.coap_model.specs.Cached.{IsObtained, Cached, cached_key, cached_size, cached_with, cached_here, leaves, IsCacheOf, empty, kept, too_large, hit, otherwise, WasObtained}
+use Rattle.coap_model.specs.Answers.{without_observe, is_passed_on, bad_gateway, answer_of}
+use Rattle.coap_model.specs.History.{Deed, Place, IsPlaceOf, Never, Brings, Sends, Matches, Gets}
+use Rattle.coap_model.specs.Cached.{is_storable, IsObtained, IsOfOrigin, Cached, cached_key, cached_size, cached_with, cached_here, leaves, IsCacheOf, empty, kept, too_large, hit, otherwise, WasObtained}
 use Rattle.coap_model.proofs.Lists.{find-holds, All-filter}
 use Rattle.coap_model.proofs.Places.{here, same_moves, first-once, one-brought}
 
@@ -58,6 +62,53 @@ obtained-unique setting k l m n a b getting o p =
       o.response_is ∙ ap (λ (r : Message). (answer_of setting.limits.datagram getting.deed.entry.now r).message) same.response ∙ sym p.response_is,
       sym o.asking_is ∙ same.asking ∙ p.asking_is,
     )
+
+-- what an answer is that may be kept
+record IsPassedOn (most : ℕ) (m response : Message) : Type 0 where
+  pub passed : is_passed_on most m ≡ true
+  pub response_is : response ≡ without_observe m
+  pub code : tells_age response.code ≡ true
+  pub age : 0 < max_age_of response
+
+-- it was passed on
+passed-on : (most now : ℕ) (m response : Message) → is_storable (answer_of most now m) ≡ true → response ≡ (answer_of most now m).message → IsPassedOn most m response
+unfolding answer_of
+passed-on most now m response storable is = go (is_passed_on most m) refl storable is
+  where
+    answer_if : Bool → Answer
+    answer_if b = cond b (record { message = without_observe m; got = now; own = false }) (record { message = bad_gateway; got = now; own = true })
+
+    go : (b : Bool) → is_passed_on most m ≡ b → is_storable (answer_if b) ≡ true → response ≡ (answer_if b).message → IsPassedOn most m response
+    go true passed storable is =
+        let parts = and_parts (tells_age (without_observe m).code) (nat_lt 0 (max_age_of (without_observe m))) storable in
+        record {
+          passed = passed;
+          response_is = is;
+          code = ap (λ (r : Message). tells_age r.code) is ∙ parts.0;
+          age = ltb-true 0 (max_age_of response) (ap (λ (r : Message). nat_lt 0 (max_age_of r)) is ∙ parts.1);
+        }
+    go false passed storable is = absurd cc
+
+-- what is obtained came from the endpoint that was asked
+pub obtained-of_origin : (setting : Setting) (key : CacheKey) (response : Message) (asking getting : Place) → IsObtained setting key response asking getting → IsOfOrigin setting key response asking getting
+obtained-of_origin setting key response asking getting o =
+    let m = o.gets.meets in
+    let s = m.asks.sends in
+    let p = passed-on setting.limits.datagram getting.deed.entry.now m.response response o.storable o.response_is in
+    record {
+      origin = s.to;
+      request = s.message;
+      sent = subst (λ (q : Place). q.deed.entry.report.send ≡ Some s.to) o.asking_is s.sent;
+      spells = subst (λ (q : Place). Spells q.deed.entry.bytes s.message) o.asking_is s.spells;
+      key_is = o.asked_key;
+      came = m.response;
+      brings = m.brings;
+      matches = subst (λ (token : List ℕ). Matches token s.message.id m.response) (sym s.token) m.matches;
+      passed = p.passed;
+      response_is = p.response_is;
+      code = p.code;
+      age = p.age;
+    }
 
 -- ---- the cache is one
 

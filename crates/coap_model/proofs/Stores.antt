@@ -10,7 +10,7 @@ use Rattle.coap_routes.specs.Request.{request_target}
 use Rattle.coap_cache.specs.declared.key.CacheKey.{CacheKey}
 use Rattle.coap_cache.specs.declared.stored.Stored.{Stored}
 use Rattle.coap_cache.specs.Entries.{Entry, entry_key, entry_size, stored_for, IsStore}
-use Rattle.coap_cache.specs.Lists.{has_key, of_key, others, put, used}
+use Rattle.coap_cache.specs.Lists.{has_key, of_key, others, put, total, used}
 use Rattle.coap_cache.proofs.Distinct.{of_key-key}
 use Rattle.coap_cache.proofs.Held.{IsStore-others, IsStore-used, IsStore-put}
 use Rattle.coap_model.specs.declared.report.Outcome.TheVariants.{Answered, Hit}
@@ -22,7 +22,7 @@ use Rattle.coap_model.specs.Pairs.{Pairs, Both}
 use Rattle.coap_model.specs.Cached.{IsObtained, Cached, cached_key, cached_size, cached_here, entry_of_cached, store_limits, leaves, IsCacheOf, empty, kept, too_large, hit, otherwise, IsStored, IsStoreOf, WasObtained, IsEntryOf}
 use Rattle.coap_model.proofs.Lists.{find-holds}
 use Rattle.coap_model.proofs.Places.{here}
-use Rattle.coap_model.proofs.Pairs.{Pairs-of_key, Pairs-others, Pairs-used, Pairs-put}
+use Rattle.coap_model.proofs.Pairs.{Pairs-total, Pairs-of_key, Pairs-others, Pairs-used, Pairs-put}
 use Rattle.coap_model.proofs.Cached.{cache-obtained}
 
 -- ---- what a store keeps of entries
@@ -120,6 +120,12 @@ store-hit setting past store d client request target stored is came to found s =
     let key = request_key target request in
     let f = found-cached setting past store s.cached key stored s.is_cache s.each found in
     record { cached = used cached_key key s.cached; is_cache = hit d client request target f.entry is came to f.is_there s.is_cache; each = Pairs-used IsStored entry_key cached_key same-key key store s.cached s.each }
+
+-- ---- what it counts
+
+-- as many bytes
+pub store-total : (store : List Entry) (cs : List Cached) → Pairs IsStored store cs → total entry_size store ≡ total cached_size cs
+store-total store cs each = Pairs-total IsStored entry_size cached_size store cs same-size each
 
 -- ---- limits
 

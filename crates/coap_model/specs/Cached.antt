@@ -1,8 +1,9 @@
 -- The cache of a history: which responses it has brought that may be kept, and in which order (RFC
 -- 7252, 5.6). This file names no table. Nothing is a change yet (RFC 7252, 5.9.1), and no response
 -- is validated (RFC 7252, 5.9.1.3).
-use Rattle.std.specs.Prelude.{◌≡◌, ℕ, ◌&&◌, Bool, true, false, not, nat_lt, List, [], ◌∷◌, Some, Ok}
+use Rattle.std.specs.Prelude.{◌≡◌, ℕ, ◌<◌, ◌&&◌, Bool, true, false, not, nat_lt, List, [], ◌∷◌, Some, Ok}
 use Rattle.coap_message.specs.Message.{Message}
+use Rattle.coap_message.specs.Spelling.{Spells}
 use Rattle.coap_target.specs.declared.endpoint.Endpoint.{Endpoint}
 use Rattle.coap_target.specs.declared.target.Target.{Target}
 use Rattle.coap_option.specs.Selection.{max_age_of}
@@ -18,8 +19,8 @@ use Rattle.coap_model.specs.declared.report.Outcome.TheVariants.{Answered, Hit}
 use Rattle.coap_model.specs.declared.report.Storing.TheVariants.{Kept, TooLarge}
 use Rattle.coap_model.specs.Setting.{Setting}
 use Rattle.coap_model.specs.Forms.{key_sent, request_key}
-use Rattle.coap_model.specs.Answers.{answer_of}
-use Rattle.coap_model.specs.History.{Deed, Place, index, IsPlaceOf, Brings, Gets}
+use Rattle.coap_model.specs.Answers.{without_observe, is_passed_on, answer_of}
+use Rattle.coap_model.specs.History.{Deed, Place, index, IsPlaceOf, Brings, Matches, Gets}
 use Rattle.coap_model.specs.Pairs.{Pairs}
 
 -- ---- what may be kept
@@ -44,6 +45,24 @@ pub record IsObtained
   pub response_is :
       response
       ≡ (answer_of setting.limits.datagram getting.deed.entry.now gets.meets.response).message
+
+-- The same in other words: a request with this key was sent to an endpoint, which answered it; the
+-- response is what it sent, without Observe; it was passed on, and stays fresh for some time.
+pub record IsOfOrigin
+    (setting : Setting) (key : CacheKey) (response : Message) (asking getting : Place)
+    : Type 0 where
+  pub origin : Endpoint
+  pub request : Message
+  pub sent : asking.deed.entry.report.send ≡ Some origin
+  pub spells : Spells asking.deed.entry.bytes request
+  pub key_is : key_sent origin request ≡ key
+  pub came : Message
+  pub brings : Brings setting.limits.datagram origin came getting.deed.entry.event
+  pub matches : Matches request.token request.id came
+  pub passed : is_passed_on setting.limits.datagram came ≡ true
+  pub response_is : response ≡ without_observe came
+  pub code : tells_age response.code ≡ true
+  pub age : 0 < max_age_of response
 
 -- ---- the cache
 

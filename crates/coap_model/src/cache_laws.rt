@@ -1,5 +1,5 @@
 //! Laws of the cache of a history: public functions that do nothing, whose contracts are the laws.
-ghost use Rattle.std.specs.Prelude.{◌≡◌, ℕ, true, false, List, [], ◌∷◌, map, Some, None, Ok};
+ghost use Rattle.std.specs.Prelude.{◌≡◌, ℕ, true, false, List, [], ◌∷◌, length, map, Some, None, Ok};
 ghost use Rattle.std.specs.List.{AllByRecursion};
 ghost use Rattle.coap_message.specs.Message.{Message};
 ghost use Rattle.coap_target.specs.declared.endpoint.Endpoint.{Endpoint};
@@ -8,13 +8,13 @@ ghost use Rattle.coap_routes.specs.Request.{request_target};
 ghost use Rattle.coap_cache.specs.declared.key.CacheKey.{CacheKey};
 ghost use Rattle.coap_cache.specs.declared.stored.Stored.{Stored};
 ghost use Rattle.coap_cache.specs.Entries.{Entry, entry_key, entry_size, stored_for, IsStore};
-ghost use Rattle.coap_cache.specs.Lists.{of_key, others, put, used};
+ghost use Rattle.coap_cache.specs.Lists.{of_key, others, put, total, used};
 ghost use Rattle.coap_model.specs.declared.report.Outcome.TheVariants.{Answered, Hit};
 ghost use Rattle.coap_model.specs.declared.report.Storing.TheVariants.{Kept, TooLarge};
 ghost use Rattle.coap_model.specs.Setting.{Setting};
 ghost use Rattle.coap_model.specs.Forms.{request_key};
 ghost use Rattle.coap_model.specs.History.{Deed, Place, Brings};
-ghost use Rattle.coap_model.specs.Cached.{IsObtained, Cached, cached_key, cached_size, cached_here, entry_of_cached, store_limits, leaves, IsCacheOf, IsStored, IsStoreOf, WasObtained, IsEntryOf};
+ghost use Rattle.coap_model.specs.Cached.{IsObtained, IsOfOrigin, Cached, cached_key, cached_size, cached_here, entry_of_cached, store_limits, leaves, IsCacheOf, IsStored, IsStoreOf, WasObtained, IsEntryOf};
 ghost use Rattle.coap_model.specs.Forged as forged;
 ghost use Rattle.coap_model.specs.Forged.{setting};
 ghost use Rattle.coap_model.specs.CacheExamples.{storable_in, max_age, empty_max_age, entry_for, two, kept_within, answered, kept_past, hit_past, asked_past, first_entry, second_entry, first_stored};
@@ -70,6 +70,14 @@ pub fn examples_of_caches()
     ensures too_large { IsCacheOf setting (answered 20 3 2 (Answered TooLarge) ∷ asked_past) [] }
 {}
 
+/// What is obtained for a key came from the endpoint that was asked with that key: it is what that
+/// endpoint sent, without Observe, and it stays fresh for some time.
+pub fn what_is_obtained_came_from_its_origin()
+    ensures { (setting : Setting) (key : CacheKey) (response : Message) (asking getting : Place)
+        → IsObtained setting key response asking getting
+        → IsOfOrigin setting key response asking getting }
+{}
+
 /// A history has at most one cache. Each entry of it was obtained in the history. It keeps within
 /// the limits, and has one entry for a key.
 pub fn caches_are_one()
@@ -119,8 +127,8 @@ pub fn stores_follow_caches()
         → IsStoreOf setting (d ∷ past) store }
 {}
 
-/// A store that has the cache of the history has for each key what the cache has, and nothing else;
-/// it keeps within the limits, and has one entry for a key.
+/// A store that has the cache of the history has for each key what the cache has, and nothing else.
+/// It counts as much, keeps within the limits, and has one entry for a key.
 pub fn stores_have_what_caches_have()
     ensures found { (setting : Setting) (history : List Deed) (store : List Entry)
         (s : IsStoreOf setting history store) (key : CacheKey) (stored : Stored)
@@ -134,6 +142,12 @@ pub fn stores_have_what_caches_have()
         (s : IsStoreOf setting history store) (key : CacheKey)
         → of_key entry_key key store ≡ None
         → of_key cached_key key s.cached ≡ None }
+    ensures bytes { (setting : Setting) (history : List Deed) (store : List Entry)
+        (s : IsStoreOf setting history store)
+        → total entry_size store ≡ total cached_size s.cached }
+    ensures entries { (setting : Setting) (history : List Deed) (store : List Entry)
+        (s : IsStoreOf setting history store)
+        → length store ≡ length s.cached }
     ensures within { (setting : Setting) (history : List Deed) (store : List Entry)
         → IsStoreOf setting history store
         → IsStore (store_limits setting) store }
