@@ -15,16 +15,17 @@ use Rattle.coap_exchange.specs.declared.waiter.Waiter.{Waiter}
 use Rattle.coap_exchange.specs.Table.{Numbered, IsRising}
 use Rattle.coap_exchange.specs.Exchanges.{is_queued}
 use Rattle.coap_exchange.specs.Due.{Item, sending, serving, due_of, exchange_items, answer_at, answer_in, with_item, waiter_items, earlier, least}
+use Rattle.coap_model.specs.declared.report.Outcome.{Outcome}
 use Rattle.coap_model.specs.declared.report.Outcome.TheVariants.{Answered}
-use Rattle.coap_model.specs.declared.report.Storing.TheVariants.{NotStored}
+use Rattle.coap_model.specs.declared.report.Storing.TheVariants.{Kept, TooLarge, NoMemory, NotStored}
 use Rattle.coap_model.specs.Setting.{Setting}
 use Rattle.coap_model.specs.Events.{tick}
 use Rattle.coap_model.specs.Answers.{without_observe, is_passed_on, bad_gateway, answer_of}
 use Rattle.coap_model.specs.World.{World}
 use Rattle.coap_model.specs.Ticks.{items_of, if_due, next_due}
-use Rattle.coap_model.specs.History.{Act, no_item, admits, moves, serves, Deed, Place, IsPlaceOf, Never, Somewhere, opened_in, Opens, Sends, Gets, Serves}
+use Rattle.coap_model.specs.History.{Act, no_item, admits, moves, serves, Deed, Place, IsPlaceOf, Never, Somewhere, opened_in, Opens, Sends, takes, Gets, Serves}
 use Rattle.coap_model.specs.Due.{IsToSend, IsToServe, IsDueAt, ComesBefore, IsSooner, IsNextDue}
-use Rattle.coap_model.specs.Justified.{AllJustified, IsActing}
+use Rattle.coap_model.specs.Justified.{IsActing, IsAnswer, JustifiedBy, AllJustified}
 use Rattle.coap_model.specs.Carries.{IsState, IsExchangeOf, IsWaiterOf, ArePaired, HasNumber, Bears}
 use Rattle.coap_model.proofs.Lists.{Has, Has-all, All-both}
 use Rattle.coap_model.proofs.Places.{same_moves, first-once, place-before, justified-at, Never-at, Opens-number, Opens-unique}
@@ -276,10 +277,18 @@ send-item w history c x at d = ⊎_elim in_table was_served (c.whole.complete x 
         let place = Opens-unique history o.opening d.opening x o.was_opened d.was_opened (subst (λ (n : ℕ). Opens n o.opening) (sym f.1) o.opens) d.opens in
         record { item = sending y; there = Has-left (sending y) (exchange_items w.exchanges) (waiter_items w.exchanges w.waiters) (sending-there y w.exchanges f.3 queued); act = ap moves (sym f.1); due = f.2.since ∙ ap (λ (p : Place). p.deed.entry.now) place ∙ sym d.at_is }
 
+-- an answer that is taken is justified
+taken : (o : Outcome) (setting : Setting) (past : List Deed) (d : Deed) → takes o ≡ true → JustifiedBy o setting past d → IsAnswer setting past d
+taken (Answered NotStored) setting past d takes_one j = j
+taken (Answered Kept) setting past d takes_one j = absurd j
+taken (Answered TooLarge) setting past d takes_one j = absurd j
+taken (Answered NoMemory) setting past d takes_one j = absurd j
+taken _ setting past d takes_one j = absurd cc
+
 -- an exchange is got at one place
 pub got-first : (setting : Setting) (history : List Deed) (x : ℕ) (p : Place) → AllJustified setting history → IsPlaceOf history p → Gets setting x p → Never (Gets setting x) p.before
 got-first setting history x p all at g =
-    let j = justified-at setting history p (Answered NotStored) all at g.outcome in
+    let j = taken p.deed.entry.report.outcome setting p.before p.deed g.outcome (justified-at setting history p p.deed.entry.report.outcome all at refl) in
     subst (λ (n : ℕ). Never (Gets setting n) p.before) (same_moves j.exchange x (sym j.gets.act ∙ g.act)) j.first
 
 -- all numbers are above the least

@@ -24,7 +24,7 @@ use Rattle.coap_exchange.specs.Exchanges.{is_queued, count_where}
 use Rattle.coap_model.specs.World.{World, next_id, later}
 use Rattle.coap_exchange.specs.Due.{serving, least, answer_in}
 use Rattle.coap_model.specs.Ticks.{items_of, if_due, without_idle, delivers}
-use Rattle.coap_model.specs.History.{serves, Deed, Place, Somewhere, IsPlaceOf, Gets, Serves}
+use Rattle.coap_model.specs.History.{serves, Deed, Place, Somewhere, IsPlaceOf, takes, Gets, Serves}
 use Rattle.coap_model.specs.Justified.{IsActing, IsDelivery}
 use Rattle.coap_model.specs.declared.report.Outcome.TheVariants.{Delivered}
 use Rattle.coap_model.specs.Runs.{entry_of}
@@ -103,7 +103,7 @@ delivery w history e id v a s act acts sent spells =
       gets = got.gets;
       got_later =
           ⊎_elim
-          (λ (same : got.getting ≡ o.opening). absurd (let o = sym got.gets.outcome ∙ ap (λ (p : Place). p.deed.entry.report.outcome) same ∙ o.opens.0 in cc))
+          (λ (same : got.getting ≡ o.opening). absurd (let o = sym got.gets.outcome ∙ ap (λ (p : Place). takes p.deed.entry.report.outcome) same ∙ ap takes o.opens.0 in cc))
           (λ (other : IsPlaceOf got.getting.before o.opening ⊎ IsPlaceOf o.opening.before got.getting).
           ⊎_elim
           (λ (later : IsPlaceOf got.getting.before o.opening). later)

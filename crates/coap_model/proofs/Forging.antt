@@ -11,7 +11,7 @@ use Rattle.coap_message.proofs.WholeMessages.{read_again}
 use Rattle.coap_option.specs.Selection.{tags_of, max_age_of}
 use Rattle.coap_model.specs.Answers.{answer_of, shown}
 use Rattle.coap_model.specs.Examples.{client, content, content_for_client}
-use Rattle.coap_model.specs.History.{no_item, moves, serves, Deed, Sends, Place, IsPlaceOf, Opens, Gets}
+use Rattle.coap_model.specs.History.{no_item, moves, serves, Deed, Sends, Place, IsPlaceOf, Opens, takes, Gets}
 use Rattle.coap_model.specs.declared.report.Outcome.TheVariants.{SentRequest}
 use Rattle.coap_model.specs.Due.{IsToServe, IsSooner}
 use Rattle.coap_model.specs.Justified.{IsDelivery}
@@ -37,8 +37,8 @@ again s = let same = same_serves 1 s.waiter s.act in s.first.0 (record { act = a
 pub nothing_got : ¬ IsDelivery setting (asked ∷ opened ∷ []) right
 nothing_got s =
     ⊎_elim
-    (λ (e : here (opened ∷ []) asked ≡ s.getting). let o = ap (λ (p : Place). p.deed.entry.report.outcome) e ∙ s.gets.outcome in cc)
-    (λ (t : IsPlaceOf (opened ∷ []) s.getting). ⊎_elim (λ (e : here [] opened ≡ s.getting). let o = ap (λ (p : Place). p.deed.entry.report.outcome) e ∙ s.gets.outcome in cc) (λ (h : ⊥). h) t)
+    (λ (e : here (opened ∷ []) asked ≡ s.getting). let o = ap (λ (p : Place). takes p.deed.entry.report.outcome) e ∙ s.gets.outcome in cc)
+    (λ (t : IsPlaceOf (opened ∷ []) s.getting). ⊎_elim (λ (e : here [] opened ≡ s.getting). let o = ap (λ (p : Place). takes p.deed.entry.report.outcome) e ∙ s.gets.outcome in cc) (λ (h : ⊥). h) t)
     s.was_got
 
 -- what was opened and got in this past
@@ -58,8 +58,8 @@ one_getting p x at g =
     ⊎_elim
     (λ (e : here (asked ∷ opened ∷ []) answered ≡ p). sym e)
     (λ (t : IsPlaceOf (asked ∷ opened ∷ []) p). ⊎_elim
-    (λ (e : here (opened ∷ []) asked ≡ p). absurd (let f = ap (λ (q : Place). q.deed.entry.report.outcome) e ∙ g.outcome in cc))
-    (λ (u : IsPlaceOf (opened ∷ []) p). ⊎_elim (λ (e : here [] opened ≡ p). absurd (let f = ap (λ (q : Place). q.deed.entry.report.outcome) e ∙ g.outcome in cc)) (λ (h : ⊥). absurd h) u)
+    (λ (e : here (opened ∷ []) asked ≡ p). absurd (let f = ap (λ (q : Place). takes q.deed.entry.report.outcome) e ∙ g.outcome in cc))
+    (λ (u : IsPlaceOf (opened ∷ []) p). ⊎_elim (λ (e : here [] opened ≡ p). absurd (let f = ap (λ (q : Place). takes q.deed.entry.report.outcome) e ∙ g.outcome in cc)) (λ (h : ⊥). absurd h) u)
     t)
     at
 

@@ -1,5 +1,5 @@
 -- What stays as the history grows by an entry.
-use Rattle.std.proofs.Common.{◌≡◌, ◌≢◌, ◌⊎◌, ⊎_elim, inl, inr, ℕ, ◌+◌, ◌<◌, ◌≤◌, List, [], ◌∷◌, arith}
+use Rattle.std.proofs.Common.{◌≡◌, ◌≢◌, ◌⊎◌, ⊎_elim, inl, inr, ℕ, ◌+◌, ◌<◌, ◌≤◌, true, List, [], ◌∷◌, arith}
 use Rattle.std.specs.List.{AllByRecursion}
 use Rattle.coap_cache.specs.declared.key.CacheKey.{CacheKey}
 use Rattle.coap_target.proofs.Lists.{All-weaken}
@@ -9,11 +9,10 @@ use Rattle.coap_exchange.specs.declared.exchange.Exchange.{Exchange}
 use Rattle.coap_exchange.specs.declared.waiter.Waiter.{Waiter}
 use Rattle.coap_exchange.specs.Table.{Numbered}
 use Rattle.coap_model.specs.declared.report.Outcome.{Outcome}
-use Rattle.coap_model.specs.declared.report.Outcome.TheVariants.{Answered, SentRequest, Delivered}
-use Rattle.coap_model.specs.declared.report.Storing.TheVariants.{NotStored}
+use Rattle.coap_model.specs.declared.report.Outcome.TheVariants.{SentRequest, Delivered}
 use Rattle.coap_model.specs.Setting.{Setting}
 use Rattle.coap_model.specs.World.{World}
-use Rattle.coap_model.specs.History.{Deed, Somewhere, opens_one, serves_one, gives_id, opened_in, served_in, ids_in, Sends, Gets, Serves}
+use Rattle.coap_model.specs.History.{Deed, Somewhere, opens_one, serves_one, gives_id, opened_in, served_in, ids_in, Sends, takes, Gets, Serves}
 use Rattle.coap_model.specs.Carries.{Clock, Numbers, IsState, IsExchangeOf, IsWaiterOf, HasNumber, IsFresh, Bears}
 use Rattle.coap_model.proofs.Places.{here, opened-later}
 use Rattle.coap_model.proofs.Tables.{length-paired}
@@ -78,7 +77,7 @@ pub sends-not : (setting : Setting) (history : List Deed) (e : Deed) → e.entry
 sends-not setting history e other x s = other s.outcome
 
 -- nor gets an answer
-pub gets-not : (setting : Setting) (history : List Deed) (e : Deed) → e.entry.report.outcome ≢ Answered NotStored → (x : ℕ) → ¬ Gets setting x (here history e)
+pub gets-not : (setting : Setting) (history : List Deed) (e : Deed) → takes e.entry.report.outcome ≢ true → (x : ℕ) → ¬ Gets setting x (here history e)
 gets-not setting history e other x g = other g.outcome
 
 -- an entry with another outcome serves no waiter

@@ -30,3 +30,7 @@ pub mod Owing
 pub mod OneAnswer
 pub mod Asking
 pub mod Forging
+pub mod Pairs
+pub mod Cached
+pub mod Stores
+pub mod CacheExamples

@@ -1,9 +1,8 @@
 -- A step that opens, sends, gets and serves nothing keeps what is carried.
-use Rattle.std.proofs.Common.{◌≡◌, ◌≢◌, ℕ, ◌+◌, ◌%◌, ◌≤◌, List, ◌∷◌, refl, arith}
-use Rattle.coap_model.specs.declared.report.Outcome.TheVariants.{Answered, SentRequest, Delivered}
-use Rattle.coap_model.specs.declared.report.Storing.TheVariants.{NotStored}
+use Rattle.std.proofs.Common.{◌≡◌, ◌≢◌, ℕ, ◌+◌, ◌%◌, ◌≤◌, true, List, ◌∷◌, refl, arith}
+use Rattle.coap_model.specs.declared.report.Outcome.TheVariants.{SentRequest, Delivered}
 use Rattle.coap_model.specs.World.{World, reserved, later}
-use Rattle.coap_model.specs.History.{Deed, opens_one, sends_one, serves_one, gives_id, ids_in, Gives}
+use Rattle.coap_model.specs.History.{Deed, opens_one, sends_one, serves_one, gives_id, ids_in, takes, Gives}
 use Rattle.coap_model.specs.Justified.{AllJustified}
 use Rattle.coap_model.specs.Carries.{Bears}
 use Rattle.coap_model.proofs.Frames.{clock_frame, numbers_frame, later_served, exchanges_frame, waiters_frame, fresh_frame, sends-not, gets-not, serves-not}
@@ -14,7 +13,7 @@ pub record IsQuiet (e : Deed) : Type 0 where
   pub sends : sends_one e.entry.report.outcome ≡ 0
   pub serves : serves_one e.entry.report.outcome ≡ 0
   pub unsent : e.entry.report.outcome ≢ SentRequest
-  pub ungot : e.entry.report.outcome ≢ Answered NotStored
+  pub ungot : takes e.entry.report.outcome ≢ true
   pub unserved : e.entry.report.outcome ≢ Delivered
 
 -- the clock goes on, and so many ids were given

@@ -1,6 +1,6 @@
 -- What the traffic alone says: which entry of a history opened, asked, got and admitted what. This
 -- file names no table. A history has its newest entry first.
-use Rattle.std.specs.Prelude.{◌≡◌, ◌⊎◌, ℕ, ◌+◌, ◌-◌, ◌%◌, ◌<◌, ◌≤◌, List, [], ◌∷◌, length, map, true, Some}
+use Rattle.std.specs.Prelude.{◌≡◌, ◌⊎◌, ℕ, ◌+◌, ◌-◌, ◌%◌, ◌<◌, ◌≤◌, List, [], ◌∷◌, length, map, Bool, true, false, Some}
 use Rattle.coap_message.specs.declared.kind.Kind.TheVariants.{Ack}
 use Rattle.coap_message.specs.Uint.{IsBytes}
 use Rattle.coap_message.specs.Message.{Message}
@@ -8,7 +8,6 @@ use Rattle.coap_message.specs.Spelling.{Spells}
 use Rattle.coap_target.specs.declared.endpoint.Endpoint.{Endpoint}
 use Rattle.coap_model.specs.declared.report.Outcome.{Outcome}
 use Rattle.coap_model.specs.declared.report.Outcome.TheVariants.{Refused, Opened, Overloaded, Answered, SentRequest, Delivered}
-use Rattle.coap_model.specs.declared.report.Storing.TheVariants.{NotStored}
 use Rattle.coap_model.specs.declared.report.Report.{Report}
 use Rattle.coap_model.specs.Limits.{Limits}
 use Rattle.coap_model.specs.Setting.{Setting}
@@ -169,10 +168,15 @@ pub record Meets (setting : Setting) (x : ℕ) (past : List Deed) (event : Event
   pub brings : Brings setting.limits.datagram asks.sends.to response event
   pub matches : Matches (token_of setting.salt x) asks.sends.message.id response
 
+-- an answer is taken, however it is stored
+abbrev pub takes : Outcome → Bool
+takes (Answered storing) = true
+takes _ = false
+
 -- the answer of this exchange was got there
 pub record Gets (setting : Setting) (x : ℕ) (p : Place) : Type 0 where
   pub act : p.deed.act ≡ moves x
-  pub outcome : p.deed.entry.report.outcome ≡ Answered NotStored
+  pub outcome : takes p.deed.entry.report.outcome ≡ true
   pub meets : Meets setting x p.before p.deed.entry.event
   pub fits : IsBytes meets.brings.bytes
 

@@ -23,3 +23,6 @@ pub mod Memory
 pub mod Promised
 pub mod Runs
 pub mod Forged
+pub mod Pairs
+pub mod Cached
+pub mod CacheExamples

@@ -2,6 +2,7 @@
 //! join them. There is next to no code here.
 #![tactic(auto)]
 
+pub mod cache_laws;
 pub mod laws;
 mod limits;
 mod report;

@@ -1,0 +1,159 @@
+-- Histories and their caches, computed.
+use Rattle.std.proofs.Common.{◌≡◌, ◌≢◌, inl, ℕ, true, List, [], ◌∷◌, refl, sym, ap, ◌∙◌, arith, nat_lt}
+use Rattle.std.specs.Prelude.{zero, suc, codes}
+use Rattle.std.specs.List.{list_all}
+use Rattle.std.proofs.lemmas.Bool.{and_parts, ltb-true}
+use Rattle.coap_message.specs.Uint.{IsBytes, uint_spelling}
+use Rattle.coap_message.specs.declared.kind.Kind.TheVariants.{Non}
+use Rattle.coap_message.specs.declared.code.TheConstants.Code.{GET}
+use Rattle.coap_message.specs.Message.{Message}
+use Rattle.coap_message.specs.Options.{option_of}
+use Rattle.coap_message.specs.Reading.{read_message, body_at, options_within, option_at, extended}
+use Rattle.coap_message.specs.Spelling.{Spells, spelling, option_spelling}
+use Rattle.coap_message.proofs.WholeMessages.{read_is}
+use Rattle.coap_target.specs.declared.endpoint.Endpoint.{Endpoint}
+use Rattle.coap_option.specs.declared.numbers.TheConstants.{URI_PATH}
+use Rattle.coap_routes.specs.Routes.{mapped_target}
+use Rattle.coap_routes.specs.Request.{request_target}
+use Rattle.coap_model.specs.declared.report.Outcome.TheVariants.{Answered, SentRequest}
+use Rattle.coap_model.specs.declared.report.Storing.{Storing}
+use Rattle.coap_model.specs.declared.report.Storing.TheVariants.{Kept, TooLarge}
+use Rattle.coap_model.specs.Events.{arrival}
+use Rattle.coap_model.specs.Messages.{token_of}
+use Rattle.coap_model.specs.Forms.{target_options, target_sent, key_sent}
+use Rattle.coap_model.specs.Answers.{answer_of}
+use Rattle.coap_model.specs.Examples.{origin, client, get_t, get_temp}
+use Rattle.coap_model.specs.LimitExamples as limited
+use Rattle.coap_model.specs.OptionExamples.{key_of_temp}
+use Rattle.coap_model.specs.History.{Deed, Place, IsPlaceOf, Never, Sends, Asks}
+use Rattle.coap_model.specs.Forged as forged
+use Rattle.coap_model.specs.Forged.{setting, opened, asked}
+use Rattle.coap_model.specs.Cached.{IsObtained, IsCacheOf, empty, kept, too_large, hit, otherwise}
+use Rattle.coap_model.specs.CacheExamples.{content_for, get_for, answered, kept_past, hits, hit_past, asks_again, asked_past, first_entry, second_entry}
+use Rattle.coap_model.proofs.Places.{here, same_moves}
+
+-- numbers that are below 256 are bytes
+are-bytes : (bytes : List ℕ) → list_all (λ b. nat_lt b 256) bytes ≡ true → IsBytes bytes
+are-bytes [] all i = omega arith
+are-bytes (b ∷ bytes) all zero = ltb-true b 256 (and_parts (nat_lt b 256) (list_all (λ c. nat_lt c 256) bytes) all).0
+are-bytes (b ∷ bytes) all (suc i) = are-bytes bytes (and_parts (nat_lt b 256) (list_all (λ c. nat_lt c 256) bytes) all).1 i
+
+-- ---- what was asked
+
+-- nothing was sent where nothing is told to be
+unsent : (x : ℕ) (before : List Deed) (d : Deed) → d.entry.report.outcome ≢ SentRequest → ¬ Sends 0 x (here before d)
+unsent x before d not s = not s.outcome
+
+-- the first request spells the first exchange's
+first_sent : Spells (get_temp []) (get_for 1 1)
+unfolding read_message body_at options_within option_at extended token_of target_options uint_spelling
+first_sent = read_is (get_temp []) (get_for 1 1) (are-bytes (get_temp []) refl) refl
+
+-- and the second the second's
+second_sent : Spells (limited.asked 3 2) (get_for 3 2)
+unfolding read_message body_at options_within option_at extended token_of target_options uint_spelling
+second_sent = read_is (limited.asked 3 2) (get_for 3 2) (are-bytes (limited.asked 3 2) refl) refl
+
+-- neither was sent before
+first_unsent : Never (Sends 0 1) (opened ∷ [])
+first_unsent = (unsent 1 [] opened (λ e. cc), tt)
+
+second_unsent : Never (Sends 0 2) hit_past
+second_unsent = (unsent 2 kept_past hits (λ e. cc), (unsent 2 (asked ∷ opened ∷ []) (answered 5 1 1 (Answered Kept)) (λ e. cc), (other, (unsent 2 [] opened (λ e. cc), tt))))
+  where
+    other : ¬ Sends 0 2 (here (opened ∷ []) asked)
+    other s = let e = same_moves 1 2 s.act in omega (arith, e)
+
+-- so each was asked there
+abbrev first_asks : Asks 0 1 (here (opened ∷ []) asked)
+first_asks = record {
+  sends = record { act = refl; outcome = refl; to = origin; sent = refl; message = get_for 1 1; spells = first_sent; token = refl };
+  first = first_unsent;
+}
+
+abbrev second_asks : Asks 0 2 (here hit_past asks_again)
+second_asks = record {
+  sends = record { act = refl; outcome = refl; to = origin; sent = refl; message = get_for 3 2; spells = second_sent; token = refl };
+  first = second_unsent;
+}
+
+-- ---- what was got
+
+-- the answers spell what they say
+first_got : Spells (limited.got 1 1) (content_for 1 1)
+unfolding read_message body_at options_within option_at extended token_of
+first_got = read_is (limited.got 1 1) (content_for 1 1) (are-bytes (limited.got 1 1) refl) refl
+
+second_got : Spells (limited.got 3 2) (content_for 3 2)
+unfolding read_message body_at options_within option_at extended token_of
+second_got = read_is (limited.got 3 2) (content_for 3 2) (are-bytes (limited.got 3 2) refl) refl
+
+-- so what was asked is obtained at its answer, however it is stored
+content_obtained : (past : List Deed) (now id x : ℕ) (storing : Storing) (asking : Place) → IsPlaceOf past asking → (asks : Asks 0 x asking) → asks.sends.to ≡ origin → asks.sends.message ≡ get_for id x → key_sent origin (get_for id x) ≡ key_of_temp → IsBytes (limited.got id x) → Spells (limited.got id x) (content_for id x)
+    → IsObtained setting key_of_temp (content_for id x) asking (here past (answered now id x (Answered storing)))
+unfolding answer_of spelling option_spelling uint_spelling
+content_obtained past now id x storing asking was_asked asks to message key fits spells = record {
+  exchange = x;
+  gets = record {
+    act = refl;
+    outcome = refl;
+    meets = record {
+      asking = asking;
+      was_asked = was_asked;
+      asks = asks;
+      response = content_for id x;
+      brings = record { bytes = limited.got id x; came = ap (λ (e : Endpoint). arrival e (limited.got id x)) (sym to); spells = spells; short = omega arith };
+      matches = record { kind = refl; code = refl; same_token = refl; same_id = ap (λ (m : Message). m.id) (sym message) };
+    };
+    fits = fits;
+  };
+  asking_is = refl;
+  asked_key = (λ i. key_sent (to i) (message i)) ∙ key;
+  storable = refl;
+  response_is = refl;
+}
+
+-- the first answer
+first_obtained : (storing : Storing) → IsObtained setting key_of_temp (content_for 1 1) (here (opened ∷ []) asked) (here (asked ∷ opened ∷ []) (answered 5 1 1 (Answered storing)))
+unfolding token_of target_options target_sent key_sent
+first_obtained storing = content_obtained (asked ∷ opened ∷ []) 5 1 1 storing (here (opened ∷ []) asked) (inl refl) first_asks refl refl refl (are-bytes (limited.got 1 1) refl) first_got
+
+-- the second
+second_obtained : (storing : Storing) → IsObtained setting key_of_temp (content_for 3 2) (here hit_past asks_again) (here asked_past (answered 20 3 2 (Answered storing)))
+unfolding token_of target_options target_sent key_sent
+second_obtained storing = content_obtained asked_past 20 3 2 storing (here hit_past asks_again) (inl refl) second_asks refl refl refl (are-bytes (limited.got 3 2) refl) second_got
+
+-- ---- the caches
+
+-- what comes before an answer leaves the cache
+cache_asked : IsCacheOf setting (asked ∷ opened ∷ []) []
+cache_asked = otherwise asked refl (otherwise opened refl empty)
+
+-- an answer that isn't stored leaves it too
+pub cache_not_stored : IsCacheOf setting forged.past []
+cache_not_stored = otherwise forged.answered refl cache_asked
+
+-- one that is kept is in it
+pub cache_kept : IsCacheOf setting kept_past (first_entry ∷ [])
+cache_kept = kept (answered 5 1 1 (Answered Kept)) key_of_temp (content_for 1 1) (here (opened ∷ []) asked) refl (first_obtained Kept) cache_asked
+
+-- the request of another client
+abbrev get_read : Message
+get_read = record { kind = Non; code = GET; id = 7; token = []; options = option_of URI_PATH (codes "t") ∷ []; payload = [] }
+
+-- it is that of a client who is shown it
+pub cache_hit : IsCacheOf setting hit_past (first_entry ∷ [])
+unfolding mapped_target request_target read_message body_at options_within option_at extended
+cache_hit = hit hits (client 2) get_read key_of_temp.target first_entry refl (record { bytes = get_t []; came = refl; spells = read_is (get_t []) get_read (are-bytes (get_t []) refl) refl; short = omega arith }) refl refl cache_kept
+
+-- asking anew leaves it
+pub cache_asked_again : IsCacheOf setting asked_past (first_entry ∷ [])
+cache_asked_again = otherwise asks_again refl cache_hit
+
+-- another answer takes its place
+pub cache_in_place : IsCacheOf setting (answered 20 3 2 (Answered Kept) ∷ asked_past) (second_entry ∷ [])
+cache_in_place = kept (answered 20 3 2 (Answered Kept)) key_of_temp (content_for 3 2) (here hit_past asks_again) refl (second_obtained Kept) cache_asked_again
+
+-- or gives it up, where it is too large
+pub cache_too_large : IsCacheOf setting (answered 20 3 2 (Answered TooLarge) ∷ asked_past) []
+cache_too_large = too_large (answered 20 3 2 (Answered TooLarge)) key_of_temp (content_for 3 2) (here hit_past asks_again) refl (second_obtained TooLarge) cache_asked_again

@@ -1,0 +1,154 @@
+-- Words about the cache of a history, computed: what may be kept of a response, what is kept of a
+-- small cache, and histories with their caches. The bytes are those of RFC 7252 (3, 3.1, 5.10),
+-- written out.
+use Rattle.std.specs.Prelude.{ℕ, Bool, false, List, [], ◌∷◌, codes, Option, Some, None, option_map}
+use Rattle.std.specs.Result.{result_ok}
+use Rattle.coap_message.specs.declared.kind.Kind.TheVariants.{Ack}
+use Rattle.coap_message.specs.declared.code.TheConstants.Code.{CONTENT}
+use Rattle.coap_message.specs.Message.{Message}
+use Rattle.coap_message.specs.Options.{option_of}
+use Rattle.coap_message.specs.Reading.{read_message}
+use Rattle.coap_option.specs.declared.numbers.TheConstants.{MAX_AGE}
+use Rattle.coap_cache.specs.declared.stored.Stored.{Stored}
+use Rattle.coap_model.specs.declared.report.Outcome.{Outcome}
+use Rattle.coap_model.specs.declared.report.Outcome.TheVariants.{Answered, Hit}
+use Rattle.coap_model.specs.declared.report.Storing.TheVariants.{Kept}
+use Rattle.coap_model.specs.Limits.{default_limits}
+use Rattle.coap_model.specs.Events.{arrival}
+use Rattle.coap_model.specs.Messages.{token_of}
+use Rattle.coap_model.specs.Forms.{forwarded}
+use Rattle.coap_model.specs.Answers.{answer_of}
+use Rattle.coap_model.specs.Examples.{origin, client, get_t, answer}
+use Rattle.coap_model.specs.LimitExamples as limited
+use Rattle.coap_model.specs.OptionExamples.{key_of_temp}
+use Rattle.coap_model.specs.History.{no_item, moves, Deed}
+use Rattle.coap_model.specs.Forged as forged
+use Rattle.coap_model.specs.Forged.{setting, opened, asked}
+use Rattle.coap_model.specs.Cached.{is_storable, Cached, cached_with}
+
+-- ---- what may be kept
+
+-- whether what a response of this code with these options gives may be kept
+abbrev pub storable_in : ℕ → List ℕ → Option Bool
+storable_in code options =
+    option_map (λ m. is_storable (answer_of 1500 0 m))
+    (result_ok (read_message (answer 0x68 code 1 1 options)))
+
+-- a Max-Age in one byte, and one of 0 in none
+abbrev pub max_age : ℕ → List ℕ
+max_age seconds = 0xD1 ∷ 1 ∷ seconds ∷ []
+
+abbrev pub empty_max_age : List ℕ
+empty_max_age = 0xD0 ∷ 1 ∷ []
+
+-- ---- what is kept
+
+-- 2.05 with a Max-Age of ten seconds, for an exchange, and the request that it answers
+abbrev pub content_for : ℕ → ℕ → Message
+content_for id exchange =
+    record {
+      kind = Ack;
+      code = CONTENT;
+      id = id;
+      token = token_of 0 exchange;
+      options = option_of MAX_AGE (10 ∷ []) ∷ [];
+      payload = codes "21";
+    }
+
+abbrev pub get_for : ℕ → ℕ → Message
+get_for id exchange = forwarded (token_of 0 exchange) key_of_temp.target [] id
+
+-- an entry for a path of one segment, which came as so many-th
+abbrev pub entry_for : ℕ → ℕ → Cached
+entry_for segment came =
+    record {
+      key = record key_of_temp {
+        target = record key_of_temp.target { path = (segment ∷ []) ∷ [] };
+      };
+      response = content_for 1 1;
+      asking = record { before = opened ∷ []; deed = asked };
+      getting =
+          record {
+            before = asked ∷ opened ∷ [];
+            deed = record asked { entry = record asked.entry { now = came } };
+          };
+    }
+
+-- a cache of two
+abbrev pub two : List Cached
+two = entry_for 0x61 1 ∷ entry_for 0x62 2 ∷ []
+
+-- what is kept where there is room for so many bytes and entries
+abbrev pub kept_within : ℕ → ℕ → Cached → List Cached → List Cached
+kept_within bytes entries new cached =
+    cached_with
+    (record setting {
+      limits = record default_limits { cache_bytes = bytes; cache_entries = entries };
+    })
+    new cached
+
+-- ---- histories
+
+-- an answer of the origin to an exchange
+abbrev pub answered : ℕ → ℕ → ℕ → Outcome → Deed
+answered now id exchange outcome =
+    record {
+      entry = record forged.answered.entry {
+        now = now;
+        event = arrival origin (limited.got id exchange);
+        report = record { send = None; outcome = outcome };
+      };
+      act = moves exchange;
+    }
+
+-- an answer is kept
+abbrev pub kept_past : List Deed
+kept_past = answered 5 1 1 (Answered Kept) ∷ asked ∷ opened ∷ []
+
+-- another client asks for the same
+abbrev pub hits : Deed
+hits =
+    record {
+      entry = record opened.entry {
+        now = 10;
+        event = arrival (client 2) (get_t []);
+        report = record { send = Some (client 2); outcome = Hit };
+      };
+      act = no_item;
+    }
+
+abbrev pub hit_past : List Deed
+hit_past = hits ∷ kept_past
+
+-- the origin is asked for it anew
+abbrev pub asks_again : Deed
+asks_again =
+    record { entry = record asked.entry { now = 15; bytes = limited.asked 3 2 }; act = moves 2 }
+
+abbrev pub asked_past : List Deed
+asked_past = asks_again ∷ hit_past
+
+-- the entry of the first answer, and of the second
+abbrev pub first_entry : Cached
+first_entry =
+    record {
+      key = key_of_temp;
+      response = content_for 1 1;
+      asking = record { before = opened ∷ []; deed = asked };
+      getting =
+          record { before = asked ∷ opened ∷ []; deed = answered 5 1 1 (Answered Kept) };
+    }
+
+abbrev pub second_entry : Cached
+second_entry =
+    record {
+      key = key_of_temp;
+      response = content_for 3 2;
+      asking = record { before = hit_past; deed = asks_again };
+      getting = record { before = asked_past; deed = answered 20 3 2 (Answered Kept) };
+    }
+
+-- what a store keeps of the first
+abbrev pub first_stored : Stored
+first_stored =
+    record { response = content_for 1 1; asked = 1; got_no = 2; got = 5; marked = false }
