@@ -10,9 +10,3 @@ pub mod Picked
 pub mod Renewals
 pub mod Parts
 pub mod Updates
-pub mod Recency
-pub mod Evictions
-pub mod Marks
-pub mod Alike
-pub mod Groups
-pub mod Kept

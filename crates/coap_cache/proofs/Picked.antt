@@ -1,9 +1,8 @@
 -- Options in order of number, and those of them that are picked.
-use Rattle.std.proofs.Common.{◌≡◌, ℕ, ◌<◌, ◌≤◌, Bool, true, false, cond, nat_le, nat_lt, List, [], ◌∷◌, ◌++◌, filter, refl, sym, ap, ◌∙◌, append_assoc, arith}
+use Rattle.std.proofs.Common.{◌≡◌, ℕ, ◌<◌, ◌≤◌, Bool, true, false, cond, nat_le, nat_lt, List, [], ◌∷◌, ◌++◌, filter, refl, ap, ◌∙◌, arith}
 use Rattle.std.proofs.lemmas.Bool.{ltb-true, leb-false, le-leb, le-ltb, lt-ltb}
 use Rattle.coap_message.specs.declared.options.Opt.{Opt}
 use Rattle.coap_message.specs.Options.{AreOptions, last_number}
-use Rattle.coap_message.specs.Spelling.{option_spelling, options_spelling}
 use Rattle.coap_cache.specs.Renewing.{above, below, from}
 
 -- options in order are so behind any lower number

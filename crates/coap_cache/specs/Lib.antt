@@ -3,7 +3,6 @@ pub mod Freshness
 pub mod Sizes
 pub mod Lists
 pub mod Entries
-pub mod Indexing
 pub mod Renewing
 pub mod Showing
 pub mod Writing

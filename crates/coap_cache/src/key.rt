@@ -1,7 +1,7 @@
 //! Cache keys (RFC 7252, 5.6).
-ghost use Rattle.std.specs.Prelude.{◌≡◌, IfOk};
+ghost use Rattle.std.specs.Prelude.{◌≡◌};
 
-use coap_message::{OptionList, OutOfMemory};
+use coap_message::OptionList;
 use coap_target::Target;
 
 /// What a request and one whose response was stored have in common where that response answers
@@ -21,21 +21,4 @@ impl CacheKey {
     {
         self == other
     }
-
-    /// The same key once more.
-    pub(crate) fn copied(&self) -> Result<CacheKey, OutOfMemory>
-        ensures { IfOk result (λ copy. copy ≡ self.now) }
-    {
-        Ok(CacheKey {
-            target: copied_target(&self.target)?,
-            options: self.options.clone()?,
-        })
-    }
-}
-
-/// The same target once more.
-pub(crate) fn copied_target(target: &Target) -> Result<Target, OutOfMemory>
-    ensures { IfOk result (λ copy. copy ≡ target.now) }
-{
-    Ok(target.clone()?)
 }

@@ -1,7 +1,7 @@
 //! Renewing a stored response that an origin validates (RFC 7252, 5.6.2 and 5.9.1.3).
 ghost use Rattle.std.specs.Prelude.{◌≡◌, ◌↔◌, ◌∷◌, ◌++◌, [], false, IfOk, OnOk, Err};
 ghost use Rattle.coap_message.specs.Options.{AreOptions, last_number};
-ghost use Rattle.coap_cache.specs.Renewing.{above, below, from, is_validated, max_age_option, renewed, safe_options, updated};
+ghost use Rattle.coap_cache.specs.Renewing.{above, below, from, is_validated, max_age_option, news_of, renewed, safe_options, updated};
 
 use crate::error::RenewError;
 use crate::stored::Stored;
@@ -59,10 +59,18 @@ fn renew(alloc: Global, response: &Message, valid: &MessageRef<'_>) -> Result<Me
     requires { response.now.code.0 ≡ 69 }
     ensures { IfOk result (λ message. message ≡ renewed response.now valid.now) }
 {
-    let seconds = max_age_list(alloc, u64::from(max_age(valid)))?;
-    let safe = safe_options(alloc, &valid.options)?;
-    let newer = updated(alloc, &seconds.lent(), &safe.lent())?;
-    let options = updated(alloc, &newer.lent(), &response.options.lent())?;
+    let newer = news_of(alloc, valid)?;
+    with_options(
+        response,
+        updated(alloc, &newer.lent(), &response.options.lent())?,
+    )
+}
+
+/// The same 2.05 with other options.
+fn with_options(response: &Message, options: OptionList) -> Result<Message, OutOfMemory>
+    requires { response.now.code.0 ≡ 69 }
+    ensures { IfOk result (λ message. message ≡ record response.now { options = options }) }
+{
     Ok(Message {
         kind: response.kind,
         code: response.code,
@@ -71,6 +79,15 @@ fn renew(alloc: Global, response: &Message, valid: &MessageRef<'_>) -> Result<Me
         options,
         payload: response.payload.clone()?,
     })
+}
+
+/// What a 2.03 renews: its safe options, with its Max-Age.
+fn news_of(alloc: Global, valid: &MessageRef<'_>) -> Result<OptionList, OutOfMemory>
+    ensures { IfOk result (λ list. list ≡ news_of valid.now) }
+{
+    let seconds = max_age_list(alloc, u64::from(max_age(valid)))?;
+    let safe = safe_options(alloc, &valid.options)?;
+    updated(alloc, &seconds.lent(), &safe.lent())
 }
 
 /// A Max-Age of so many seconds.

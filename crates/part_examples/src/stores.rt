@@ -1,5 +1,6 @@
 //! Stores of responses, each put to the same calls.
-use coap_cache::{CacheKey, ListStore, LruStore, Put, Store, Stored};
+use coap_cache::{CacheKey, ListStore, Put, Store, Stored};
+use coap_lru::LruStore;
 use coap_message::{Code, Kind, Message, OptionList, OutOfMemory, Pieces, Seq, Token};
 use coap_target::{Endpoint, Ip, Target};
 use std::alloc::Global;

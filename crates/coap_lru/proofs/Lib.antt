@@ -1,0 +1,6 @@
+pub mod Alike
+pub mod Recency
+pub mod Evictions
+pub mod Marks
+pub mod Groups
+pub mod Kept
