@@ -14,7 +14,7 @@ new_port = record { last = 0; failures = 0 }
 
 -- What a turn of a socket is known to be. Which datagram came, and whether one did, isn't known; without a wait none
 -- did.
-pub record Gives (p : Udp) (wait : ℕ) (t : Turn) (q : Udp) : Type 0 where
+pub record Gives (room : ℕ) (p : Udp) (wait : ℕ) (t : Turn) (q : Udp) : Type 0 where
   pub onward : p.last ≤ t.now
   pub moment : t.now ≤ 2 ^ 62
   pub draw : t.draw ≤ 1000
