@@ -12,7 +12,7 @@ use std::alloc::Global;
 
 /// Drives a core over a port for so many turns: each that the port gives is done, and what is sent
 /// is handed to the port once. The port is asked to wait until the next thing is due, for a second
-/// at most. The buffer for it has room for a byte more than the longest datagram, so that a longer one
+/// at most. Its buffer has room for a byte more than the longest datagram, so that a longer one
 /// shows.
 ///
 /// A turn that finds no memory is counted as lost, and a datagram that the port doesn't take as a

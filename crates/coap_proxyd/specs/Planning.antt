@@ -1,5 +1,5 @@
 -- What the program is to do, by its words and its configuration.
-use Rattle.std.specs.Prelude.{ℕ, List, [], ◌∷◌, ◌++◌, Bool, Option, Some, None, option_map, Result, Ok, Err, string_bytes}
+use Rattle.std.specs.Prelude.{ℕ, List, [], ◌∷◌, ◌++◌, Option, Some, None, option_map, Result, Ok, Err, string_bytes}
 use Rattle.std.specs.Option.{unwrap_or}
 use Rattle.coap_model.specs.Limits.{default_limits}
 use Rattle.coap_model.specs.Setting as model
@@ -8,12 +8,10 @@ use Rattle.coap_routes.specs.RouteTexts.{Pair, routes_of}
 use Rattle.coap_routes.specs.declared.error.RouteError.{RouteError}
 use Rattle.coap_words.specs.Config.{Said, config_of}
 use Rattle.coap_words.specs.MapOption.{map_option_of}
-use Rattle.coap_words.specs.ProxyOption as proxy
 use Rattle.coap_words.specs.Texts.{Text}
 use Rattle.coap_words.specs.Tree.{after}
 use Rattle.coap_words.specs.declared.config_error.ConfigError.{ConfigError}
 use Rattle.coap_words.specs.declared.error.MapOptionError.{MapOptionError}
-use Rattle.coap_words.specs.declared.settings.Settings.{Settings}
 use Rattle.coap_proxyd.specs.Words.{Seen}
 use Rattle.coap_proxyd.specs.Faults.{config_fault, map_fault}
 use Rattle.coap_proxyd.specs.declared.fault.Fault.{Fault}
@@ -42,6 +40,9 @@ with_names said (Some names) = record said { names = names }
 -- one map more, behind its own
 abbrev pub add_map : Said → Pair → Said
 add_map said m = record said { maps = said.maps ++ m ∷ [] }
+
+abbrev pub map_said : Seen → Option Text
+map_said wanted = option_map string_bytes wanted.settings.map
 
 abbrev pub with_map_found : Said → Result Pair MapOptionError → Result Said Fault
 with_map_found said (Ok m) = Ok (add_map said m)
@@ -73,16 +74,17 @@ planned wanted said routes = record {
   turns = wanted.settings.turns;
 }
 
--- The configuration is read first; the names of `-P` stand in place of its own, and the map of `--map` behind its
--- maps.
+-- The configuration is read first; the names of `-P` stand in place of its own, and the map of
+-- `--map` behind its maps.
 abbrev pub plan_of : Seen → Option Text → Result Plan Fault
 plan_of wanted file =
     after (config_said file) (λ config.
-    after (with_map (with_names config wanted.names) (option_map string_bytes wanted.settings.map)) (λ said.
+    after (with_map (with_names config wanted.names) (map_said wanted)) (λ said.
     after (routes_said said) (λ routes.
     Ok (planned wanted said routes))))
 
 -- what the core of a plan is made with, where it says no first message id and no salt
 abbrev pub setting_of : Plan → ℕ → ℕ → model.Setting
 setting_of plan first_id salt =
-    model.setting_of plan.limits plan.routes (unwrap_or plan.first_id first_id) (unwrap_or plan.salt salt)
+    let id = unwrap_or plan.first_id first_id in
+    model.setting_of plan.limits plan.routes id (unwrap_or plan.salt salt)

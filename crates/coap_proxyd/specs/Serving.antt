@@ -23,8 +23,8 @@ ended_as (Ok count) = Ok tt
 ended_as (Err e) = Err (replay_fault e)
 
 -- a replay by that proxy; or there was no memory for the proxy, and nothing was written
-abbrev pub IsServed : World → Option (List ℕ) → Option (List ℕ) → Option (List ℕ) → Result (Unit {0}) Fault
-    → Type 0
+abbrev pub IsServed : World → Option (List ℕ) → Option (List ℕ) → Option (List ℕ)
+    → Result (Unit {0}) Fault → Type 0
 IsServed proxy input old new result = ((result ≡ Err OutOfMemory) × Appends old new [])
     ⊎ ((after : World) × (left : Option (List ℕ)) × (replayed : Result ℕ ReplayError)
     × IsReplayed proxy after input left old new replayed × (result ≡ ended_as replayed))
@@ -40,7 +40,8 @@ abbrev pub driven_as : Result Stats DriveError → Result (Unit {0}) Fault
 driven_as (Ok stats) = Ok tt
 driven_as (Err e) = Err (drive_fault e)
 
--- that proxy is driven over the port for so many turns; or there was no memory for the proxy, and nothing was done
+-- that proxy is driven over the port for so many turns; or there was no memory for the proxy, and
+-- nothing was done
 abbrev pub IsServedOver : {P : Type 0} → (P → ℕ → Turn → P → Type 0)
     → (P → Endpoint → List ℕ → Bool → P → Type 0) → (P → ℕ) → (P → ℕ) → ℕ → World → P → P
     → Result (Unit {0}) Fault → Type 0

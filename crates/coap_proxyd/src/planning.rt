@@ -123,7 +123,8 @@ fn add_map(config: Config, map: (String, String)) -> Result<Config, Fault>
 /// The routes of a configuration. Those of its file were made before, and names that `-P` says are
 /// names; so it is the map option that is at fault where they say none.
 fn routes_of(alloc: Global, config: &Config) -> Result<Routes, Fault>
-    ensures { Says (λ routes. routes) faults.OutOfMemory result (spec.routes_said (view.seen config.now)) }
+    ensures { Says (λ routes. routes) faults.OutOfMemory result
+        (spec.routes_said (view.seen config.now)) }
 {
     match Routes::new(
         alloc,

@@ -6,8 +6,8 @@ use Rattle.std.specs.Net.Addr.{IsIpv4Mapped, ipv4_octets, ipv6_octets, ipv6_segm
 use Rattle.coap_target.specs.declared.endpoint.Ip.{Ip}
 use Rattle.coap_target.specs.declared.endpoint.Ip.TheVariants.{V4, V6}
 
--- An IPv4 address is itself; so is an IPv6 address, but one that begins with ::ffff:0:0/96, whose last four octets
--- are an IPv4 address.
+-- An IPv4 address is itself; so is an IPv6 address, but for those of ::ffff:0:0/96, whose last four
+-- octets are an IPv4 address.
 abbrev pub IsEndpoint : IpAddr → Ip → Type 0
 IsEndpoint (ip.V4 a) (V4 octets) = octets ≡ ipv4_octets a
 IsEndpoint (ip.V4 a) (V6 octets) = ⊥

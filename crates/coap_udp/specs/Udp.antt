@@ -12,8 +12,8 @@ pub record Udp : Type 0 where
 abbrev pub new_port : Udp
 new_port = record { last = 0; failures = 0 }
 
--- What a turn of a socket is known to be. Which datagram came, and whether one did, isn't known; without a wait none
--- did.
+-- What a turn of a socket is known to be. Which datagram came, and whether one did, isn't known;
+-- without a wait none did.
 pub record Gives (room : ℕ) (p : Udp) (wait : ℕ) (t : Turn) (q : Udp) : Type 0 where
   pub onward : p.last ≤ t.now
   pub moment : t.now ≤ 2 ^ 62

@@ -1,8 +1,8 @@
-use Rattle.std.proofs.Common.{◌≡◌, ◌∙◌, ◌≤◌, ap, ap₂, subst, sym, arith}
+use Rattle.std.proofs.Common.{◌≡◌, ◌∙◌, ap, ap₂, subst, arith}
 use Rattle.coap_core.specs.Events.{seen}
-use Rattle.coap_model.specs.Events.{Event, IsEvent}
+use Rattle.coap_model.specs.Events.{IsEvent}
 use Rattle.coap_model.specs.Ticks.{next_due}
-use Rattle.coap_port.specs.Driven.{DidTurn, is_arrival, wait_for}
+use Rattle.coap_port.specs.Driven.{is_arrival, wait_for}
 use Rattle.coap_port.specs.Given.{event_given, given_by}
 use Rattle.coap_port.proofs.Turning.{arrival-is, did-nothing, did-step}
 use Rattle.coap_port.proofs.turns.do_turn.Goals.{in-Ok, in-Err}
