@@ -1,5 +1,5 @@
 -- A proxy that is driven turn by turn.
-use Rattle.std.proofs.Common.{◌≡◌, ◌+◌, ◌≤◌, ◌<◌, ℕ, Bool, true, false, cond, List, [], ◌∷◌, refl, sym, ap, ◌∙◌, subst, arith}
+use Rattle.std.proofs.Common.{◌≡◌, ℕ, Bool, true, false, cond, List, [], ◌∷◌, refl, ap, ◌∙◌, subst}
 use Rattle.coap_model.specs.Carries.{Carries}
 use Rattle.coap_model.specs.History.{Entry}
 use Rattle.coap_model.specs.Runs.{Run, Turn, one_turn}

@@ -1,5 +1,5 @@
 -- What one turn does, by what its calls say.
-use Rattle.std.proofs.Common.{◌≡◌, ◌+◌, ◌≤◌, ◌<◌, ℕ, Bool, true, false, List, [], ◌∷◌, Option, Some, None, option_map, is_some, refl, sym, ap, ◌∙◌, subst, arith}
+use Rattle.std.proofs.Common.{◌≡◌, ◌+◌, ◌≤◌, ℕ, Bool, true, false, List, ◌∷◌, Option, Some, None, option_map, is_some, refl, sym, ap, ◌∙◌, subst, arith}
 use Rattle.coap_core.specs.Steps.{CarriesOn, Does, entry_told}
 use Rattle.coap_message.specs.Datagram.{Datagram}
 use Rattle.coap_model.proofs.Running.{clock_after}

@@ -33,8 +33,7 @@ turn_of room last s = record {
 }
 
 -- the next turn of the script, for a buffer of some room
-pub record GivesNext (p : Memory) (t : Turn) (q : Memory) : Type 0 where
-  pub room : ℕ
+pub record GivesNext (room : ℕ) (p : Memory) (t : Turn) (q : Memory) : Type 0 where
   pub scripted : Scripted
   pub rest : List Scripted
   pub split : p.script ≡ scripted ∷ rest
@@ -42,12 +41,12 @@ pub record GivesNext (p : Memory) (t : Turn) (q : Memory) : Type 0 where
   pub left : q ≡ record p { script = rest; last = t.now }
 
 -- without a wait a tick, and nothing is read
-abbrev pub GivesAfter : Bool → Memory → Turn → Memory → Type 0
-GivesAfter true p t q = (t ≡ record { now = p.last; draw = 0; event = tick }) × (q ≡ p)
-GivesAfter false p t q = GivesNext p t q
+abbrev pub GivesAfter : Bool → ℕ → Memory → Turn → Memory → Type 0
+GivesAfter true room p t q = (t ≡ record { now = p.last; draw = 0; event = tick }) × (q ≡ p)
+GivesAfter false room p t q = GivesNext room p t q
 
-abbrev pub Gives : Memory → ℕ → Turn → Memory → Type 0
-Gives p wait = GivesAfter (wait == 0) p
+abbrev pub Gives : ℕ → Memory → ℕ → Turn → Memory → Type 0
+Gives room p wait = GivesAfter (wait == 0) room p
 
 -- what is taken is kept; what isn't leaves what was kept
 abbrev pub Takes : Memory → Endpoint → List ℕ → Bool → Memory → Type 0

@@ -12,7 +12,8 @@ use std::alloc::Global;
 
 /// Drives a core over a port for so many turns: each that the port gives is done, and what is sent
 /// is handed to the port once. The port is asked to wait until the next thing is due, for a second
-/// at most.
+/// at most. Its buffer has room for a byte more than the longest datagram, so that a longer one
+/// shows.
 ///
 /// A turn that finds no memory is counted as lost, and a datagram that the port doesn't take as a
 /// fault; neither ends the loop. The port's last moment isn't before that of the core.
@@ -29,13 +30,16 @@ pub fn drive<P: Port>(
     requires events { core.old.events + turns ≤ 2 ^ 63 }
     requires onward { core.old.last ≤ P.clock port.old }
     requires failures { P.failures port.old < 2 ^ 63 }
-    ensures { Ends P.gives P.takes P.clock P.failures turns
+    ensures { Ends (P.gives (core.old.setting.limits.datagram + 1)) P.takes P.clock P.failures turns
         core.old port.old core.new port.new result }
 {
-    let room = core.datagram();
+    let longest = core.datagram();
+    let Some(room) = longest.checked_add(1) else {
+        return Err(DriveError::OutOfMemory);
+    };
     let (Ok(mut input), Ok(mut output)) = (
-        Datagram::new(alloc, room.saturating_add(1)),
         Datagram::new(alloc, room),
+        Datagram::new(alloc, longest),
     ) else {
         return Err(DriveError::OutOfMemory);
     };

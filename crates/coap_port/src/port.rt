@@ -27,8 +27,9 @@ pub trait Port {
 
     ghost failures: { Self → ℕ };
 
-    // a turn is given by a port that was asked with this wait, and leaves it so
-    ghost gives: { Self → ℕ → Turn → Self → Type 0 };
+    // into a buffer with so much room a turn is given by a port that was asked with this wait, and
+    // leaves it so
+    ghost gives: { ℕ → Self → ℕ → Turn → Self → Type 0 };
 
     // bytes were handed to a port for an endpoint, which answered so and is left so
     ghost takes: { Self → Endpoint → List ℕ → Bool → Self → Type 0 };
@@ -46,7 +47,7 @@ pub trait Port {
     fn next(&mut self, wait: u64, into: &mut Datagram) -> Result<Turn, PortFault>
         requires { failures self.old < 2 ^ 63 }
         ensures gives { IfOk result (λ turn.
-            gives self.old wait (given_by turn into.new.bytes) self.new) }
+            gives into.old.room self.old wait (given_by turn into.new.bytes) self.new) }
         ensures onward { IfOk result (IsOnward (clock self.old) (clock self.new)) }
         ensures ticks { wait ≡ 0 → IfOk result (λ turn. turn.from ≡ None) }
         ensures room { into.new.room ≡ into.old.room }

@@ -102,9 +102,10 @@ pub(crate) fn do_turn<P: Port>(
     requires room { core.old.setting.limits.datagram ≤ output.old.room }
     requires within { AreWithin stats.old }
     requires few { stats.old.turns < 2 ^ 63 }
-    ensures done { IfOk result (spec.DidTurn P.gives P.takes P.clock P.failures came
-        core.old port.old stats.old core.new port.new stats.new) }
+    ensures done { IfOk result (spec.DidTurn (P.gives input.old.room) P.takes P.clock P.failures
+        came core.old port.old stats.old core.new port.new stats.new) }
     ensures within { AreWithin stats.new }
+    ensures input { input.new.room ≡ input.old.room }
     ensures room { output.new.room ≡ output.old.room }
     ensures setting { core.new.setting ≡ core.old.setting }
     ensures nothing { OnErr result (core.new ≡ core.old) }

@@ -1,4 +1,4 @@
-pub mod Replays
 pub mod Faults
 pub mod Words
+pub mod Planning
 pub mod Serving

@@ -1,28 +1,51 @@
--- What the program makes of an input, and what it writes.
-use Rattle.std.specs.Prelude.{◌≡◌, ◌⊎◌, ℕ, List, [], Option, Result, Ok, Err}
+-- What the program does by its plan, and how it ends.
+use Rattle.std.specs.Prelude.{◌≡◌, ◌⊎◌, ℕ, min, Bool, List, [], Option, Result, Ok, Err}
 use Rattle.std.specs.Io.KnownBytes.{Appends}
-use Rattle.coap_routes.specs.Routes.{fixed_routes}
-use Rattle.coap_model.specs.Limits.{default_limits}
-use Rattle.coap_model.specs.World.{World, new_world}
-use Rattle.coap_proxyd.specs.declared.error.ReplayError.{ReplayError}
+use Rattle.std.specs.Option.{unwrap_or}
+use Rattle.coap_model.specs.Runs.{Turn}
+use Rattle.coap_model.specs.World.{World}
+use Rattle.coap_port.specs.Driven as port
+use Rattle.coap_port.specs.declared.error.DriveError.{DriveError}
+use Rattle.coap_port.specs.declared.stats.Stats.{Stats}
+use Rattle.coap_target.specs.declared.endpoint.Endpoint.{Endpoint}
+use Rattle.coap_replay.specs.declared.error.ReplayError.{ReplayError}
 use Rattle.coap_proxyd.specs.declared.fault.Fault.{Fault}
 use Rattle.coap_proxyd.specs.declared.fault.Fault.TheVariants.{OutOfMemory}
-use Rattle.coap_proxyd.specs.Faults.{fault_of}
-use Rattle.coap_proxyd.specs.Replays.{IsReplayed}
+use Rattle.coap_proxyd.specs.declared.planning.Plan.{Plan}
+use Rattle.coap_proxyd.specs.Faults.{drive_fault, replay_fault}
+use Rattle.coap_replay.specs.Replays.{IsReplayed}
 
--- the proxy that the program makes: the default limits, the one map, message ids from 1 on, tokens without salt
-abbrev pub first_proxy : World
-first_proxy = new_world
-    (record { limits = default_limits; routes = fixed_routes; first_id = 1; salt = 0 })
+-- ---- over an input
 
 -- how the program ends after a replay
 abbrev pub ended_as : Result ℕ ReplayError → Result (Unit {0}) Fault
 ended_as (Ok count) = Ok tt
-ended_as (Err e) = Err (fault_of e)
+ended_as (Err e) = Err (replay_fault e)
 
 -- a replay by that proxy; or there was no memory for the proxy, and nothing was written
-abbrev pub IsServed : Option (List ℕ) → Option (List ℕ) → Option (List ℕ) → Result (Unit {0}) Fault
-    → Type 0
-IsServed input old new result = ((result ≡ Err OutOfMemory) × Appends old new [])
+abbrev pub IsServed : World → Option (List ℕ) → Option (List ℕ) → Option (List ℕ)
+    → Result (Unit {0}) Fault → Type 0
+IsServed proxy input old new result = ((result ≡ Err OutOfMemory) × Appends old new [])
     ⊎ ((after : World) × (left : Option (List ℕ)) × (replayed : Result ℕ ReplayError)
-    × IsReplayed first_proxy after input left old new replayed × (result ≡ ended_as replayed))
+    × IsReplayed proxy after input left old new replayed × (result ≡ ended_as replayed))
+
+-- ---- over a port
+
+-- how many turns a plan says: 2^63 - 1 where it says nothing, and no more than that
+abbrev pub turns_of : Plan → ℕ
+turns_of plan = min (unwrap_or plan.turns 9223372036854775807) 9223372036854775807
+
+-- how the program ends after a loop over a port
+abbrev pub driven_as : Result Stats DriveError → Result (Unit {0}) Fault
+driven_as (Ok stats) = Ok tt
+driven_as (Err e) = Err (drive_fault e)
+
+-- that proxy is driven over the port for so many turns; or there was no memory for the proxy, and
+-- nothing was done
+abbrev pub IsServedOver : {P : Type 0} → (P → ℕ → Turn → P → Type 0)
+    → (P → Endpoint → List ℕ → Bool → P → Type 0) → (P → ℕ) → (P → ℕ) → ℕ → World → P → P
+    → Result (Unit {0}) Fault → Type 0
+IsServedOver gives takes clock failures turns proxy p q result =
+    ((result ≡ Err OutOfMemory) × (q ≡ p))
+    ⊎ ((after : World) × (driven : Result Stats DriveError)
+    × port.Ends gives takes clock failures turns proxy p after q driven × (result ≡ driven_as driven))

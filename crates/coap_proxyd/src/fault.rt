@@ -1,20 +1,37 @@
 //! Faults of the program: its exit status and its text for each.
 ghost use Rattle.std.specs.Prelude.{◌≡◌, Some};
-ghost use Rattle.coap_proxyd.specs.Faults.{fault_of, fault_text, status_of};
+ghost use Rattle.coap_proxyd.specs.Faults as spec;
 
-use crate::error::ReplayError;
+use coap_port::DriveError;
+use coap_replay::ReplayError;
+use coap_uri::UriError;
+use coap_words::{ConfigError, MapOptionError, ProxyOptionError, WordsError};
 use std::error::Error;
 use std::fmt;
 
-/// Why the program stops before it is done.
-#[derive(Clone, Copy, Debug, PartialEq, Eq)]
+/// Why the program stops before it is done. Faults before the run are told in this order, want of
+/// memory where it is met.
+#[derive(Debug, Drop)]
 pub enum Fault {
-    /// The words after the program's name are not understood.
+    /// The words after the program's name are no texts.
     Arguments,
+    /// `clap` refuses the words, or they ask for the help or the version; its text ends with a line
+    /// end.
+    Usage { status: u8, text: String },
+    /// The value of `-A` is no address.
+    Address,
+    /// The value of `-P` is refused.
+    ProxyOption,
+    /// A file or the input could not be read, or the output could not be written.
+    File,
+    /// The configuration is refused.
+    Config(ConfigError),
+    /// The value of `--map` is refused.
+    MapOption,
+    /// The socket could not be had, or can't be read any more.
+    Socket,
     /// The allocator had no memory before the run.
     OutOfMemory,
-    /// The input could not be read, or the output could not be written.
-    File,
     /// A line of a replay says no event that may follow, or is too long.
     BadEvent { line: u64 },
     /// The allocator had no memory for what a line of a replay asks for.
@@ -22,19 +39,81 @@ pub enum Fault {
 }
 
 impl Fault {
-    /// The exit status of the program: 2 where it was told what it can't do, 1 where it was kept from doing it.
+    /// The exit status of the program: 2 where it was told what it can't do, 1 where it was kept
+    /// from doing it, and 0 where it was asked for the help or the version.
     pub fn status(&self) -> u8
-        ensures exact { result ≡ status_of self.now }
+        ensures exact { result ≡ spec.status_of self.now }
     {
         match self {
-            Fault::Arguments | Fault::BadEvent { .. } => 2,
-            Fault::OutOfMemory | Fault::File | Fault::OutOfMemoryAt { .. } => 1,
+            Fault::Usage { status, .. } => *status,
+            Fault::Arguments
+            | Fault::Address
+            | Fault::ProxyOption
+            | Fault::Config(_)
+            | Fault::MapOption
+            | Fault::BadEvent { .. } => 2,
+            Fault::File | Fault::Socket | Fault::OutOfMemory | Fault::OutOfMemoryAt { .. } => 1,
+        }
+    }
+}
+
+impl From<WordsError> for Fault {
+    ghost from_gives = { λ error fault. fault ≡ spec.words_fault error };
+
+    fn from(error: WordsError) -> Fault {
+        match error {
+            WordsError::Usage { status, text } => Fault::Usage { status, text },
+            WordsError::OutOfMemory => Fault::OutOfMemory,
+        }
+    }
+}
+
+impl From<UriError> for Fault {
+    ghost from_gives = { λ error fault. fault ≡ spec.address_fault error };
+
+    fn from(error: UriError) -> Fault {
+        match error {
+            UriError::OutOfMemory => Fault::OutOfMemory,
+            _ => Fault::Address,
+        }
+    }
+}
+
+impl From<ProxyOptionError> for Fault {
+    ghost from_gives = { λ error fault. fault ≡ spec.names_fault error };
+
+    fn from(error: ProxyOptionError) -> Fault {
+        match error {
+            ProxyOptionError::OutOfMemory => Fault::OutOfMemory,
+            _ => Fault::ProxyOption,
+        }
+    }
+}
+
+impl From<ConfigError> for Fault {
+    ghost from_gives = { λ error fault. fault ≡ spec.config_fault error };
+
+    fn from(error: ConfigError) -> Fault {
+        match error {
+            ConfigError::OutOfMemory => Fault::OutOfMemory,
+            error => Fault::Config(error),
+        }
+    }
+}
+
+impl From<MapOptionError> for Fault {
+    ghost from_gives = { λ error fault. fault ≡ spec.map_fault error };
+
+    fn from(error: MapOptionError) -> Fault {
+        match error {
+            MapOptionError::OutOfMemory => Fault::OutOfMemory,
+            MapOptionError::NoEquals => Fault::MapOption,
         }
     }
 }
 
 impl From<ReplayError> for Fault {
-    ghost from_gives = { λ error fault. fault ≡ fault_of error };
+    ghost from_gives = { λ error fault. fault ≡ spec.replay_fault error };
 
     fn from(error: ReplayError) -> Fault {
         match error {
@@ -45,14 +124,31 @@ impl From<ReplayError> for Fault {
     }
 }
 
+impl From<DriveError> for Fault {
+    ghost from_gives = { λ error fault. fault ≡ spec.drive_fault error };
+
+    fn from(error: DriveError) -> Fault {
+        match error {
+            DriveError::Port { .. } => Fault::Socket,
+            DriveError::OutOfMemory => Fault::OutOfMemory,
+        }
+    }
+}
+
 impl fmt::Display for Fault {
-    ghost output = { λ fault. Some (fault_text fault) };
+    ghost output = { λ fault. Some (spec.fault_text fault) };
 
     fn fmt<W: fmt::Write>(&self, f: &mut fmt::Formatter<W>) -> fmt::Result {
         match self {
             Fault::Arguments => f.write_str("coap-proxyd: arguments"),
-            Fault::OutOfMemory => f.write_str("coap-proxyd: out of memory"),
+            Fault::Usage { text, .. } => f.write_str(text.as_str()),
+            Fault::Address => f.write_str("coap-proxyd: address"),
+            Fault::ProxyOption => f.write_str("coap-proxyd: proxy option"),
             Fault::File => f.write_str("coap-proxyd: file"),
+            Fault::Config(error) => write!(f, "coap-proxyd: config: {error}"),
+            Fault::MapOption => f.write_str("coap-proxyd: map option"),
+            Fault::Socket => f.write_str("coap-proxyd: socket"),
+            Fault::OutOfMemory => f.write_str("coap-proxyd: out of memory"),
             Fault::BadEvent { line } => write!(f, "line {line}: bad event"),
             Fault::OutOfMemoryAt { line } => write!(f, "line {line}: out of memory"),
         }

@@ -1,13 +1,13 @@
-//! What the program is made of: the replay of events, its words, and how it ends.
+//! What the program is made of: what its words and its configuration make it do, over an input or
+//! over a port, and how it ends.
 #![tactic(auto)]
 
-mod error;
 mod fault;
-mod replays;
+mod planning;
 mod serving;
 mod words;
 
-pub use error::ReplayError;
 pub use fault::Fault;
-pub use replays::replay;
-pub use serving::serve;
+pub use planning::{Plan, read_plan};
+pub use serving::{serve_events, serve_port};
+pub use words::{Wanted, read_wanted};

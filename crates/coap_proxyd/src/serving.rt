@@ -1,51 +1,63 @@
-//! What the program makes of its words and an input.
-ghost use Rattle.std.specs.Prelude.{◌≡◌, ◌≢◌, [], Err, IfOk, map, string_bytes};
-ghost use Rattle.std.specs.Io.KnownBytes.{Appends};
-ghost use Rattle.coap_proxyd.specs.declared.fault.Fault.{Fault};
-ghost use Rattle.coap_proxyd.specs.Serving.{IsServed, first_proxy};
-ghost use Rattle.coap_proxyd.specs.Words.{known_words};
+//! What the program does by its plan: over an input, or over a port.
+ghost use Rattle.std.specs.Prelude.{◌≡◌, ◌<◌, ◌+◌, ◌^◌};
+ghost use Rattle.coap_model.specs.World.{new_world};
+ghost use Rattle.coap_proxyd.specs.Planning.{setting_of};
+ghost use Rattle.coap_proxyd.specs.Serving as spec;
 
 use crate::fault::Fault;
-use crate::replays::replay;
-use crate::words::are_known;
-use coap_core::{Core, LimitValues, Limits};
-use coap_message::OutOfMemory;
-use coap_routes::Routes;
+use crate::planning::{Plan, core_of};
+use coap_port::{Port, drive};
+use coap_replay::replay;
 use std::alloc::Global;
 use std::io::{BufReader, Read, Write};
 
-/// A core with the default limits that maps the path `t` to `coap://127.0.0.1:5690/temp`.
-fn default_core(alloc: Global) -> Result<Core, OutOfMemory>
-    ensures { IfOk result (λ core. core ≡ first_proxy) }
-{
-    let limits = Limits::new(LimitValues::default()).unwrap();
-    let routes = Routes::fixed(alloc)?;
-    Core::new(alloc, limits, routes, 1, 0)
-}
+/// The most turns that are done: 2^63 - 1.
+const MOST_TURNS: u64 = i64::MAX as u64;
 
-/// What the program makes of its words and an input: the known words do the events of the input by a new core,
-/// and write the datagrams that are sent. Any others do nothing.
+/// Does the events of an input by a new core, and writes the datagrams that are sent. Message ids
+/// begin with 1 and the salt is 0, where the plan says nothing else.
 ///
 /// # Errors
-/// `Arguments` for other words, `OutOfMemory` where the core finds no memory; nothing is written then. Else the
-/// fault of the replay.
-pub fn serve<R: Read + Drop, W: Write>(
+/// `OutOfMemory` where the core finds no memory, and nothing is written then. Else the fault of the
+/// replay.
+pub fn serve_events<R: Read + Drop, W: Write>(
     alloc: Global,
-    words: &[String],
+    plan: Plan,
     input: R,
     output: &mut W,
 ) -> Result<(), Fault>
-    ensures known { map string_bytes words.now ≡ known_words
-        → IsServed (R.remaining input) (W.contents output.old) (W.contents output.new) result }
-    ensures other { map string_bytes words.now ≢ known_words → (result ≡ Err Fault.Arguments)
-        × Appends (W.contents output.old) (W.contents output.new) [] }
+    ensures { spec.IsServed (new_world (setting_of plan 1 0)) (R.remaining input)
+        (W.contents output.old) (W.contents output.new) result }
 {
-    if !are_known(words) {
-        return Err(Fault::Arguments);
-    }
-    let (Ok(mut core), Ok(mut reader)) = (default_core(alloc), BufReader::new(alloc, input)) else {
+    let (Ok(mut core), Ok(mut reader)) = (core_of(alloc, plan, 1, 0), BufReader::new(alloc, input))
+    else {
         return Err(Fault::OutOfMemory);
     };
     replay(alloc, &mut reader, output, &mut core)?;
+    Ok(())
+}
+
+/// Drives a new core over a port for as many turns as the plan says, or else as many as there may
+/// be. This first message id and this salt are those where the plan says none.
+///
+/// # Errors
+/// `Socket` where the port failed; `OutOfMemory` where there was no memory for the core, or for the
+/// buffers of the loop, and then nothing was done.
+pub fn serve_port<P: Port>(
+    alloc: Global,
+    plan: Plan,
+    first_id: u16,
+    salt: u64,
+    port: &mut P,
+) -> Result<(), Fault>
+    requires failures { P.failures port.old < 2 ^ 63 }
+    ensures { spec.IsServedOver (P.gives (plan.limits.datagram + 1)) P.takes P.clock P.failures (spec.turns_of plan)
+        (new_world (setting_of plan first_id salt)) port.old port.new result }
+{
+    let turns = plan.turns.unwrap_or(MOST_TURNS).min(MOST_TURNS);
+    let Ok(mut core) = core_of(alloc, plan, first_id, salt) else {
+        return Err(Fault::OutOfMemory);
+    };
+    drive(alloc, &mut core, port, turns)?;
     Ok(())
 }

@@ -1,22 +1,71 @@
-//! The words after the program's name.
-ghost use Rattle.std.specs.Prelude.{◌≡◌, ◌↔◌, true, map, string_bytes};
-ghost use Rattle.coap_proxyd.specs.Words.{known_words};
+//! What the words of the program ask for, before a configuration is read.
+ghost use Rattle.std.specs.Prelude.{◌≡◌, map, option_map, string_bytes};
+ghost use Rattle.coap_words.specs.Answer.{Says};
+ghost use Rattle.coap_words.specs.ProxyOption.{bytes_of};
+ghost use Rattle.coap_proxyd.specs.Words as spec;
+ghost use Rattle.coap_proxyd.specs.declared.fault.Fault.TheVariants as faults;
 
-/// Whether a word is this text.
-fn is(word: &String, text: &str) -> bool
-    ensures { result ≡ true ↔ string_bytes word.now ≡ text.now }
-{
-    word.as_str() == text
+use crate::fault::Fault;
+use coap_target::{Endpoint, Ip};
+use coap_words::{Settings, parse_proxy_option, read_local_address, read_words};
+use std::alloc::Global;
+
+/// The port of `coap` (RFC 7252, 6.1).
+const PORT: u16 = 5683;
+
+/// What the words of the program ask for, of which `-A` and `-P` were read.
+#[derive(Debug, Drop)]
+pub struct Wanted {
+    /// Where to listen.
+    pub local: Endpoint,
+    /// Own names, in place of those of the configuration.
+    pub names: Option<Vec<String>>,
+    /// The other options.
+    pub settings: Settings,
 }
 
-/// Whether they are the words that the program knows: `--replay --map /t=coap://127.0.0.1:5690/temp`.
-pub(crate) fn are_known(words: &[String]) -> bool
-    ensures exact { result ≡ true ↔ map string_bytes words.now ≡ known_words }
+/// What the words after the program's name ask for.
+///
+/// # Errors
+/// The first fault, in this order: `clap`'s, with the help and the version; `-A`; `-P`.
+pub fn read_wanted(alloc: Global, words: &[String]) -> Result<Wanted, Fault>
+    ensures { spec.Want (map string_bytes words.now) result }
 {
-    match words {
-        [replay, map, route] => {
-            is(replay, "--replay") && is(map, "--map") && is(route, "/t=coap://127.0.0.1:5690/temp")
-        }
-        _ => false,
+    let settings = read_words(alloc, words)?;
+    read_settings(alloc, settings)
+}
+
+/// What settings ask for.
+fn read_settings(alloc: Global, settings: Settings) -> Result<Wanted, Fault>
+    ensures { Says spec.seen faults.OutOfMemory result (spec.wanted_of settings) }
+{
+    let local = local(alloc, &settings)?;
+    let names = own_names(alloc, &settings)?;
+    Ok(Wanted {
+        local,
+        names,
+        settings,
+    })
+}
+
+/// Where to listen.
+fn local(alloc: Global, settings: &Settings) -> Result<Endpoint, Fault>
+    ensures { Says (λ e. e) faults.OutOfMemory result (spec.local_of settings.now) }
+{
+    let ip = match &settings.address {
+        Some(text) => read_local_address(alloc, text.as_str())?,
+        None => Ip::V4([0, 0, 0, 0]),
+    };
+    let port = settings.port.unwrap_or(PORT);
+    Ok(Endpoint { ip, port })
+}
+
+/// Own names, where `-P` is given.
+fn own_names(alloc: Global, settings: &Settings) -> Result<Option<Vec<String>>, Fault>
+    ensures { Says (option_map bytes_of) faults.OutOfMemory result (spec.names_of settings.now) }
+{
+    match &settings.names {
+        Some(text) => Ok(Some(parse_proxy_option(alloc, text.as_str())?.names)),
+        None => Ok(None),
     }
 }

@@ -1,34 +1,97 @@
-//! The program: a replay of recorded events, from its words to its exit status.
+//! The program: a proxy over a socket, or a replay of recorded events.
 #![tactic(auto)]
 
-use coap_proxyd::{Fault, serve};
+use coap_proxyd::{Fault, Plan, read_plan, read_wanted, serve_events, serve_port};
+use coap_udp::UdpPort;
 use std::io::ErrorKind;
 use std::process::ExitCode;
-use std::{env, io};
+use std::random::RandomSource;
+use std::{env, fs, io};
 
 /// The words after the program's name.
 fn words(rt: &HostRuntime) -> Result<Vec<String>, Fault> {
     let all = match env::args(rt) {
         Ok(all) => all,
-        Err(error) if error.kind() == ErrorKind::OutOfMemory => return Err(Fault::OutOfMemory),
-        Err(_) => return Err(Fault::Arguments),
+        Err(error) => return Err(fault_of(&error, Fault::Arguments)),
     };
     all.skip(1)
         .collect(rt.alloc())
         .map_err(|_| Fault::OutOfMemory)
 }
 
-/// Serves standard input, and writes to standard output.
+/// The fault of an error of the system: want of memory, or else this one.
+fn fault_of(error: &io::Error, other: Fault) -> Fault {
+    if error.kind() == ErrorKind::OutOfMemory {
+        Fault::OutOfMemory
+    } else {
+        other
+    }
+}
+
+/// The bytes of a file, if one is named.
+fn file(rt: &HostRuntime, path: &Option<String>) -> Result<Option<Vec<u8>>, Fault> {
+    let Some(path) = path else {
+        return Ok(None);
+    };
+    match fs::read(rt, path.as_str()) {
+        Ok(bytes) => Ok(Some(bytes)),
+        Err(error) => Err(fault_of(&error, Fault::File)),
+    }
+}
+
+/// What the program is to do.
+fn plan(rt: &HostRuntime) -> Result<Plan, Fault> {
+    let wanted = read_wanted(rt.alloc(), &words(rt)?)?;
+    let file = file(rt, &wanted.settings.config)?;
+    read_plan(rt.alloc(), wanted, file.as_deref())
+}
+
+/// Random bytes, of which the first message id and the salt are made.
+fn draw(rt: &HostRuntime) -> Result<(u16, u64), Fault> {
+    let (mut id, mut salt) = ([0; 2], [0; 8]);
+    match rt
+        .fill_bytes(&mut id)
+        .and_then(|()| rt.fill_bytes(&mut salt))
+    {
+        Ok(()) => Ok((u16::from_le_bytes(id), u64::from_le_bytes(salt) >> 1)),
+        Err(_) => Err(Fault::Socket),
+    }
+}
+
+/// Serves a socket.
+fn serve_socket(rt: &HostRuntime, plan: Plan) -> Result<(), Fault> {
+    let (first_id, salt) = draw(rt)?;
+    let longest = plan.limits.values().datagram as usize;
+    match UdpPort::bind(rt, rt.alloc(), plan.local, longest) {
+        Ok(mut port) => serve_port(rt.alloc(), plan, first_id, salt, &mut port),
+        Err(error) => Err(fault_of(&error, Fault::Socket)),
+    }
+}
+
+/// Does what its words and its configuration say.
 fn run(rt: &HostRuntime) -> Result<(), Fault> {
-    serve(rt.alloc(), &words(rt)?, rt.reader(), &mut io::writer(rt))
+    let plan = plan(rt)?;
+    if plan.replay {
+        return serve_events(rt.alloc(), plan, rt.reader(), &mut io::writer(rt));
+    }
+    serve_socket(rt, plan)
+}
+
+/// Tells a fault on standard error, and the help and the version on standard output. Where that
+/// can't be written, the status says it too.
+fn tell(rt: &HostRuntime, fault: &Fault) -> io::Result<()> {
+    match fault {
+        Fault::Usage { status: 0, text } => print!(rt; "{text}"),
+        Fault::Usage { text, .. } => eprint!(rt; "{text}"),
+        fault => eprintln!(rt; "{fault}"),
+    }
 }
 
 fn main(rt: HostRuntime) -> ExitCode {
     match run(&rt) {
         Ok(()) => ExitCode::SUCCESS,
         Err(fault) => {
-            // The status says it too, should standard error be closed.
-            let _ = eprintln!(rt; "{fault}");
+            let _ = tell(&rt, &fault);
             ExitCode::from(fault.status())
         }
     }

@@ -2,7 +2,7 @@
 //! goes on.
 use coap_core::{Core, LimitValues, Limits};
 use coap_message::OutOfMemory;
-use coap_proxyd::{ReplayError, replay};
+use coap_replay::{ReplayError, replay};
 use coap_routes::Routes;
 use std::alloc::{AllocError, Global};
 use std::io;

@@ -1,8 +1,9 @@
 //! One run: what the program, or a core with other routes, makes of it.
 ghost use Rattle.std.specs.Prelude.{◌≡◌, ◌++◌, codes, IfSome};
 
-use crate::setting::core_of;
-use coap_proxyd::{Fault, replay, serve};
+use crate::setting::{config_of, core_of};
+use coap_proxyd::{Fault, read_plan, read_wanted, serve_events};
+use coap_replay::replay;
 use std::alloc::{AllocError, Global};
 use std::io;
 use std::io::Write;
@@ -26,15 +27,30 @@ fn words_in(alloc: Global, text: &str) -> Result<Vec<String>, AllocError> {
     Ok(words)
 }
 
-/// What the program makes of these words and events.
+/// What the program makes of these words, of a configuration, if there is one, and of events.
 fn serve_words<W: Write>(
+    alloc: Global,
+    words: &[String],
+    config: Option<&[u8]>,
+    events: &[u8],
+    output: &mut W,
+) -> Result<(), Fault> {
+    let wanted = read_wanted(alloc, words)?;
+    let plan = read_plan(alloc, wanted, config)?;
+    serve_events(alloc, plan, events, output)
+}
+
+/// What the program makes of the words and the configuration of a run, and of its events.
+fn serve_run<W: Write>(
     alloc: Global,
     words: &str,
     events: &[u8],
     output: &mut W,
 ) -> io::Result<Result<(), Fault>> {
     let words = words_in(alloc, words)?;
-    Ok(serve(alloc, &words, events, output))
+    let config = config_of(alloc, events)?;
+    let config = config.as_ref().map(|text| text.as_bytes());
+    Ok(serve_words(alloc, &words, config, events, output))
 }
 
 /// What a core with the setting of a run makes of its events.
@@ -68,7 +84,7 @@ pub(crate) fn play<W: Write>(
 ) -> io::Result<()> {
     writeln!(output, "== {name}")?;
     let done = match events.split(|byte| *byte == b'\n').find_map(after_mark) {
-        Some(words) => serve_words(alloc, words, events, output)?,
+        Some(words) => serve_run(alloc, words, events, output)?,
         None => replay_setting(alloc, events, output)?,
     };
     match done {

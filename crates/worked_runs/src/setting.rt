@@ -16,6 +16,9 @@ const MAP: &str = "# map: ";
 /// A line of the greatest length of a datagram: `# datagram: BYTES`.
 const DATAGRAM: &str = "# datagram: ";
 
+/// A line of a configuration: `# config: LINE`.
+const CONFIG: &str = "# config: ";
+
 /// The lines of a run that are texts.
 fn text_of(line: &[u8]) -> Option<&str> {
     str::from_utf8(line).ok()
@@ -30,6 +33,20 @@ fn marked(alloc: Global, events: &[u8], mark: &str) -> io::Result<Vec<String>> {
         }
     }
     Ok(found)
+}
+
+/// The configuration of a run, if there is one.
+pub(crate) fn config_of(alloc: Global, events: &[u8]) -> io::Result<Option<String>> {
+    let lines = marked(alloc, events, CONFIG)?;
+    if lines.is_empty() {
+        return Ok(None);
+    }
+    let mut text = String::new(alloc);
+    for line in lines.iter() {
+        text.push_str(line.as_str())?;
+        text.push_str("\n")?;
+    }
+    Ok(Some(text))
 }
 
 /// A line of a mark isn't as it should be.

@@ -5,26 +5,28 @@ use Rattle.coap_port.proofs.drives.drive.Goals as goal
 
 pub loop-done-init : goal.loop-done-init
 loop-done-init g c = record {
-  at = rw c.default-stats.ensures (at-start g.P.Port.gives g.P.Port.takes g.P.Port.clock g.P.Port.failures c.args.core.now c.args.port.now);
+  at = rw c.default-stats.ensures (at-start (g.P.Port.gives (c.args.core.now.setting.limits.datagram + 1)) g.P.Port.takes g.P.Port.clock g.P.Port.failures c.args.core.now c.args.port.now);
   counted = rw c.default-stats.ensures refl;
   within = rw c.default-stats.ensures (record { sent = omega arith; send_faults = omega arith; lost = omega arith });
   onward = c.requires.onward;
   events = omega arith;
-  room = rw (c.in-Ok-Ok.ensures', c.datagram-room.ensures.exact) (omega arith);
+  input = rw c.in-Ok-Ok.ensures (omega (arith, c.in-Some.ensures, c.datagram-longest.ensures.exact));
+  room = rw (c.in-Ok-Ok.ensures', c.datagram-longest.ensures.exact) (omega arith);
   failures = refl;
 }
 
 pub loop-done-preserved : goal.loop-done-preserved
 loop-done-preserved g c =
     let i = c.loop-done.invariant in
-    let did = c.in-Ok.ensures.done in
+    let did = rw i.input at c.in-Ok.ensures.done in
     let more : c.do_turn.new.stats.turns ≡ c.loop-done.stats.turns + 1 = ap (λ (s : Stats). s.turns) did.counted in
     record {
-      at = one-more g.P.Port.gives g.P.Port.takes g.P.Port.clock g.P.Port.failures _ _ _ _ _ _ _ i.at _ _ _ _ did;
+      at = one-more (g.P.Port.gives (c.args.core.now.setting.limits.datagram + 1)) g.P.Port.takes g.P.Port.clock g.P.Port.failures _ _ _ _ _ _ _ i.at _ _ _ _ did;
       counted = omega (arith, more, i.counted);
       within = c.do_turn.ensures.within;
       onward = did.onward;
       events = omega (arith, did.events, i.events);
+      input = c.do_turn.ensures.input ∙ i.input;
       room = rw (c.do_turn.ensures.setting, c.do_turn.ensures.room) i.room;
       failures = did.still ∙ i.failures;
     }

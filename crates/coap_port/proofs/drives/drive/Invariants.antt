@@ -5,11 +5,12 @@ use Rattle.coap_port.proofs.drives.drive.Given as goal
 
 abbrev pub invariant-loop-done : goal.invariant-loop-done
 invariant-loop-done g l = record {
-  at : IsAt g.P.Port.gives g.P.Port.takes g.P.Port.clock g.P.Port.failures (g.P.Port.clock l.fn.port) l.fn.core l.fn.port l.core l.port l.stats l.came;
+  at : IsAt (g.P.Port.gives (l.fn.core.setting.limits.datagram + 1)) g.P.Port.takes g.P.Port.clock g.P.Port.failures (g.P.Port.clock l.fn.port) l.fn.core l.fn.port l.core l.port l.stats l.came;
   counted : l.stats.turns ≡ l.done;
   within : AreWithin l.stats;
   onward : l.core.last ≤ g.P.Port.clock l.port;
   events : l.core.events ≤ l.fn.core.events + l.done;
+  input : l.input.room ≡ l.fn.core.setting.limits.datagram + 1;
   room : l.core.setting.limits.datagram ≤ l.output.room;
   failures : g.P.Port.failures l.port ≡ g.P.Port.failures l.fn.port;
 }

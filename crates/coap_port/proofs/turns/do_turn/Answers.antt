@@ -1,8 +1,8 @@
-use Rattle.std.proofs.Common.{◌≡◌, ◌∙◌, ◌≤◌, ap, ap₂, subst, sym, arith}
+use Rattle.std.proofs.Common.{◌≡◌, ◌∙◌, ap, ap₂, subst, arith}
 use Rattle.coap_core.specs.Events.{seen}
-use Rattle.coap_model.specs.Events.{Event, IsEvent}
+use Rattle.coap_model.specs.Events.{IsEvent}
 use Rattle.coap_model.specs.Ticks.{next_due}
-use Rattle.coap_port.specs.Driven.{DidTurn, is_arrival, wait_for}
+use Rattle.coap_port.specs.Driven.{is_arrival, wait_for}
 use Rattle.coap_port.specs.Given.{event_given, given_by}
 use Rattle.coap_port.proofs.Turning.{arrival-is, did-nothing, did-step}
 use Rattle.coap_port.proofs.turns.do_turn.Goals.{in-Ok, in-Err}
@@ -21,7 +21,7 @@ returns-clause-done g c =
     elim c.match-step.branch [
       | in-Ok w ↦
           rw (w.port-is, w.stats-is)
-          (did-step g.P.Port.gives g.P.Port.takes g.P.Port.clock g.P.Port.failures c.args.came c.args.core.now c.args.port.now c.args.stats.now
+          (did-step (g.P.Port.gives c.args.input.now.room) g.P.Port.takes g.P.Port.clock g.P.Port.failures c.args.came c.args.core.now c.args.port.now c.args.stats.now
           c.wait_for-wait.result (given_by turn bytes) c.next.new.self c.is_some-2.result asked c.in_ok-turn.ensures.gives arrives onward.held
           c.step.new.self w.hand_over-went.new.port w.count.new.stats (seen c.event_of-event.result) w.in-Ok.report c.args.output.now c.step.new.out w.hand_over-went.result
           same event w.in-Ok.ensures.exact w.in-Ok.ensures.carries
@@ -30,7 +30,7 @@ returns-clause-done g c =
           (rw w.is_some.ensures at w.count.ensures.exact))
       | in-Err w ↦
           rw (w.port-is, w.stats-is)
-          (did-nothing g.P.Port.gives g.P.Port.takes g.P.Port.clock g.P.Port.failures c.args.came c.args.core.now c.args.port.now c.args.stats.now
+          (did-nothing (g.P.Port.gives c.args.input.now.room) g.P.Port.takes g.P.Port.clock g.P.Port.failures c.args.came c.args.core.now c.args.port.now c.args.stats.now
           c.wait_for-wait.result (given_by turn bytes) c.next.new.self c.is_some-2.result asked c.in_ok-turn.ensures.gives arrives onward.held
           c.step.new.self w.count-in-Err.new.stats (seen c.event_of-event.result) same w.in-Err.ensures.err w.in-Err.ensures.memory
           (omega (arith, c.requires.onward, onward.onward)) c.in_ok-turn.ensures.works w.count-in-Err.ensures.exact)

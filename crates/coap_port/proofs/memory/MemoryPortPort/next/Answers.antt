@@ -6,7 +6,6 @@ pub returns-clause-gives : goal.returns-clause-gives
 returns-clause-gives c =
     rw (ne_eqb c.args.wait 0 c.if-wait-eq0.false)
     (record {
-      room = c.args.into.now.room;
       scripted = c.in-Some.scripted;
       rest = c.pop_front.new.self.items;
       split = search rules;

@@ -1,7 +1,7 @@
 //! Replays: the events of an input are done one after the other, and what is sent is written.
 ghost use Rattle.std.specs.Prelude.{◌≡◌, ◌≤◌, IfSome, length, vec_capacity};
 ghost use Rattle.coap_core.specs.Events.{seen};
-ghost use Rattle.coap_proxyd.specs.Replays.{AsksNext, DoesTurn, IfDo, IsReplayed, MayBeDone, line_for};
+ghost use Rattle.coap_replay.specs.Replays.{AsksNext, DoesTurn, IfDo, IsReplayed, MayBeDone, line_for};
 ghost use Rattle.coap_lines.specs.Room.{longest_line};
 ghost use Rattle.coap_lines.specs.Turns.{turn_seen, event_seen};
 

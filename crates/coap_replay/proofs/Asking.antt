@@ -3,14 +3,14 @@ use Rattle.std.proofs.Common.{◌≡◌, ℕ, ◌^◌, ◌<◌, ◌≤◌, true,
 use Rattle.std.specs.Prelude.{IfSome, IsSome}
 use Rattle.std.proofs.lemmas.Bool.{false≢true}
 use Rattle.coap_model.specs.Runs.{Turn}
-use Rattle.coap_proxyd.specs.declared.error.ReplayError.TheVariants.{BadEvent, OutOfMemory, Read}
+use Rattle.coap_replay.specs.declared.error.ReplayError.TheVariants.{BadEvent, OutOfMemory, Read}
 use Rattle.coap_lines.specs.declared.reading.input.Next.{Next}
 use Rattle.coap_lines.specs.declared.reading.input.Next.TheVariants as next
-use Rattle.coap_proxyd.specs.declared.replays.Asked.TheVariants.{End, Skip, Do}
+use Rattle.coap_replay.specs.declared.replays.Asked.TheVariants.{End, Skip, Do}
 use Rattle.coap_lines.specs.declared.reading.turn.Turn.{Turn as TurnRead}
 use Rattle.coap_lines.specs.Lines.{IsBegun, IsNext, is_skipped, lines_of}
 use Rattle.coap_lines.specs.Scripts.{AsksFor, bad_at, script_from}
-use Rattle.coap_proxyd.specs.Replays.{AsksNext, MayBeDone}
+use Rattle.coap_replay.specs.Replays.{AsksNext, MayBeDone}
 use Rattle.coap_lines.specs.Turns.{greatest, turn_of, turn_seen}
 use Rattle.coap_lines.proofs.ScriptTurns.{IsEvent-said}
 use Rattle.coap_lines.proofs.LineByLine.{step-bad, step-end, step-full, step-long, step-many, step-skip, step-turn}

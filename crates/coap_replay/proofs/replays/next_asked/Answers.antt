@@ -2,8 +2,8 @@ use Rattle.std.proofs.Common.{◌≡◌, true, false, Some, None, sym}
 use Rattle.std.specs.Prelude.{IsSome}
 use Rattle.coap_lines.specs.Lines.{is_skipped}
 use Rattle.coap_lines.specs.Turns.{turn_of, turn_seen}
-use Rattle.coap_proxyd.proofs.Asking.{asks-end, asks-long, asks-many, asks-skip, asks-bad, asks-full, asks-memory, asks-turn, asks-unread, may-be-done}
-use Rattle.coap_proxyd.proofs.replays.next_asked.Goals as goal
+use Rattle.coap_replay.proofs.Asking.{asks-end, asks-long, asks-many, asks-skip, asks-bad, asks-full, asks-memory, asks-turn, asks-unread, may-be-done}
+use Rattle.coap_replay.proofs.replays.next_asked.Goals as goal
 
 pub returns-in-Ok-End-clause-asked : goal.returns-in-Ok-End-clause-asked
 returns-in-Ok-End-clause-asked g c = asks-end c.args.number c.args.last c.args.events _ _ c.next_line.new.line.items (rw c.in-Ok-End.field-0-is at c.in-Ok-End.ensures.read)

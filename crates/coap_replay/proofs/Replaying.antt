@@ -14,11 +14,11 @@ use Rattle.coap_lines.specs.Turns.{turn_seen}
 use Rattle.coap_lines.specs.Lines.{IsBegun, IsLine, lines_of}
 use Rattle.coap_lines.specs.Scripts.{AsksFor, script_from, with_turn}
 use Rattle.coap_lines.proofs.CutInputs.{IsCutBetween, further, lines_of-cut}
-use Rattle.coap_proxyd.specs.declared.error.ReplayError.{ReplayError}
-use Rattle.coap_proxyd.specs.declared.error.ReplayError.TheVariants.{BadEvent, OutOfMemory, Read, Write}
-use Rattle.coap_proxyd.specs.declared.replays.Asked.{Asked}
-use Rattle.coap_proxyd.specs.declared.replays.Asked.TheVariants.{End, Skip, Do}
-use Rattle.coap_proxyd.specs.Replays.{AsksNext, DoesTurn, HasDone, IfDo, IsAtEvent, IsAtStart, IsBroken, IsReplayed, IsUpTo, MayBeDone, line_sent, output_of, run_at, script_for, step_at, with_turns, world_after}
+use Rattle.coap_replay.specs.declared.error.ReplayError.{ReplayError}
+use Rattle.coap_replay.specs.declared.error.ReplayError.TheVariants.{BadEvent, OutOfMemory, Read, Write}
+use Rattle.coap_replay.specs.declared.replays.Asked.{Asked}
+use Rattle.coap_replay.specs.declared.replays.Asked.TheVariants.{End, Skip, Do}
+use Rattle.coap_replay.specs.Replays.{AsksNext, DoesTurn, HasDone, IfDo, IsAtEvent, IsAtStart, IsBroken, IsReplayed, IsUpTo, MayBeDone, line_sent, output_of, run_at, script_for, step_at, with_turns, world_after}
 
 -- ---- one turn more
 

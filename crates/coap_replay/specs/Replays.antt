@@ -8,10 +8,10 @@ use Rattle.coap_model.specs.History.{Entry}
 use Rattle.coap_model.specs.Events.{IsEvent}
 use Rattle.coap_model.specs.Carries.{Carries}
 use Rattle.coap_model.specs.Runs.{Turn, AreTurns, Run, run_of}
-use Rattle.coap_proxyd.specs.declared.error.ReplayError.{ReplayError}
-use Rattle.coap_proxyd.specs.declared.error.ReplayError.TheVariants.{BadEvent, OutOfMemory, Read, Write}
-use Rattle.coap_proxyd.specs.declared.replays.Asked.{Asked}
-use Rattle.coap_proxyd.specs.declared.replays.Asked.TheVariants.{End, Skip, Do}
+use Rattle.coap_replay.specs.declared.error.ReplayError.{ReplayError}
+use Rattle.coap_replay.specs.declared.error.ReplayError.TheVariants.{BadEvent, OutOfMemory, Read, Write}
+use Rattle.coap_replay.specs.declared.replays.Asked.{Asked}
+use Rattle.coap_replay.specs.declared.replays.Asked.TheVariants.{End, Skip, Do}
 use Rattle.coap_lines.specs.Lines.{IsBegun, IsLine, line_of, lines_of}
 use Rattle.coap_lines.specs.Scripts.{AsksFor, Script, all_done, bad_at, script_from}
 use Rattle.coap_lines.specs.Texts.{has, line_feed}

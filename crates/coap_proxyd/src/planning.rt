@@ -1,0 +1,153 @@
+//! What the program is to do, by its words and its configuration.
+ghost use Rattle.std.specs.Prelude.{◌≡◌, IfOk, Ok, option_map, string_bytes};
+ghost use Rattle.coap_model.specs.World.{new_world};
+ghost use Rattle.coap_routes.specs.RouteTexts.{pair_of};
+ghost use Rattle.coap_words.specs.Answer.{Says};
+ghost use Rattle.coap_words.specs.ConfigView as view;
+ghost use Rattle.coap_words.specs.ProxyOption.{bytes_of};
+ghost use Rattle.coap_proxyd.specs.Words as words;
+ghost use Rattle.coap_proxyd.specs.Planning as spec;
+ghost use Rattle.coap_proxyd.specs.declared.fault.Fault.TheVariants as faults;
+
+use crate::fault::Fault;
+use crate::words::Wanted;
+use coap_core::{Core, LimitValues, Limits};
+use coap_message::OutOfMemory;
+use coap_routes::{RouteError, Routes};
+use coap_target::Endpoint;
+use coap_words::{Config, parse_map_option, read_config};
+use std::alloc::Global;
+
+/// What the program is to do.
+#[derive(Debug, Drop)]
+pub struct Plan {
+    /// Where to listen.
+    pub local: Endpoint,
+    pub limits: Limits,
+    pub routes: Routes,
+    /// Whether events come from standard input.
+    pub replay: bool,
+    /// The first message id and the salt, where they are given.
+    pub first_id: Option<u16>,
+    pub salt: Option<u64>,
+    /// How many turns to do, where that is given.
+    pub turns: Option<u64>,
+}
+
+/// What the program is to do, by what its words ask for and the bytes of the configuration, if there
+/// is one.
+///
+/// # Errors
+/// `Config` for the first fault in the configuration, then `MapOption`.
+pub fn read_plan(alloc: Global, wanted: Wanted, file: Option<&[u8]>) -> Result<Plan, Fault>
+    ensures { Says (λ plan. plan) faults.OutOfMemory result
+        (spec.plan_of (words.seen wanted) (option_map (λ bytes. bytes.now) file.entry)) }
+{
+    let Wanted {
+        local,
+        names,
+        settings,
+    } = wanted;
+    let config = config_of(alloc, file)?;
+    let config = with_names(config, names);
+    let config = with_map(alloc, config, &settings.map)?;
+    let routes = routes_of(alloc, &config)?;
+    Ok(Plan {
+        local,
+        limits: config.limits,
+        routes,
+        replay: settings.replay,
+        first_id: settings.first_id,
+        salt: settings.salt,
+        turns: settings.turns,
+    })
+}
+
+/// What a file says, or the configuration without one.
+fn config_of(alloc: Global, file: Option<&[u8]>) -> Result<Config, Fault>
+    ensures { Says view.seen faults.OutOfMemory result
+        (spec.config_said (option_map (λ bytes. bytes.now) file.entry)) }
+{
+    match file {
+        Some(text) => Ok(read_config(alloc, text)?),
+        None => Ok(default_config(alloc)),
+    }
+}
+
+/// The configuration without a file: the default limits, and no routes.
+fn default_config(alloc: Global) -> Config
+    ensures { view.seen result ≡ spec.no_config }
+{
+    Config {
+        limits: Limits::new(LimitValues::default()).unwrap(),
+        names: Vec::new(alloc),
+        hosts: Vec::new(alloc),
+        maps: Vec::new(alloc),
+    }
+}
+
+/// A configuration with these own names, if there are any, in place of its own.
+fn with_names(config: Config, names: Option<Vec<String>>) -> Config
+    ensures { view.seen result ≡ spec.with_names (view.seen config) (option_map bytes_of names) }
+{
+    match names {
+        Some(names) => Config { names, ..config },
+        None => config,
+    }
+}
+
+/// A configuration with one map more, if there is one, behind its own.
+fn with_map(alloc: Global, config: Config, map: &Option<String>) -> Result<Config, Fault>
+    ensures { Says view.seen faults.OutOfMemory result
+        (spec.with_map (view.seen config) (option_map string_bytes map.now)) }
+{
+    let Some(text) = map else {
+        return Ok(config);
+    };
+    let map = parse_map_option(alloc, text.as_str())?;
+    add_map(config, map)
+}
+
+/// A configuration with this map behind its own.
+fn add_map(config: Config, map: (String, String)) -> Result<Config, Fault>
+    ensures { Says view.seen faults.OutOfMemory result
+        (Ok (spec.add_map (view.seen config) (pair_of map))) }
+{
+    let mut config = config;
+    match config.maps.push(map) {
+        Ok(()) => Ok(config),
+        Err(_) => Err(Fault::OutOfMemory),
+    }
+}
+
+/// The routes of a configuration. Those of its file were made before, and names that `-P` says are
+/// names; so it is the map option that is at fault where they say none.
+fn routes_of(alloc: Global, config: &Config) -> Result<Routes, Fault>
+    ensures { Says (λ routes. routes) faults.OutOfMemory result
+        (spec.routes_said (view.seen config.now)) }
+{
+    match Routes::new(
+        alloc,
+        config.names.as_slice(),
+        config.hosts.as_slice(),
+        config.maps.as_slice(),
+    ) {
+        Ok(routes) => Ok(routes),
+        Err(RouteError::OutOfMemory) => Err(Fault::OutOfMemory),
+        Err(_) => Err(Fault::MapOption),
+    }
+}
+
+/// The core of a plan, with a first message id and a salt where it says none.
+pub(crate) fn core_of(
+    alloc: Global,
+    plan: Plan,
+    first_id: u16,
+    salt: u64,
+) -> Result<Core, OutOfMemory>
+    ensures { IfOk result (λ core. core ≡ new_world (spec.setting_of plan first_id salt)) }
+{
+    let first_id = plan.first_id.unwrap_or(first_id);
+    let salt = plan.salt.unwrap_or(salt);
+    Core::new(alloc, plan.limits, plan.routes, first_id, salt)
+}

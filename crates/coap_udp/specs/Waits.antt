@@ -1,0 +1,7 @@
+-- How long a socket is asked to wait.
+use Rattle.std.specs.Prelude.{ℕ, ◌≤◌, ◌<◌}
+
+-- a whole number of milliseconds above none, and no longer than is asked
+pub record IsWithin (wait timeout : ℕ) : Type 0 where
+  pub some : 0 < timeout
+  pub within : timeout ≤ wait

@@ -1,0 +1,50 @@
+//! Endpoints as the addresses of a socket.
+ghost use Rattle.std.specs.Prelude.{◌≡◌};
+ghost use Rattle.std.specs.Net.Addr.{ipv4_octets};
+ghost use Rattle.std.specs.Net.Socket.{socket_ip, socket_port};
+ghost use Rattle.coap_udp.specs.Addresses.{IsAddress, IsByFamily, IsEndpoint};
+
+use coap_target::{Endpoint, Ip};
+use std::net::{IpAddr, Ipv4Addr, Ipv6Addr, SocketAddr};
+
+/// The endpoint of a socket's address. An IPv4 address in the form that an IPv6 socket gives it,
+/// `::ffff:a.b.c.d`, is that of IPv4 (RFC 4291, 2.5.5.2).
+pub(crate) fn endpoint_of(address: SocketAddr) -> Endpoint
+    ensures ip { IsEndpoint (socket_ip address) result.ip }
+    ensures port { result.port ≡ socket_port address }
+{
+    let ip = match address.ip() {
+        IpAddr::V4(ip) => Ip::V4(ip.octets()),
+        IpAddr::V6(ip) => match ip.to_ipv4_mapped() {
+            Some(ip) => Ip::V4(ip.octets()),
+            None => Ip::V6(ip.octets()),
+        },
+    };
+    Endpoint {
+        ip,
+        port: address.port(),
+    }
+}
+
+/// The address of an endpoint for a socket, which is one of IPv6 or one of IPv4.
+pub(crate) fn address_of(endpoint: Endpoint, is_ipv6: bool) -> SocketAddr
+    ensures ip { IsAddress is_ipv6 endpoint.ip (socket_ip result) }
+    ensures port { socket_port result ≡ endpoint.port }
+{
+    let ip = match endpoint.ip {
+        Ip::V4(octets) => by_family(Ipv4Addr::from_octets(octets), is_ipv6),
+        Ip::V6(octets) => IpAddr::V6(Ipv6Addr::from_octets(octets)),
+    };
+    SocketAddr::new(ip, endpoint.port)
+}
+
+/// An IPv4 address as it stands, or for an IPv6 socket in its form there.
+fn by_family(ip: Ipv4Addr, is_ipv6: bool) -> IpAddr
+    ensures { IsByFamily is_ipv6 (ipv4_octets ip) result }
+{
+    if is_ipv6 {
+        IpAddr::V6(ip.to_ipv6_mapped())
+    } else {
+        IpAddr::V4(ip)
+    }
+}

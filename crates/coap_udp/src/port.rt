@@ -1,0 +1,188 @@
+//! The port over a UDP socket.
+ghost use Rattle.std.specs.Prelude.{◌≡◌, ◌≤◌, ◌<◌, ◌^◌, IfOk};
+ghost use Rattle.coap_udp.specs.Udp.{new_port};
+
+use crate::address::{address_of, endpoint_of};
+use crate::failing::passes;
+use crate::waiting::Waiting;
+use coap_message::Datagram;
+use coap_port::{Port, PortFault, Turn};
+use coap_target::{Endpoint, Ip};
+use rand_core::Rng;
+use rand_pcg::Pcg32;
+use std::alloc::Global;
+use std::io;
+use std::marker::Model;
+use std::net::{Net, UdpSocket};
+use std::random::RandomSource;
+use std::time::{Clock, Instant};
+
+/// The last moment that a port may give: 2^62.
+const LAST_MOMENT: u64 = 1 << 62;
+
+/// The greatest draw.
+const LAST_DRAW: u32 = 1000;
+
+/// A port over one UDP socket.
+///
+/// Its moments are milliseconds since it was made; where the clock can't be read, the last one. Its
+/// draws come from a generator that the system's random source seeds. What the socket receives and
+/// what becomes of what it is handed, no contract says.
+///
+/// A read takes one call of the system, and so does a send; a change of how long a read waits takes
+/// another. On a socket of IPv6 an address of IPv4 goes by its form there, `::ffff:a.b.c.d`, and
+/// comes back out of it.
+#[derive(Drop)]
+pub struct UdpPort<'a, R> {
+    rt: &'a R,
+    socket: UdpSocket,
+    is_ipv6: bool,
+    waiting: Waiting,
+    start: Instant,
+    generator: Pcg32,
+    room: Vec<u8>,
+    last: u64,
+    failures: u64,
+}
+
+impl<'a, R> Model for UdpPort<'a, R> {
+    ghost use Rattle.std.specs.Prelude.{◌≤◌, ◌^◌};
+    ghost use Rattle.coap_udp.specs.Udp.{Udp};
+
+    ghost Value = { Udp };
+
+    ghost view = { λ p. record { last = p.last; failures = p.failures } };
+
+    ghost invariant = { λ p. p.last ≤ 2 ^ 62 };
+}
+
+/// A generator that the system seeds.
+fn generator(source: &impl RandomSource) -> io::Result<Pcg32> {
+    let mut seed = [0; 8];
+    source.fill_bytes(&mut seed)?;
+    Ok(Pcg32::new(u64::from_le_bytes(seed), 0))
+}
+
+impl<'a, R: Net + Clock + RandomSource> UdpPort<'a, R> {
+    /// A port at a local address, which reads datagrams of up to so many bytes; of a longer one it
+    /// reads so many bytes and one more.
+    ///
+    /// # Errors
+    /// The system has no such address or port for it, or no random bytes, or the allocator has no
+    /// memory for the buffer.
+    pub fn bind(
+        rt: &'a R,
+        alloc: Global,
+        local: Endpoint,
+        longest: usize,
+    ) -> io::Result<UdpPort<'a, R>>
+        ensures { IfOk result (λ port. port ≡ new_port) }
+    {
+        let room = vec![in alloc; 0; longest.saturating_add(1)]?;
+        let is_ipv6 = matches!(local.ip, Ip::V6(_));
+        let socket = UdpSocket::bind(rt, address_of(local, is_ipv6))?;
+        Ok(UdpPort {
+            rt,
+            socket,
+            is_ipv6,
+            waiting: Waiting::new(),
+            start: Instant::now(rt)?,
+            generator: generator(rt)?,
+            room,
+            last: 0,
+            failures: 0,
+        })
+    }
+}
+
+impl<'a, R: Clock> UdpPort<'a, R> {
+    /// The moment that it is now, which is the last one from here on.
+    fn moment(&mut self) -> u64
+        ensures onward { self.old.last ≤ result }
+        ensures moment { result ≤ 2 ^ 62 }
+        ensures held { self.new ≡ record self.old { last = result } }
+    {
+        if let Ok(now) = Instant::now(self.rt) {
+            let millis = now.duration_since(self.start).as_millis();
+            let now = u64::try_from(millis)
+                .unwrap_or(LAST_MOMENT)
+                .min(LAST_MOMENT);
+            self.last = now.max(self.last);
+        }
+        self.last
+    }
+
+    /// A draw.
+    fn draw(&mut self) -> u16
+        ensures draw { result ≤ 1000 }
+        ensures same { self.new ≡ self.old }
+    {
+        (self.generator.next_u32() % (LAST_DRAW + 1)) as u16
+    }
+
+    /// Reads a datagram, if one comes within so many milliseconds. Puts it into an empty buffer,
+    /// and answers where it came from.
+    fn read(&mut self, wait: u64, into: &mut Datagram) -> io::Result<Endpoint>
+        requires { 0 < wait }
+        ensures same { self.new ≡ self.old }
+        ensures room { into.new.room ≡ into.old.room }
+    {
+        self.waiting.set(&self.socket, wait)?;
+        let (count, from) = self.socket.recv_from(&mut self.room)?;
+        into.put(&self.room[..count]);
+        Ok(endpoint_of(from))
+    }
+
+    /// A turn with what was read.
+    fn turn(&mut self, from: Option<Endpoint>) -> Turn
+        ensures onward { self.old.last ≤ result.now }
+        ensures moment { result.now ≤ 2 ^ 62 }
+        ensures draw { result.draw ≤ 1000 }
+        ensures from { result.from ≡ from }
+        ensures held { self.new ≡ record self.old { last = result.now } }
+    {
+        Turn {
+            now: self.moment(),
+            draw: self.draw(),
+            from,
+        }
+    }
+}
+
+impl<'a, R: Clock> Port for UdpPort<'a, R> {
+    ghost use Rattle.coap_udp.specs.Udp.{Gives, Takes};
+
+    ghost clock = { λ p. p.last };
+
+    ghost failures = { λ p. p.failures };
+
+    ghost gives = { Gives };
+
+    ghost takes = { Takes };
+
+    fn last(&self) -> u64 {
+        self.last
+    }
+
+    fn next(&mut self, wait: u64, into: &mut Datagram) -> Result<Turn, PortFault> {
+        into.clear();
+        if wait == 0 {
+            return Ok(self.turn(None));
+        }
+        match self.read(wait, into) {
+            Ok(from) => Ok(self.turn(Some(from))),
+            Err(error) if passes(error.kind()) => Ok(self.turn(None)),
+            Err(_) => {
+                self.failures += 1;
+                Err(PortFault)
+            }
+        }
+    }
+
+    fn send(&mut self, to: Endpoint, bytes: &[u8]) -> bool {
+        match self.socket.send_to(bytes, address_of(to, self.is_ipv6)) {
+            Ok(count) => count == bytes.len(),
+            Err(_) => false,
+        }
+    }
+}

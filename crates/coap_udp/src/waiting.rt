@@ -1,0 +1,55 @@
+//! How long a read of a socket waits.
+ghost use Rattle.std.specs.Prelude.{◌≤◌, ◌<◌};
+ghost use Rattle.coap_udp.specs.Waits.{IsWithin};
+
+use std::io;
+use std::net::UdpSocket;
+use std::time::Duration;
+
+/// How the reads of a socket wait.
+#[derive(Clone, Copy)]
+pub(crate) struct Waiting {
+    /// Whether they wait at all.
+    waits: bool,
+    /// Their timeout, if they do, in milliseconds.
+    timeout: u64,
+}
+
+impl Waiting {
+    /// That of a new socket, whose reads wait without a timeout.
+    pub(crate) fn new() -> Waiting {
+        Waiting {
+            waits: true,
+            timeout: 0,
+        }
+    }
+
+    /// Makes reads wait for so many milliseconds at most, at least one. Where they do so already,
+    /// no call of the system is made.
+    ///
+    /// A timeout of one millisecond takes eight on common kernels, so such a read doesn't wait.
+    pub(crate) fn set(&mut self, socket: &UdpSocket, wait: u64) -> io::Result<()>
+        requires { 0 < wait }
+    {
+        let waits = wait > 1;
+        if waits != self.waits {
+            socket.set_nonblocking(!waits)?;
+            self.waits = waits;
+        }
+        let timeout = cut(wait);
+        if waits && timeout != self.timeout {
+            socket.set_read_timeout(Some(Duration::from_millis(timeout)))?;
+            self.timeout = timeout;
+        }
+        Ok(())
+    }
+}
+
+/// The greatest power of two within a wait: the moment at which the next thing is due comes nearer
+/// with each datagram, and so the timeout stays the same for most.
+fn cut(wait: u64) -> u64
+    requires { 0 < wait }
+    ensures { IsWithin wait result }
+{
+    1 << wait.ilog2()
+}
