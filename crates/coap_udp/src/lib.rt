@@ -7,3 +7,6 @@ mod port;
 mod waiting;
 
 pub use port::UdpPort;
+
+#[cfg(test)]
+mod tests;
