@@ -60,7 +60,7 @@ pub fn show_into(
 }
 
 /// Whether a response of this code is told with a Max-Age (RFC 7252, 5.10.5).
-fn tells_age(code: Code) -> bool
+pub fn tells_age(code: Code) -> bool
     ensures { result ≡ tells_age code }
 {
     code == Code::CONTENT || code.class() == 4 || code.class() == 5

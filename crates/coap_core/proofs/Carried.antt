@@ -1,5 +1,5 @@
 -- What a proxy that carries a history can do: it can go on.
-use Rattle.std.proofs.Common.{◌≡◌, ℕ, ◌<◌, ◌≤◌, ◌^◌, List, [], ◌∷◌, length, Result, Ok, Err, refl, ap, arith}
+use Rattle.std.proofs.Common.{◌≡◌, ℕ, ◌<◌, ◌≤◌, ◌^◌, Bool, List, [], ◌∷◌, length, Result, Ok, Err, refl, sym, ap, subst, arith}
 use Rattle.std.specs.Prelude.{IfOk, OnErr}
 use Rattle.coap_message.specs.declared.error.OutOfMemory.{OutOfMemory}
 use Rattle.coap_message.specs.Datagram.{Datagram, holding}
@@ -7,14 +7,22 @@ use Rattle.coap_model.specs.declared.report.Report.{Report}
 use Rattle.coap_model.specs.World.{World, Step}
 use Rattle.coap_model.specs.Events.{Event, IsEvent}
 use Rattle.coap_model.specs.Step.{step_of}
-use Rattle.coap_model.specs.History.{Entry}
+use Rattle.coap_dedup.specs.declared.record.Record.{Record}
+use Rattle.coap_dedup.specs.Lists.{AreUpTo}
+use Rattle.coap_model.specs.History.{Entry, Deed, last_of, grown_of}
 use Rattle.coap_model.specs.Runs.{entry_of}
 use Rattle.coap_model.specs.Carries.{Carries}
 use Rattle.coap_model.proofs.Acting.{rising-paired}
 use Rattle.coap_model.proofs.Carrying.{keeps_step}
 use Rattle.coap_model.proofs.Frames.{opened-few}
+use Rattle.coap_model.specs.Promised.{Promised}
+use Rattle.coap_model.proofs.Promising.{promises}
 use Rattle.coap_model.proofs.Running.{setting_stays}
-use Rattle.coap_core.specs.Steps.{Does, CanGoOn}
+use Rattle.coap_core.specs.Steps.{Does, CanGoOn, PromisesOn, entry_told}
+
+-- what is remembered came at the last moment, or before
+until : (w : World) (deeds : List Deed) → w.last ≡ last_of deeds → (rs : List Record) → AreUpTo (last_of deeds) rs → AreUpTo w.last rs
+until w deeds last rs all = subst (λ (n : ℕ). AreUpTo n rs) (sym last) all
 
 -- what is carried is what a step needs
 pub can_go_on : (history : List Entry) (w : World) → Carries history w → w.events < 2 ^ 63 → CanGoOn w
@@ -29,6 +37,10 @@ can_go_on history w c few =
       opened = omega (arith, opened, b.numbers.opened);
       admitted = omega (arith, opened, b.numbers.admitted);
       ids = b.within.ids;
+      con_records = b.con_records.are;
+      con_until = until w c.deeds b.clock.last w.con_records.items b.con_records.until;
+      non_records = b.non_records.are;
+      non_until = until w c.deeds b.clock.last w.non_records.items b.non_records.until;
     }
 
 -- ---- what the step in code leaves
@@ -41,17 +53,28 @@ pub record IsLeft (w v : World) : Type 0 where
 
 -- what a step leaves: the setting, the limits, and a history that is carried
 pub is-left : (w : World) (now : ℕ) (event : Event) (history : List Entry) → Carries history w → w.last ≤ now → IsEvent event → (r : Result Report OutOfMemory) (old new : Datagram) (v : World)
-    → IfOk r (λ report. Does (step_of w now 0 event) report old new v) → OnErr r (v ≡ w) → IsLeft w v
+    → IfOk r (λ report. Does (step_of w now 0 (grown_of report.outcome) event) report old new v) → OnErr r (v ≡ w) → IsLeft w v
 is-left w now event history c onward fits (Ok report) old new v does same =
-    let stays = setting_stays w now 0 event fits in
+    let grown = grown_of report.outcome in
+    let stays = setting_stays w now 0 grown event fits in
     record {
       setting = rw does.2 stays;
-      history = entry_of now 0 event (step_of w now 0 event) ∷ history;
-      carries = rw does.2 (keeps_step w history now 0 event c onward fits);
+      history = entry_of now 0 event (step_of w now 0 grown event) ∷ history;
+      carries = rw does.2 (keeps_step w history now 0 grown event c onward fits);
     }
 is-left w now event history c onward fits (Err e) old new v does same = record { setting = rw same refl; history = history; carries = rw same c }
 
 -- what is sent isn't too long, and where memory is missing nothing is sent
-pub is-short : (r : Result Report OutOfMemory) (s : Step) (old new : Datagram) (v : World) (most : ℕ) → length s.bytes ≤ most → IfOk r (λ report. Does s report old new v) → OnErr r (new ≡ holding old []) → length new.bytes ≤ most
-is-short (Ok report) s old new v most short does none = omega (arith, short, ap (λ (d : Datagram). length d.bytes) does.1)
+pub is-short : (r : Result Report OutOfMemory) (s : Bool → Step) (old new : Datagram) (v : World) (most : ℕ) → ((grown : Bool) → length (s grown).bytes ≤ most) → IfOk r (λ report. Does (s (grown_of report.outcome)) report old new v) → OnErr r (new ≡ holding old []) → length new.bytes ≤ most
+is-short (Ok report) s old new v most short does none = omega (arith, short (grown_of report.outcome), ap (λ (d : Datagram). length d.bytes) does.1)
 is-short (Err e) s old new v most short does none = omega (arith, ap (λ (d : Datagram). length d.bytes) none)
+
+-- what a step leaves promises of its entry what was promised of those before
+pub promises-on : (w : World) (now draw : ℕ) (event : Event) → w.last ≤ now → IsEvent event → (r : Result Report OutOfMemory) (old new : Datagram) (v : World) → IfOk r (λ report. Does (step_of w now draw (grown_of report.outcome) event) report old new v) → IfOk r (λ report. PromisesOn w (entry_told now draw event report new.bytes) v)
+promises-on w now draw event onward fits (Ok report) old new v does = λ history c.
+    let s = step_of w now draw (grown_of report.outcome) event in
+    let bytes : new.bytes ≡ s.bytes = ap (λ (d : Datagram). d.bytes) does.1 in
+    let told : entry_told now draw event report new.bytes ≡ entry_of now draw event s = λ i. entry_told now draw event (does.0 i) (bytes i) in
+    let on = keeps_step w history now draw (grown_of report.outcome) event c onward fits in
+    subst (λ (e : Entry). Promised (e ∷ history) v) (sym told) (subst (λ (x : World). Promised (entry_of now draw event s ∷ history) x) (sym does.2) (promises (entry_of now draw event s ∷ history) s.world on))
+promises-on w now draw event onward fits (Err e) old new v does = tt

@@ -1,9 +1,11 @@
 pub mod Carried
 pub mod DueFirst
 pub mod Forms
+pub mod Records
 pub mod Keeping
 pub mod Tokens
 pub mod Observing
 pub mod Uris
 pub mod Widths
 pub mod Read
+pub mod Puts

@@ -24,5 +24,5 @@ head-of_read most bytes m e = go (leb (length bytes) most) (read_message bytes) 
     go false read is f = absurd cc
 
 -- the step of a message that is read
-pub on_read-message : (w : World) (now : ℕ) (source : Endpoint) (bytes : List ℕ) (m : Message) → message_in w.setting.limits.datagram bytes ≡ Some m → on_datagram w now source bytes ≡ on_message w now source m
-on_read-message w now source bytes m e = rw (head-of_read w.setting.limits.datagram bytes m e, e) refl
+pub on_read-message : (w : World) (now : ℕ) (grown : Bool) (source : Endpoint) (bytes : List ℕ) (m : Message) → message_in w.setting.limits.datagram bytes ≡ Some m → on_datagram w now grown source bytes ≡ on_message w now grown source m
+on_read-message w now grown source bytes m e = rw (head-of_read w.setting.limits.datagram bytes m e, e) refl

@@ -1,10 +1,11 @@
 -- Tokens of exchanges: the number that is read off one, and the exchange that awaits a response.
 use Rattle.std.proofs.Common.{◌≡◌, ◌≢◌, ℕ, ◌+◌, ◌-◌, ◌%◌, ◌^◌, ◌<◌, ◌≤◌, Bool, true, false, cond, eqb, List, [], ◌∷◌, length, Option, Some, None, refl, sym, ap, ◌∙◌, subst, arith}
-use Rattle.std.specs.Prelude.{◌&&◌, option_map, slice_index, if◌then◌else◌}
+use Rattle.std.specs.Prelude.{◌&&◌, IfSome, option_map, slice_index, if◌then◌else◌}
 use Rattle.std.specs.Int.{w64, from_be_bytes}
 use Rattle.std.proofs.lemmas.Nat.{be_bytes_8}
 use Rattle.std.specs.List.{AllByRecursion, find}
 use Rattle.std.proofs.lemmas.Bool.{eqb-true, eqb-false}
+use Rattle.std.proofs.lemmas.Option.{same_Some}
 use Rattle.coap_message.specs.Message.{Message}
 use Rattle.coap_message.specs.Uint.{uint_of}
 use Rattle.coap_target.specs.declared.endpoint.Endpoint.{Endpoint}
@@ -18,7 +19,8 @@ use Rattle.coap_exchange.specs.Exchanges.{is_sent}
 use Rattle.coap_exchange.specs.Table.{Numbered, Table, IsRising, IsTable, item_at}
 use Rattle.coap_model.specs.Messages.{token_of}
 use Rattle.coap_model.specs.World.{World, Step}
-use Rattle.coap_model.specs.Responses.{has_id, awaits, answers, on_awaited}
+use Rattle.coap_model.specs.Responses.{has_id, awaits, awaiting, answers, on_awaited, on_response}
+use Rattle.coap_core.specs.Storing.{answering_at}
 use Rattle.coap_model.proofs.Spelled.{length-token_of, token-same}
 
 -- the number that eight bytes stand for is the one that eight bytes are read as
@@ -139,9 +141,48 @@ sent-with id Queued b e = absurd cc
 sent-with id (Sent sending) b e = refl
 sent-with id (Done a) b e = absurd cc
 
--- what is done for the exchange that awaits a response depends on its number alone
-pub answered : (w : World) (now : ℕ) (m : Message) (o : Option (Numbered Exchange)) (number : ℕ) (P : Step → Type 0) → Some number ≡ option_map (λ x. x.0) o → ((x : Exchange) → P (answers w now m (number, x))) → P (on_awaited w now m o)
-answered w now m None number P e each = absurd cc
-answered w now m (Some x) number P e each =
-    let same : number ≡ x.0 = cc in
-    subst (λ (n : ℕ). P (answers w now m (n, x.1))) same (each x.1)
+-- ---- the first of a table of which something holds
+
+module _ (holds : Numbered Exchange → Bool) where
+  -- it stands behind what came before
+  behind : (least : ℕ) (xs : List (Numbered Exchange)) (x : Numbered Exchange) → IsRising least xs → find holds xs ≡ Some x → least < x.0
+  behind least [] x rising e = absurd cc
+  behind least (y ∷ ys) x rising e = go (holds y) e (λ f. behind y.0 ys x rising.1 f)
+    where
+      go : (b : Bool) → cond b (Some y) (find holds ys) ≡ Some x → (find holds ys ≡ Some x → y.0 < x.0) → least < x.0
+      go true f rest = let same : y ≡ x = same_Some _ _ f in subst (λ (z : Numbered Exchange). least < z.0) same rising.0
+      go false f rest = let above = rising.0 in let more = rest f in omega arith
+
+  -- so it is the one of its number
+  pub found-at : (least : ℕ) (xs : List (Numbered Exchange)) (x : Numbered Exchange) → IsRising least xs → find holds xs ≡ Some x → item_at x.0 xs ≡ Some x.1
+  found-at least [] x rising e = absurd cc
+  found-at least (y ∷ ys) x rising e = go (holds y) e (λ f. behind y.0 ys x rising.1 f) (λ f. found-at y.0 ys x rising.1 f)
+    where
+      here : (b : Bool) → eqb x.0 y.0 ≡ b → y ≡ x → cond b (Some y.1) (item_at x.0 ys) ≡ Some x.1
+      here true f same = ap (λ (z : Numbered Exchange). Some z.1) same
+      here false f same = absurd (eqb-false x.0 y.0 f (ap (λ (z : Numbered Exchange). z.0) (sym same)))
+
+      later : (b : Bool) → eqb x.0 y.0 ≡ b → y.0 < x.0 → item_at x.0 ys ≡ Some x.1 → cond b (Some y.1) (item_at x.0 ys) ≡ Some x.1
+      later true f more rest = let same = eqb-true x.0 y.0 f in absurd (omega arith)
+      later false f more rest = rest
+
+      go : (b : Bool) → cond b (Some y) (find holds ys) ≡ Some x → (find holds ys ≡ Some x → y.0 < x.0) → (find holds ys ≡ Some x → item_at x.0 ys ≡ Some x.1) → item_at x.0 (y ∷ ys) ≡ Some x.1
+      go true f more rest = here (eqb x.0 y.0) refl (same_Some _ _ f)
+      go false f more rest = later (eqb x.0 y.0) refl (more f) (rest f)
+
+-- what is done for the exchange that awaits a response is done for the one of its number
+pub answered : (w : World) (now : ℕ) (grown : Bool) (source : Endpoint) (m : Message) (number : ℕ) (P : Step → Type 0) → IsRising 0 w.exchanges → Some number ≡ option_map (λ x. x.0) (awaiting w source m)
+    → ((x : Exchange) → item_at number w.exchanges ≡ Some x → P (answers w now grown m (number, x))) → P (on_response w now grown source m)
+answered w now grown source m number P rising e each = go (awaiting w source m) refl e
+  where
+    go : (o : Option (Numbered Exchange)) → awaiting w source m ≡ o → Some number ≡ option_map (λ x. x.0) o → P (on_awaited w now grown m o)
+    go None is f = absurd cc
+    go (Some x) is f =
+        let same : number ≡ x.0 = cc in
+        let found = found-at (awaits w.setting.salt source m) 0 w.exchanges x rising is in
+        subst (λ (n : ℕ). P (answers w now grown m (n, x.1))) same (each x.1 (rw same found))
+
+-- so what holds of the step of an answer for that number holds of the step of the response
+pub answered-at : (w : World) (now : ℕ) (grown : Bool) (source : Endpoint) (m : Message) (number : ℕ) (P : Step → Type 0) → IsRising 0 w.exchanges → Some number ≡ option_map (λ x. x.0) (awaiting w source m)
+    → IfSome (answering_at w now grown m number) P → P (on_response w now grown source m)
+answered-at w now grown source m number P rising e each = answered w now grown source m number P rising e (λ x found. rw found at each)

@@ -1,9 +1,11 @@
 -- How the request that is sent on is written: the options of its target, and the others in the gaps
 -- between them.
-use Rattle.std.specs.Prelude.{ℕ, ◌&&◌, Bool, nat_lt, List, [], ◌∷◌, ◌++◌, filter, Option, Some, None}
+use Rattle.std.specs.Prelude.{ℕ, ◌==◌, ◌&&◌, ◌||◌, Bool, nat_lt, List, [], ◌∷◌, filter, Option, Some, None}
 use Rattle.coap_message.specs.declared.code.TheConstants.Code.{GET}
+use Rattle.std.specs.List.{list_any}
+use Rattle.coap_message.specs.Message.{Message}
 use Rattle.coap_message.specs.declared.options.Opt.{Opt}
-use Rattle.coap_option.specs.declared.numbers.TheConstants.{URI_HOST, URI_PATH, URI_QUERY}
+use Rattle.coap_option.specs.declared.numbers.TheConstants.{URI_HOST, URI_PATH, URI_QUERY, PROXY_URI, PROXY_SCHEME}
 use Rattle.coap_target.specs.declared.target.Target.{Target}
 use Rattle.coap_routes.specs.MappedTarget as mapped
 use Rattle.coap_model.specs.Forms.{goes_on}
@@ -12,7 +14,7 @@ use Rattle.coap_core.specs.declared.form.Gap.TheVariants.{BeforeHost, BeforePath
 use Rattle.coap_core.specs.declared.request_target.RequestTarget.{RequestTarget}
 use Rattle.coap_core.specs.declared.request_target.RequestTarget.TheVariants.{Mapped, Named}
 use Rattle.coap_core.specs.declared.request_target.PartValues.{PartValues}
-use Rattle.coap_core.specs.declared.request_target.PartValues.TheVariants.{Host, Kept, Lent, Both}
+use Rattle.coap_core.specs.declared.request_target.PartValues.TheVariants.{Host, Kept}
 
 -- the target
 abbrev pub seen : RequestTarget → Target
@@ -29,8 +31,6 @@ abbrev pub values_left : PartValues → List (List ℕ)
 values_left (Host None) = []
 values_left (Host (Some host)) = host.now ∷ []
 values_left (Kept pieces) = pieces
-values_left (Lent values) = values
-values_left (Both pieces values) = pieces ++ values
 
 -- an option of this number stands in this gap
 abbrev pub is_in : Gap → ℕ → Bool
@@ -56,3 +56,9 @@ end_of Last = 65535
 -- of the options of a GET those in a gap that go on
 abbrev pub others_in : Gap → List Opt → List Opt
 others_in gap options = filter (λ o. is_in gap o.number && goes_on GET o) options
+
+-- ---- requests
+
+-- a request that says its target by a URI (RFC 7252, 5.10.2), which is read into memory
+abbrev pub says_uri : Message → Bool
+says_uri m = list_any (λ o. (o.number == PROXY_URI) || (o.number == PROXY_SCHEME)) m.options

@@ -1,4 +1,4 @@
 pub mod Events
 pub mod Forms
 pub mod Steps
-pub mod WorldView
+pub mod Storing

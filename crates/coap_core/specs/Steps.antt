@@ -1,38 +1,29 @@
 -- What the calls of a core answer and leave.
-use Rattle.std.specs.Prelude.{◌≡◌, ℕ, ◌+◌, ◌<◌, ◌≤◌, ◌^◌, true, false, List, ◌∷◌, Option, Some, None, IfSome, option_map}
+use Rattle.std.specs.Prelude.{◌≡◌, ℕ, ◌+◌, ◌<◌, ◌≤◌, ◌^◌, true, List, ◌∷◌, Option, Some, None, IfSome, option_map}
 use Rattle.coap_message.specs.Datagram.{Datagram, holding}
-use Rattle.coap_message.specs.Spelling.{spelling}
-use Rattle.coap_message.specs.declared.code.Code.{Code}
-use Rattle.coap_message.specs.declared.code.TheConstants.Code.{GET}
 use Rattle.coap_message.specs.Message.{Message}
-use Rattle.coap_option.specs.declared.side.Side.TheVariants.{Request}
-use Rattle.coap_option.specs.Screening.{first_refused}
-use Rattle.coap_option.specs.Selection.{sent_on}
-use Rattle.coap_target.specs.declared.endpoint.Endpoint.{Endpoint}
-use Rattle.coap_target.specs.declared.target.Target.{Target}
-use Rattle.coap_target.specs.Target.{IsTarget}
+use Rattle.coap_message.specs.declared.kind.Kind.{Kind}
+use Rattle.coap_exchange.specs.declared.exchange.Answer.{Answer}
 use Rattle.coap_exchange.specs.declared.exchange.Exchange.{Exchange}
+use Rattle.coap_model.specs.Answers.{shown}
 use Rattle.coap_exchange.specs.Exchanges.{is_sent}
 use Rattle.coap_exchange.specs.Table.{Numbered, IsRising, item_at}
 use Rattle.coap_exchange.specs.declared.waiter.Waiter.{Waiter}
 use Rattle.coap_exchange.specs.Due.{Item, sending, serving, due_as, answer_in}
 use Rattle.coap_model.specs.declared.report.Report.{Report}
-use Rattle.coap_model.specs.Forms.{forwarded, request_key}
-use Rattle.coap_model.specs.Requests.{opens, turns_away, turns_down}
-use Rattle.coap_model.specs.Memory.{is_judged_by_uri}
 use Rattle.coap_model.specs.Verdicts as verdicts
-use Rattle.coap_model.specs.Verdicts.{verdict_of}
-use Rattle.coap_core.specs.Forms.{seen}
 use Rattle.coap_routes.specs.Routes.{AreRoutes}
 use Rattle.coap_model.specs.Events.{Event}
 use Rattle.coap_model.specs.History.{Entry}
 use Rattle.coap_model.specs.Carries.{Carries}
 use Rattle.coap_model.specs.Promised.{Promised}
-use Rattle.coap_model.specs.World.{World, Step, reserved}
-use Rattle.coap_core.specs.declared.requests.Plan.{Plan}
-use Rattle.coap_core.specs.declared.requests.Plan.TheVariants.{TurnDown, TurnAway, Open}
+use Rattle.coap_target.specs.declared.endpoint.Endpoint.{Endpoint}
+use Rattle.coap_dedup.specs.Lists.{AreUpTo}
+use Rattle.coap_dedup.specs.Records.{AreRecords}
+use Rattle.coap_model.specs.Requests.{known_of, repeats}
+use Rattle.coap_model.specs.World.{World, Step, records_of, reserved}
 use Rattle.coap_core.specs.declared.requests.Verdict.{Verdict}
-use Rattle.coap_core.specs.declared.requests.Verdict.TheVariants.{RefusedWith, MayAsk, NoMemory}
+use Rattle.coap_core.specs.declared.requests.Verdict.TheVariants.{RefusedWith, MayAsk}
 use Rattle.coap_model.specs.Ticks.{sends, delivers}
 use Rattle.coap_core.specs.declared.ticks.DueItem.{DueItem}
 use Rattle.coap_core.specs.declared.ticks.DueItem.TheVariants.{ToSend, ToServe}
@@ -57,7 +48,8 @@ PromisesOn before e after =
     (history : List Entry) → Carries history before → Promised (e ∷ history) after
 
 -- What a step needs of the tables before it: origins are targets, the tables are in order of
--- number, there are numbers left to count with, and an id is left for whoever it is kept for.
+-- number, there are numbers left to count with, an id is left for whoever it is kept for, and what
+-- is remembered is in order, up to the last moment.
 pub record CanGoOn (w : World) : Type 0 where
   pub routes : AreRoutes w.setting.routes
   pub exchanges : IsRising 0 w.exchanges
@@ -66,6 +58,24 @@ pub record CanGoOn (w : World) : Type 0 where
   pub opened : w.opened < 2 ^ 63
   pub admitted : w.admitted < 2 ^ 63
   pub ids : w.given + reserved w ≤ 32768
+  pub con_records : AreRecords w.con_records
+  pub con_until : AreUpTo w.last w.con_records.items
+  pub non_records : AreRecords w.non_records
+  pub non_until : AreUpTo w.last w.non_records.items
+
+-- a request of this client may be remembered at this moment: it is new, and nothing came later
+pub record CanRemember (now : ℕ) (client : Endpoint) (m : Message) (w : World) : Type 0 where
+  pub unknown : known_of w now client m ≡ None
+  pub until : AreUpTo now (records_of m.kind w).items
+
+-- what a duplicate is told, if a request is one
+abbrev pub repetition_of : World → ℕ → Endpoint → Message → Option Step
+repetition_of w now client m =
+    option_map (λ known. repeats w now client known.reply) (known_of w now client m)
+
+-- the report and the datagram are those of the step
+abbrev pub IsSaid : Step → Report → Datagram → Datagram → Type 0
+IsSaid s report old new = (report ≡ s.report) × (new ≡ holding old s.bytes)
 
 -- the request of the exchange of this number, if there is one, was sent, and no answer has come
 abbrev pub IsSentAt : ℕ → List (Numbered Exchange) → Type 0
@@ -73,34 +83,10 @@ IsSentAt number exchanges = IfSome (item_at number exchanges) (λ x. is_sent x.s
 
 -- ---- values of the program as the model sees them
 
--- what is planned for a request
-abbrev pub planned : World → ℕ → Endpoint → Message → Plan → Step
-planned w now client m (TurnDown code) = turns_down w now client m code
-planned w now client m TurnAway = turns_away w now client m
-planned w now client m (Open key) = opens w now client m key
-
--- where an exchange is to be opened, the bytes are those of the request that is sent on
-abbrev pub FormIs : List ℕ → Message → Plan → List ℕ → Type 0
-FormIs token request (TurnDown code) bytes = Unit {0}
-FormIs token request TurnAway bytes = Unit {0}
-FormIs token request (Open key) bytes =
-    bytes ≡ spelling (forwarded token key.target (sent_on request) 0)
-
--- The request may be asked for at the target: it is a GET that passed the screening.
-pub record IsAskableAt (w : World) (request : Message) (target : Target) : Type 0 where
-  pub verdict :
-      verdict_of w.setting.routes request ≡ verdicts.may_ask (request_key target request)
-  pub get : request.code ≡ GET
-  pub screened : first_refused Request request.options ≡ None
-  pub sound : IsTarget target
-
--- the verdict on a request; where there is no memory, a URI was to be read
-abbrev pub IsVerdictOn : World → Message → Verdict → Type 0
-IsVerdictOn w request (RefusedWith code) =
-    verdict_of w.setting.routes request ≡ verdicts.refused_with code
-IsVerdictOn w request (MayAsk target) =
-    IsAskableAt w request (seen target)
-IsVerdictOn w request NoMemory = is_judged_by_uri request ≡ true
+-- a verdict is this one of the model
+abbrev pub verdict_seen : Verdict → verdicts.Verdict
+verdict_seen (RefusedWith code) = verdicts.refused_with code
+verdict_seen (MayAsk key) = verdicts.may_ask key
 
 -- an item by its moment and its number
 abbrev pub item_as : Item → DueItem
@@ -119,3 +105,9 @@ delivery_of w now number (Some v) =
 
 abbrev pub delivery_at : World → ℕ → ℕ → Option Step
 delivery_at w now number = delivery_of w now number (item_at number w.waiters)
+
+-- ---- what is shown
+
+-- what a client is given for an answer, in a message of this type
+abbrev pub shown_as : Kind → ℕ → Answer → ℕ → List ℕ → List (List ℕ) → Message
+shown_as kind now a id token tags = record (shown now a id token tags) { kind = kind }

@@ -2,9 +2,9 @@
 ghost use Rattle.std.specs.Prelude.{◌≡◌, ◌≤◌, ◌==◌, true, not, filter, IfOk};
 ghost use Rattle.std.specs.List.{list_any};
 ghost use Rattle.coap_message.specs.declared.code.Code.{Code};
-ghost use Rattle.coap_model.specs.Answers.{without_observe, fits, answer_of, left_of, left_told, bad_gateway};
+ghost use Rattle.coap_model.specs.Answers.{is_storable, without_observe, fits, answer_of, left_of, left_told, bad_gateway};
 
-use coap_cache::put_aged;
+use coap_cache::{put_aged, tells_age};
 use coap_exchange::Answer;
 use coap_message::{
     Code, Datagram, Head, Kind, Message, MessageRef, OptionList, Options, OutOfMemory, Seq, Token,
@@ -136,4 +136,12 @@ pub(crate) fn left_told(now: u64, answer: &Answer) -> Option<u64>
     } else {
         Some(left_of(now, answer))
     }
+}
+
+/// Whether an answer may be stored: a 2.05 or an error of class 4 or 5 that an origin sent, with a
+/// Max-Age above 0 (RFC 7252, 5.6.1 and 5.9).
+pub(crate) fn is_storable(answer: &Answer) -> bool
+    ensures { result ≡ is_storable answer.now }
+{
+    !answer.own && tells_age(answer.message.code) && max_age(&answer.message.lent()) > 0
 }

@@ -12,14 +12,15 @@ ghost use Rattle.coap_option.specs.Selection.{sent_on};
 ghost use Rattle.coap_target.specs.Target.{IsTarget, IsShort};
 ghost use Rattle.coap_model.specs.Forms.{merged, target_options, forwarded, goes_on};
 ghost use Rattle.coap_model.specs.Ticks.{with_id};
-ghost use Rattle.coap_core.specs.Forms.{end_of, floor_of, is_in, others_in, seen, values_left};
+ghost use Rattle.coap_core.specs.Forms.{end_of, floor_of, is_in, others_in, values_left};
 
-use crate::request_target::{PartValues, RequestTarget};
+use crate::request_target::{PartValues, host_of};
 use coap_message::{
     Code, Datagram, Full, Head, Kind, MessageRef, OptRef, OptRefs, Token, put_head, put_option,
 };
 use coap_option::{Side, numbers, recognised};
 use coap_routes::Segments;
+use coap_target::Target;
 
 /// Where other options stand among those of a target.
 #[derive(Clone, Copy)]
@@ -166,20 +167,22 @@ fn put_form_options(
     out: &mut Datagram,
     room: usize,
     request: &MessageRef<'_>,
-    target: &RequestTarget<'_, '_>,
+    target: &Target,
 ) -> Result<(), Full>
     requires room { room ≤ out.old.room }
     requires held { length out.old.bytes ≤ room }
     requires get { request.now.code ≡ Code.GET }
     requires screened { first_refused Side.Request request.now.options ≡ None }
-    requires target { IsTarget (seen target.now) }
+    requires target { IsTarget target.now }
     ensures { Appends out.old out.new room
-        (options_spelling 0 (merged (target_options (seen target.now)) (sent_on request.now))) result }
+        (options_spelling 0 (merged (target_options target.now) (sent_on request.now))) result }
 {
     let options = request.options.iter();
-    let last = put_part(out, room, 0, &options, Gap::BeforeHost, target.host())?;
-    let last = put_part(out, room, last, &options, Gap::BeforePath, target.path())?;
-    let last = put_part(out, room, last, &options, Gap::BeforeQuery, target.query())?;
+    let last = put_part(out, room, 0, &options, Gap::BeforeHost, host_of(target))?;
+    let path = PartValues::Kept(target.path.iter());
+    let last = put_part(out, room, last, &options, Gap::BeforePath, path)?;
+    let query = PartValues::Kept(target.query.iter());
+    let last = put_part(out, room, last, &options, Gap::BeforeQuery, query)?;
     put_others(out, room, last, &options, Gap::Last)?;
     Ok(())
 }
@@ -193,14 +196,14 @@ pub(crate) fn put_forwarded(
     room: usize,
     token: &Token,
     request: &MessageRef<'_>,
-    target: &RequestTarget<'_, '_>,
+    target: &Target,
 ) -> Result<(), Full>
     requires room { room ≤ out.old.room }
     requires get { request.now.code ≡ Code.GET }
     requires screened { first_refused Side.Request request.now.options ≡ None }
-    requires target { IsTarget (seen target.now) }
+    requires target { IsTarget target.now }
     ensures { Appends (holding out.old []) out.new room
-        (spelling (forwarded token.now (seen target.now) (sent_on request.now) 0)) result }
+        (spelling (forwarded token.now target.now (sent_on request.now) 0)) result }
 {
     let head = Head {
         kind: Kind::Con,

@@ -4,6 +4,7 @@
 mod answers;
 mod event;
 mod form;
+mod known;
 mod proxy;
 mod request_target;
 mod requests;

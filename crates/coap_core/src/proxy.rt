@@ -1,12 +1,16 @@
 //! The core of a proxy: one step for one event.
 ghost use Rattle.std.specs.Prelude.{◌≡◌, ◌≤◌, ◌<◌, ◌^◌, [], true, length, IfOk, IsOk, OnErr};
 ghost use Rattle.coap_message.specs.Datagram.{holding};
+ghost use Rattle.coap_cache.specs.Entries.{entry_size};
+ghost use Rattle.coap_cache.specs.Lists.{total};
+ghost use Rattle.coap_dedup.specs.Records.{living_at};
 ghost use Rattle.coap_model.specs.Events.{tick};
 ghost use Rattle.coap_model.specs.Held.{held, most_held};
-ghost use Rattle.coap_model.specs.Memory.{brings_uri, takes_memory};
+ghost use Rattle.coap_model.specs.Memory.{takes_memory};
 ghost use Rattle.coap_model.specs.Setting.{setting_of};
 ghost use Rattle.coap_model.specs.World.{new_world, counts};
 ghost use Rattle.coap_model.specs.Ticks.{next_due};
+ghost use Rattle.coap_model.specs.History.{grown_of};
 ghost use Rattle.coap_model.specs.Step.{step_of};
 ghost use Rattle.coap_model.specs.Carries.{Carries};
 ghost use Rattle.coap_core.specs.Events.{IsUnread, seen};
@@ -14,6 +18,7 @@ ghost use Rattle.coap_core.specs.Steps.{CarriesOn, Does, PromisesOn, entry_told}
 
 use crate::event::Event;
 use crate::world::World;
+use coap_cache::Store;
 use coap_message::{Datagram, OutOfMemory};
 use coap_model::laws::{
     datagrams_fit, new_proxies_carry_nothing, settings_stay, steps_are_carried,
@@ -27,11 +32,11 @@ use std::marker::Model;
 /// The core of a proxy. A contract sees the world of the model: what the core was made with, and
 /// its tables.
 #[derive(Drop)]
-pub struct Core {
-    world: World,
+pub struct Core<S: Store> {
+    world: World<S>,
 }
 
-impl Model for Core {
+impl<S: Store> Model for Core<S> {
     ghost use Rattle.std.specs.Prelude.{List};
     ghost use Rattle.coap_model.specs.World.{World};
     ghost use Rattle.coap_model.specs.History.{Entry};
@@ -46,8 +51,8 @@ impl Model for Core {
     ghost invariant = { λ c. AreLimits c.world.setting.limits × ((history : List Entry) × Carries history c.world) };
 }
 
-impl Core {
-    /// A core that has done nothing. Room for exchanges and clients is made here.
+impl<S: Store + Drop> Core<S> {
+    /// A core that has done nothing. Room for exchanges, clients and records is made here.
     ///
     /// `first_id` is the first message id that it gives (RFC 7252, 4.4). `salt` makes its tokens
     /// differ from those of its former lives (RFC 7252, 5.3.1).
@@ -56,11 +61,12 @@ impl Core {
     /// Want of memory.
     pub fn new(
         alloc: Global,
+        seed: S::Seed,
         limits: Limits,
         routes: Routes,
         first_id: u16,
         salt: u64,
-    ) -> Result<Core, OutOfMemory>
+    ) -> Result<Core<S>, OutOfMemory>
         // It is made of exactly what it was handed, and carries no history.
         ensures exact { IfOk result (λ core. core ≡ new_world (setting_of limits routes first_id salt)) }
         ensures carries { IfOk result (λ core. Carries [] core) }
@@ -68,7 +74,7 @@ impl Core {
         new_proxies_carry_nothing();
         // Its clause says that the maps are sound, which each step relies on.
         routes.maps();
-        let world = World::new(alloc, limits, routes, first_id, salt)?;
+        let world = World::new(alloc, seed, limits, routes, first_id, salt)?;
         Ok(Core { world })
     }
 
@@ -79,8 +85,8 @@ impl Core {
     /// has room for `datagram()` bytes; fewer than 2^63 steps were done.
     ///
     /// # Errors
-    /// Want of memory, which changes nothing. It is answered only where an exchange was to be
-    /// opened, an answer to be kept, or a request to be judged by its Proxy-Uri or Proxy-Scheme.
+    /// Want of memory, which changes nothing. It is answered only where a request that is new was to
+    /// be remembered, or an answer to be kept.
     pub fn step(
         &mut self,
         now: u64,
@@ -97,7 +103,8 @@ impl Core {
         // The report, the datagram and the core after it are determined, and the datagram isn't too
         // long.
         ensures exact { IfOk result (λ report.
-            Does (step_of self.old now draw (seen event.entry)) report out.old out.new self.new) }
+            Does (step_of self.old now draw (grown_of report.outcome) (seen event.entry)) report
+            out.old out.new self.new) }
 
         ensures short { length out.new.bytes ≤ self.new.setting.limits.datagram }
 
@@ -113,18 +120,24 @@ impl Core {
         ensures setting { self.new.setting ≡ self.old.setting }
         ensures exchanges { length self.new.exchanges ≤ self.new.setting.limits.exchanges }
         ensures waiters { length self.new.waiters ≤ self.new.setting.limits.waiters }
+        ensures con_records { length (living_at self.new.last self.new.con_records)
+            ≤ self.new.setting.limits.con_records }
+        ensures non_records { length (living_at self.new.last self.new.non_records)
+            ≤ self.new.setting.limits.non_records }
+        ensures entries { length self.new.store ≤ self.new.setting.limits.cache_entries }
+        ensures cached_bytes { total entry_size self.new.store
+            ≤ self.new.setting.limits.cache_bytes }
         ensures held { held self.new ≤ most_held self.new.setting.limits }
 
         // Where memory is missing, nothing happened.
         ensures err { OnErr result (self.new ≡ self.old) }
         ensures none { OnErr result (out.new ≡ holding out.old []) }
 
-        // It can be missing only where an exchange is opened, an answer is kept, or a request is
-        // judged by a URI: whatever else is done needs none. So a tick needs none, nor does a
+        // It can be missing only where a request that is new is remembered, or an answer is kept:
+        // whatever else is done needs none. So a tick needs none, nor does a duplicate, or a
         // datagram without a message.
         ensures memory { OnErr result
-            (takes_memory (brings_uri self.old.setting.limits.datagram (seen event.entry))
-            (step_of self.old now draw (seen event.entry)).report.outcome
+            (takes_memory (step_of self.old now draw true (seen event.entry)).report.outcome
             ≡ true) }
         ensures ticks { seen event.entry ≡ tick → IsOk result }
         ensures unread { IsUnread self.old.setting.limits.datagram (seen event.entry) → IsOk result }

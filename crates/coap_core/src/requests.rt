@@ -1,57 +1,45 @@
 //! The step of a request (RFC 7252, 5.7.3).
-ghost use Rattle.std.specs.Prelude.{◌≡◌, ◌⊎◌, ℕ, ◌+◌, ◌≤◌, true, length, None, Ok, Err, IfOk, IfErr, OnErr};
+ghost use Rattle.std.specs.Prelude.{◌≡◌, ◌⊎◌, ◌+◌, ◌≤◌, true, length, None, Ok, Err, IfOk, IfErr, IfSome, IsSome, OnErr};
 ghost use Rattle.coap_message.specs.declared.code.TheConstants.Code.{GET};
 ghost use Rattle.coap_message.specs.Spelling.{spelling};
-ghost use Rattle.coap_message.specs.declared.kind.Kind.{Kind};
 ghost use Rattle.coap_option.specs.declared.side.Side.{Side};
 ghost use Rattle.coap_option.specs.Screening.{first_refused};
-ghost use Rattle.coap_option.specs.Selection.{sent_on};
-ghost use Rattle.coap_target.specs.declared.endpoint.Endpoint.{Endpoint};
+ghost use Rattle.coap_option.specs.Selection.{sent_on, tags_of};
 ghost use Rattle.coap_target.specs.Target.{IsTarget};
 ghost use Rattle.coap_routes.specs.declared.error.TargetError.TheVariants as errors;
 ghost use Rattle.coap_routes.specs.Request.{request_target};
-ghost use Rattle.coap_model.specs.Memory.{is_judged_by_uri, says_uri, takes_memory};
+ghost use Rattle.coap_model.specs.Memory.{takes_memory};
 ghost use Rattle.coap_model.specs.Forms.{forwarded};
-ghost use Rattle.coap_model.specs.Verdicts.{form_fits};
-ghost use Rattle.coap_model.specs.Requests.{lacks_id, refuses, overloads, opens, turns_away, turns_down, next_token, on_request};
-ghost use Rattle.coap_model.specs.World.{has_ids};
-ghost use Rattle.coap_core.specs.Forms.{seen};
-ghost use Rattle.coap_core.specs.Steps.{Does, CanGoOn, FormIs, IsVerdictOn, planned};
+ghost use Rattle.coap_model.specs.Verdicts.{form_fits, may_ask, verdict_of};
+ghost use Rattle.coap_cache.specs.Entries.{has_usable};
+ghost use Rattle.coap_message.specs.Datagram.{holding};
+ghost use Rattle.coap_model.specs.Requests.{lacks_id, refuses, overloads, opens, next_token, on_key, on_miss, remembers, on_new, forgets, on_request};
+ghost use Rattle.coap_model.specs.World.{can_reply};
+ghost use Rattle.coap_core.specs.Forms.{says_uri, seen};
+ghost use Rattle.coap_core.specs.Steps.{Does, CanGoOn, CanRemember, verdict_seen};
 
 use crate::form::put_forwarded;
+use crate::known::reply_kind;
 use crate::request_target::RequestTarget;
 use crate::token::token_of;
 use crate::world::{World, silent};
-use crate::writing::{put_message, put_with_max_age};
-use coap_cache::CacheKey;
+use crate::writing::{put_message, put_stored, put_with_max_age};
+use coap_cache::{CacheKey, Store};
 use coap_exchange::Waiter;
-use coap_message::{Code, Datagram, Head, Kind, MessageRef, Options, OutOfMemory, Seq};
+use coap_message::{Code, Datagram, Kind, MessageRef, Options, OutOfMemory, Pieces, Seq};
 use coap_model::{Outcome, Report};
 use coap_option::{numbers, screen_request, tags};
 use coap_routes::TargetError;
 use coap_routes::laws::{requests_to_the_proxy_are_mapped, targets_fit_options};
-use coap_target::Endpoint;
+use coap_target::{Endpoint, Target};
 
-/// What becomes of a request, leaving room aside.
+/// What becomes of a request, leaving length, room and what is stored aside.
 #[derive(Drop)]
-pub(crate) enum Verdict<'m, 'a> {
+pub(crate) enum Verdict {
     /// It is refused with this code.
     RefusedWith(Code),
-    /// It may be asked for at this target.
-    MayAsk(RequestTarget<'m, 'a>),
-    /// It says its target by a URI, for which there is no memory.
-    NoMemory,
-}
-
-/// What is to be done for a request.
-#[derive(Drop)]
-enum Plan {
-    /// The client is refused with this code, if an id is free to tell it.
-    TurnDown(Code),
-    /// There is no room for an exchange.
-    TurnAway,
-    /// An exchange is opened for this key.
-    Open(CacheKey),
+    /// It may be asked for, with this key.
+    MayAsk(CacheKey),
 }
 
 /// Whether a request says its target by a URI (RFC 7252, 5.10.2).
@@ -66,18 +54,9 @@ fn says_uri(request: &MessageRef<'_>) -> bool
     false
 }
 
-/// The head of a reply of the proxy's own.
-fn reply_head(code: Code, id: u16) -> Head
-    ensures { result ≡ record { kind = Kind.Non; code = code; id = id } }
-{
-    Head {
-        kind: Kind::Non,
-        code,
-        id,
-    }
-}
-
-impl World {
+impl<S: Store + Drop> World<S> {
+    /// A duplicate is told again what its request was told; what is new is remembered, with what is
+    /// told to it.
     pub(crate) fn on_request(
         &mut self,
         now: u64,
@@ -86,6 +65,7 @@ impl World {
         out: &mut Datagram,
     ) -> Result<Report, OutOfMemory>
         requires can { CanGoOn self.old }
+        requires onward { self.old.last ≤ now }
         requires room { self.old.setting.limits.datagram ≤ out.old.room }
         requires fits { length (on_request self.old now client request.now).bytes ≤ out.old.room }
         ensures exact { IfOk result (λ report.
@@ -93,67 +73,173 @@ impl World {
         ensures err { OnErr result (self.new ≡ self.old) }
         ensures kept { out.new.room ≡ out.old.room }
         ensures memory { OnErr result
-            (takes_memory (is_judged_by_uri request.now)
-            (on_request self.old now client request.now).report.outcome
-            ≡ true) }
+            (takes_memory (on_request self.old now client request.now).report.outcome ≡ true) }
     {
-        match self.plan(request, out)? {
-            Plan::TurnDown(code) => Ok(self.turn_down(now, client, request, code, out)),
-            Plan::TurnAway => Ok(self.turn_away(now, client, request, out)),
-            Plan::Open(key) => self.open(now, client, request, key, out),
+        if let Some(report) = self.repeat(now, client, request, out) {
+            self.pass(now);
+            return Ok(report);
         }
+        if !self.has_record_room(now, request.kind) {
+            return Ok(self.forget(now, out));
+        }
+        self.on_new(now, client, request, out)
     }
 
-    /// What is to be done for a request. Where an exchange is to be opened, `out` holds what is
-    /// sent on.
-    fn plan(&self, request: &MessageRef<'_>, out: &mut Datagram) -> Result<Plan, OutOfMemory>
-        requires can { CanGoOn self.now }
-        requires room { self.now.setting.limits.datagram ≤ out.old.room }
-        ensures exact { (now : ℕ) (client : Endpoint)
-            → IfOk result (λ plan.
-            on_request self.now now client request.now ≡ planned self.now now client request.now plan) }
-        ensures form { IfOk result (λ plan. FormIs (next_token self.now) request.now plan out.new.bytes) }
-        ensures memory { (now : ℕ) (client : Endpoint)
-            → OnErr result
-            (takes_memory (is_judged_by_uri request.now)
-            (on_request self.now now client request.now).report.outcome
-            ≡ true) }
+    /// There is no room to remember a request: silence.
+    fn forget(&mut self, now: u64, out: &mut Datagram) -> Report
+        requires { CanGoOn self.old }
+        ensures { Does (forgets self.old now) result out.old out.new self.new }
+    {
+        out.clear();
+        self.pass(now);
+        silent(Outcome::NoRecordRoom)
+    }
+
+    /// What becomes of a request that is new.
+    fn on_new(
+        &mut self,
+        now: u64,
+        client: Endpoint,
+        request: &MessageRef<'_>,
+        out: &mut Datagram,
+    ) -> Result<Report, OutOfMemory>
+        requires can { CanGoOn self.old }
+        requires new { CanRemember now client request.now self.old }
+        requires room { self.old.setting.limits.datagram ≤ out.old.room }
+        requires fits { length (on_new self.old now client request.now).bytes ≤ out.old.room }
+        ensures exact { IfOk result (λ report.
+            Does (remembers now client request.now (on_new self.old now client request.now))
+            report out.old out.new self.new) }
+        ensures err { OnErr result (self.new ≡ self.old) }
         ensures kept { out.new.room ≡ out.old.room }
     {
-        let target = match self.verdict_of(request) {
-            Verdict::RefusedWith(code) => return Ok(Plan::TurnDown(code)),
-            Verdict::MayAsk(target) => target,
-            Verdict::NoMemory => return Err(OutOfMemory),
-        };
-        if !self.fits(request, &target, out) {
-            return Ok(Plan::TurnDown(Code::REQUEST_ENTITY_TOO_LARGE));
+        if !self.can_reply(request.kind) {
+            return self.lack_id(now, client, request, out);
         }
-        if !self.has_room() {
-            return Ok(Plan::TurnAway);
+        match self.verdict_of(request)? {
+            Verdict::RefusedWith(code) => self.refuse(now, client, request, code, out),
+            Verdict::MayAsk(key) => self.on_key(now, client, request, key, out),
         }
-        Ok(Plan::Open(target.to_key(self.alloc, request)?))
     }
 
     /// What becomes of a request: the method, the options, the target; the first that is at fault
     /// decides.
     #[tactic(auto, unfolding(coap_model::specs::Verdicts::verdict_of))]
-    fn verdict_of<'m, 'a>(&'m self, request: &MessageRef<'a>) -> Verdict<'m, 'a>
+    fn verdict_of(&self, request: &MessageRef<'_>) -> Result<Verdict, OutOfMemory>
         requires { CanGoOn self.now }
-        ensures exact { IsVerdictOn self.now request.now result }
+        ensures exact { IfOk result (λ verdict.
+            verdict_of self.now.setting.routes request.now ≡ verdict_seen verdict) }
     {
         if request.code != Code::GET {
-            return Verdict::RefusedWith(Code::METHOD_NOT_ALLOWED);
+            return Ok(Verdict::RefusedWith(Code::METHOD_NOT_ALLOWED));
         }
         if screen_request(request).is_err() {
-            return Verdict::RefusedWith(Code::BAD_OPTION);
+            return Ok(Verdict::RefusedWith(Code::BAD_OPTION));
         }
         match self.target_of(request) {
-            Ok(target) => Verdict::MayAsk(target),
-            Err(TargetError::BadUri) => Verdict::RefusedWith(Code::BAD_REQUEST),
-            Err(TargetError::NotProxied) => Verdict::RefusedWith(Code::PROXYING_NOT_SUPPORTED),
-            Err(TargetError::NotFound) => Verdict::RefusedWith(Code::NOT_FOUND),
-            Err(TargetError::OutOfMemory) => Verdict::NoMemory,
+            Ok(target) => Ok(Verdict::MayAsk(target.to_key(self.alloc, request)?)),
+            Err(TargetError::BadUri) => Ok(Verdict::RefusedWith(Code::BAD_REQUEST)),
+            Err(TargetError::NotProxied) => Ok(Verdict::RefusedWith(Code::PROXYING_NOT_SUPPORTED)),
+            Err(TargetError::NotFound) => Ok(Verdict::RefusedWith(Code::NOT_FOUND)),
+            Err(TargetError::OutOfMemory) => Err(OutOfMemory),
         }
+    }
+
+    /// A request for a key: a response that is stored for it and usable answers it; else an exchange
+    /// is wanted.
+    fn on_key(
+        &mut self,
+        now: u64,
+        client: Endpoint,
+        request: &MessageRef<'_>,
+        key: CacheKey,
+        out: &mut Datagram,
+    ) -> Result<Report, OutOfMemory>
+        requires can { CanGoOn self.old }
+        requires new { CanRemember now client request.now self.old }
+        requires ids { can_reply self.old request.now.kind ≡ true }
+        requires askable { verdict_of self.old.setting.routes request.now ≡ may_ask key }
+        requires room { self.old.setting.limits.datagram ≤ out.old.room }
+        requires fits { length (on_key self.old now client request.now key).bytes ≤ out.old.room }
+        ensures exact { IfOk result (λ report.
+            Does (remembers now client request.now (on_key self.old now client request.now key))
+            report out.old out.new self.new) }
+        ensures err { OnErr result (self.new ≡ self.old) }
+        ensures kept { out.new.room ≡ out.old.room }
+    {
+        let tags = tags(self.alloc, request)?;
+        if self.put_usable(now, client, request, &key, &tags, out) {
+            let report = self.reply(now, client, request, Outcome::Hit, out)?;
+            self.store.hit(&key, now);
+            return Ok(report);
+        }
+        self.on_miss(now, client, request, key, tags, out)
+    }
+
+    /// Whether a response is stored for the key that is usable. Then `out` holds what the client is
+    /// shown of it.
+    fn put_usable(
+        &self,
+        now: u64,
+        client: Endpoint,
+        request: &MessageRef<'_>,
+        key: &CacheKey,
+        tags: &Pieces,
+        out: &mut Datagram,
+    ) -> bool
+        requires can { CanGoOn self.now }
+        requires ids { can_reply self.now request.now.kind ≡ true }
+        requires tags { tags.now ≡ tags_of request.now }
+        requires fits { length (on_key self.now now client request.now key.now).bytes
+            ≤ out.old.room }
+        ensures usable { result ≡ has_usable key.now now self.now.store }
+        ensures shown { result ≡ true
+            → out.new ≡ holding out.old (on_key self.now now client request.now key.now).bytes }
+        ensures kept { out.new.room ≡ out.old.room }
+    {
+        match self.store.peek(key) {
+            Some(stored) if stored.is_usable(now) => {
+                let id = self.reply_id(request);
+                let kind = reply_kind(request.kind);
+                put_stored(out, now, stored, kind, id, &request.token, tags);
+                true
+            }
+            _ => false,
+        }
+    }
+
+    /// An exchange is wanted for a key: the length of what is sent on decides, then the room. A
+    /// Confirmable request isn't asked for yet.
+    fn on_miss(
+        &mut self,
+        now: u64,
+        client: Endpoint,
+        request: &MessageRef<'_>,
+        key: CacheKey,
+        tags: Pieces,
+        out: &mut Datagram,
+    ) -> Result<Report, OutOfMemory>
+        requires can { CanGoOn self.old }
+        requires new { CanRemember now client request.now self.old }
+        requires ids { can_reply self.old request.now.kind ≡ true }
+        requires askable { verdict_of self.old.setting.routes request.now ≡ may_ask key }
+        requires tags { tags ≡ tags_of request.now }
+        requires room { self.old.setting.limits.datagram ≤ out.old.room }
+        requires fits { length (on_miss self.old now client request.now key).bytes ≤ out.old.room }
+        ensures exact { IfOk result (λ report.
+            Does (remembers now client request.now (on_miss self.old now client request.now key))
+            report out.old out.new self.new) }
+        ensures err { OnErr result (self.new ≡ self.old) }
+        ensures kept { out.new.room ≡ out.old.room }
+    {
+        if !self.fits(request, &key.target, out) {
+            let code = Code::REQUEST_ENTITY_TOO_LARGE;
+            return self.refuse(now, client, request, code, out);
+        }
+        if request.kind != Kind::Non || !self.has_room() {
+            return self.overload(now, client, request, out);
+        }
+        self.open(now, client, request, key, tags, out)
     }
 
     /// The target of a request that passed the screening. What is mapped is lent, so that it takes
@@ -168,7 +254,6 @@ impl World {
         ensures sound { IfOk result (λ t. IsTarget (seen t)) }
         ensures err { IfErr result (λ error.
             (error ≡ errors.OutOfMemory) ⊎ (request_target self.now.setting.routes request.now ≡ Err error)) }
-        ensures memory { IfErr result (λ error. error ≡ errors.OutOfMemory → says_uri request.now ≡ true) }
     {
         targets_fit_options();
         requests_to_the_proxy_are_mapped();
@@ -183,46 +268,21 @@ impl World {
     }
 
     /// Whether the form that is sent on fits a datagram. Then `out` holds it.
-    fn fits(
-        &self,
-        request: &MessageRef<'_>,
-        target: &RequestTarget<'_, '_>,
-        out: &mut Datagram,
-    ) -> bool
+    fn fits(&self, request: &MessageRef<'_>, target: &Target, out: &mut Datagram) -> bool
         requires can { CanGoOn self.now }
         requires room { self.now.setting.limits.datagram ≤ out.old.room }
         requires get { request.now.code ≡ GET }
         requires screened { first_refused Side.Request request.now.options ≡ None }
-        requires target { IsTarget (seen target.now) }
-        ensures exact { result
-            ≡ form_fits self.now.setting.limits.datagram (seen target.now) request.now }
+        requires target { IsTarget target.now }
+        ensures exact { result ≡ form_fits self.now.setting.limits.datagram target.now request.now }
         ensures form { result ≡ true
-            → out.new.bytes ≡ spelling (forwarded (next_token self.now) (seen target.now) (sent_on request.now) 0) }
+            → out.new.bytes
+            ≡ spelling (forwarded (next_token self.now) target.now (sent_on request.now) 0) }
         ensures kept { out.new.room ≡ out.old.room }
     {
         let token = token_of(self.salt, self.exchanges.admitted() + 1);
         let room = self.limits.values().datagram as usize;
         put_forwarded(out, room, &token, request, target).is_ok()
-    }
-
-    /// The client is refused with a code, if an id is free to tell it.
-    fn turn_down(
-        &mut self,
-        now: u64,
-        client: Endpoint,
-        request: &MessageRef<'_>,
-        code: Code,
-        out: &mut Datagram,
-    ) -> Report
-        requires can { CanGoOn self.old }
-        requires fits { length (turns_down self.old now client request.now code).bytes ≤ out.old.room }
-        ensures { Does (turns_down self.old now client request.now code) result out.old out.new self.new }
-    {
-        if self.has_ids(1) {
-            self.refuse(now, client, request, code, out)
-        } else {
-            self.lack_id(now, out)
-        }
     }
 
     /// The client is refused with a code.
@@ -233,44 +293,20 @@ impl World {
         request: &MessageRef<'_>,
         code: Code,
         out: &mut Datagram,
-    ) -> Report
+    ) -> Result<Report, OutOfMemory>
         requires can { CanGoOn self.old }
-        requires ids { has_ids 1 self.old ≡ true }
+        requires new { CanRemember now client request.now self.old }
+        requires ids { can_reply self.old request.now.kind ≡ true }
         requires fits { length (refuses self.old now client request.now code).bytes ≤ out.old.room }
-        ensures { Does (refuses self.old now client request.now code) result out.old out.new self.new }
+        ensures exact { IfOk result (λ report.
+            Does (remembers now client request.now (refuses self.old now client request.now code))
+            report out.old out.new self.new) }
+        ensures err { OnErr result (self.new ≡ self.old) }
+        ensures kept { out.new.room ≡ out.old.room }
     {
-        let id = self.take_id();
-        self.pass(now);
-        put_message(
-            out,
-            reply_head(code, id),
-            &request.token,
-            &Options::none(),
-            &[],
-        );
-        Report {
-            send: Some(client),
-            outcome: Outcome::Refused(code),
-        }
-    }
-
-    /// There is no room for what could be opened.
-    fn turn_away(
-        &mut self,
-        now: u64,
-        client: Endpoint,
-        request: &MessageRef<'_>,
-        out: &mut Datagram,
-    ) -> Report
-        requires can { CanGoOn self.old }
-        requires fits { length (turns_away self.old now client request.now).bytes ≤ out.old.room }
-        ensures { Does (turns_away self.old now client request.now) result out.old out.new self.new }
-    {
-        if self.has_ids(1) {
-            self.overload(now, client, request, out)
-        } else {
-            self.lack_id(now, out)
-        }
+        let head = self.reply_head(request, code);
+        put_message(out, head, &request.token, &Options::none(), &[]);
+        self.reply(now, client, request, Outcome::Refused(code), out)
     }
 
     /// There is no room for the client: it may try again later.
@@ -280,30 +316,42 @@ impl World {
         client: Endpoint,
         request: &MessageRef<'_>,
         out: &mut Datagram,
-    ) -> Report
+    ) -> Result<Report, OutOfMemory>
         requires can { CanGoOn self.old }
-        requires ids { has_ids 1 self.old ≡ true }
+        requires new { CanRemember now client request.now self.old }
+        requires ids { can_reply self.old request.now.kind ≡ true }
         requires fits { length (overloads self.old now client request.now).bytes ≤ out.old.room }
-        ensures { Does (overloads self.old now client request.now) result out.old out.new self.new }
+        ensures exact { IfOk result (λ report.
+            Does (remembers now client request.now (overloads self.old now client request.now))
+            report out.old out.new self.new) }
+        ensures err { OnErr result (self.new ≡ self.old) }
+        ensures kept { out.new.room ≡ out.old.room }
     {
-        let id = self.take_id();
-        self.pass(now);
-        let head = reply_head(Code::SERVICE_UNAVAILABLE, id);
+        let head = self.reply_head(request, Code::SERVICE_UNAVAILABLE);
         put_with_max_age(out, head, &request.token, self.limits.values().retry_s, &[]);
-        Report {
-            send: Some(client),
-            outcome: Outcome::Overloaded,
-        }
+        self.reply(now, client, request, Outcome::Overloaded, out)
     }
 
     /// No id is free for a reply: silence.
-    fn lack_id(&mut self, now: u64, out: &mut Datagram) -> Report
-        requires { CanGoOn self.old }
-        ensures { Does (lacks_id self.old now) result out.old out.new self.new }
+    fn lack_id(
+        &mut self,
+        now: u64,
+        client: Endpoint,
+        request: &MessageRef<'_>,
+        out: &mut Datagram,
+    ) -> Result<Report, OutOfMemory>
+        requires can { CanGoOn self.old }
+        requires new { CanRemember now client request.now self.old }
+        ensures exact { IfOk result (λ report.
+            Does (remembers now client request.now (lacks_id self.old now)) report
+            out.old out.new self.new) }
+        ensures err { OnErr result (self.new ≡ self.old) }
+        ensures kept { out.new.room ≡ out.old.room }
     {
         out.clear();
+        self.remember(now, client, request, out.bytes())?;
         self.pass(now);
-        silent(Outcome::NoId)
+        Ok(silent(Outcome::NoId))
     }
 
     /// An exchange is opened for a key, and the client waits for it. `out` holds what is sent on.
@@ -313,18 +361,21 @@ impl World {
         client: Endpoint,
         request: &MessageRef<'_>,
         key: CacheKey,
+        tags: Pieces,
         out: &mut Datagram,
     ) -> Result<Report, OutOfMemory>
         requires can { CanGoOn self.old }
+        requires new { CanRemember now client request.now self.old }
+        requires tags { tags ≡ tags_of request.now }
         requires form { out.old.bytes
             ≡ spelling (forwarded (next_token self.old) key.target (sent_on request.now) 0) }
         ensures exact { IfOk result (λ report.
-            Does (opens self.old now client request.now key) report out.old out.new self.new) }
+            Does (remembers now client request.now (opens self.old now client request.now key))
+            report out.old out.new self.new) }
         ensures err { OnErr result (self.new ≡ self.old) }
         ensures kept { out.new.room ≡ out.old.room }
     {
         let form = Seq::from_slice(self.alloc, out.bytes())?;
-        let tags = tags(self.alloc, request)?;
         let Ok(number) = self.exchanges.admit(key, form, now) else {
             return Err(OutOfMemory);
         };
@@ -339,6 +390,11 @@ impl World {
             return Err(OutOfMemory);
         }
         out.clear();
+        if self.remember(now, client, request, out.bytes()).is_err() {
+            self.waiters.withdraw();
+            self.exchanges.withdraw();
+            return Err(OutOfMemory);
+        }
         self.pass(now);
         Ok(silent(Outcome::Opened))
     }

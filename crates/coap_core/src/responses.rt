@@ -1,18 +1,21 @@
 //! The step of a response that comes in an acknowledgement (RFC 7252, 5.2.1 and 5.3.2).
 ghost use Rattle.std.specs.Prelude.{◌≡◌, ◌≤◌, ◌&&◌, true, false, option_map, IfOk, IfSome, OnErr};
 ghost use Rattle.coap_target.specs.Endpoint.{same_endpoint};
-ghost use Rattle.coap_exchange.specs.declared.exchange.Exchange.{Exchange};
 ghost use Rattle.coap_model.specs.Memory.{takes_memory};
-ghost use Rattle.coap_model.specs.Responses.{has_id, awaiting, answers, on_response};
+ghost use Rattle.coap_model.specs.Responses.{asked_of, has_id, awaiting, on_response};
+ghost use Rattle.coap_exchange.specs.Table.{item_at};
+ghost use Rattle.coap_model.specs.History.{grown_of};
+ghost use Rattle.coap_core.specs.Storing.{IsKept, answering_at, if_storable};
 ghost use Rattle.coap_core.specs.Steps.{Does, CanGoOn, IsSentAt};
 
-use crate::answers::answer_of;
+use crate::answers::{answer_of, is_storable};
 use crate::token::number_of;
 use crate::world::{World, silent};
-use coap_exchange::{Exchange, ExchangeState};
-use coap_message::{Datagram, MessageRef, OutOfMemory};
+use coap_cache::{CacheKey, Put, Store, Stored};
+use coap_exchange::{Answer, Exchange, ExchangeState};
+use coap_message::{Datagram, Message, MessageRef, OutOfMemory};
 use coap_model::{Outcome, Report, Storing};
-use coap_target::Endpoint;
+use coap_target::{Endpoint, Target};
 
 /// Whether an exchange was sent with this id, and no answer has come.
 fn has_id(id: u16, state: &ExchangeState) -> bool
@@ -31,7 +34,41 @@ fn awaits(exchange: &Exchange, source: Endpoint, id: u16) -> bool
     has_id(id, &exchange.state) && exchange.key.target.at.is(&source)
 }
 
-impl World {
+/// The number of the event in which the request of an exchange was sent.
+fn asked_of(state: &ExchangeState) -> u64
+    ensures { result ≡ asked_of state.now }
+{
+    match state {
+        ExchangeState::Sent(sending) => sending.asked,
+        ExchangeState::Queued | ExchangeState::Done(_) => 0,
+    }
+}
+
+/// The same target once more.
+fn copied_target(target: &Target) -> Result<Target, OutOfMemory>
+    ensures { IfOk result (λ copy. copy ≡ target.now) }
+{
+    Ok(target.clone()?)
+}
+
+/// The same key once more.
+fn copied_key(key: &CacheKey) -> Result<CacheKey, OutOfMemory>
+    ensures { IfOk result (λ copy. copy ≡ key.now) }
+{
+    Ok(CacheKey {
+        target: copied_target(&key.target)?,
+        options: key.options.clone()?,
+    })
+}
+
+/// The same message once more.
+fn copied(message: &Message) -> Result<Message, OutOfMemory>
+    ensures { IfOk result (λ copy. copy ≡ message.now) }
+{
+    Ok(message.clone()?)
+}
+
+impl<S: Store + Drop> World<S> {
     pub(crate) fn on_response(
         &mut self,
         now: u64,
@@ -42,11 +79,13 @@ impl World {
         requires can { CanGoOn self.old }
         requires room { self.old.setting.limits.datagram ≤ out.old.room }
         ensures exact { IfOk result (λ report.
-            Does (on_response self.old now source response.now) report out.old out.new self.new) }
+            Does (on_response self.old now (grown_of report.outcome) source response.now) report
+            out.old out.new self.new) }
         ensures err { OnErr result (self.new ≡ self.old) }
         ensures kept { out.new.room ≡ out.old.room }
         ensures memory { OnErr result
-            (takes_memory false (on_response self.old now source response.now).report.outcome ≡ true) }
+            (takes_memory (on_response self.old now true source response.now).report.outcome
+            ≡ true) }
     {
         match self.awaiting(source, response) {
             Some(number) => self.answer(now, number, response, out),
@@ -70,7 +109,7 @@ impl World {
         }
     }
 
-    /// The exchange of this number has its answer.
+    /// The exchange of this number has its answer, which is stored if it may be.
     fn answer(
         &mut self,
         now: u64,
@@ -81,19 +120,61 @@ impl World {
         requires can { CanGoOn self.old }
         requires sent { IsSentAt number self.old.exchanges }
         requires room { self.old.setting.limits.datagram ≤ out.old.room }
-        ensures exact { (x : Exchange)
-            → IfOk result (λ report.
-            Does (answers self.old now response.now (number, x)) report out.old out.new self.new) }
+        ensures exact { IfOk result (λ report.
+            IfSome (answering_at self.old now (grown_of report.outcome) response.now number) (λ step.
+            Does step report out.old out.new self.new)) }
         ensures err { OnErr result (self.new ≡ self.old) }
         ensures kept { out.new.room ≡ out.old.room }
     {
         let most = self.limits.values().datagram as usize;
         let answer = answer_of(self.alloc, most, now, response, out)?;
+        let entry = self.entry_made(now, number, &answer)?;
+        let storing = self.keep(entry);
         self.exchanges.answer(number, answer);
         out.clear();
         self.pass(now);
-        Ok(silent(Outcome::Answered {
-            storing: Storing::NotStored,
-        }))
+        Ok(silent(Outcome::Answered { storing }))
+    }
+
+    /// What is to be stored of an answer for the key of its exchange, if it may be.
+    fn entry_made(
+        &self,
+        now: u64,
+        number: u64,
+        answer: &Answer,
+    ) -> Result<Option<(CacheKey, Stored)>, OutOfMemory>
+        ensures { IfOk result (λ entry.
+            IfSome (item_at number self.now.exchanges) (λ x.
+            entry ≡ if_storable self.now now (number, x) answer.now)) }
+    {
+        if !is_storable(answer) {
+            return Ok(None);
+        }
+        let Some(exchange) = self.exchanges.get(number) else {
+            return Ok(None);
+        };
+        let key = copied_key(&exchange.key)?;
+        let stored = Stored {
+            response: copied(&answer.message)?,
+            asked: asked_of(&exchange.state),
+            got_no: self.events,
+            got: now,
+            marked: false,
+        };
+        Ok(Some((key, stored)))
+    }
+
+    /// It is stored in place of the one of its key, if there is something to be stored.
+    fn keep(&mut self, entry: Option<(CacheKey, Stored)>) -> Storing
+        ensures { IsKept self.old entry result self.new }
+    {
+        let Some((key, stored)) = entry else {
+            return Storing::NotStored;
+        };
+        match self.store.put(key, stored) {
+            Put::Kept => Storing::Kept,
+            Put::TooLarge => Storing::TooLarge,
+            Put::NoMemory => Storing::NoMemory,
+        }
     }
 }

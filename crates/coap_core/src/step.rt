@@ -1,9 +1,10 @@
 //! One step: a datagram or a tick at a moment.
 ghost use Rattle.std.specs.Prelude.{◌≡◌, ◌≤◌, ◌<◌, ◌^◌, [], true, length, None, IfOk, IsOk, OnErr};
-ghost use Rattle.coap_model.specs.Events.{arrival, tick};
+ghost use Rattle.coap_model.specs.Events.{tick};
 ghost use Rattle.coap_message.specs.declared.kind.Kind.{Kind};
 ghost use Rattle.coap_message.specs.Datagram.{holding};
-ghost use Rattle.coap_model.specs.Memory.{brings_uri, is_judged_by_uri, takes_memory};
+ghost use Rattle.coap_model.specs.Memory.{takes_memory};
+ghost use Rattle.coap_model.specs.History.{grown_of};
 ghost use Rattle.coap_model.specs.World.{ignores};
 ghost use Rattle.coap_model.specs.Step.{rejects, unprocessed, message_in, on_message, on_datagram, step_of};
 ghost use Rattle.coap_core.specs.Events.{IsUnread, seen};
@@ -12,11 +13,12 @@ ghost use Rattle.coap_core.specs.Steps.{Does, CanGoOn};
 use crate::event::Event;
 use crate::world::{World, silent};
 use crate::writing::put_message;
+use coap_cache::Store;
 use coap_message::{Code, Datagram, Head, Kind, MessageRef, Options, OutOfMemory, Token, head_of};
 use coap_model::{Outcome, Report};
 use coap_target::Endpoint;
 
-impl World {
+impl<S: Store + Drop> World<S> {
     /// One step. Where memory is missing, nothing happened, and `out` is empty.
     pub(crate) fn step(
         &mut self,
@@ -25,15 +27,16 @@ impl World {
         out: &mut Datagram,
     ) -> Result<Report, OutOfMemory>
         requires can { CanGoOn self.old }
+        requires onward { self.old.last ≤ now }
         requires room { self.old.setting.limits.datagram ≤ out.old.room }
-        requires fits { length (step_of self.old now 0 (seen event)).bytes ≤ out.old.room }
+        requires fits { length (step_of self.old now 0 true (seen event)).bytes ≤ out.old.room }
         ensures exact { IfOk result (λ report.
-            Does (step_of self.old now 0 (seen event.entry)) report out.old out.new self.new) }
+            Does (step_of self.old now 0 (grown_of report.outcome) (seen event.entry)) report
+            out.old out.new self.new) }
         ensures err { OnErr result (self.new ≡ self.old) }
         ensures none { OnErr result (out.new ≡ holding out.old []) }
         ensures memory { OnErr result
-            (takes_memory (brings_uri self.old.setting.limits.datagram (seen event.entry))
-            (step_of self.old now 0 (seen event.entry)).report.outcome
+            (takes_memory (step_of self.old now 0 true (seen event.entry)).report.outcome
             ≡ true) }
         ensures ticks { seen event.entry ≡ tick → IsOk result }
         ensures unread { IsUnread self.old.setting.limits.datagram (seen event.entry) → IsOk result }
@@ -56,15 +59,16 @@ impl World {
         out: &mut Datagram,
     ) -> Result<Report, OutOfMemory>
         requires can { CanGoOn self.old }
+        requires onward { self.old.last ≤ now }
         requires room { self.old.setting.limits.datagram ≤ out.old.room }
-        requires fits { length (on_datagram self.old now source bytes.now).bytes ≤ out.old.room }
+        requires fits { length (on_datagram self.old now true source bytes.now).bytes ≤ out.old.room }
         ensures exact { IfOk result (λ report.
-            Does (on_datagram self.old now source bytes.now) report out.old out.new self.new) }
+            Does (on_datagram self.old now (grown_of report.outcome) source bytes.now) report
+            out.old out.new self.new) }
         ensures err { OnErr result (self.new ≡ self.old) }
         ensures kept { out.new.room ≡ out.old.room }
         ensures memory { OnErr result
-            (takes_memory (brings_uri self.old.setting.limits.datagram (arrival source bytes.now))
-            (on_datagram self.old now source bytes.now).report.outcome
+            (takes_memory (on_datagram self.old now true source bytes.now).report.outcome
             ≡ true) }
         ensures unread { message_in self.old.setting.limits.datagram bytes.now ≡ None → IsOk result }
     {
@@ -88,7 +92,7 @@ impl World {
         MessageRef::read(bytes).ok()
     }
 
-    /// Non-confirmable requests, and responses in acknowledgements, are what is processed so far.
+    /// Requests, and responses in acknowledgements, are what is processed so far.
     fn on_message(
         &mut self,
         now: u64,
@@ -97,19 +101,22 @@ impl World {
         out: &mut Datagram,
     ) -> Result<Report, OutOfMemory>
         requires can { CanGoOn self.old }
+        requires onward { self.old.last ≤ now }
         requires room { self.old.setting.limits.datagram ≤ out.old.room }
-        requires fits { length (on_message self.old now source message.now).bytes ≤ out.old.room }
+        requires fits { length (on_message self.old now true source message.now).bytes ≤ out.old.room }
         ensures exact { IfOk result (λ report.
-            Does (on_message self.old now source message.now) report out.old out.new self.new) }
+            Does (on_message self.old now (grown_of report.outcome) source message.now) report
+            out.old out.new self.new) }
         ensures err { OnErr result (self.new ≡ self.old) }
         ensures kept { out.new.room ≡ out.old.room }
         ensures memory { OnErr result
-            (takes_memory (is_judged_by_uri message.now)
-            (on_message self.old now source message.now).report.outcome
+            (takes_memory (on_message self.old now true source message.now).report.outcome
             ≡ true) }
     {
         match message.kind {
-            Kind::Non if message.code.is_request() => self.on_request(now, source, message, out),
+            Kind::Con | Kind::Non if message.code.is_request() => {
+                self.on_request(now, source, message, out)
+            }
             Kind::Ack if message.code.is_response() => self.on_response(now, source, message, out),
             kind => Ok(self.unprocessed(now, source, kind, message.id, out)),
         }

@@ -9,6 +9,7 @@ ghost use Rattle.coap_core.specs.Steps.{Does, CanGoOn, item_as, sending_at, deli
 use crate::form::put_with_id;
 use crate::world::{World, silent};
 use crate::writing::put_shown;
+use coap_cache::Store;
 use coap_exchange::{Due, Sending};
 use coap_message::Datagram;
 use coap_model::{Outcome, Report};
@@ -22,7 +23,7 @@ pub(crate) enum DueItem {
     ToServe(Due),
 }
 
-impl World {
+impl<S: Store + Drop> World<S> {
     pub(crate) fn on_tick(&mut self, now: u64, out: &mut Datagram) -> Report
         requires can { CanGoOn self.old }
         requires fits { length (on_tick self.old now).bytes ≤ out.old.room }

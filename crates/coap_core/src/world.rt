@@ -5,6 +5,8 @@ ghost use Rattle.coap_model.specs.Setting.{setting_of};
 ghost use Rattle.coap_model.specs.World.{next_id, later, reserved, has_ids, has_room, new_world, counts};
 ghost use Rattle.coap_core.specs.Steps.{CanGoOn};
 
+use coap_cache::Store;
+use coap_dedup::{EXCHANGE_LIFETIME, NON_LIFETIME, Records};
 use coap_exchange::{Exchanges, Ids, Table, Waiter};
 use coap_message::OutOfMemory;
 use coap_model::{Counts, Limits, Outcome, Report};
@@ -14,44 +16,73 @@ use std::marker::Model;
 
 /// What a proxy was made with, and what it holds. A contract sees the world of the model.
 #[derive(Drop)]
-pub(crate) struct World {
+pub(crate) struct World<S: Store> {
     pub(crate) alloc: Global,
     pub(crate) limits: Limits,
     pub(crate) routes: Routes,
     pub(crate) salt: u64,
     pub(crate) exchanges: Exchanges,
     pub(crate) waiters: Table<Waiter>,
+    pub(crate) store: S,
+    pub(crate) con_records: Records,
+    pub(crate) non_records: Records,
     pub(crate) ids: Ids,
     pub(crate) last: u64,
     pub(crate) events: u64,
 }
 
-impl Model for World {
+impl<S: Store> Model for World<S> {
     ghost use Rattle.std.specs.Prelude.{◌≡◌};
+    ghost use Rattle.coap_model.specs.Setting.{setting_of};
     ghost use Rattle.coap_model.specs.World.{World};
-    ghost use Rattle.coap_core.specs.WorldView.{seen};
+    ghost use Rattle.coap_core.specs.Storing.{AreStoreLimits};
 
     ghost Value = { World };
 
-    ghost view = { seen };
+    ghost view = { λ w.
+        record {
+          setting = setting_of w.limits w.routes w.ids.first w.salt;
+          exchanges = w.exchanges.items;
+          waiters = w.waiters.items;
+          store = S.entries w.store;
+          con_records = w.con_records;
+          non_records = w.non_records;
+          opened = w.exchanges.admitted;
+          admitted = w.waiters.admitted;
+          given = w.ids.given;
+          last = w.last;
+          events = w.events;
+        } };
 
-    ghost invariant = { λ t. (t.exchanges.limit ≡ t.limits.exchanges) × (t.waiters.limit ≡ t.limits.waiters) };
+    ghost invariant = { λ w.
+        (w.exchanges.limit ≡ w.limits.exchanges) × (w.waiters.limit ≡ w.limits.waiters)
+        × AreStoreLimits w.limits (S.limits w.store) };
 }
 
-impl World {
-    /// The world of a proxy that has done nothing. Room for the items of both is made here.
+impl<S: Store + Drop> World<S> {
+    /// The world of a proxy that has done nothing. Room for exchanges, waiters and records is made
+    /// here.
     pub(crate) fn new(
         alloc: Global,
+        seed: S::Seed,
         limits: Limits,
         routes: Routes,
         first_id: u16,
         salt: u64,
-    ) -> Result<World, OutOfMemory>
+    ) -> Result<World<S>, OutOfMemory>
         ensures exact { IfOk result (λ world. world ≡ new_world (setting_of limits routes first_id salt)) }
         ensures limits { AreLimits limits }
     {
+        let (bytes, entries) = (limits.values().cache_bytes, limits.values().cache_entries);
+        let store = S::with_limits(alloc, seed, bytes, entries as usize)?;
         let exchanges = Exchanges::new(alloc, limits.values().exchanges as usize)?;
         let waiters = Table::new(alloc, limits.values().waiters as usize)?;
+        let con_records = Records::new(
+            alloc,
+            limits.values().con_records as usize,
+            EXCHANGE_LIFETIME,
+        )?;
+        let non_records = Records::new(alloc, limits.values().non_records as usize, NON_LIFETIME)?;
         Ok(World {
             alloc,
             limits,
@@ -59,6 +90,9 @@ impl World {
             salt,
             exchanges,
             waiters,
+            store,
+            con_records,
+            non_records,
             ids: Ids::new(first_id),
             last: 0,
             events: 0,
@@ -116,10 +150,10 @@ impl World {
         ensures { result ≡ counts self.now }
     {
         Counts {
-            cached_bytes: 0,
-            entries: 0,
-            con_records: 0,
-            non_records: 0,
+            cached_bytes: self.store.total(),
+            entries: self.store.len() as u64,
+            con_records: self.con_records.living(self.last) as u64,
+            non_records: self.non_records.living(self.last) as u64,
             exchanges: self.exchanges.len() as u64,
             waiters: self.waiters.len() as u64,
         }

@@ -5,10 +5,11 @@ ghost use Rattle.coap_message.specs.Datagram.{Appends, holding};
 ghost use Rattle.coap_message.specs.Message.{message_of};
 ghost use Rattle.coap_message.specs.Spelling.{spelling};
 ghost use Rattle.coap_cache.specs.Renewing.{max_age_option};
-ghost use Rattle.coap_model.specs.Answers.{shown};
+ghost use Rattle.coap_model.specs.Answers.{shown, stored_answer};
+ghost use Rattle.coap_core.specs.Steps.{shown_as};
 
 use crate::answers::left_told;
-use coap_cache::show_into;
+use coap_cache::{Stored, show_into};
 use coap_exchange::Answer;
 use coap_message::{
     Code, Datagram, Full, Head, Kind, Options, Pieces, Token, put_head, put_option, put_options,
@@ -109,6 +110,29 @@ pub(crate) fn put_shown(
     let left = left_told(now, answer);
     let room = out.room();
     if show_into(&answer.message, Kind::Non, id, token, left, tags, out, room).is_err() {
+        unreachable!();
+    }
+}
+
+/// Writes what a client with these tags is given for what is stored, in a message of this type.
+pub(crate) fn put_stored(
+    out: &mut Datagram,
+    now: u64,
+    stored: &Stored,
+    kind: Kind,
+    id: u16,
+    token: &Token,
+    tags: &Pieces,
+)
+    requires fits { length (spelling (shown_as kind now (stored_answer stored.now) id token.now tags.now))
+        ≤ out.old.room }
+    ensures { out.new
+        ≡ holding out.old
+        (spelling (shown_as kind now (stored_answer stored.now) id token.now tags.now)) }
+{
+    let left = Some(stored.left(now));
+    let room = out.room();
+    if show_into(&stored.response, kind, id, token, left, tags, out, room).is_err() {
         unreachable!();
     }
 }

@@ -176,7 +176,7 @@ items-ordered w history c = all-ordered 0 w.exchanges w.exchanges w.waiters c.wh
 -- ---- what is due by the tables is due by the history
 
 -- an answer is got at the moment of its response
-got-is : (most now : ℕ) (m : Message) → (answer_of most now m).got ≡ now
+pub got-is : (most now : ℕ) (m : Message) → (answer_of most now m).got ≡ now
 unfolding answer_of
 got-is most now m = go (is_passed_on most m)
   where
@@ -279,10 +279,10 @@ send-item w history c x at d = ⊎_elim in_table was_served (c.whole.complete x 
 
 -- an answer that is taken is justified
 taken : (o : Outcome) (setting : Setting) (past : List Deed) (d : Deed) → takes o ≡ true → JustifiedBy o setting past d → IsAnswer setting past d
-taken (Answered NotStored) setting past d takes_one j = j
-taken (Answered Kept) setting past d takes_one j = absurd j
-taken (Answered TooLarge) setting past d takes_one j = absurd j
-taken (Answered NoMemory) setting past d takes_one j = absurd j
+taken (Answered NotStored) setting past d takes_one j = j.answer
+taken (Answered Kept) setting past d takes_one j = j.answer
+taken (Answered TooLarge) setting past d takes_one j = j.answer
+taken (Answered NoMemory) setting past d takes_one j = j.answer
 taken _ setting past d takes_one j = absurd cc
 
 -- an exchange is got at one place
@@ -426,3 +426,7 @@ no-next w history c e a m d = go (least (items_of w)) refl e
     go : (o : Option Item) → least (items_of w) ≡ o → option_map due_of o ≡ None → ⊥
     go None is f = nothing-due w history c is a m d
     go (Some i) is f = absurd cc
+
+-- what is due first is due at one moment
+pub one-next : (setting : Setting) (past : List Deed) (a b : ℕ) → IsNextDue setting past a → IsNextDue setting past b → a ≡ b
+one-next setting past a b p q = let below = p.least q.act b q.due in let above = q.least p.act a p.due in omega (arith, below, above)

@@ -1,5 +1,5 @@
 -- One event brings one message, or none.
-use Rattle.std.proofs.Common.{◌≡◌, ℕ, List, Some, sym, ap, ◌∙◌}
+use Rattle.std.proofs.Common.{◌≡◌, ℕ, false, List, Option, Some, sym, ap, ◌∙◌}
 use Rattle.std.proofs.lemmas.Option.{same_Some}
 use Rattle.coap_message.specs.declared.kind.Kind.{Kind}
 use Rattle.coap_message.specs.declared.message.Head.{Head}
@@ -8,7 +8,11 @@ use Rattle.coap_message.specs.Reading.{head_at}
 use Rattle.coap_message.proofs.WholeMessages.{read_again, head_read}
 use Rattle.coap_target.specs.declared.endpoint.Endpoint.{Endpoint}
 use Rattle.coap_model.specs.Events.{Event, arrival, tick}
-use Rattle.coap_model.specs.History.{Brings}
+use Rattle.std.specs.Option.{option_map_or}
+use Rattle.coap_model.specs.Setting.{Setting}
+use Rattle.coap_model.specs.Messages.{is_con}
+use Rattle.coap_model.specs.History.{Brings, comes_con}
+use Rattle.coap_model.specs.Justified.{IsRequestOf}
 use Rattle.coap_model.proofs.Places.{arrival-same, one-brought}
 
 -- an arrival is no tick
@@ -30,3 +34,10 @@ head_kind {a = a} {b = b} {m = m} {head = head} {ys = ys} p came is =
 -- and so of no other type
 pub kinds : {A : Type 0} {m n k l : Kind} → m ≡ n → m ≡ k → n ≡ l → (k ≡ l → ⊥) → A
 kinds same m_is n_is other = absurd (other (sym m_is ∙ same ∙ n_is))
+
+-- a request is Confirmable where its datagram is
+pub request_con : {setting : Setting} {client : Endpoint} {m : Message} {event : Event} → IsRequestOf setting client m event → comes_con event ≡ is_con m.kind
+request_con {m = m} r =
+    let b = r.brings in
+    let read = head_read b.bytes m (read_again b.bytes m b.spells) in
+    ap comes_con b.came ∙ ap (λ (h : Option Head). option_map_or (λ k. is_con k.kind) h false) read

@@ -92,7 +92,7 @@ second_got = read_is (limited.got 3 2) (content_for 3 2) (are-bytes (limited.got
 content_obtained : (past : List Deed) (now id x : ℕ) (storing : Storing) (asking : Place) → IsPlaceOf past asking → (asks : Asks 0 x asking) → asks.sends.to ≡ origin → asks.sends.message ≡ get_for id x → key_sent origin (get_for id x) ≡ key_of_temp → IsBytes (limited.got id x) → Spells (limited.got id x) (content_for id x)
     → IsObtained setting key_of_temp (content_for id x) asking (here past (answered now id x (Answered storing)))
 unfolding answer_of spelling option_spelling uint_spelling
-content_obtained past now id x storing asking was_asked asks to message key fits spells = record {
+content_obtained past now id x storing asking was_asked asks to message key bytes spells = record {
   exchange = x;
   gets = record {
     act = refl;
@@ -105,7 +105,7 @@ content_obtained past now id x storing asking was_asked asks to message key fits
       brings = record { bytes = limited.got id x; came = ap (λ (e : Endpoint). arrival e (limited.got id x)) (sym to); spells = spells; short = omega arith };
       matches = record { kind = refl; code = refl; same_token = refl; same_id = ap (λ (m : Message). m.id) (sym message) };
     };
-    fits = fits;
+    bytes = bytes;
   };
   asking_is = refl;
   asked_key = (λ i. key_sent (to i) (message i)) ∙ key;

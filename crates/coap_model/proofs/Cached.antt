@@ -18,22 +18,15 @@ use Rattle.coap_exchange.specs.declared.exchange.Answer.{Answer}
 use Rattle.coap_cache.specs.Lists.{has_key, has_other_key, of_key, others, cut, used}
 use Rattle.coap_model.specs.declared.report.Outcome.{Outcome}
 use Rattle.coap_model.specs.Setting.{Setting}
+use Rattle.coap_model.specs.Events.{Event}
 use Rattle.coap_model.specs.Forms.{key_sent, request_key}
-use Rattle.coap_model.specs.Answers.{without_observe, is_passed_on, bad_gateway, answer_of}
-use Rattle.coap_model.specs.History.{Deed, Place, IsPlaceOf, Never, Brings, Sends, Matches, Gets}
-use Rattle.coap_model.specs.Cached.{is_storable, IsObtained, IsOfOrigin, Cached, cached_key, cached_size, cached_with, cached_here, leaves, IsCacheOf, empty, kept, too_large, hit, otherwise, WasObtained}
+use Rattle.coap_model.specs.Answers.{answer_of, is_storable, without_observe, is_passed_on, bad_gateway}
+use Rattle.coap_model.specs.History.{Deed, Place, IsPlaceOf, Never, Brings, Sends, Meets, Matches}
+use Rattle.coap_model.specs.Cached.{IsObtained, Cached, cached_key, cached_size, cached_with, cached_here, leaves, IsCacheOf, empty, kept, too_large, hit, otherwise, WasObtained, IsOfOrigin}
 use Rattle.coap_model.proofs.Lists.{find-holds, All-filter}
 use Rattle.coap_model.proofs.Places.{here, same_moves, first-once, one-brought}
 
 -- ---- what is got at a place is one
-
--- what two know who say what was got at one place
-record GetTheSame {setting : Setting} {x y : ℕ} {p : Place} (g : Gets setting x p) (h : Gets setting y p) : Type 0 where
-  pub exchange : x ≡ y
-  pub asking : g.meets.asking ≡ h.meets.asking
-  pub to : g.meets.asks.sends.to ≡ h.meets.asks.sends.to
-  pub message : g.meets.asks.sends.message ≡ h.meets.asks.sends.message
-  pub response : g.meets.response ≡ h.meets.response
 
 -- what was sent at a place is one message to one endpoint
 one-sent : (salt x y : ℕ) (p q : Place) → p ≡ q → (s : Sends salt x p) (t : Sends salt y q) → (s.to ≡ t.to) × (s.message ≡ t.message)
@@ -42,21 +35,25 @@ one-sent salt x y p q same s t = (
   one_message q.deed.entry.bytes s.message t.message (subst (λ (r : Place). Spells r.deed.entry.bytes s.message) same s.spells) t.spells,
 )
 
--- the exchange, where it was asked, and the response
-gets-unique : (setting : Setting) (x y : ℕ) (p : Place) (g : Gets setting x p) (h : Gets setting y p) → GetTheSame g h
-gets-unique setting x y p g h =
-    let exchange = same_moves x y (sym g.act ∙ h.act) in
-    let a = g.meets in
-    let b = h.meets in
+-- what two know who say which response met one exchange
+pub record MeetTheSame {setting : Setting} {x y : ℕ} {past : List Deed} {u v : Event} (a : Meets setting x past u) (b : Meets setting y past v) : Type 0 where
+  pub asking : a.asking ≡ b.asking
+  pub to : a.asks.sends.to ≡ b.asks.sends.to
+  pub message : a.asks.sends.message ≡ b.asks.sends.message
+  pub response : a.response ≡ b.response
+
+-- where it was asked, and the response
+pub meets-unique : (setting : Setting) (x y : ℕ) (past : List Deed) (u v : Event) → x ≡ y → u ≡ v → (a : Meets setting x past u) (b : Meets setting y past v) → MeetTheSame a b
+meets-unique setting x y past u v exchange event a b =
     let salt = setting.salt in
-    let asking = first-once (Sends salt y) p.before a.asking b.asking a.was_asked b.was_asked (subst (λ (n : ℕ). Sends salt n a.asking) exchange a.asks.sends) b.asks.sends (subst (λ (n : ℕ). Never (Sends salt n) a.asking.before) exchange a.asks.first) b.asks.first in
+    let asking = first-once (Sends salt y) past a.asking b.asking a.was_asked b.was_asked (subst (λ (n : ℕ). Sends salt n a.asking) exchange a.asks.sends) b.asks.sends (subst (λ (n : ℕ). Never (Sends salt n) a.asking.before) exchange a.asks.first) b.asks.first in
     let sent = one-sent salt x y a.asking b.asking asking a.asks.sends b.asks.sends in
-    record { exchange = exchange; asking = asking; to = sent.0; message = sent.1; response = (one-brought a.brings b.brings).1 }
+    record { asking = asking; to = sent.0; message = sent.1; response = (one-brought (subst (Brings setting.limits.datagram a.asks.sends.to a.response) event a.brings) b.brings).1 }
 
 -- so a place obtains one response, for one key, at one asking
 pub obtained-unique : (setting : Setting) (k l : CacheKey) (m n : Message) (a b getting : Place) → IsObtained setting k m a getting → IsObtained setting l n b getting → (k ≡ l) × (m ≡ n) × (a ≡ b)
 obtained-unique setting k l m n a b getting o p =
-    let same = gets-unique setting o.exchange p.exchange getting o.gets p.gets in
+    let same = meets-unique setting o.exchange p.exchange getting.before getting.deed.entry.event getting.deed.entry.event (same_moves o.exchange p.exchange (sym o.gets.act ∙ p.gets.act)) refl o.gets.meets p.gets.meets in
     let key : key_sent o.gets.meets.asks.sends.to o.gets.meets.asks.sends.message ≡ key_sent p.gets.meets.asks.sends.to p.gets.meets.asks.sends.message = λ i. key_sent (same.to i) (same.message i) in (
       sym o.asked_key ∙ key ∙ p.asked_key,
       o.response_is ∙ ap (λ (r : Message). (answer_of setting.limits.datagram getting.deed.entry.now r).message) same.response ∙ sym p.response_is,
@@ -113,11 +110,11 @@ obtained-of_origin setting key response asking getting o =
 -- ---- the cache is one
 
 -- what leaves the cache isn't what moves an entry
-clash : (o p : Outcome) → o ≡ p → leaves p ≡ false → leaves o ≡ true → ⊥
+pub clash : (o p : Outcome) → o ≡ p → leaves p ≡ false → leaves o ≡ true → ⊥
 clash o p same no_leave leaving = let e : true ≡ false = sym leaving ∙ ap leaves same ∙ no_leave in cc
 
 -- two outcomes that differ aren't of one entry
-apart : (o p q : Outcome) → p ≢ q → o ≡ p → o ≡ q → ⊥
+pub apart : (o p q : Outcome) → p ≢ q → o ≡ p → o ≡ q → ⊥
 apart o p q differ is also = differ (sym is ∙ also)
 
 -- one target is told

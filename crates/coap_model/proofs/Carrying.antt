@@ -1,5 +1,5 @@
 -- Each step of a proxy that carries a history leaves one that carries the history with the step's entry.
-use Rattle.std.proofs.Common.{ℕ, ◌+◌, ◌≤◌, List, [], ◌∷◌, refl, ap, arith}
+use Rattle.std.proofs.Common.{ℕ, Bool, ◌+◌, ◌≤◌, List, [], ◌∷◌, refl, ap, arith}
 use Rattle.coap_routes.specs.Routes.{AreRoutes}
 use Rattle.coap_model.specs.Setting.{Setting}
 use Rattle.coap_model.specs.Events.{Event, IsEvent}
@@ -8,11 +8,13 @@ use Rattle.coap_model.specs.Step.{step_of}
 use Rattle.coap_model.specs.History.{Entry, Act, no_item, admits, moves, serves, Deed, opened_in}
 use Rattle.coap_model.specs.Runs.{entry_of}
 use Rattle.coap_model.specs.Carries.{Bears, Carries}
-use Rattle.coap_model.proofs.Rules.{Rule, refusing, lacking, overloading, opening, answering, rejecting, ignoring, forwarding, delivering, idling, rule_of}
-use Rattle.coap_model.proofs.Replying.{keeps_refusing, keeps_overloading, keeps_lacking, keeps_rejecting, keeps_ignoring}
+use Rattle.coap_model.proofs.Rules.{Rule, refusing, lacking, overloading, hitting, opening, repeating, forgetting, answering, rejecting, ignoring, forwarding, delivering, idling, rule_of}
+use Rattle.coap_model.proofs.Replying.{keeps_refusing, keeps_overloading, keeps_lacking, keeps_repeating, keeps_forgetting, keeps_rejecting, keeps_ignoring}
 use Rattle.coap_model.proofs.Places.{doing}
 use Rattle.coap_model.proofs.Idling.{keeps_idling}
 use Rattle.coap_model.proofs.Opening.{keeps_opening}
+use Rattle.coap_model.proofs.Hitting.{keeps_hitting}
+use Rattle.coap_model.proofs.Stores.{store-empty}
 use Rattle.coap_model.proofs.Forwarding.{keeps_forwarding}
 use Rattle.coap_model.proofs.Answering.{keeps_answering}
 use Rattle.coap_model.proofs.Delivering.{keeps_delivering}
@@ -23,27 +25,30 @@ pub record IsKept (history : List Deed) (e : Entry) (w : World) : Type 0 where
   pub bears : Bears (doing act e ∷ history) w
 
 -- each case of a step keeps what is carried
-keeps_rule : {w : World} {now draw : ℕ} {event : Event} {s : Step} (history : List Deed) → Bears history w → w.last ≤ now → Rule w now draw event s → IsKept history (entry_of now draw event s) s.world
-keeps_rule {w = w} {now = now} {draw = draw} history c onward (refusing client bytes m code fits asked deserved free) = record { act = no_item; bears = keeps_refusing w history c now draw client bytes m code onward fits asked deserved free }
-keeps_rule {w = w} {now = now} {draw = draw} history c onward (lacking client bytes m fits asked free) = record { act = no_item; bears = keeps_lacking w history c now draw client bytes m onward fits asked free }
-keeps_rule {w = w} {now = now} {draw = draw} history c onward (overloading client bytes m key fits asked verdict short full free) = record { act = no_item; bears = keeps_overloading w history c now draw client bytes m key onward fits asked verdict short full free }
-keeps_rule {w = w} {now = now} {draw = draw} history c onward (opening client bytes m key fits asked verdict short room) = record { act = admits (opened_in history + 1) (opened_in history + 1); bears = keeps_opening w history c now draw client bytes m key onward fits asked verdict short room }
-keeps_rule {w = w} {now = now} {draw = draw} history c onward (answering source bytes m x fits read response found) = record { act = moves x.0; bears = keeps_answering w history c now draw source bytes m x onward fits read response found }
-keeps_rule {w = w} {now = now} {draw = draw} history c onward (rejecting source bytes head is con) = record { act = no_item; bears = keeps_rejecting w history c now draw source bytes head onward is con }
-keeps_rule {w = w} {now = now} {draw = draw} history c onward (ignoring source bytes none) = record { act = no_item; bears = keeps_ignoring w history c now draw source bytes onward none }
+keeps_rule : {w : World} {now draw : ℕ} {grown : Bool} {event : Event} {s : Step} (history : List Deed) → Bears history w → w.last ≤ now → Rule w now draw grown event s → IsKept history (entry_of now draw event s) s.world
+keeps_rule {w = w} {now = now} {draw = draw} history c onward (refusing client bytes m code first denied free) = record { act = no_item; bears = keeps_refusing w history c now draw client bytes m onward first code denied free }
+keeps_rule {w = w} {now = now} {draw = draw} history c onward (lacking client bytes m first free) = record { act = no_item; bears = keeps_lacking w history c now draw client bytes m onward first free }
+keeps_rule {w = w} {now = now} {draw = draw} history c onward (overloading client bytes m key first verdict none short full free) = record { act = no_item; bears = keeps_overloading w history c now draw client bytes m onward first key verdict none short full free }
+keeps_rule {w = w} {now = now} {draw = draw} history c onward (hitting client bytes m key entry first verdict found usable free) = record { act = no_item; bears = keeps_hitting w history c now draw client bytes m key entry onward first verdict found usable free }
+keeps_rule {w = w} {now = now} {draw = draw} history c onward (opening client bytes m key first verdict none short room) = record { act = admits (opened_in history + 1) (opened_in history + 1); bears = keeps_opening w history c now draw client bytes m key onward first verdict none short room }
+keeps_rule {w = w} {now = now} {draw = draw} history c onward (repeating client bytes m known fits asked found) = record { act = no_item; bears = keeps_repeating w history c now draw client bytes m known onward fits asked found }
+keeps_rule {w = w} {now = now} {draw = draw} history c onward (forgetting client bytes m fits asked unknown full) = record { act = no_item; bears = keeps_forgetting w history c now draw client bytes m onward fits asked unknown full }
+keeps_rule {w = w} {now = now} {draw = draw} {grown = grown} history c onward (answering source bytes m x storing store fits read response found stored) = record { act = moves x.0; bears = keeps_answering w history c now draw source bytes grown m x storing store onward fits read response found stored }
+keeps_rule {w = w} {now = now} {draw = draw} history c onward (rejecting source bytes head is con none) = record { act = no_item; bears = keeps_rejecting w history c now draw source bytes head onward is con none }
+keeps_rule {w = w} {now = now} {draw = draw} history c onward (ignoring source bytes quiet none) = record { act = no_item; bears = keeps_ignoring w history c now draw source bytes onward quiet none }
 keeps_rule {w = w} {now = now} {draw = draw} history c onward (forwarding x due) = record { act = moves x.0; bears = keeps_forwarding w history c now draw x onward due }
 keeps_rule {w = w} {now = now} {draw = draw} history c onward (delivering v a due) = record { act = serves v.0; bears = keeps_delivering w history c now draw v a onward due }
 keeps_rule {w = w} {now = now} {draw = draw} history c onward (idling nothing) = record { act = no_item; bears = keeps_idling w history c now draw onward nothing }
 
 -- a step goes on from what was done before
-pub keeps_deeds : (w : World) (history : List Deed) (now draw : ℕ) (event : Event) → Bears history w → w.last ≤ now → IsEvent event → IsKept history (entry_of now draw event (step_of w now draw event)) (step_of w now draw event).world
-keeps_deeds w history now draw event c onward fits = keeps_rule history c onward (rule_of w now draw event fits)
+pub keeps_deeds : (w : World) (history : List Deed) (now draw : ℕ) (grown : Bool) (event : Event) → Bears history w → w.last ≤ now → IsEvent event → IsKept history (entry_of now draw event (step_of w now draw grown event)) (step_of w now draw grown event).world
+keeps_deeds w history now draw grown event c onward fits = keeps_rule history c onward (rule_of w now draw grown event fits)
 
 -- so a step does
-pub keeps_step : (w : World) (history : List Entry) (now draw : ℕ) (event : Event) → Carries history w → w.last ≤ now → IsEvent event → Carries (entry_of now draw event (step_of w now draw event) ∷ history) (step_of w now draw event).world
-keeps_step w history now draw event c onward fits =
-    let e = entry_of now draw event (step_of w now draw event) in
-    let k = keeps_deeds w c.deeds now draw event c.bears onward fits in
+pub keeps_step : (w : World) (history : List Entry) (now draw : ℕ) (grown : Bool) (event : Event) → Carries history w → w.last ≤ now → IsEvent event → Carries (entry_of now draw event (step_of w now draw grown event) ∷ history) (step_of w now draw grown event).world
+keeps_step w history now draw grown event c onward fits =
+    let e = entry_of now draw event (step_of w now draw grown event) in
+    let k = keeps_deeds w c.deeds now draw grown event c.bears onward fits in
     record { deeds = doing k.act e ∷ c.deeds; told = ap (λ (past : List Entry). e ∷ past) c.told; bears = k.bears }
 
 -- a new proxy carries the empty history
@@ -60,6 +65,9 @@ starts setting are =
         fresh = λ x above. (tt, tt);
         exchanges = tt;
         waiters = tt;
+        store = store-empty setting;
+        con_records = record { same = λ now later. refl; limit = refl; lifetime = refl; are = record { within = omega arith; in_order = tt; apart = tt }; until = tt; short = λ most wide long. tt };
+        non_records = record { same = λ now later. refl; limit = refl; lifetime = refl; are = record { within = omega arith; in_order = tt; apart = tt }; until = tt; short = λ most wide long. tt };
         whole = record { rising = tt; paired = tt; complete = λ n positive le. absurd (omega arith); under_way = refl; unsent = refl };
         within = record { exchanges = omega arith; waiters = omega arith; ids = omega arith };
         past = tt;

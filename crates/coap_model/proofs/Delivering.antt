@@ -30,12 +30,14 @@ use Rattle.coap_model.specs.declared.report.Outcome.TheVariants.{Delivered}
 use Rattle.coap_model.specs.Runs.{entry_of}
 use Rattle.coap_model.specs.Carries.{WasGot, IsState, IsExchangeOf, IsWaiterOf, HasNumber, Bears}
 use Rattle.coap_model.proofs.Lists.{All-filter, Has, All-there}
+use Rattle.coap_model.proofs.Quiet.{remembered-still}
 use Rattle.coap_model.proofs.Places.{in-order, here, doing, same_serves, Never-at, one-opened}
 use Rattle.coap_model.proofs.Showing.{shown-is}
 use Rattle.coap_model.proofs.Verdicts.{askable}
 use Rattle.coap_model.proofs.Tables.{due-serving, answer-holds, answer-number, ArePaired-without, length-paired, length-without, HasNumber-without, HasNumber-paired, count-without, not_awaited}
 use Rattle.coap_model.proofs.Frames.{clock_frame, numbers_frame, exchange_frame, waiter_frame, fresh_frame, later_served, sends-not, gets-not}
 use Rattle.coap_model.proofs.Acting.{acting}
+use Rattle.coap_model.proofs.Stores.{store-otherwise}
 use Rattle.coap_model.proofs.Replying.{id-same}
 
 -- ---- what is served
@@ -176,6 +178,9 @@ keeps_delivering w history c now draw v a onward due =
         under_way = let h = c.whole.under_way in omega arith;
         unsent = let h = c.whole.unsent in omega arith;
       };
+      store = store-otherwise w.setting history w.store e refl c.store;
+      con_records = (remembered-still w history c e onward refl).0;
+      non_records = (remembered-still w history c e onward refl).1;
       within = record { exchanges = let h = c.within.exchanges in omega arith; waiters = let h = c.within.waiters in omega arith; ids = let h = c.within.ids in omega arith };
       past = (delivery w history e (next_id w) v a s refl (acting w history c now (serving v a) due e refl refl refl) refl spells, c.past);
     }

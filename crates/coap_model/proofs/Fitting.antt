@@ -1,45 +1,40 @@
 -- No datagram that a proxy sends is longer than a datagram may be.
-use Rattle.std.proofs.Common.{◌≡◌, ℕ, ◌≤◌, List, [], ◌∷◌, length, refl, sym, subst, arith}
-use Rattle.std.proofs.lemmas.Bool.{lt-ltb}
-use Rattle.coap_message.specs.declared.code.Code.{Code}
-use Rattle.coap_message.specs.Uint.{uint_spelling}
-use Rattle.coap_message.specs.Spelling.{spelling, more_length}
+use Rattle.std.proofs.Common.{◌≡◌, ℕ, Bool, ◌≤◌, true, List, [], ◌∷◌, length, Option, Some, None, refl, sym, subst, arith}
+use Rattle.coap_message.specs.Spelling.{spelling}
 use Rattle.coap_message.proofs.Spellings.{spelling-length}
 use Rattle.coap_exchange.specs.declared.exchange.Answer.{Answer}
 use Rattle.coap_model.specs.declared.limits.Limit.TheVariants.{Datagram}
 use Rattle.coap_model.specs.Limits.{AreLimits}
 use Rattle.coap_model.specs.Events.{Event, IsEvent}
-use Rattle.coap_model.specs.Messages.{reset, own_reply, busy_reply}
+use Rattle.coap_model.specs.Messages.{reset}
 use Rattle.coap_model.specs.Answers.{shown}
 use Rattle.coap_model.specs.World.{World, Step, next_id}
 use Rattle.coap_model.specs.Ticks.{with_id}
 use Rattle.coap_model.specs.Step.{step_of}
 use Rattle.coap_model.specs.History.{Entry, Deed}
 use Rattle.coap_model.specs.Carries.{IsExchangeOf, IsWaiterOf, Bears, Carries}
-use Rattle.coap_model.proofs.Spelled.{length-uint_spelling}
 use Rattle.coap_model.proofs.Showing.{answer-fits}
-use Rattle.coap_model.proofs.Rules.{Rule, refusing, lacking, overloading, opening, answering, rejecting, ignoring, forwarding, delivering, idling, rule_of}
+use Rattle.coap_model.proofs.Rules.{Rule, refusing, lacking, overloading, hitting, opening, repeating, forgetting, answering, rejecting, ignoring, forwarding, delivering, idling, rule_of}
 use Rattle.coap_model.proofs.Tables.{due-sending}
 use Rattle.coap_model.proofs.Replying.{request-came}
 use Rattle.coap_model.proofs.Delivering.{served}
+use Rattle.coap_model.proofs.OwnReplies.{own-short, busy-short}
+use Rattle.coap_model.proofs.Hitting.{hit-fits}
+use Rattle.coap_model.proofs.Lists.{find-holds, All-filter}
+use Rattle.coap_target.proofs.Lists.{All-weaken}
+use Rattle.coap_message.specs.declared.kind.Kind.{Kind}
+use Rattle.coap_message.specs.declared.kind.Kind.TheVariants.{Con, Non, Ack, Rst}
+use Rattle.coap_dedup.specs.Lists.{is_of, is_living, record_of, reply_bytes}
+use Rattle.coap_dedup.specs.Records.{Records, living_at}
+use Rattle.std.specs.List.{AllByRecursion}
+use Rattle.std.specs.Option.{option_map_or}
+use Rattle.coap_model.specs.World.{records_of}
+use Rattle.coap_model.specs.Requests.{repeats}
+use Rattle.coap_option.specs.Selection.{tags_of}
 
 -- ---- the proxy's own replies
 
--- a reply of the proxy's own is short
-own-short : (code : Code) (id : ℕ) (token : List ℕ) → length token ≤ 8 → length (spelling (own_reply code [] id token)) ≤ 128
-own-short code id token short = omega (arith, spelling-length (own_reply code [] id token))
-
--- so is one that says when to try again
-busy-short : (seconds id : ℕ) (token : List ℕ) → length token ≤ 8 → length (spelling (busy_reply seconds id token)) ≤ 128
-busy-short seconds id token short =
-    let value = length-uint_spelling seconds in
-    let more : more_length (length (uint_spelling seconds)) ≡ 0 = more-none_eight (length (uint_spelling seconds)) value in
-    omega (arith, spelling-length (busy_reply seconds id token), more, value)
-  where
-    more-none_eight : (n : ℕ) → n ≤ 8 → more_length n ≡ 0
-    more-none_eight n le = rw (lt-ltb n 13 (omega arith)) refl
-
--- and a Reset
+-- a Reset is short
 reset-short : (id : ℕ) → length (spelling (reset id)) ≤ 128
 reset-short id = omega (arith, spelling-length (reset id))
 
@@ -55,14 +50,33 @@ length-with_id id (a ∷ b ∷ c ∷ d ∷ rest) = refl
 -- ---- each case
 
 -- in each case of a step its datagram fits
-rule_fits : {w : World} {now draw : ℕ} {event : Event} {s : Step} (history : List Deed) → Bears history w → AreLimits w.setting.limits → Rule w now draw event s → length s.bytes ≤ w.setting.limits.datagram
-rule_fits {w = w} history c are (refusing client bytes m code fit asked deserved free) = let came = request-came w client bytes m fit asked in omega (arith, (are Datagram).0, own-short code (next_id w) m.token came.brings.spells.message.token)
-rule_fits {w = w} history c are (lacking client bytes m fit asked free) = omega arith
-rule_fits {w = w} history c are (overloading client bytes m key fit asked verdict short full free) = let came = request-came w client bytes m fit asked in omega (arith, (are Datagram).0, busy-short w.setting.limits.retry_s (next_id w) m.token came.brings.spells.message.token)
-rule_fits {w = w} history c are (opening client bytes m key fit asked verdict short room) = omega arith
-rule_fits {w = w} history c are (answering source bytes m x fit read response found) = omega arith
-rule_fits {w = w} history c are (rejecting source bytes head is con) = omega (arith, (are Datagram).0, reset-short head.id)
-rule_fits {w = w} history c are (ignoring source bytes none) = omega arith
+rule_fits : {w : World} {now draw : ℕ} {grown : Bool} {event : Event} {s : Step} (history : List Deed) → Bears history w → AreLimits w.setting.limits → Rule w now draw grown event s → length s.bytes ≤ w.setting.limits.datagram
+rule_fits {w = w} history c are (refusing client bytes m code first denied free) = let came = request-came w client bytes m first.fits first.asked in omega (arith, (are Datagram).0, own-short m code (next_id w) m.token came.brings.spells.message.token)
+rule_fits {w = w} history c are (lacking client bytes m first free) = omega arith
+rule_fits {w = w} history c are (overloading client bytes m key first verdict none short full free) = let came = request-came w client bytes m first.fits first.asked in omega (arith, (are Datagram).0, busy-short m w.setting.limits.retry_s (next_id w) m.token came.brings.spells.message.token)
+rule_fits {w = w} {now = now} history c are (hitting client bytes m key entry first verdict found usable free) = let came = request-came w client bytes m first.fits first.asked in hit-fits w history c key entry found w.setting.limits.datagram now m (next_id w) m.token (tags_of m) (are Datagram).0 (omega arith) came.brings.spells.message.token
+rule_fits {w = w} history c are (opening client bytes m key first verdict none short room) = omega arith
+rule_fits {w = w} {now = now} history c are (repeating client bytes m known fits asked found) = go m.kind refl
+  where
+    most : ℕ
+    most = w.setting.limits.datagram
+
+    short : (t : Records) → AllByRecursion (λ r. reply_bytes r ≤ most) t.items → record_of client m.id (living_at now t) ≡ Some known → reply_bytes known ≤ most
+    short t all is = (find-holds (λ r. reply_bytes r ≤ most) (is_of client m.id) (living_at now t) known (All-weaken (λ r. (reply_bytes r ≤ most) × (is_living t.lifetime now r ≡ true)) (λ r. reply_bytes r ≤ most) (living_at now t) (λ r h. h.0) (All-filter (λ r. reply_bytes r ≤ most) (is_living t.lifetime now) t.items all)) is).0
+
+    told : (o : Option (List ℕ)) → option_map_or (λ reply. length reply) o 0 ≤ most → length (repeats w now client o).bytes ≤ most
+    told None le = omega arith
+    told (Some reply) le = le
+
+    go : (k : Kind) → m.kind ≡ k → length (repeats w now client known.reply).bytes ≤ most
+    go Con is = told known.reply (short w.con_records (c.con_records.short most (are Datagram).0 (omega arith)) (subst (λ (k : Kind). record_of client m.id (living_at now (records_of k w)) ≡ Some known) is found))
+    go Non is = told known.reply (short w.non_records (c.non_records.short most (are Datagram).0 (omega arith)) (subst (λ (k : Kind). record_of client m.id (living_at now (records_of k w)) ≡ Some known) is found))
+    go Ack is = told known.reply (short w.non_records (c.non_records.short most (are Datagram).0 (omega arith)) (subst (λ (k : Kind). record_of client m.id (living_at now (records_of k w)) ≡ Some known) is found))
+    go Rst is = told known.reply (short w.non_records (c.non_records.short most (are Datagram).0 (omega arith)) (subst (λ (k : Kind). record_of client m.id (living_at now (records_of k w)) ≡ Some known) is found))
+rule_fits {w = w} history c are (forgetting client bytes m fits asked unknown full) = omega arith
+rule_fits {w = w} history c are (answering source bytes m x storing store fit read response found stored) = omega arith
+rule_fits {w = w} history c are (rejecting source bytes head is con none) = omega (arith, (are Datagram).0, reset-short head.id)
+rule_fits {w = w} history c are (ignoring source bytes quiet none) = omega arith
 rule_fits {w = w} {now = now} history c are (forwarding x due) =
     let f = due-sending (IsExchangeOf w.setting history) (IsWaiterOf w.setting history) w.exchanges w.waiters now x c.exchanges c.waiters due in
     omega (arith, length-with_id (next_id w) x.1.form, f.0.form_short)
@@ -70,10 +84,10 @@ rule_fits {w = w} {now = now} history c are (delivering v a due) =
     let s = served w history c now v a due in
     let g = s.got.gets in
     let short : length v.1.token ≤ 8 = subst (λ (t : List ℕ). length t ≤ 8) (sym s.waiter.token_is) s.waiter.opened.asked.brings.spells.message.token in
-    let fit = answer-fits w.setting.limits.datagram now s.got.getting.deed.entry.now (next_id w) g.meets.brings.bytes g.meets.response v.1.token v.1.tags (are Datagram).0 g.fits g.meets.brings.spells short in
+    let fit = answer-fits w.setting.limits.datagram w.setting.limits.datagram now s.got.getting.deed.entry.now (next_id w) g.meets.brings.bytes g.meets.response v.1.token v.1.tags (are Datagram).0 (omega arith) g.bytes g.meets.brings.spells short in
     subst (λ (b : Answer). length (spelling (shown now b (next_id w) v.1.token v.1.tags)) ≤ w.setting.limits.datagram) (sym s.got.answer_is) fit
 rule_fits {w = w} history c are (idling nothing) = omega arith
 
 -- so each datagram fits
-pub datagrams_fit : (w : World) (history : List Entry) (now draw : ℕ) (event : Event) → Carries history w → AreLimits w.setting.limits → IsEvent event → length (step_of w now draw event).bytes ≤ w.setting.limits.datagram
-datagrams_fit w history now draw event c are fits = rule_fits c.deeds c.bears are (rule_of w now draw event fits)
+pub datagrams_fit : (w : World) (history : List Entry) (now draw : ℕ) (grown : Bool) (event : Event) → Carries history w → AreLimits w.setting.limits → IsEvent event → length (step_of w now draw grown event).bytes ≤ w.setting.limits.datagram
+datagrams_fit w history now draw grown event c are fits = rule_fits c.deeds c.bears are (rule_of w now draw grown event fits)

@@ -1,5 +1,5 @@
 -- Forged deliveries.
-use Rattle.std.proofs.Common.{◌≡◌, ◌≢◌, inl, inr, ⊎_elim, ℕ, List, [], ◌∷◌, Some, Result, Ok, Err, refl, sym, ap, ◌∙◌, arith}
+use Rattle.std.proofs.Common.{◌≡◌, ◌≢◌, inl, inr, ⊎_elim, ℕ, List, [], ◌∷◌, Some, Result, Ok, Err, refl, sym, ap, ◌∙◌, subst, length, arith}
 use Rattle.std.proofs.lemmas.Option.{same_Some}
 use Rattle.coap_message.specs.declared.error.ReadError.{ReadError}
 use Rattle.coap_target.specs.declared.endpoint.Endpoint.{Endpoint}
@@ -10,13 +10,26 @@ use Rattle.coap_message.specs.Spelling.{spelling, option_spelling}
 use Rattle.coap_message.proofs.WholeMessages.{read_again}
 use Rattle.coap_option.specs.Selection.{tags_of, max_age_of}
 use Rattle.coap_model.specs.Answers.{answer_of, shown}
-use Rattle.coap_model.specs.Examples.{client, content, content_for_client}
+use Rattle.coap_model.specs.Examples.{origin, client, get_t, get_temp, content, content_for_client}
 use Rattle.coap_model.specs.History.{no_item, moves, serves, Deed, Sends, Place, IsPlaceOf, Opens, takes, Gets}
-use Rattle.coap_model.specs.declared.report.Outcome.TheVariants.{SentRequest}
+use Rattle.coap_model.specs.declared.report.Outcome.TheVariants.{Answered, SentRequest}
 use Rattle.coap_model.specs.Due.{IsToServe, IsSooner}
 use Rattle.coap_model.specs.Justified.{IsDelivery}
-use Rattle.coap_model.specs.Forged.{setting, opened, asked, answered, past, delivery, right, at_an_arrival}
-use Rattle.coap_model.proofs.Places.{here, same_moves, same_serves, arrival-same, opened-number}
+use Rattle.coap_model.specs.Forged.{setting, opened, asked, answered, past, asked_elsewhere, past_elsewhere, delivery, right, at_an_arrival}
+use Rattle.coap_routes.specs.declared.error.TargetError.{TargetError}
+use Rattle.coap_routes.specs.Routes.{mapped_target}
+use Rattle.coap_routes.specs.Request.{request_target}
+use Rattle.coap_target.specs.declared.target.Target.{Target}
+use Rattle.coap_cache.specs.declared.key.CacheKey.{CacheKey}
+use Rattle.coap_model.specs.Forms.{key_sent, target_sent}
+use Rattle.coap_model.specs.Cached.{IsOfOrigin, WasObtained}
+use Rattle.std.specs.List.{sum_by}
+use Rattle.coap_model.specs.CacheExamples as cached
+use Rattle.coap_model.specs.CacheExamples.{content_for, first_entry}
+use Rattle.coap_model.specs.LimitExamples.{got}
+use Rattle.coap_model.specs.OptionExamples.{key_of_temp}
+use Rattle.coap_model.specs.declared.report.Storing.TheVariants.{Kept}
+use Rattle.coap_model.proofs.Places.{here, same_moves, same_serves, arrival-same, opened-number, place-before}
 
 -- the waiter that is served is that of the act
 pub for_nobody : ¬ IsDelivery setting past (delivery (client 1) (content_for_client 7) no_item)
@@ -40,6 +53,20 @@ nothing_got s =
     (λ (e : here (opened ∷ []) asked ≡ s.getting). let o = ap (λ (p : Place). takes p.deed.entry.report.outcome) e ∙ s.gets.outcome in cc)
     (λ (t : IsPlaceOf (opened ∷ []) s.getting). ⊎_elim (λ (e : here [] opened ≡ s.getting). let o = ap (λ (p : Place). takes p.deed.entry.report.outcome) e ∙ s.gets.outcome in cc) (λ (h : ⊥). h) t)
     s.was_got
+
+-- what was got before its client asked is no answer to it
+pub early : ¬ IsDelivery setting (opened ∷ answered ∷ asked ∷ []) right
+early s =
+    ⊎_elim
+    (λ (e : here (answered ∷ asked ∷ []) opened ≡ s.getting). let o = ap (λ (p : Place). takes p.deed.entry.report.outcome) e ∙ s.gets.outcome in cc)
+    (λ (t : IsPlaceOf (answered ∷ asked ∷ []) s.getting). ⊎_elim
+    (λ (e : here (asked ∷ []) answered ≡ s.getting). unopened (subst (λ (p : Place). IsPlaceOf p.before s.opened.opening) (sym e) s.got_later))
+    (λ (u : IsPlaceOf (asked ∷ []) s.getting). ⊎_elim (λ (e : here [] asked ≡ s.getting). let o = ap (λ (p : Place). takes p.deed.entry.report.outcome) e ∙ s.gets.outcome in cc) (λ (h : ⊥). h) u)
+    t)
+    s.was_got
+  where
+    unopened : IsPlaceOf (asked ∷ []) s.opened.opening → ⊥
+    unopened at = ⊎_elim (λ (e : here [] asked ≡ s.opened.opening). let o = ap (λ (p : Place). p.deed.entry.report.outcome) e ∙ s.opened.opens.0 in cc) (λ (h : ⊥). h) at
 
 -- what was opened and got in this past
 one_opening : (p : Place) (x : ℕ) → IsPlaceOf past p → Opens x p → p ≡ here [] opened
@@ -115,3 +142,83 @@ another_age s =
     let moment = ap (λ (p : Place). max_age_of (shown 2500 (answer_of 1500 p.deed.entry.now m.response) s.id s.opened.request.token (tags_of s.opened.request))) place in
     let ten : 10 ≡ 7 = ap told_by told ∙ moment ∙ sym (ap (owed_by s.id s.opened.request) read) in
     omega (arith, ten)
+
+-- ---- the key that was asked for
+
+-- the segments that a request tells to its origin
+abbrev segments_sent : Result Message ReadError → ℕ
+segments_sent (Ok m) = length (key_sent origin m).target.path
+segments_sent (Err e) = 0
+
+-- the segments of a target
+abbrev segments_of : Result Target TargetError → ℕ
+segments_of (Ok t) = length t.path
+segments_of (Err e) = 0
+
+-- those of the target of a request
+abbrev segments_aimed : Result Message ReadError → ℕ
+segments_aimed (Ok m) = segments_of (request_target setting.routes m)
+segments_aimed (Err e) = 0
+
+-- where this was opened
+elsewhere_opened : (p : Place) (x : ℕ) → IsPlaceOf past_elsewhere p → Opens x p → p ≡ here [] opened
+elsewhere_opened p x at o =
+    ⊎_elim
+    (λ (e : here (asked_elsewhere ∷ opened ∷ []) answered ≡ p). absurd (let f = ap (λ (q : Place). q.deed.entry.report.outcome) e ∙ o.0 in cc))
+    (λ (t : IsPlaceOf (asked_elsewhere ∷ opened ∷ []) p). ⊎_elim
+    (λ (e : here (opened ∷ []) asked_elsewhere ≡ p). absurd (let f = ap (λ (q : Place). q.deed.entry.report.outcome) e ∙ o.0 in cc))
+    (λ (u : IsPlaceOf (opened ∷ []) p). ⊎_elim (λ (e : here [] opened ≡ p). sym e) (λ (h : ⊥). absurd h) u)
+    t)
+    at
+
+-- where anything was sent
+elsewhere_sent : (p : Place) (x : ℕ) → IsPlaceOf past_elsewhere p → Sends 0 x p → p ≡ here (opened ∷ []) asked_elsewhere
+elsewhere_sent p x at s =
+    ⊎_elim
+    (λ (e : here (asked_elsewhere ∷ opened ∷ []) answered ≡ p). absurd (let f = ap (λ (q : Place). q.deed.entry.report.outcome) e ∙ s.outcome in cc))
+    (λ (t : IsPlaceOf (asked_elsewhere ∷ opened ∷ []) p). ⊎_elim
+    (λ (e : here (opened ∷ []) asked_elsewhere ≡ p). sym e)
+    (λ (u : IsPlaceOf (opened ∷ []) p). ⊎_elim (λ (e : here [] opened ≡ p). absurd (let f = ap (λ (q : Place). q.deed.entry.report.outcome) e ∙ s.outcome in cc)) (λ (h : ⊥). absurd h) u)
+    t)
+    at
+
+-- the request that was sent for it has the key of the client's
+pub elsewhere : ¬ IsDelivery setting past_elsewhere right
+unfolding read_message body_at options_within option_at extended request_target mapped_target key_sent target_sent
+elsewhere s =
+    let m = s.gets.meets in
+    let sends = m.asks.sends in
+    let place = elsewhere_sent m.asking s.waiter (place-before past_elsewhere s.getting m.asking s.was_got m.was_asked) sends in
+    let sent = read_again m.asking.deed.entry.bytes sends.message sends.spells in
+    let told : 2 ≡ length (key_sent sends.to sends.message).target.path = ap (λ (p : Place). segments_sent (read_message p.deed.entry.bytes)) (sym place) ∙ ap segments_sent sent in
+    let opening = elsewhere_opened s.opened.opening s.waiter s.opened.was_opened s.opened.opens in
+    let came = arrival-same s.opened.client (client 1) s.opened.asked.brings.bytes (get_t []) (sym s.opened.asked.brings.came ∙ ap (λ (p : Place). p.deed.entry.event) opening) in
+    let read = ap read_message (sym came.1) ∙ read_again s.opened.asked.brings.bytes s.opened.request s.opened.asked.brings.spells in
+    let aimed : 1 ≡ length s.target.path = ap segments_aimed read ∙ ap segments_of s.target_is in
+    let same = ap (λ (k : CacheKey). length k.target.path) s.asked_key in
+    omega (arith, told, aimed, same)
+
+-- ---- entries
+
+-- an entry of a cache was got in the history
+pub not_got_yet : ¬ WasObtained setting (asked ∷ opened ∷ []) first_entry
+not_got_yet o =
+    ⊎_elim
+    (λ (e : here (opened ∷ []) asked ≡ first_entry.getting). let f = ap (λ (p : Place). p.deed.entry.report.outcome) e in cc)
+    (λ (t : IsPlaceOf (opened ∷ []) first_entry.getting). ⊎_elim (λ (e : here [] opened ≡ first_entry.getting). let f = ap (λ (p : Place). p.deed.entry.report.outcome) e in cc) (λ (h : ⊥). h) t)
+    o.was_got
+
+-- the sum of a token's bytes
+abbrev token_told : Result Message ReadError → ℕ
+token_told (Ok m) = sum_by (λ b. b) m.token
+token_told (Err e) = 0
+
+-- what answers another request came from no origin of this one
+pub not_its_answer : ¬ IsOfOrigin setting key_of_temp (content_for 1 2) (here (opened ∷ []) asked) (here (asked ∷ opened ∷ []) (cached.answered 5 1 2 (Answered Kept)))
+unfolding read_message body_at options_within option_at extended
+not_its_answer o =
+    let same = arrival-same o.origin origin o.brings.bytes (got 1 2) (sym o.brings.came) in
+    let told : 2 ≡ sum_by (λ b. b) o.came.token = ap token_told (ap read_message (sym same.1) ∙ read_again o.brings.bytes o.came o.brings.spells) in
+    let sent : 1 ≡ sum_by (λ b. b) o.request.token = ap token_told (read_again (get_temp []) o.request o.spells) in
+    let token = ap (λ (t : List ℕ). sum_by (λ b. b) t) o.matches.same_token in
+    omega (arith, told, sent, token)

@@ -23,6 +23,7 @@ use Rattle.coap_model.specs.Justified.{verdict_on}
 use Rattle.coap_model.specs.Runs.{entry_of}
 use Rattle.coap_model.specs.Carries.{IsState, IsExchangeOf, IsWaiterOf, Bears}
 use Rattle.coap_model.proofs.Lists.{All-map, Has, All-there}
+use Rattle.coap_model.proofs.Quiet.{remembered-still}
 use Rattle.coap_model.proofs.Places.{here, doing, same_moves, opened-number, one-opened}
 use Rattle.coap_model.proofs.Forms.{forwarded-is, with_id-forwarded, key-forwarded}
 use Rattle.coap_model.proofs.Spelled.{length-token_of}
@@ -30,6 +31,7 @@ use Rattle.coap_model.proofs.Verdicts.{askable}
 use Rattle.coap_model.proofs.Tables.{due-sending, ArePaired-with_state, HasNumber-with_state, count-moved}
 use Rattle.coap_model.proofs.Frames.{clock_frame, numbers_frame, exchange_moved, exchange_frame, waiters_frame, fresh_frame, later_served, gets-not, serves-not}
 use Rattle.coap_model.proofs.Acting.{acting}
+use Rattle.coap_model.proofs.Stores.{store-otherwise}
 use Rattle.coap_model.proofs.Replying.{id-same}
 
 -- what tests as queued is queued
@@ -109,6 +111,9 @@ keeps_forwarding w history c now draw x onward due =
         under_way = let h = c.whole.under_way in let l = length-with_state x.0 next w.exchanges in omega arith;
         unsent = let h = c.whole.unsent in omega arith;
       };
+      store = store-otherwise w.setting history w.store e refl c.store;
+      con_records = (remembered-still w history c e onward refl).0;
+      non_records = (remembered-still w history c e onward refl).1;
       within = record { exchanges = let h = c.within.exchanges in let l = length-with_state x.0 next w.exchanges in omega arith; waiters = c.within.waiters; ids = let h = c.within.ids in omega arith };
       past = (
         record {

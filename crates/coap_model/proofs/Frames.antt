@@ -1,5 +1,5 @@
 -- What stays as the history grows by an entry.
-use Rattle.std.proofs.Common.{◌≡◌, ◌≢◌, ◌⊎◌, ⊎_elim, inl, inr, ℕ, ◌+◌, ◌<◌, ◌≤◌, true, List, [], ◌∷◌, arith}
+use Rattle.std.proofs.Common.{◌≡◌, ◌≢◌, ◌⊎◌, ⊎_elim, inl, inr, ℕ, ◌+◌, ◌<◌, ◌≤◌, Bool, true, List, [], ◌∷◌, arith}
 use Rattle.std.specs.List.{AllByRecursion}
 use Rattle.coap_cache.specs.declared.key.CacheKey.{CacheKey}
 use Rattle.coap_target.proofs.Lists.{All-weaken}
@@ -12,7 +12,7 @@ use Rattle.coap_model.specs.declared.report.Outcome.{Outcome}
 use Rattle.coap_model.specs.declared.report.Outcome.TheVariants.{SentRequest, Delivered}
 use Rattle.coap_model.specs.Setting.{Setting}
 use Rattle.coap_model.specs.World.{World}
-use Rattle.coap_model.specs.History.{Deed, Somewhere, opens_one, serves_one, gives_id, opened_in, served_in, ids_in, Sends, takes, Gets, Serves}
+use Rattle.coap_model.specs.History.{Deed, Somewhere, opens_one, serves_one, comes_con, ids_given, gives_id, opened_in, served_in, ids_in, Sends, takes, Gets, Serves}
 use Rattle.coap_model.specs.Carries.{Clock, Numbers, IsState, IsExchangeOf, IsWaiterOf, HasNumber, IsFresh, Bears}
 use Rattle.coap_model.proofs.Places.{here, opened-later}
 use Rattle.coap_model.proofs.Tables.{length-paired}
@@ -22,7 +22,7 @@ pub clock_frame : {history : List Deed} {w v : World} {e : Deed} → Clock histo
 clock_frame c onward events last = record { events = let h = c.events in omega arith; last = last; in_order = (let h = c.last in omega arith, c.in_order) }
 
 -- the numbers count what an entry does
-pub numbers_frame : {history : List Deed} {w v : World} {e : Deed} → Numbers history w → v.opened ≡ w.opened + opens_one e.entry.report.outcome → v.admitted ≡ w.admitted + opens_one e.entry.report.outcome → v.given ≡ w.given + gives_id e.entry.report.outcome → Numbers (e ∷ history) v
+pub numbers_frame : {history : List Deed} {w v : World} {e : Deed} → Numbers history w → v.opened ≡ w.opened + opens_one e.entry.report.outcome → v.admitted ≡ w.admitted + opens_one e.entry.report.outcome → v.given ≡ w.given + gives_id e.entry → Numbers (e ∷ history) v
 numbers_frame n opened admitted given = record { opened = let h = n.opened in omega arith; admitted = let h = n.admitted in omega arith; given = let h = n.given in omega arith }
 
 -- a state stays where nothing is sent or got for the exchange
@@ -89,11 +89,11 @@ serves-not history e other v s = other s.outcome
 -- what was served was given an id
 served-ids : (history : List Deed) → served_in history ≤ ids_in history
 served-ids [] = omega arith
-served-ids (e ∷ past) = let i = served-ids past in let j = one_at_most e.entry.report.outcome in omega arith
+served-ids (e ∷ past) = let i = served-ids past in let j = one_at_most (comes_con e.entry.event) e.entry.report.outcome in omega arith
   where
-    one_at_most : (o : Outcome) → serves_one o ≤ gives_id o
-    one_at_most Delivered = omega arith
-    one_at_most _ = omega arith
+    one_at_most : (con : Bool) (o : Outcome) → serves_one o ≤ ids_given con o
+    one_at_most con Delivered = omega arith
+    one_at_most con _ = omega arith
 
 -- ids are kept for what is opened, so no more is opened than there are ids
 pub opened-few : (history : List Deed) (w : World) → Bears history w → opened_in history ≤ 32768

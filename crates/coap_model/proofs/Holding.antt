@@ -3,6 +3,7 @@ use Rattle.std.proofs.Common.{◌≡◌, ℕ, ◌+◌, ◌*◌, ◌/◌, ◌≤�
 use Rattle.std.specs.Prelude.{◌&&◌, ◌==◌, not, filter}
 use Rattle.std.specs.List.{AllByRecursion, sum_by}
 use Rattle.std.proofs.lemmas.Bool.{eqb-true, leb-true, ltb-true, and_parts}
+use Rattle.std.proofs.Math.Nat.{add-mul}
 use Rattle.std.proofs.lemmas.Nat.{mul-le}
 use Rattle.std.proofs.lemmas.List.{append-nil}
 use Rattle.std.proofs.lemmas.List.Elements.{All-from_recursion}
@@ -44,6 +45,11 @@ use Rattle.coap_model.proofs.Forms.{AreUnused, in_key, key-screened, sent-unused
 use Rattle.coap_model.proofs.Verdicts.{IsAskable, askable}
 use Rattle.coap_model.proofs.OptionLengths.{filter-length}
 use Rattle.coap_model.proofs.Showing.{within-widest}
+use Rattle.coap_cache.specs.Entries.{entry_size}
+use Rattle.coap_cache.specs.Lists.{total}
+use Rattle.coap_dedup.specs.Lists.{bytes_of}
+use Rattle.coap_dedup.proofs.Passing.{bytes-bounded}
+use Rattle.coap_model.proofs.Stores.{store-within}
 use Rattle.coap_model.specs.Held.{host_bytes, target_bytes, key_bytes, response_bytes, state_bytes, exchange_bytes, waiter_bytes, held, most_held}
 
 -- ---- a target is held in no more than its options
@@ -192,8 +198,14 @@ within-bound history w c =
     let most_xs = mul-le (length w.exchanges) (4 * d + 256) w.setting.limits.exchanges (4 * d + 256) c.within.exchanges (omega arith) in
     let most_vs = mul-le (length w.waiters) (d + 256) w.setting.limits.waiters (d + 256) c.within.waiters (omega arith) in
     let l = w.setting.limits in
-    let other = l.cache_bytes + (l.con_records + l.non_records) * (d + 128) in
-    sum (sum_by exchange_bytes w.exchanges) (sum_by waiter_bytes w.waiters) (length w.exchanges * (4 * d + 256)) (length w.waiters * (d + 256)) other (l.waiters * (d + 256)) (l.exchanges * (4 * d + 256)) xs vs most_xs most_vs
+    let con = bytes-bounded (d + 128) w.con_records c.con_records.are (c.con_records.short (d + 128) (omega arith) (omega arith)) in
+    let non = bytes-bounded (d + 128) w.non_records c.non_records.are (c.non_records.short (d + 128) (omega arith) (omega arith)) in
+    let records : bytes_of w.con_records.items + bytes_of w.non_records.items ≤ (l.con_records + l.non_records) * (d + 128) = both (bytes_of w.con_records.items) (bytes_of w.non_records.items) w.con_records.limit w.non_records.limit l.con_records l.non_records (d + 128) con non c.con_records.limit c.non_records.limit in
+    let stored = (store-within w.setting history w.store c.store).within_bytes in
+    sum (total entry_size w.store) (bytes_of w.con_records.items + bytes_of w.non_records.items) (sum_by exchange_bytes w.exchanges) (sum_by waiter_bytes w.waiters) (length w.exchanges * (4 * d + 256)) (length w.waiters * (d + 256)) l.cache_bytes ((l.con_records + l.non_records) * (d + 128)) (l.waiters * (d + 256)) (l.exchanges * (4 * d + 256)) stored records xs vs most_xs most_vs
   where
-    sum : (a b c' d' p q r : ℕ) → a ≤ c' → b ≤ d' → c' ≤ r → d' ≤ q → a + b ≤ p + q + r
-    sum a b c' d' p q r i j k l = omega arith
+    sum : (t u a b c' d' k p q r : ℕ) → t ≤ k → u ≤ p → a ≤ c' → b ≤ d' → c' ≤ r → d' ≤ q → t + u + a + b ≤ k + p + q + r
+    sum t u a b c' d' k p q r h g i j v x = omega arith
+
+    both : (a b m n i j each : ℕ) → a ≤ m * each → b ≤ n * each → m ≡ i → n ≡ j → a + b ≤ (i + j) * each
+    both a b m n i j each p q is are = let sum = add-mul i j each in let first : a ≤ i * each = subst (λ (k : ℕ). a ≤ k * each) is p in let second : b ≤ j * each = subst (λ (k : ℕ). b ≤ k * each) are q in omega (arith, sum, first, second)

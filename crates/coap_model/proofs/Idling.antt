@@ -15,5 +15,5 @@ use Rattle.coap_model.proofs.Quiet.{keeps_quiet}
 pub keeps_idling : (w : World) (history : List Deed) (c : Bears history w) (now draw : ℕ) → w.last ≤ now → if_due now (least (items_of w)) ≡ None → Bears (doing no_item (entry_of now draw tick (idles w now)) ∷ history) (idles w now).world
 keeps_idling w history c now draw onward nothing =
     let e = doing no_item (entry_of now draw tick (idles w now)) in
-    keeps_quiet w history c e w.given (record { opens = refl; sends = refl; serves = refl; unsent = λ o. cc; ungot = λ o. cc; unserved = λ o. cc }) onward (omega arith) (λ g. absurd (omega arith)) c.within.ids
+    keeps_quiet w history c e w.given (record { opens = refl; sends = refl; serves = refl; unsent = λ o. cc; ungot = λ o. cc; unserved = λ o. cc }) refl refl onward (omega arith) (λ g. absurd (omega arith)) c.within.ids
     (record { act = refl; ticked = refl; nothing = idling-due w history c now nothing; silent = record { sent = refl; bytes = refl } }, c.past)

@@ -1,8 +1,7 @@
 -- What may follow deeds at a turn is one answer, and it is that of the step.
-use Rattle.std.proofs.Common.{◌≡◌, ◌⊎◌, inl, inr, ⊎_elim, ℕ, ◌+◌, ◌%◌, ◌<◌, ◌≤◌, List, [], ◌∷◌, Some, Result, Ok, refl, sym, ap, ◌∙◌, subst, arith}
+use Rattle.std.proofs.Common.{◌≡◌, ◌⊎◌, inl, inr, ⊎_elim, ℕ, Bool, ◌+◌, ◌%◌, ◌<◌, ◌≤◌, true, false, List, [], ◌∷◌, length, Option, Some, None, Result, Ok, refl, sym, ap, ◌∙◌, subst, arith}
 use Rattle.std.proofs.lemmas.Option.{same_Some}
 use Rattle.std.proofs.lemmas.Bool.{cases_lt}
-use Rattle.coap_message.specs.declared.code.Code.{Code}
 use Rattle.coap_message.specs.declared.message.Head.{Head}
 use Rattle.coap_message.specs.Message.{Message}
 use Rattle.coap_message.specs.Reading.{head_at}
@@ -15,18 +14,21 @@ use Rattle.coap_option.specs.Selection.{sent_on, tags_of}
 use Rattle.coap_routes.specs.declared.error.TargetError.{TargetError}
 use Rattle.coap_routes.specs.Request.{request_target}
 use Rattle.coap_model.specs.declared.report.Outcome.{Outcome}
-use Rattle.coap_model.specs.declared.report.Outcome.TheVariants.{Ignored, Rejected, Refused, Opened, Overloaded, NoId, Answered, SentRequest, Delivered, Idle}
-use Rattle.coap_model.specs.declared.report.Storing.TheVariants.{NotStored}
+use Rattle.coap_model.specs.declared.report.Outcome.TheVariants.{Ignored, Rejected, Again, NoRecordRoom, Refused, Hit, Opened, Overloaded, NoId, Answered, SentRequest, Delivered, Idle}
+use Rattle.coap_model.specs.declared.report.Storing.{Storing}
 use Rattle.coap_model.specs.Setting.{Setting}
 use Rattle.coap_model.specs.Events.{IsEvent}
-use Rattle.coap_model.specs.Messages.{reset, own_reply, busy_reply, token_of}
+use Rattle.coap_dedup.specs.declared.record.Record.{Record}
+use Rattle.coap_dedup.specs.Lists.{record_of}
+use Rattle.coap_model.specs.Messages.{is_con, reset, own_reply, busy_reply, at_once, reply_kind, reply_id, token_of}
+use Rattle.coap_model.specs.Remembered.{most_remembered, remembered_at}
 use Rattle.coap_model.specs.Forms.{forwarded}
-use Rattle.coap_model.specs.Answers.{answer_of, shown}
+use Rattle.coap_model.specs.Answers.{answer_of, stored_answer, shown}
 use Rattle.coap_model.specs.World.{World}
 use Rattle.coap_model.specs.Step.{step_of}
-use Rattle.coap_model.specs.History.{Entry, Act, no_item, admits, moves, serves, Deed, Place, ids_in, gives_id, Brings, Sends, Gets, Gives, AreIds}
+use Rattle.coap_model.specs.History.{Entry, Act, no_item, admits, moves, serves, Deed, Place, ids_in, comes_con, ids_given, takes, Brings, Sends, Gets, Gives, AreIds}
 use Rattle.coap_model.specs.Due.{IsDueAt, ComesBefore}
-use Rattle.coap_model.specs.Justified.{IsRequestOf, Tells, IsSilent, IsAwaited, IsActing, IsForwarding, IsDelivery, IsUnprocessable, JustifiedBy, AllJustified, MayFollow, AreOfOneTurn}
+use Rattle.coap_model.specs.Justified.{IsMiss, Deserves, HaveOneMemory, is_fresh_at, verdict_on, IsRequestOf, IsNew, SaysAgain, Tells, IsSilent, IsAwaited, IsActing, IsForwarding, IsDelivery, IsUnprocessable, JustifiedBy, AllJustified, MayFollow, AreOfOneTurn}
 use Rattle.coap_model.specs.Runs.{entry_of}
 use Rattle.coap_model.specs.Promised.{IdsDiffer}
 use Rattle.coap_model.specs.Carries.{Carries}
@@ -35,7 +37,13 @@ use Rattle.coap_model.proofs.Acting.{got-first}
 use Rattle.coap_model.proofs.Carrying.{keeps_deeds}
 use Rattle.coap_model.proofs.Promising.{ids-differ}
 use Rattle.coap_model.proofs.Running.{setting_stays}
-use Rattle.coap_model.proofs.Owing.{given_refused, given_overloaded, given_no_id, given_opened, given_answered, given_rejected, given_ignored, OnTick, sent, delivered, idle, on-tick}
+use Rattle.coap_model.proofs.Cached.{cache-unique}
+use Rattle.coap_model.proofs.OneStoring.{one-storing}
+use Rattle.coap_cache.specs.declared.key.CacheKey.{CacheKey}
+use Rattle.coap_cache.specs.Lists.{of_key}
+use Rattle.coap_model.specs.Cached.{cached_key, entry_of_cached}
+use Rattle.coap_model.proofs.Arrivals.{request_con}
+use Rattle.coap_model.proofs.Owing.{one_key, taken-so, given_again, given_forgotten, given_hit, given_refused, given_overloaded, given_no_id, given_opened, given_answered, given_rejected, given_ignored, OnTick, sent, delivered, idle, on-tick}
 
 -- ---- what is said
 
@@ -56,13 +64,15 @@ told-same d e a b m n s t to same =
       bytes = spelled_once d.bytes m s.spells ∙ ap spelling same ∙ sym (spelled_once e.bytes n t.spells);
     }
 
--- replies of one code, one id and one token are one
-own_reply-same : (code : Code) (i k : ℕ) (t u : List ℕ) → i ≡ k → t ≡ u → own_reply code [] i t ≡ own_reply code [] k u
-own_reply-same code i k t u id token = rw (id, token) refl
+-- duplicates of one request are told the same
+again-same : (d e : Entry) (client : Endpoint) (reply : Option (List ℕ)) → SaysAgain client reply d → SaysAgain client reply e → SayTheSame d e
+again-same d e client None s t = silent-same d e s t
+again-same d e client (Some reply) s t = record { send = s.0 ∙ sym t.0; bytes = s.1 ∙ sym t.1 }
 
--- the same of replies that say when to try again
-busy_reply-same : (seconds i k : ℕ) (t u : List ℕ) → i ≡ k → t ≡ u → busy_reply seconds i t ≡ busy_reply seconds k u
-busy_reply-same seconds i k t u id token = rw (id, token) refl
+-- replies to one request of one content are one, where they have one id
+at_once-same : (r s reply other : Message) → r.kind ≡ s.kind → reply.code ≡ other.code → reply.token ≡ other.token → reply.options ≡ other.options → reply.payload ≡ other.payload → reply_id r reply.id ≡ reply_id s other.id → at_once r reply ≡ at_once s other
+at_once-same r s reply other kind code token options payload id =
+    λ i. record { kind = reply_kind (kind i); code = code i; id = id i; token = token i; options = options i; payload = payload i }
 
 -- requests that are sent on for one target and one request, with one token and one id, are one
 forwarded-same : (salt x y : ℕ) (a b : Target) (m n : Message) (i k : ℕ) → x ≡ y → a ≡ b → m ≡ n → i ≡ k → forwarded (token_of salt x) a (sent_on m) i ≡ forwarded (token_of salt y) b (sent_on n) k
@@ -147,7 +157,7 @@ one-exchange setting past ids x y d e event g h =
     g.act ∙ sym p.asks.sends.act ∙ ap (λ (r : Place). r.deed.act) place ∙ q.asks.sends.act ∙ sym h.act
   where
     sending-gives : (setting : Setting) (n : ℕ) (r : Place) (id : ℕ) (s : Sends setting.salt n r) → s.message.id ≡ id → Gives id r.deed.entry
-    sending-gives setting n r id s is = record { gives = ap gives_id s.outcome; message = s.message; spells = s.spells; id_is = is }
+    sending-gives setting n r id s is = record { gives = ap (ids_given (comes_con r.deed.entry.event)) s.outcome; message = s.message; spells = s.spells; id_is = is }
 
 -- to one waiter one answer is told
 one-delivery : (setting : Setting) (past : List Deed) → AllJustified setting past → (d e : Deed) (id : ℕ) → Gives id d.entry → Gives id e.entry → IsDelivery setting past d → IsDelivery setting past e → d.act ≡ e.act → d.entry.now ≡ e.entry.now → SayTheSame d.entry e.entry
@@ -179,6 +189,11 @@ same-deed d e entry act = same
     same : record { entry = d.entry; act = d.act } ≡ e
     same = rw (entry, act) refl
 
+-- what is taken is stored in some way
+taken-some : (o : Outcome) → takes o ≡ true → (s : Storing) × (o ≡ Answered s)
+taken-some (Answered s) e = (s, refl)
+taken-some _ e = absurd cc
+
 -- what may follow the same deeds at one turn is one deed
 pub one-answer : (setting : Setting) (past : List Deed) (d e : Deed) → AllJustified setting past → IdsDiffer past → MayFollow setting past d → MayFollow setting past e → AreOfOneTurn d.entry e.entry → d ≡ e
 one-answer setting past d e all ids f g turn =
@@ -191,8 +206,34 @@ one-answer setting past d e all ids f g turn =
     holds : (o : Outcome) → e.entry.report.outcome ≡ o → JustifiedBy o setting past e
     holds o is = subst (λ (u : Outcome). JustifiedBy u setting past e) is g.justified
 
+    -- where a reply takes an id, it is the one that is due
+    taken : (f : Deed) → MayFollow setting past f → (client : Endpoint) (request reply : Message) → IsRequestOf setting client request f.entry.event → is_con request.kind ≡ false → ids_given false f.entry.report.outcome ≡ 1 → Tells client (at_once request reply) f.entry → reply_id request reply.id ≡ due
+    taken f may client request reply asked non one tells =
+        id-told f.entry due client (at_once request reply) (may.id (ap (λ (b : Bool). ids_given b f.entry.report.outcome) (request_con asked ∙ non) ∙ one)) tells
+
+    -- so replies to one request have one id
+    one_id : (client other : Endpoint) (r s reply again : Message) → IsRequestOf setting client r d.entry.event → IsRequestOf setting other s e.entry.event → r ≡ s → ids_given false d.entry.report.outcome ≡ 1 → ids_given false e.entry.report.outcome ≡ 1 → Tells client (at_once r reply) d.entry → Tells other (at_once s again) e.entry → reply_id r reply.id ≡ reply_id s again.id
+    one_id client other r s reply again asked too same one two tells tell = go (is_con r.kind) refl
+      where
+        go : (b : Bool) → is_con r.kind ≡ b → reply_id r reply.id ≡ reply_id s again.id
+        go true con =
+            let con_too : is_con s.kind ≡ true = sym (ap (λ (m : Message). is_con m.kind) same) ∙ con in
+            let first : reply_id r reply.id ≡ r.id = rw con refl in
+            let second : reply_id s again.id ≡ s.id = rw con_too refl in
+            first ∙ ap (λ (m : Message). m.id) same ∙ sym second
+        go false non =
+            let non_too : is_con s.kind ≡ false = sym (ap (λ (m : Message). is_con m.kind) same) ∙ non in
+            taken d f client r reply asked non one tells ∙ sym (taken e g other s again too non_too two tell)
+
+    -- what is new at one moment is new for the other
+    new_too : (client : Endpoint) (request : Message) → IsNew setting past d.entry.now client request → IsNew setting past e.entry.now client request
+    new_too client request new = subst (λ (n : ℕ). IsNew setting past n client request) turn.now new
+
     same_request : (client : Endpoint) (request : Message) → IsRequestOf setting client request d.entry.event → IsRequestOf setting client request e.entry.event
     same_request client request r = subst (IsRequestOf setting client request) turn.event r
+
+    same_miss : (key : CacheKey) → IsMiss setting past key d.entry.now → IsMiss setting past key e.entry.now
+    same_miss key miss = subst (IsMiss setting past key) turn.now miss
 
     acting : {o : Outcome} → OnTick setting past e o → IsActing setting past d → d.act ≡ e.act
     acting (sent k) a = one-act setting past d e a k.acting
@@ -205,54 +246,88 @@ one-answer setting past d e all ids f g turn =
         let k = holds Ignored o in
         record { outcome = is ∙ sym o; act = j.act ∙ sym k.act; say = silent-same d.entry e.entry j.silent k.silent }
     by_outcome Rejected is j =
-        let o = given_rejected e.entry.report.outcome setting past e j.source j.bytes j.head g.justified (sym turn.event ∙ j.came) j.head_is j.con in
+        let o = given_rejected e.entry.report.outcome setting past e j.source j.bytes j.head g.justified (sym turn.event ∙ j.came) j.head_is j.con (subst (IsUnprocessable setting past) turn.event j.unprocessable) in
         let k = holds Rejected o in
         let came = arrival-same j.source k.source j.bytes k.bytes (sym j.came ∙ turn.event ∙ k.came) in
         let head = same_Some j.head k.head (sym j.head_is ∙ ap head_at came.1 ∙ k.head_is) in
         record { outcome = is ∙ sym o; act = j.act ∙ sym k.act; say = told-same d.entry e.entry j.source k.source (reset j.head.id) (reset k.head.id) j.tells k.tells came.0 (ap (λ (h : Head). reset h.id) head) }
     by_outcome (Refused code) is j =
-        let o = given_refused e.entry.report.outcome setting past e j.client j.request code g.justified (same_request j.client j.request j.asked) j.deserved j.ids in
+        let r = same_request j.client j.request j.asked in
+        let o = given_refused e.entry.report.outcome setting past e j.client j.request g.justified r (new_too j.client j.request j.new) code (subst (λ (n : ℕ). Deserves setting past n j.request code) turn.now j.deserved) j.ids in
         let k = holds (Refused code) o in
-        let one = request-unique setting e.entry.event j.client k.client j.request k.request (same_request j.client j.request j.asked) k.asked in
+        let one = request-unique setting e.entry.event j.client k.client j.request k.request r k.asked in
         let token : j.request.token ≡ k.request.token = ap (λ (m : Message). m.token) one.1 in
-        let id = id-told d.entry due j.client (own_reply code [] j.id j.request.token) (f.id (ap gives_id is)) j.tells in
-        let other = id-told e.entry due k.client (own_reply code [] k.id k.request.token) (g.id (ap gives_id o)) k.tells in
-        let same = own_reply-same code j.id k.id j.request.token k.request.token (id ∙ sym other) token in
+        let id = one_id j.client k.client j.request k.request (own_reply code [] j.id j.request.token) (own_reply code [] k.id k.request.token) j.asked k.asked one.1 (ap (ids_given false) is) (ap (ids_given false) o) j.tells k.tells in
+        let same = at_once-same j.request k.request (own_reply code [] j.id j.request.token) (own_reply code [] k.id k.request.token) (ap (λ (m : Message). m.kind) one.1) refl token refl refl id in
         record { outcome = is ∙ sym o; act = j.act ∙ sym k.act; say = told-same d.entry e.entry j.client k.client _ _ j.tells k.tells one.0 same }
     by_outcome Overloaded is j =
-        let o = given_overloaded e.entry.report.outcome setting past e j.client j.request j.key g.justified (same_request j.client j.request j.asked) j.verdict j.fits j.no_room j.ids in
+        let r = same_request j.client j.request j.asked in
+        let o = given_overloaded e.entry.report.outcome setting past e j.client j.request g.justified r (new_too j.client j.request j.new) j.key j.verdict (same_miss j.key j.miss) j.fits j.no_room j.ids in
         let k = holds Overloaded o in
-        let one = request-unique setting e.entry.event j.client k.client j.request k.request (same_request j.client j.request j.asked) k.asked in
+        let one = request-unique setting e.entry.event j.client k.client j.request k.request r k.asked in
         let token : j.request.token ≡ k.request.token = ap (λ (m : Message). m.token) one.1 in
         let retry = setting.limits.retry_s in
-        let id = id-told d.entry due j.client (busy_reply retry j.id j.request.token) (f.id (ap gives_id is)) j.tells in
-        let other = id-told e.entry due k.client (busy_reply retry k.id k.request.token) (g.id (ap gives_id o)) k.tells in
-        let same = busy_reply-same retry j.id k.id j.request.token k.request.token (id ∙ sym other) token in
+        let id = one_id j.client k.client j.request k.request (busy_reply retry j.id j.request.token) (busy_reply retry k.id k.request.token) j.asked k.asked one.1 (ap (ids_given false) is) (ap (ids_given false) o) j.tells k.tells in
+        let same = at_once-same j.request k.request (busy_reply retry j.id j.request.token) (busy_reply retry k.id k.request.token) (ap (λ (m : Message). m.kind) one.1) refl token refl refl id in
         record { outcome = is ∙ sym o; act = j.act ∙ sym k.act; say = told-same d.entry e.entry j.client k.client _ _ j.tells k.tells one.0 same }
     by_outcome NoId is j =
-        let o = given_no_id e.entry.report.outcome setting past e j.client j.request g.justified (same_request j.client j.request j.asked) j.no_ids in
+        let o = given_no_id e.entry.report.outcome setting past e j.client j.request g.justified (same_request j.client j.request j.asked) (new_too j.client j.request j.new) j.kind j.no_ids in
         let k = holds NoId o in
         record { outcome = is ∙ sym o; act = j.act ∙ sym k.act; say = silent-same d.entry e.entry j.silent k.silent }
     by_outcome Opened is j =
-        let o = given_opened e.entry.report.outcome setting past e j.client j.request j.key g.justified (same_request j.client j.request j.asked) j.verdict j.fits j.room in
+        let o = given_opened e.entry.report.outcome setting past e j.client j.request g.justified (same_request j.client j.request j.asked) (new_too j.client j.request j.new) j.kind j.key j.verdict (same_miss j.key j.miss) j.fits j.room in
         let k = holds Opened o in
         record { outcome = is ∙ sym o; act = j.act ∙ sym k.act; say = silent-same d.entry e.entry j.silent k.silent }
-    by_outcome (Answered NotStored) is j =
-        let awaited : IsAwaited setting past j.exchange d.entry.event = record { meets = j.gets.meets; ungot = j.first } in
-        let o = given_answered e.entry.report.outcome setting past e j.exchange g.justified (subst (IsAwaited setting past j.exchange) turn.event awaited) in
-        let k = holds (Answered NotStored) o in
-        record { outcome = is ∙ sym o; act = one-exchange setting past ids j.exchange k.exchange d e turn.event j.gets k.gets; say = silent-same d.entry e.entry j.silent k.silent }
+    by_outcome Hit is j =
+        let r = same_request j.client j.request j.asked in
+        let o = given_hit e.entry.report.outcome setting past e j.client j.request g.justified r (new_too j.client j.request j.new) j.key j.cached j.entry j.verdict j.is_cache j.found (subst (λ (n : ℕ). is_fresh_at n j.entry ≡ true) turn.now j.fresh) j.ids in
+        let k = holds Hit o in
+        let one = request-unique setting e.entry.event j.client k.client j.request k.request r k.asked in
+        let key = one_key (sym j.verdict ∙ ap (verdict_on setting) one.1 ∙ k.verdict) in
+        let cached = cache-unique setting past j.cached k.cached j.is_cache k.is_cache in
+        let entry : j.entry ≡ k.entry = same_Some j.entry k.entry (sym j.found ∙ (λ i. of_key cached_key (key i) (cached i)) ∙ k.found) in
+        let now = turn.now in
+        let reply = shown d.entry.now (stored_answer (entry_of_cached j.entry).1) j.id j.request.token (tags_of j.request) in
+        let again = shown e.entry.now (stored_answer (entry_of_cached k.entry).1) k.id k.request.token (tags_of k.request) in
+        let content : reply ≡ shown e.entry.now (stored_answer (entry_of_cached k.entry).1) j.id k.request.token (tags_of k.request) = λ i. shown (now i) (stored_answer (entry_of_cached (entry i)).1) j.id (one.1 i).token (tags_of (one.1 i)) in
+        let id = one_id j.client k.client j.request k.request reply again j.asked k.asked one.1 (ap (ids_given false) is) (ap (ids_given false) o) j.tells k.tells in
+        let same = at_once-same j.request k.request reply again (ap (λ (m : Message). m.kind) one.1) (ap (λ (m : Message). m.code) content) (ap (λ (m : Message). m.token) content) (ap (λ (m : Message). m.options) content) (ap (λ (m : Message). m.payload) content) id in
+        record { outcome = is ∙ sym o; act = j.act ∙ sym k.act; say = told-same d.entry e.entry j.client k.client _ _ j.tells k.tells one.0 same }
+    by_outcome Again is j =
+        let r = same_request j.client j.request j.asked in
+        let found = subst (λ (n : ℕ). record_of j.client j.request.id (remembered_at j.request.kind n past) ≡ Some j.known) turn.now j.found in
+        let o = given_again e.entry.report.outcome setting past e j.client j.request g.justified r j.known found in
+        let k = holds Again o in
+        let one = request-unique setting e.entry.event j.client k.client j.request k.request r k.asked in
+        let known = same_Some j.known k.known (sym found ∙ (λ i. record_of (one.0 i) (one.1 i).id (remembered_at (one.1 i).kind e.entry.now past)) ∙ k.found) in
+        let told = subst (λ (c : Record). SaysAgain k.client c.reply d.entry) known (subst (λ (client : Endpoint). SaysAgain client j.known.reply d.entry) one.0 j.says_again) in
+        record { outcome = is ∙ sym o; act = j.act ∙ sym k.act; say = again-same d.entry e.entry k.client k.known.reply told k.says_again }
+    by_outcome NoRecordRoom is j =
+        let r = same_request j.client j.request j.asked in
+        let o = given_forgotten e.entry.report.outcome setting past e j.client j.request g.justified r (subst (λ (n : ℕ). record_of j.client j.request.id (remembered_at j.request.kind n past) ≡ None) turn.now j.unknown) (subst (λ (n : ℕ). most_remembered j.request.kind setting.limits ≤ length (remembered_at j.request.kind n past)) turn.now j.full) in
+        let k = holds NoRecordRoom o in
+        record { outcome = is ∙ sym o; act = j.act ∙ sym k.act; say = silent-same d.entry e.entry j.silent k.silent }
+    by_outcome (Answered s) is j =
+        let a = taken-so s setting past d j in
+        let awaited : IsAwaited setting past a.exchange d.entry.event = record { meets = a.gets.meets; ungot = a.first } in
+        let some = taken-some e.entry.report.outcome (given_answered e.entry.report.outcome setting past e a.exchange g.justified (subst (IsAwaited setting past a.exchange) turn.event awaited)) in
+        let k = holds (Answered some.0) some.1 in
+        let b = taken-so some.0 setting past e k in
+        let act = one-exchange setting past ids a.exchange b.exchange d e turn.event a.gets b.gets in
+        let memory = subst (λ (o : Outcome). HaveOneMemory o (Answered some.0)) is (subst (HaveOneMemory d.entry.report.outcome) some.1 turn.memory) in
+        let storing = one-storing setting past d e turn.event turn.now act s some.0 j k memory in
+        record { outcome = is ∙ ap Answered storing ∙ sym some.1; act = act; say = silent-same d.entry e.entry a.silent b.silent }
     by_outcome SentRequest is j = go refl (on-tick e.entry.report.outcome setting past e g.justified (sym turn.event ∙ j.acting.ticked))
       where
         go : {o : Outcome} → e.entry.report.outcome ≡ o → OnTick setting past e o → DoTheSame d e
-        go o (sent k) = let act = acting (sent k) j.acting in record { outcome = is ∙ sym o; act = act; say = one-forwarding setting past d e due (f.id (ap gives_id is)) (g.id (ap gives_id o)) j k act }
+        go o (sent k) = let act = acting (sent k) j.acting in record { outcome = is ∙ sym o; act = act; say = one-forwarding setting past d e due (f.id (ap (ids_given (comes_con d.entry.event)) is)) (g.id (ap (ids_given (comes_con e.entry.event)) o)) j k act }
         go o (delivered k) = absurd (let act = sym j.act ∙ acting (delivered k) j.acting ∙ k.act in cc)
         go o (idle k) = absurd (let act = sym j.act ∙ acting (idle k) j.acting ∙ k.act in cc)
     by_outcome Delivered is j = go refl (on-tick e.entry.report.outcome setting past e g.justified (sym turn.event ∙ j.acting.ticked))
       where
         go : {o : Outcome} → e.entry.report.outcome ≡ o → OnTick setting past e o → DoTheSame d e
         go o (sent k) = absurd (let act = sym j.act ∙ acting (sent k) j.acting ∙ k.act in cc)
-        go o (delivered k) = let act = acting (delivered k) j.acting in record { outcome = is ∙ sym o; act = act; say = one-delivery setting past all d e due (f.id (ap gives_id is)) (g.id (ap gives_id o)) j k act turn.now }
+        go o (delivered k) = let act = acting (delivered k) j.acting in record { outcome = is ∙ sym o; act = act; say = one-delivery setting past all d e due (f.id (ap (ids_given (comes_con d.entry.event)) is)) (g.id (ap (ids_given (comes_con e.entry.event)) o)) j k act turn.now }
         go o (idle k) = absurd (let act = sym j.act ∙ acting (idle k) j.acting ∙ k.act in cc)
     by_outcome Idle is j = go refl (on-tick e.entry.report.outcome setting past e g.justified (sym turn.event ∙ j.ticked))
       where
@@ -267,15 +342,15 @@ one-answer setting past d e all ids f g turn =
 
 -- ---- the step's answer
 
--- what may follow is what the step answers
-pub step-answer : (w : World) (history : List Entry) (c : Carries history w) (d : Deed) → w.last ≤ d.entry.now → IsEvent d.entry.event → MayFollow w.setting c.deeds d → d.entry ≡ entry_of d.entry.now d.entry.draw d.entry.event (step_of w d.entry.now d.entry.draw d.entry.event)
-step-answer w history c d onward fits f =
+-- what may follow is what the step answers, with the same memory
+pub step-answer : (w : World) (history : List Entry) (c : Carries history w) (d : Deed) (grown : Bool) → w.last ≤ d.entry.now → IsEvent d.entry.event → MayFollow w.setting c.deeds d → HaveOneMemory d.entry.report.outcome (step_of w d.entry.now d.entry.draw grown d.entry.event).report.outcome → d.entry ≡ entry_of d.entry.now d.entry.draw d.entry.event (step_of w d.entry.now d.entry.draw grown d.entry.event)
+step-answer w history c d grown onward fits f memory =
     let now = d.entry.now in
     let draw = d.entry.draw in
     let event = d.entry.event in
-    let s = step_of w now draw event in
-    let k = keeps_deeds w c.deeds now draw event c.bears onward fits in
-    let kept = setting_stays w now draw event fits in
+    let s = step_of w now draw grown event in
+    let k = keeps_deeds w c.deeds now draw grown event c.bears onward fits in
+    let kept = setting_stays w now draw grown event fits in
     let ids = subst (λ (t : Setting). AreIds t.first_id (doing k.act (entry_of now draw event s) ∷ c.deeds)) kept k.bears.ids in
     let past = subst (λ (t : Setting). AllJustified t (doing k.act (entry_of now draw event s) ∷ c.deeds)) kept k.bears.past in
-    ap (λ (e : Deed). e.entry) (one-answer w.setting c.deeds d (doing k.act (entry_of now draw event s)) c.bears.past (ids-differ c.deeds w c.bears) f (record { justified = past.0; id = ids.0 }) (record { now = refl; draw = refl; event = refl }))
+    ap (λ (e : Deed). e.entry) (one-answer w.setting c.deeds d (doing k.act (entry_of now draw event s)) c.bears.past (ids-differ c.deeds w c.bears) f (record { justified = past.0; id = ids.0 }) (record { now = refl; draw = refl; event = refl; memory = memory }))

@@ -3,7 +3,6 @@ use Rattle.std.proofs.Common.{◌≡◌, inl, inr, ⊎_elim, ℕ, ◌+◌, ◌<�
 use Rattle.std.specs.Prelude.{◌&&◌}
 use Rattle.std.specs.List.{AllByRecursion}
 use Rattle.std.proofs.lemmas.Bool.{leb-true, ltb-true, and_parts, cases_lt}
-use Rattle.coap_message.specs.Uint.{IsBytes}
 use Rattle.coap_message.specs.Message.{Message}
 use Rattle.coap_target.specs.declared.endpoint.Endpoint.{Endpoint}
 use Rattle.coap_cache.specs.declared.key.CacheKey.{CacheKey}
@@ -15,7 +14,8 @@ use Rattle.coap_model.specs.Events.{arrival}
 use Rattle.coap_model.specs.Verdicts.{may_ask}
 use Rattle.coap_exchange.specs.Exchanges.{is_queued, count_where}
 use Rattle.coap_model.specs.World.{World, has_ids, has_room}
-use Rattle.coap_model.specs.Requests.{opens, new_exchange, new_waiter, next_token}
+use Rattle.coap_model.specs.Messages.{is_non}
+use Rattle.coap_model.specs.Requests.{opens, new_exchange, new_waiter, next_token, can_open, remembers}
 use Rattle.coap_model.specs.History.{admits, serves, Deed, Place, IsPlaceOf, Never, opened_in, Gets, Serves}
 use Rattle.coap_model.specs.Justified.{AllJustified}
 use Rattle.coap_model.specs.declared.report.Outcome.TheVariants.{Delivered}
@@ -24,7 +24,11 @@ use Rattle.coap_model.specs.Carries.{IsExchangeOf, IsWaiterOf, ArePaired, HasNum
 use Rattle.coap_model.proofs.Places.{here, doing, never-from, place-before, justified-at, Opens-number, opened-number}
 use Rattle.coap_model.proofs.Spelled.{length-token_of}
 use Rattle.coap_model.proofs.Verdicts.{form-short}
-use Rattle.coap_model.proofs.Rules.{Asked, verdict_in, fits_in}
+use Rattle.coap_model.proofs.Rules.{IsFirst, verdict_in, fits_in, IsMissed}
+use Rattle.coap_model.proofs.OwnReplies.{non_is}
+use Rattle.coap_model.proofs.Remembering.{first-new, first-remembered}
+use Rattle.coap_model.proofs.Missing.{missed}
+use Rattle.coap_model.proofs.Stores.{store-otherwise}
 use Rattle.coap_model.proofs.Tables.{ArePaired-push, HasNumber-push, HasNumber-last}
 use Rattle.coap_model.proofs.Room.{room-there}
 use Rattle.coap_model.proofs.Frames.{clock_frame, exchanges_frame, waiters_frame, fresh_frame, later_served, sends-not, gets-not, serves-not}
@@ -45,11 +49,14 @@ exchanges-below w history c =
     All-weaken (IsExchangeOf w.setting history) (λ x. x.0 < opened_in history + 1) w.exchanges (λ x f. let i = opened-number f.opened in omega (arith, i.1)) c.exchanges
 
 -- opening an exchange keeps what is carried
-pub keeps_opening : (w : World) (history : List Deed) (c : Bears history w) → (now draw : ℕ) (client : Endpoint) (bytes : List ℕ) (m : Message) (key : CacheKey) → w.last ≤ now → IsBytes bytes → Asked w bytes m → verdict_in w m ≡ may_ask key → fits_in w key m ≡ true → has_room w ≡ true
-    → Bears (doing (admits (opened_in history + 1) (opened_in history + 1)) (entry_of now draw (arrival client bytes) (opens w now client m key)) ∷ history) (opens w now client m key).world
-keeps_opening w history c now draw client bytes m key onward fits asks verdict short room =
+pub keeps_opening : (w : World) (history : List Deed) (c : Bears history w) → (now draw : ℕ) (client : Endpoint) (bytes : List ℕ) (m : Message) (key : CacheKey) → w.last ≤ now → IsFirst w now client bytes m → verdict_in w m ≡ may_ask key → IsMissed w now key → fits_in w key m ≡ true → can_open w m.kind ≡ true
+    → Bears (doing (admits (opened_in history + 1) (opened_in history + 1)) (entry_of now draw (arrival client bytes) (opens w now client m key)) ∷ history) (remembers now client m (opens w now client m key)).world
+keeps_opening w history c now draw client bytes m key onward first verdict none short may_open =
     let e = doing (admits (opened_in history + 1) (opened_in history + 1)) (entry_of now draw (arrival client bytes) (opens w now client m key)) in
-    let came = request-came w client bytes m fits asks in
+    let came = request-came w client bytes m first.fits first.asked in
+    let may = and_parts (is_non m.kind) (has_room w) may_open in
+    let room = may.1 in
+    let remembered = first-remembered w history c now client bytes m onward draw (admits (opened_in history + 1) (opened_in history + 1)) (opens w now client m key) first refl (λ most wide long. omega arith) in
     let number : w.opened + 1 ≡ opened_in history + 1 = let h = c.numbers.opened in omega arith in
     let same : w.admitted + 1 ≡ w.opened + 1 = let h = c.numbers.opened in let k = c.numbers.admitted in omega arith in
     let new = c.fresh (w.opened + 1) (omega arith) in
@@ -107,6 +114,9 @@ keeps_opening w history c now draw client bytes m key onward fits asks verdict s
         under_way = let h = c.whole.under_way in omega arith;
         unsent = let h = c.whole.unsent in omega arith;
       };
+      store = store-otherwise w.setting history w.store e refl c.store;
+      con_records = remembered.0;
+      non_records = remembered.1;
       within = record { exchanges = omega arith; waiters = omega arith; ids = omega arith };
-      past = (record { act = refl; client = client; request = m; key = key; asked = came; verdict = verdict; fits = short; room = room-there history w c room; silent = record { sent = refl; bytes = refl } }, c.past);
+      past = (record { act = refl; client = client; request = m; key = key; asked = came; kind = non_is m.kind may.0; new = first-new w history c now client bytes m onward first; verdict = verdict; miss = missed w history c now key none; fits = short; room = room-there history w c room; silent = record { sent = refl; bytes = refl } }, c.past);
     }

@@ -1,21 +1,28 @@
 -- What a proxy promises that carries a history.
-use Rattle.std.proofs.Common.{◌≡◌, ⊎_elim, ℕ, ◌+◌, ◌%◌, ◌<◌, ◌≤◌, List, [], ◌∷◌, sym, ap, ◌∙◌, subst, arith}
+use Rattle.std.proofs.Common.{◌≡◌, ⊎_elim, ℕ, ◌+◌, ◌%◌, ◌<◌, ◌≤◌, List, [], ◌∷◌, length, sym, ap, ◌∙◌, subst, arith}
 use Rattle.coap_message.specs.Message.{Message}
 use Rattle.coap_message.proofs.WholeMessages.{one_message}
 use Rattle.coap_model.specs.World.{World}
-use Rattle.coap_model.specs.History.{Entry, Deed, Place, IsPlaceOf, gives_id, ids_in, Gives, AreIds}
-use Rattle.coap_model.specs.Carries.{Bears, Carries}
+use Rattle.coap_model.specs.History.{Entry, Deed, Place, IsPlaceOf, gives_id, ids_in, Gives, last_of, IsInOrder, AreIds}
+use Rattle.coap_message.specs.declared.kind.Kind.{Kind}
+use Rattle.coap_dedup.specs.Records.{Records, living_at}
+use Rattle.coap_dedup.proofs.Aging.{length-living}
+use Rattle.coap_model.specs.Setting.{Setting}
+use Rattle.coap_model.specs.Remembered.{most_remembered}
+use Rattle.coap_model.specs.Carries.{AreRemembered, Bears, Carries}
 use Rattle.coap_model.specs.Promised.{IdsDiffer, Promised}
 use Rattle.coap_model.proofs.Holding.{within-bound}
+use Rattle.coap_model.proofs.Stores.{store-within}
+use Rattle.coap_model.proofs.BySize.{all-owed}
 
 -- ---- ids
 
 -- the entry at a place gave an id
 abbrev GivesAt : Place → Type 0
-GivesAt p = gives_id p.deed.entry.report.outcome ≡ 1
+GivesAt p = gives_id p.deed.entry ≡ 1
 
 -- the id at a place is the one that was due there
-id-at : (first : ℕ) (history : List Deed) (p : Place) → AreIds first history → IsPlaceOf history p → GivesAt p → Gives ((first + ids_in p.before) % 65536) p.deed.entry
+pub id-at : (first : ℕ) (history : List Deed) (p : Place) → AreIds first history → IsPlaceOf history p → GivesAt p → Gives ((first + ids_in p.before) % 65536) p.deed.entry
 id-at first [] p ids h g = absurd h
 id-at first (e ∷ past) p ids h g =
     ⊎_elim
@@ -29,7 +36,7 @@ ids-below [] p h g = absurd h
 ids-below (e ∷ past) p h g =
     ⊎_elim
     (λ (same : record { before = past; deed = e } ≡ p).
-    let one : gives_id e.entry.report.outcome ≡ 1 = subst GivesAt (sym same) g in
+    let one : gives_id e.entry ≡ 1 = subst GivesAt (sym same) g in
     let before : ids_in past ≡ ids_in p.before = ap (λ (q : Place). ids_in q.before) same in
     omega arith)
     (λ (there : IsPlaceOf past p). omega (arith, ids-below past p there g))
@@ -72,6 +79,36 @@ ids-differ history w c p q id at_p at_q g h =
     let sums : (first + ids_in p.before) % 65536 ≡ (first + ids_in q.before) % 65536 = sym id_p ∙ id_q in
     one-place history p q at_p at_q g.gives h.gives (omega (arith, sums))
 
+-- ---- what is remembered
+
+-- no more live than may
+living-few : {setting : Setting} {history : List Deed} {kind : Kind} {t : Records} (now : ℕ) → AreRemembered setting history kind t → length (living_at now t) ≤ most_remembered kind setting.limits
+living-few {t = t} now s = let within = s.are.within in let limit = s.limit in omega (arith, length-living t.lifetime now t.items, within, limit)
+
+-- ---- moments
+
+-- what was done comes no later than the newest of it
+not-later : (history : List Deed) (p : Place) → IsInOrder history → IsPlaceOf history p → p.deed.entry.now ≤ last_of history
+not-later [] p o at = absurd at
+not-later (d ∷ past) p o at =
+    ⊎_elim
+    (λ (same : record { before = past; deed = d } ≡ p). let now = ap (λ (q : Place). q.deed.entry.now) same in omega (arith, now))
+    (λ (there : IsPlaceOf past p). let earlier = not-later past p o.1 there in let first = o.0 in omega (arith, earlier, first))
+    at
+
+-- so a place comes no earlier than those before it
+pub in-order-at : (history : List Deed) (p q : Place) → IsInOrder history → IsPlaceOf history p → IsPlaceOf p.before q → q.deed.entry.now ≤ p.deed.entry.now
+in-order-at [] p q o at before = absurd at
+in-order-at (d ∷ past) p q o at before =
+    ⊎_elim
+    (λ (same : record { before = past; deed = d } ≡ p).
+    let now = ap (λ (r : Place). r.deed.entry.now) same in
+    let earlier = not-later past q o.1 (subst (λ (r : Place). IsPlaceOf r.before q) (sym same) before) in
+    let first = o.0 in
+    omega (arith, now, earlier, first))
+    (λ (there : IsPlaceOf past p). in-order-at past p q o.1 there before)
+    at
+
 -- ---- all of it
 
 -- what is carried is promised
@@ -81,9 +118,14 @@ promises history w c =
       deeds = c.deeds;
       told = c.told;
       justified = c.bears.past;
+      owed = all-owed w.setting c.deeds c.bears.past;
       in_order = c.bears.clock.in_order;
       exchanges = c.bears.within.exchanges;
       waiters = c.bears.within.waiters;
+      entries = (store-within w.setting c.deeds w.store c.bears.store).within_entries;
+      cached_bytes = (store-within w.setting c.deeds w.store c.bears.store).within_bytes;
+      con_records = living-few w.last c.bears.con_records;
+      non_records = living-few w.last c.bears.non_records;
       bytes = within-bound c.deeds w c.bears;
       sequence = c.bears.ids;
       ids = ids-differ c.deeds w c.bears;

@@ -1,7 +1,8 @@
--- Refusals, silence and Resets keep what is carried.
-use Rattle.std.proofs.Common.{◌≡◌, ℕ, ◌+◌, ◌%◌, ◌≤◌, true, false, List, [], ◌∷◌, length, Some, Ok, refl, sym, ap, ◌∙◌, arith}
-use Rattle.std.specs.Prelude.{◌&&◌}
-use Rattle.std.proofs.lemmas.Bool.{leb-true, and_parts, and_from}
+-- Replies that go out at once, silence and Resets keep what is carried.
+use Rattle.std.proofs.Common.{◌≡◌, ℕ, ◌+◌, ◌%◌, ◌≤◌, Bool, true, false, List, [], ◌∷◌, length, Option, Some, None, Ok, refl, sym, ap, ◌∙◌, subst, arith}
+use Rattle.std.specs.Prelude.{◌&&◌, if◌then◌else◌}
+use Rattle.std.specs.Option.{option_map_or}
+use Rattle.std.proofs.lemmas.Bool.{and_parts, and_from, ltb-false}
 use Rattle.coap_message.specs.declared.kind.Kind.{Kind}
 use Rattle.coap_message.specs.declared.kind.Kind.TheVariants.{Con, Non, Ack, Rst}
 use Rattle.coap_message.specs.declared.code.Code.{Code}
@@ -9,40 +10,38 @@ use Rattle.coap_message.specs.declared.message.Head.{Head}
 use Rattle.coap_message.specs.Uint.{IsBytes}
 use Rattle.coap_message.specs.Message.{Message}
 use Rattle.coap_message.specs.Reading.{head_at, read_message}
-use Rattle.coap_message.specs.Spelling.{Spells, spelling}
+use Rattle.coap_message.specs.Spelling.{Spells}
 use Rattle.coap_message.proofs.Spellings.{spelled}
 use Rattle.coap_message.proofs.WholeMessages.{read_again}
 use Rattle.coap_target.specs.declared.endpoint.Endpoint.{Endpoint}
+use Rattle.coap_dedup.specs.declared.record.Record.{Record}
+use Rattle.coap_dedup.specs.Lists.{record_of}
 use Rattle.coap_cache.specs.declared.key.CacheKey.{CacheKey}
 use Rattle.coap_model.specs.Events.{arrival}
 use Rattle.coap_message.specs.Codes.{is_request}
-use Rattle.coap_model.specs.Messages.{is_con, is_non, reset, own_reply, busy_reply}
+use Rattle.coap_model.specs.Messages.{is_con, brings_requests, reset, own_reply, busy_reply, at_once, reply_id}
+use Rattle.coap_model.specs.Remembered.{remembered_at}
 use Rattle.coap_model.specs.Verdicts.{may_ask}
-use Rattle.coap_model.specs.World.{World, reserved, next_id, has_ids, has_room, ignores}
-use Rattle.coap_model.specs.Requests.{lacks_id, refuses, overloads}
+use Rattle.coap_model.specs.World.{World, next_id, has_record_room, can_reply, ids_to_reply, ignores}
+use Rattle.coap_model.specs.Requests.{lacks_id, refuses, overloads, can_open, known_of, remembers, repeats, forgets}
 use Rattle.coap_model.specs.Step.{rejects, message_in}
-use Rattle.coap_model.specs.History.{no_item, Deed, ids_in}
-use Rattle.coap_model.specs.Setting.{Setting}
-use Rattle.coap_model.specs.Justified.{IsRequestOf, IsUnprocessable, Deserves}
+use Rattle.coap_model.specs.History.{Entry, no_item, Deed, comes_con, gives_id, ids_in, HasRoom, Gives}
+use Rattle.coap_model.specs.Justified.{IsRequestOf, IsNew, HasIdFor, SaysAgain, IsUnprocessable}
 use Rattle.coap_model.specs.Runs.{entry_of}
 use Rattle.coap_model.specs.Carries.{Bears}
 use Rattle.coap_model.proofs.Spelled.{reset-is, own_reply-is, busy_reply-is, message_in-is, message_in-again}
 use Rattle.coap_model.proofs.Places.{doing, arrival-same}
 use Rattle.coap_model.proofs.Verdicts.{deserved-code}
-use Rattle.coap_model.proofs.Arrivals.{head_kind, kinds}
-use Rattle.coap_model.proofs.Rules.{Asked, IsNothing, verdict_in, fits_in}
+use Rattle.coap_model.proofs.Rules.{Asked, IsFirst, IsNotCon, IsNothing, verdict_in, fits_in, IsMissed, IsDenied, head_of_read}
+use Rattle.coap_model.proofs.OwnReplies.{at_once-is, own-short, busy-short, reply-due, free-reply, free-one, free-none}
+use Rattle.coap_model.proofs.Remembering.{request-kind, known-is, limit-is, first-new, first-remembered}
+use Rattle.coap_model.proofs.Missing.{missed, deserves}
 use Rattle.coap_model.proofs.Room.{ids-free, ids-none, room-none}
+use Rattle.coap_model.proofs.Stores.{store-otherwise}
 use Rattle.coap_model.proofs.Awaiting.{not-ignored}
-use Rattle.coap_model.proofs.Quiet.{keeps_quiet}
+use Rattle.coap_model.proofs.Quiet.{keeps_still, keeps_quiet}
 
 -- ---- what came
-
--- what tests as Non-confirmable is so
-non_is : (k : Kind) → is_non k ≡ true → k ≡ Non
-non_is Con e = absurd cc
-non_is Non e = refl
-non_is Ack e = absurd cc
-non_is Rst e = absurd cc
 
 -- what tests as confirmable is so
 con_is : (k : Kind) → is_con k ≡ true → k ≡ Con
@@ -55,82 +54,152 @@ con_is Rst e = absurd cc
 pub request-came : (w : World) (client : Endpoint) (bytes : List ℕ) (m : Message) → IsBytes bytes → Asked w bytes m → IsRequestOf w.setting client m (arrival client bytes)
 request-came w client bytes m fits asked =
     let read = message_in-is w.setting.limits.datagram bytes m fits asked.read in
-    let tests = and_parts (is_non m.kind) (is_request m.code) asked.request in
-    record { brings = record { bytes = bytes; came = refl; spells = read.0; short = read.1 }; kind = non_is m.kind tests.0; method = tests.1 }
+    let tests = and_parts (brings_requests m.kind) (is_request m.code) asked.request in
+    record { brings = record { bytes = bytes; came = refl; spells = read.0; short = read.1 }; kind = tests.0; method = tests.1 }
 
 -- the next id is the one that is due by the history
 pub id-same : (w : World) (history : List Deed) (c : Bears history w) → next_id w ≡ (w.setting.first_id + ids_in history) % 65536
 id-same w history c = ap (λ (n : ℕ). (w.setting.first_id + n) % 65536) c.numbers.given
 
--- a free id may be given
-free-one : (w : World) → has_ids 1 w ≡ true → w.given + 1 + reserved w ≤ 32768
-free-one w e = let le = leb-true (w.given + reserved w + 1) 32768 e in omega arith
+-- ---- replies that go out at once
 
--- ---- refusals
+module _ (w : World) (history : List Deed) (c : Bears history w) (now draw : ℕ) (client : Endpoint) (bytes : List ℕ) (m : Message) (onward : w.last ≤ now) (first : IsFirst w now client bytes m) where
+  -- a request that is new, as the history says it
+  pub came : IsRequestOf w.setting client m (arrival client bytes)
+  came = request-came w client bytes m first.fits first.asked
 
--- a refusal keeps what is carried
-pub keeps_refusing : (w : World) (history : List Deed) (c : Bears history w) (now draw : ℕ) (client : Endpoint) (bytes : List ℕ) (m : Message) (code : Code) → w.last ≤ now → IsBytes bytes → Asked w bytes m → Deserves w.setting m code → has_ids 1 w ≡ true
-    → Bears (doing no_item (entry_of now draw (arrival client bytes) (refuses w now client m code)) ∷ history) (refuses w now client m code).world
-keeps_refusing w history c now draw client bytes m code onward fits asked deserved free =
-    let e = doing no_item (entry_of now draw (arrival client bytes) (refuses w now client m code)) in
-    let came = request-came w client bytes m fits asked in
-    let some = deserved-code w.setting m c.routes code deserved in
-    let reply = own_reply code [] (next_id w) m.token in
-    let spells : Spells (spelling reply) reply = spelled reply (own_reply-is code [] (next_id w) m.token some tt came.brings.spells.message.token) in
-    keeps_quiet w history c e (w.given + 1) (record { opens = refl; sends = refl; serves = refl; unsent = λ o. cc; ungot = λ o. cc; unserved = λ o. cc }) onward refl
-    (λ g. record { gives = refl; message = reply; spells = spells; id_is = id-same w history c }) (free-one w free)
-    (record { act = refl; client = client; request = m; id = next_id w; asked = came; deserved = deserved; ids = ids-free 1 history w c free; tells = record { sent = refl; spells = spells } }, c.past)
+  pub is_new : IsNew w.setting history now client m
+  is_new = first-new w history c now client bytes m onward first
 
--- so does 5.03
-pub keeps_overloading : (w : World) (history : List Deed) (c : Bears history w) (now draw : ℕ) (client : Endpoint) (bytes : List ℕ) (m : Message) (key : CacheKey) → w.last ≤ now → IsBytes bytes → Asked w bytes m → verdict_in w m ≡ may_ask key → fits_in w key m ≡ true → has_room w ≡ false → has_ids 1 w ≡ true
-    → Bears (doing no_item (entry_of now draw (arrival client bytes) (overloads w now client m)) ∷ history) (overloads w now client m).world
-keeps_overloading w history c now draw client bytes m key onward fits asked verdict short full free =
-    let e = doing no_item (entry_of now draw (arrival client bytes) (overloads w now client m)) in
-    let came = request-came w client bytes m fits asked in
-    let reply = busy_reply w.setting.limits.retry_s (next_id w) m.token in
-    let spells : Spells (spelling reply) reply = spelled reply (busy_reply-is w.setting.limits.retry_s (next_id w) m.token came.brings.spells.message.token) in
-    keeps_quiet w history c e (w.given + 1) (record { opens = refl; sends = refl; serves = refl; unsent = λ o. cc; ungot = λ o. cc; unserved = λ o. cc }) onward refl
-    (λ g. record { gives = refl; message = reply; spells = spells; id_is = id-same w history c }) (free-one w free)
-    (record { act = refl; client = client; request = m; key = key; id = next_id w; asked = came; verdict = verdict; fits = short; no_room = room-none history w c full; ids = ids-free 1 history w c free; tells = record { sent = refl; spells = spells } }, c.past)
+  -- its token is short
+  pub short_token : length m.token ≤ 8
+  short_token = came.brings.spells.message.token
 
--- and silence for want of an id
-pub keeps_lacking : (w : World) (history : List Deed) (c : Bears history w) (now draw : ℕ) (client : Endpoint) (bytes : List ℕ) (m : Message) → w.last ≤ now → IsBytes bytes → Asked w bytes m → has_ids 1 w ≡ false
-    → Bears (doing no_item (entry_of now draw (arrival client bytes) (lacks_id w now)) ∷ history) (lacks_id w now).world
-keeps_lacking w history c now draw client bytes m onward fits asked free =
-    let e = doing no_item (entry_of now draw (arrival client bytes) (lacks_id w now)) in
-    keeps_quiet w history c e w.given (record { opens = refl; sends = refl; serves = refl; unsent = λ o. cc; ungot = λ o. cc; unserved = λ o. cc }) onward (omega arith) (λ g. absurd (omega arith)) c.within.ids
-    (record { act = refl; client = client; request = m; asked = request-came w client bytes m fits asked; no_ids = ids-none 1 history w c free; silent = record { sent = refl; bytes = refl } }, c.past)
+  -- a reply to it takes an id, unless it is Confirmable
+  pub takes-ids : comes_con (arrival client bytes) ≡ is_con m.kind
+  takes-ids = ap (λ (h : Option Head). option_map_or (λ k. is_con k.kind) h false) (head_of_read w bytes m first.fits first.asked.read)
+
+  -- and there is one
+  pub has-id : can_reply w m.kind ≡ true → HasIdFor m history
+  has-id free non = ids-free 1 history w c (free-one w m.kind free non)
+
+  -- a reply that takes one has the one that is due
+  pub gives-due : (ids : ℕ) (e : Entry) (reply : Message) → ids ≡ ids_to_reply m.kind → gives_id e ≡ ids → Spells e.bytes (at_once m reply) → reply.id ≡ next_id w → gives_id e ≡ 1 → Gives ((w.setting.first_id + ids_in history) % 65536) e
+  gives-due ids e reply same given spells next one =
+      record {
+        gives = one;
+        message = at_once m reply;
+        spells = spells;
+        id_is = ap (reply_id m) next ∙ reply-due m (next_id w) (sym same ∙ sym given ∙ one) ∙ id-same w history c;
+      }
+
+  -- a refusal keeps what is carried
+  pub keeps_refusing : (code : Code) → IsDenied w now m code → can_reply w m.kind ≡ true
+      → Bears (doing no_item (entry_of now draw (arrival client bytes) (refuses w now client m code)) ∷ history) (remembers now client m (refuses w now client m code)).world
+  keeps_refusing code denied free =
+      let s = refuses w now client m code in
+      let e = doing no_item (entry_of now draw (arrival client bytes) s) in
+      let deserved = deserves w history c now m code denied in
+      let some = deserved-code w.setting history now m c.routes code deserved in
+      let reply = own_reply code [] (next_id w) m.token in
+      let spells : Spells s.bytes (at_once m reply) = spelled (at_once m reply) (at_once-is m reply (own_reply-is code [] (next_id w) m.token some tt short_token)) in
+      let ids : gives_id e.entry ≡ ids_to_reply m.kind = ap (λ (b : Bool). if b then 0 else 1) takes-ids in
+      keeps_still w history c e (w.given + ids_to_reply m.kind) w.store _ _ (record { opens = refl; sends = refl; serves = refl; unsent = λ o. cc; ungot = λ o. cc; unserved = λ o. cc }) onward (omega (arith, ids))
+      (gives-due (ids_to_reply m.kind) e.entry reply refl ids spells refl) (free-reply w m.kind c.within.ids free)
+      (store-otherwise w.setting history w.store e refl c.store)
+      (first-remembered w history c now client bytes m onward draw no_item s first refl (λ most wide long. omega (arith, wide, own-short m code (next_id w) m.token short_token)))
+      (record { act = refl; client = client; request = m; id = next_id w; asked = came; new = is_new; deserved = deserved; ids = has-id free; tells = record { sent = refl; spells = spells } }, c.past)
+
+  -- so does 5.03
+  pub keeps_overloading : (key : CacheKey) → verdict_in w m ≡ may_ask key → IsMissed w now key → fits_in w key m ≡ true → can_open w m.kind ≡ false → can_reply w m.kind ≡ true
+      → Bears (doing no_item (entry_of now draw (arrival client bytes) (overloads w now client m)) ∷ history) (remembers now client m (overloads w now client m)).world
+  keeps_overloading key verdict none short full free =
+      let s = overloads w now client m in
+      let e = doing no_item (entry_of now draw (arrival client bytes) s) in
+      let reply = busy_reply w.setting.limits.retry_s (next_id w) m.token in
+      let spells : Spells s.bytes (at_once m reply) = spelled (at_once m reply) (at_once-is m reply (busy_reply-is w.setting.limits.retry_s (next_id w) m.token short_token)) in
+      let ids : gives_id e.entry ≡ ids_to_reply m.kind = ap (λ (b : Bool). if b then 0 else 1) takes-ids in
+      let no_room : m.kind ≡ Non → ¬ HasRoom w.setting.limits history = λ non. room-none history w c (subst (λ (k : Kind). can_open w k ≡ false) non full) in
+      keeps_still w history c e (w.given + ids_to_reply m.kind) w.store _ _ (record { opens = refl; sends = refl; serves = refl; unsent = λ o. cc; ungot = λ o. cc; unserved = λ o. cc }) onward (omega (arith, ids))
+      (gives-due (ids_to_reply m.kind) e.entry reply refl ids spells refl) (free-reply w m.kind c.within.ids free)
+      (store-otherwise w.setting history w.store e refl c.store)
+      (first-remembered w history c now client bytes m onward draw no_item s first refl (λ most wide long. omega (arith, wide, busy-short m w.setting.limits.retry_s (next_id w) m.token short_token)))
+      (record { act = refl; client = client; request = m; key = key; id = next_id w; asked = came; verdict = verdict; miss = missed w history c now key none; fits = short; no_room = no_room; new = is_new; ids = has-id free; tells = record { sent = refl; spells = spells } }, c.past)
+
+  -- and silence for want of an id
+  pub keeps_lacking : can_reply w m.kind ≡ false
+      → Bears (doing no_item (entry_of now draw (arrival client bytes) (lacks_id w now)) ∷ history) (remembers now client m (lacks_id w now)).world
+  keeps_lacking free =
+      let s = lacks_id w now in
+      let e = doing no_item (entry_of now draw (arrival client bytes) s) in
+      let lack = free-none w m.kind came.kind free in
+      keeps_still w history c e w.given w.store _ _ (record { opens = refl; sends = refl; serves = refl; unsent = λ o. cc; ungot = λ o. cc; unserved = λ o. cc }) onward (omega arith) (λ g. absurd (omega arith)) c.within.ids
+      (store-otherwise w.setting history w.store e refl c.store)
+      (first-remembered w history c now client bytes m onward draw no_item s first refl (λ most wide long. omega arith))
+      (record { act = refl; client = client; request = m; asked = came; kind = lack.0; new = is_new; no_ids = ids-none 1 history w c lack.1; silent = record { sent = refl; bytes = refl } }, c.past)
+
+-- ---- duplicates
+
+-- a duplicate keeps what is carried
+pub keeps_repeating : (w : World) (history : List Deed) (c : Bears history w) (now draw : ℕ) (client : Endpoint) (bytes : List ℕ) (m : Message) (known : Record) → w.last ≤ now → IsBytes bytes → Asked w bytes m → known_of w now client m ≡ Some known
+    → Bears (doing no_item (entry_of now draw (arrival client bytes) (repeats w now client known.reply)) ∷ history) (repeats w now client known.reply).world
+keeps_repeating w history c now draw client bytes m known onward fits asked found = go known.reply refl
+  where
+    same : record_of client m.id (remembered_at m.kind now history) ≡ Some known
+    same = ap (record_of client m.id) (sym (known-is w history c now client bytes m onward m.kind (request-kind asked))) ∙ found
+
+    go : (reply : Option (List ℕ)) → known.reply ≡ reply → Bears (doing no_item (entry_of now draw (arrival client bytes) (repeats w now client reply)) ∷ history) (repeats w now client reply).world
+    go None is =
+        let e = doing no_item (entry_of now draw (arrival client bytes) (repeats w now client None)) in
+        keeps_quiet w history c e w.given (record { opens = refl; sends = refl; serves = refl; unsent = λ o. cc; ungot = λ o. cc; unserved = λ o. cc }) refl refl onward (omega arith) (λ g. absurd (omega arith)) c.within.ids
+        (record { act = refl; client = client; request = m; known = known; asked = request-came w client bytes m fits asked; found = same; says_again = subst (λ (o : Option (List ℕ)). SaysAgain client o e.entry) (sym is) (record { sent = refl; bytes = refl }) }, c.past)
+    go (Some reply) is =
+        let e = doing no_item (entry_of now draw (arrival client bytes) (repeats w now client (Some reply))) in
+        keeps_quiet w history c e w.given (record { opens = refl; sends = refl; serves = refl; unsent = λ o. cc; ungot = λ o. cc; unserved = λ o. cc }) refl refl onward (omega arith) (λ g. absurd (omega arith)) c.within.ids
+        (record { act = refl; client = client; request = m; known = known; asked = request-came w client bytes m fits asked; found = same; says_again = subst (λ (o : Option (List ℕ)). SaysAgain client o e.entry) (sym is) (refl, refl) }, c.past)
+
+-- and so does silence where there is no room to remember the request
+pub keeps_forgetting : (w : World) (history : List Deed) (c : Bears history w) (now draw : ℕ) (client : Endpoint) (bytes : List ℕ) (m : Message) → w.last ≤ now → IsBytes bytes → Asked w bytes m → known_of w now client m ≡ None → has_record_room w now m.kind ≡ false
+    → Bears (doing no_item (entry_of now draw (arrival client bytes) (forgets w now)) ∷ history) (forgets w now).world
+keeps_forgetting w history c now draw client bytes m onward fits asked unknown full =
+    let e = doing no_item (entry_of now draw (arrival client bytes) (forgets w now)) in
+    let kind = request-kind asked in
+    let same = known-is w history c now client bytes m onward m.kind kind in
+    let limit = limit-is w history c now client bytes m onward m.kind kind in
+    let most = ltb-false _ _ full in
+    keeps_quiet w history c e w.given (record { opens = refl; sends = refl; serves = refl; unsent = λ o. cc; ungot = λ o. cc; unserved = λ o. cc }) refl refl onward (omega arith) (λ g. absurd (omega arith)) c.within.ids
+    (record { act = refl; client = client; request = m; asked = request-came w client bytes m fits asked; unknown = ap (record_of client m.id) (sym same) ∙ unknown; full = omega (arith, ap length same, limit, most); silent = record { sent = refl; bytes = refl } }, c.past)
 
 -- ---- what isn't processed
 
--- what is confirmable isn't processed so far
-confirmable : (history : List Deed) (setting : Setting) (source : Endpoint) (bytes : List ℕ) (head : Head) → head_at bytes ≡ Some head → head.kind ≡ Con → IsUnprocessable setting history (arrival source bytes)
-confirmable history setting source bytes head is con = record {
-  no_request = λ client m r. kinds (head_kind r.brings refl is) r.kind con (λ e. cc);
-  no_answer = λ x a. kinds (head_kind a.meets.brings refl is) a.meets.matches.kind con (λ e. cc);
-}
-
--- a Reset keeps what is carried
-pub keeps_rejecting : (w : World) (history : List Deed) (c : Bears history w) (now draw : ℕ) (source : Endpoint) (bytes : List ℕ) (head : Head) → w.last ≤ now → head_at bytes ≡ Some head → is_con head.kind ≡ true
-    → Bears (doing no_item (entry_of now draw (arrival source bytes) (rejects w now source head.id)) ∷ history) (rejects w now source head.id).world
-keeps_rejecting w history c now draw source bytes head onward is con =
-    let e = doing no_item (entry_of now draw (arrival source bytes) (rejects w now source head.id)) in
-    keeps_quiet w history c e w.given (record { opens = refl; sends = refl; serves = refl; unsent = λ o. cc; ungot = λ o. cc; unserved = λ o. cc }) onward (omega arith) (λ g. absurd (omega arith)) c.within.ids
-    (record { act = refl; source = source; bytes = bytes; head = head; came = refl; head_is = is; con = con_is head.kind con; unprocessable = confirmable history w.setting source bytes head is (con_is head.kind con); tells = record { sent = refl; spells = spelled (reset head.id) (reset-is head.id) } }, c.past)
-
 -- a request that would be processed was read
-request-read : (w : World) (source client : Endpoint) (bytes : List ℕ) (m : Message) → IsRequestOf w.setting client m (arrival source bytes) → (message_in w.setting.limits.datagram bytes ≡ Some m) × ((is_non m.kind && is_request m.code) ≡ true)
+request-read : (w : World) (source client : Endpoint) (bytes : List ℕ) (m : Message) → IsRequestOf w.setting client m (arrival source bytes) → (message_in w.setting.limits.datagram bytes ≡ Some m) × ((brings_requests m.kind && is_request m.code) ≡ true)
 request-read w source client bytes m r =
     let b = r.brings in
     let same = arrival-same source client bytes b.bytes b.came in
     let read : read_message bytes ≡ Ok m = ap read_message same.1 ∙ read_again b.bytes m b.spells in
     let short : length bytes ≤ w.setting.limits.datagram = rw same.1 b.short in
-    (message_in-again w.setting.limits.datagram bytes m read short, and_from (is_non m.kind) (is_request m.code) (ap is_non r.kind) r.method)
+    (message_in-again w.setting.limits.datagram bytes m read short, and_from (brings_requests m.kind) (is_request m.code) r.kind r.method)
+
+-- what holds neither a request nor a response that is awaited can't be processed
+unprocessable : (w : World) (history : List Deed) (c : Bears history w) (source : Endpoint) (bytes : List ℕ) → IsNothing w source bytes → IsUnprocessable w.setting history (arrival source bytes)
+unprocessable w history c source bytes none = record {
+  no_request = λ client m r. let read = request-read w source client bytes m r in let test = none.request m read.0 in absurd (let both = sym test ∙ read.1 in cc);
+  no_answer = λ x a. not-ignored w history c x source bytes a none;
+}
+
+-- a Reset keeps what is carried
+pub keeps_rejecting : (w : World) (history : List Deed) (c : Bears history w) (now draw : ℕ) (source : Endpoint) (bytes : List ℕ) (head : Head) → w.last ≤ now → head_at bytes ≡ Some head → is_con head.kind ≡ true → IsNothing w source bytes
+    → Bears (doing no_item (entry_of now draw (arrival source bytes) (rejects w now source head.id)) ∷ history) (rejects w now source head.id).world
+keeps_rejecting w history c now draw source bytes head onward is con none =
+    let e = doing no_item (entry_of now draw (arrival source bytes) (rejects w now source head.id)) in
+    keeps_quiet w history c e w.given (record { opens = refl; sends = refl; serves = refl; unsent = λ o. cc; ungot = λ o. cc; unserved = λ o. cc }) refl refl onward (omega arith) (λ g. absurd (omega arith)) c.within.ids
+    (record { act = refl; source = source; bytes = bytes; head = head; came = refl; head_is = is; con = con_is head.kind con; unprocessable = unprocessable w history c source bytes none; tells = record { sent = refl; spells = spelled (reset head.id) (reset-is head.id) } }, c.past)
 
 -- and so does doing nothing
-pub keeps_ignoring : (w : World) (history : List Deed) (c : Bears history w) (now draw : ℕ) (source : Endpoint) (bytes : List ℕ) → w.last ≤ now → IsNothing w source bytes
+pub keeps_ignoring : (w : World) (history : List Deed) (c : Bears history w) (now draw : ℕ) (source : Endpoint) (bytes : List ℕ) → w.last ≤ now → IsNotCon bytes → IsNothing w source bytes
     → Bears (doing no_item (entry_of now draw (arrival source bytes) (ignores w now)) ∷ history) (ignores w now).world
-keeps_ignoring w history c now draw source bytes onward none =
+keeps_ignoring w history c now draw source bytes onward quiet none =
     let e = doing no_item (entry_of now draw (arrival source bytes) (ignores w now)) in
-    keeps_quiet w history c e w.given (record { opens = refl; sends = refl; serves = refl; unsent = λ o. cc; ungot = λ o. cc; unserved = λ o. cc }) onward (omega arith) (λ g. absurd (omega arith)) c.within.ids
-    (record { act = refl; source = source; bytes = bytes; came = refl; no_con = λ head is con. absurd (let f = none.quiet head is in let g = sym f ∙ ap is_con con in cc); unprocessable = record { no_request = λ client m r. let read = request-read w source client bytes m r in let test = none.request m read.0 in absurd (let both = sym test ∙ read.1 in cc); no_answer = λ x a. not-ignored w history c x source bytes a none }; silent = record { sent = refl; bytes = refl } }, c.past)
+    keeps_quiet w history c e w.given (record { opens = refl; sends = refl; serves = refl; unsent = λ o. cc; ungot = λ o. cc; unserved = λ o. cc }) refl refl onward (omega arith) (λ g. absurd (omega arith)) c.within.ids
+    (record { act = refl; source = source; bytes = bytes; came = refl; no_con = λ head is con. absurd (let f = quiet head is in let g = sym f ∙ ap is_con con in cc); unprocessable = unprocessable w history c source bytes none; silent = record { sent = refl; bytes = refl } }, c.past)

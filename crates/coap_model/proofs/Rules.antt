@@ -1,6 +1,7 @@
 -- The cases of a step, each with what is known there.
 use Rattle.std.proofs.Common.{◌≡◌, ℕ, Bool, true, false, cond, List, Option, Some, None, refl, sym, ◌∙◌, subst}
-use Rattle.std.specs.Prelude.{◌&&◌}
+use Rattle.std.specs.Prelude.{◌&&◌, ◌≤◌, ◌<◌, nat_le}
+use Rattle.std.proofs.lemmas.Bool.{leb-true, leb-false}
 use Rattle.std.proofs.lemmas.Option.{same_Some}
 use Rattle.coap_message.specs.declared.kind.Kind.{Kind}
 use Rattle.coap_message.specs.declared.kind.Kind.TheVariants.{Con, Non, Ack, Rst}
@@ -13,18 +14,24 @@ use Rattle.coap_message.specs.Reading.{head_at}
 use Rattle.coap_message.proofs.WholeMessages.{head_read}
 use Rattle.coap_target.specs.declared.endpoint.Endpoint.{Endpoint}
 use Rattle.coap_cache.specs.declared.key.CacheKey.{CacheKey}
+use Rattle.coap_cache.specs.Entries.{Entry, entry_key, entry_size}
+use Rattle.coap_cache.specs.Freshness.{is_usable}
+use Rattle.coap_cache.specs.Lists.{of_key, others, put}
+use Rattle.coap_model.specs.declared.report.Storing.{Storing}
+use Rattle.coap_model.specs.declared.report.Storing.TheVariants.{Kept, TooLarge, NoMemory, NotStored}
+use Rattle.coap_model.specs.Answers.{answer_of, is_storable}
 use Rattle.coap_exchange.specs.declared.exchange.Answer.{Answer}
 use Rattle.coap_exchange.specs.declared.exchange.Exchange.{Exchange}
 use Rattle.coap_exchange.specs.declared.waiter.Waiter.{Waiter}
 use Rattle.coap_exchange.specs.Table.{Numbered}
 use Rattle.coap_model.specs.Events.{Event, arrival, tick, IsEvent}
 use Rattle.coap_message.specs.Codes.{is_request, is_response}
-use Rattle.coap_model.specs.Messages.{is_con, is_non, is_ack}
+use Rattle.coap_model.specs.Messages.{is_con, brings_requests, is_ack}
 use Rattle.coap_model.specs.Verdicts.{Verdict, refused_with, may_ask, verdict_of, form_fits}
-use Rattle.coap_model.specs.Justified.{Deserves, by_verdict, by_length}
-use Rattle.coap_model.specs.World.{World, Step, has_ids, has_room, ignores}
-use Rattle.coap_model.specs.Requests.{lacks_id, refuses, overloads, opens, turns_down, turns_away, on_miss, on_verdict, on_request}
-use Rattle.coap_model.specs.Responses.{awaiting, answers, on_awaited, on_response}
+use Rattle.coap_dedup.specs.declared.record.Record.{Record}
+use Rattle.coap_model.specs.World.{World, Step, has_record_room, can_reply, ignores}
+use Rattle.coap_model.specs.Requests.{lacks_id, refuses, overloads, opens, turns_down, turns_away, hits, can_open, on_miss, on_entry, on_verdict, known_of, remembers, on_new, repeats, forgets, on_known, on_request}
+use Rattle.coap_model.specs.Responses.{awaiting, entry_made, answers_so, keeps_if, stores, answers, on_awaited, on_response}
 use Rattle.coap_exchange.specs.Due.{Item, sending, serving, least}
 use Rattle.coap_model.specs.Ticks.{items_of, if_due, sends, delivers, idles, on_item}
 use Rattle.coap_model.specs.Step.{rejects, unprocessed, on_message, message_in, on_read, step_of}
@@ -33,16 +40,22 @@ use Rattle.coap_model.proofs.Spelled.{message_in-is}
 -- a request that is processed came in these bytes
 pub record Asked (w : World) (bytes : List ℕ) (m : Message) : Type 0 where
   pub read : message_in w.setting.limits.datagram bytes ≡ Some m
-  pub request : (is_non m.kind && is_request m.code) ≡ true
+  pub request : (brings_requests m.kind && is_request m.code) ≡ true
+
+-- and it is new, with room to remember it
+pub record IsFirst (w : World) (now : ℕ) (client : Endpoint) (bytes : List ℕ) (m : Message) : Type 0 where
+  pub fits : IsBytes bytes
+  pub asked : Asked w bytes m
+  pub unknown : known_of w now client m ≡ None
+  pub room : has_record_room w now m.kind ≡ true
 
 -- a datagram whose head isn't confirmable
 abbrev pub IsNotCon : List ℕ → Type 0
 IsNotCon bytes = (head : Head) → head_at bytes ≡ Some head → is_con head.kind ≡ false
 
--- a datagram that isn't confirmable and holds neither a request that is processed nor a response that is awaited
+-- a datagram that holds neither a request that is processed nor a response that is awaited
 pub record IsNothing (w : World) (source : Endpoint) (bytes : List ℕ) : Type 0 where
-  pub quiet : IsNotCon bytes
-  pub request : (m : Message) → message_in w.setting.limits.datagram bytes ≡ Some m → (is_non m.kind && is_request m.code) ≡ false
+  pub request : (m : Message) → message_in w.setting.limits.datagram bytes ≡ Some m → (brings_requests m.kind && is_request m.code) ≡ false
   pub response : (m : Message) → message_in w.setting.limits.datagram bytes ≡ Some m → (is_ack m.kind && is_response m.code) ≡ true → awaiting w source m ≡ None
 
 -- what becomes of a request in this world
@@ -53,49 +66,90 @@ verdict_in w m = verdict_of w.setting.routes m
 abbrev pub fits_in : World → CacheKey → Message → Bool
 fits_in w key m = form_fits w.setting.limits.datagram key.target m
 
+-- the store has no entry of the key that may answer at this moment
+abbrev pub IsMissed : World → ℕ → CacheKey → Type 0
+IsMissed w now key = (entry : Entry) → of_key entry_key key w.store ≡ Some entry → is_usable now entry.1 ≡ false
+
+-- a request deserves a code in this world
+pub data IsDenied (w : World) (now : ℕ) (m : Message) (code : Code) : Type 0 where
+  by_verdict : verdict_in w m ≡ refused_with code → IsDenied w now m code
+  by_length : (key : CacheKey) → verdict_in w m ≡ may_ask key → IsMissed w now key → fits_in w key m ≡ false → code ≡ REQUEST_ENTITY_TOO_LARGE → IsDenied w now m code
+
+-- what is done with an answer towards the store, and the store then
+pub data IsStoring (w : World) (now : ℕ) (grown : Bool) (x : Numbered Exchange) (a : Answer) : Storing → List Entry → Type 0 where
+  kept : is_storable a ≡ true → entry_size (entry_made w now x a) ≤ w.setting.limits.cache_bytes → IsStoring w now grown x a Kept (put entry_key entry_size w.setting.limits.cache_bytes w.setting.limits.cache_entries (entry_made w now x a) w.store)
+  too_large : is_storable a ≡ true → w.setting.limits.cache_bytes < entry_size (entry_made w now x a) → IsStoring w now grown x a TooLarge (others entry_key x.1.key w.store)
+  no_memory : is_storable a ≡ true → entry_size (entry_made w now x a) ≤ w.setting.limits.cache_bytes → of_key entry_key x.1.key w.store ≡ None → grown ≡ false → IsStoring w now grown x a NoMemory w.store
+  not_stored : is_storable a ≡ false → IsStoring w now grown x a NotStored w.store
+
 -- the cases of a step, each with what is known in it
-pub data Rule (w : World) (now draw : ℕ) : Event → Step → Type 0 where
-  refusing : (client : Endpoint) (bytes : List ℕ) (m : Message) (code : Code) → IsBytes bytes → Asked w bytes m → Deserves w.setting m code → has_ids 1 w ≡ true → Rule w now draw (arrival client bytes) (refuses w now client m code)
-  lacking : (client : Endpoint) (bytes : List ℕ) (m : Message) → IsBytes bytes → Asked w bytes m → has_ids 1 w ≡ false → Rule w now draw (arrival client bytes) (lacks_id w now)
-  overloading : (client : Endpoint) (bytes : List ℕ) (m : Message) (key : CacheKey) → IsBytes bytes → Asked w bytes m → verdict_in w m ≡ may_ask key → fits_in w key m ≡ true → has_room w ≡ false → has_ids 1 w ≡ true → Rule w now draw (arrival client bytes) (overloads w now client m)
-  opening : (client : Endpoint) (bytes : List ℕ) (m : Message) (key : CacheKey) → IsBytes bytes → Asked w bytes m → verdict_in w m ≡ may_ask key → fits_in w key m ≡ true → has_room w ≡ true → Rule w now draw (arrival client bytes) (opens w now client m key)
-  answering : (source : Endpoint) (bytes : List ℕ) (m : Message) (x : Numbered Exchange) → IsBytes bytes → message_in w.setting.limits.datagram bytes ≡ Some m → (is_ack m.kind && is_response m.code) ≡ true → awaiting w source m ≡ Some x → Rule w now draw (arrival source bytes) (answers w now m x)
-  rejecting : (source : Endpoint) (bytes : List ℕ) (head : Head) → head_at bytes ≡ Some head → is_con head.kind ≡ true → Rule w now draw (arrival source bytes) (rejects w now source head.id)
-  ignoring : (source : Endpoint) (bytes : List ℕ) → IsNothing w source bytes → Rule w now draw (arrival source bytes) (ignores w now)
-  forwarding : (x : Numbered Exchange) → if_due now (least (items_of w)) ≡ Some (sending x) → Rule w now draw tick (sends w now x)
-  delivering : (v : Numbered Waiter) (a : Answer) → if_due now (least (items_of w)) ≡ Some (serving v a) → Rule w now draw tick (delivers w now v a)
-  idling : if_due now (least (items_of w)) ≡ None → Rule w now draw tick (idles w now)
+pub data Rule (w : World) (now draw : ℕ) (grown : Bool) : Event → Step → Type 0 where
+  refusing : (client : Endpoint) (bytes : List ℕ) (m : Message) (code : Code) → IsFirst w now client bytes m → IsDenied w now m code → can_reply w m.kind ≡ true → Rule w now draw grown (arrival client bytes) (remembers now client m (refuses w now client m code))
+  lacking : (client : Endpoint) (bytes : List ℕ) (m : Message) → IsFirst w now client bytes m → can_reply w m.kind ≡ false → Rule w now draw grown (arrival client bytes) (remembers now client m (lacks_id w now))
+  overloading : (client : Endpoint) (bytes : List ℕ) (m : Message) (key : CacheKey) → IsFirst w now client bytes m → verdict_in w m ≡ may_ask key → IsMissed w now key → fits_in w key m ≡ true → can_open w m.kind ≡ false → can_reply w m.kind ≡ true → Rule w now draw grown (arrival client bytes) (remembers now client m (overloads w now client m))
+  opening : (client : Endpoint) (bytes : List ℕ) (m : Message) (key : CacheKey) → IsFirst w now client bytes m → verdict_in w m ≡ may_ask key → IsMissed w now key → fits_in w key m ≡ true → can_open w m.kind ≡ true → Rule w now draw grown (arrival client bytes) (remembers now client m (opens w now client m key))
+  hitting : (client : Endpoint) (bytes : List ℕ) (m : Message) (key : CacheKey) (entry : Entry) → IsFirst w now client bytes m → verdict_in w m ≡ may_ask key → of_key entry_key key w.store ≡ Some entry → is_usable now entry.1 ≡ true → can_reply w m.kind ≡ true → Rule w now draw grown (arrival client bytes) (remembers now client m (hits w now client m key entry.1))
+  repeating : (client : Endpoint) (bytes : List ℕ) (m : Message) (known : Record) → IsBytes bytes → Asked w bytes m → known_of w now client m ≡ Some known → Rule w now draw grown (arrival client bytes) (repeats w now client known.reply)
+  forgetting : (client : Endpoint) (bytes : List ℕ) (m : Message) → IsBytes bytes → Asked w bytes m → known_of w now client m ≡ None → has_record_room w now m.kind ≡ false → Rule w now draw grown (arrival client bytes) (forgets w now)
+  answering : (source : Endpoint) (bytes : List ℕ) (m : Message) (x : Numbered Exchange) (storing : Storing) (store : List Entry) → IsBytes bytes → message_in w.setting.limits.datagram bytes ≡ Some m → (is_ack m.kind && is_response m.code) ≡ true → awaiting w source m ≡ Some x → IsStoring w now grown x (answer_of w.setting.limits.datagram now m) storing store → Rule w now draw grown (arrival source bytes) (answers_so w now x (answer_of w.setting.limits.datagram now m) storing store)
+  rejecting : (source : Endpoint) (bytes : List ℕ) (head : Head) → head_at bytes ≡ Some head → is_con head.kind ≡ true → IsNothing w source bytes → Rule w now draw grown (arrival source bytes) (rejects w now source head.id)
+  ignoring : (source : Endpoint) (bytes : List ℕ) → IsNotCon bytes → IsNothing w source bytes → Rule w now draw grown (arrival source bytes) (ignores w now)
+  forwarding : (x : Numbered Exchange) → if_due now (least (items_of w)) ≡ Some (sending x) → Rule w now draw grown tick (sends w now x)
+  delivering : (v : Numbered Waiter) (a : Answer) → if_due now (least (items_of w)) ≡ Some (serving v a) → Rule w now draw grown tick (delivers w now v a)
+  idling : if_due now (least (items_of w)) ≡ None → Rule w now draw grown tick (idles w now)
 
 -- ---- requests
 
 -- a request that deserves a code is refused with it, if an id is free
-rule_refusal : (w : World) (now draw : ℕ) (client : Endpoint) (bytes : List ℕ) (m : Message) (code : Code) → IsBytes bytes → Asked w bytes m → Deserves w.setting m code → Rule w now draw (arrival client bytes) (turns_down w now client m code)
-rule_refusal w now draw client bytes m code fits asked deserved = go (has_ids 1 w) refl
+rule_refusal : (w : World) (now draw : ℕ) (grown : Bool) (client : Endpoint) (bytes : List ℕ) (m : Message) (code : Code) → IsFirst w now client bytes m → IsDenied w now m code → Rule w now draw grown (arrival client bytes) (remembers now client m (turns_down w now client m code))
+rule_refusal w now draw grown client bytes m code first denied = go (can_reply w m.kind) refl
   where
-    go : (b : Bool) → has_ids 1 w ≡ b → Rule w now draw (arrival client bytes) (cond b (refuses w now client m code) (lacks_id w now))
-    go true free = refusing client bytes m code fits asked deserved free
-    go false free = lacking client bytes m fits asked free
+    go : (b : Bool) → can_reply w m.kind ≡ b → Rule w now draw grown (arrival client bytes) (remembers now client m (cond b (refuses w now client m code) (lacks_id w now)))
+    go true free = refusing client bytes m code first denied free
+    go false free = lacking client bytes m first free
 
--- a request for a key is a case by its length and by room
-rule_miss : (w : World) (now draw : ℕ) (client : Endpoint) (bytes : List ℕ) (m : Message) (key : CacheKey) → IsBytes bytes → Asked w bytes m → verdict_in w m ≡ may_ask key → Rule w now draw (arrival client bytes) (on_miss w now client m key)
-rule_miss w now draw client bytes m key fits asked e = length (fits_in w key m) refl
+-- a request for a key that is missed is a case by its length and by room
+rule_miss : (w : World) (now draw : ℕ) (grown : Bool) (client : Endpoint) (bytes : List ℕ) (m : Message) (key : CacheKey) → IsFirst w now client bytes m → verdict_in w m ≡ may_ask key → IsMissed w now key → Rule w now draw grown (arrival client bytes) (remembers now client m (on_miss w now client m key))
+rule_miss w now draw grown client bytes m key first e missed = by_fit (fits_in w key m) refl
   where
-    ids : fits_in w key m ≡ true → has_room w ≡ false → (b : Bool) → has_ids 1 w ≡ b → Rule w now draw (arrival client bytes) (cond b (overloads w now client m) (lacks_id w now))
-    ids short full true free = overloading client bytes m key fits asked e short full free
-    ids short full false free = lacking client bytes m fits asked free
+    ids : fits_in w key m ≡ true → can_open w m.kind ≡ false → (b : Bool) → can_reply w m.kind ≡ b → Rule w now draw grown (arrival client bytes) (remembers now client m (cond b (overloads w now client m) (lacks_id w now)))
+    ids short full true free = overloading client bytes m key first e missed short full free
+    ids short full false free = lacking client bytes m first free
 
-    room : fits_in w key m ≡ true → (b : Bool) → has_room w ≡ b → Rule w now draw (arrival client bytes) (cond b (opens w now client m key) (turns_away w now client m))
-    room short true there = opening client bytes m key fits asked e short there
-    room short false full = ids short full (has_ids 1 w) refl
+    room : fits_in w key m ≡ true → (b : Bool) → can_open w m.kind ≡ b → Rule w now draw grown (arrival client bytes) (remembers now client m (cond b (opens w now client m key) (turns_away w now client m)))
+    room short true there = opening client bytes m key first e missed short there
+    room short false full = ids short full (can_reply w m.kind) refl
 
-    length : (b : Bool) → fits_in w key m ≡ b → Rule w now draw (arrival client bytes) (cond b (cond (has_room w) (opens w now client m key) (turns_away w now client m)) (turns_down w now client m REQUEST_ENTITY_TOO_LARGE))
-    length true short = room short (has_room w) refl
-    length false long = rule_refusal w now draw client bytes m REQUEST_ENTITY_TOO_LARGE fits asked (by_length key e long refl)
+    by_fit : (b : Bool) → fits_in w key m ≡ b → Rule w now draw grown (arrival client bytes) (remembers now client m (cond b (cond (can_open w m.kind) (opens w now client m key) (turns_away w now client m)) (turns_down w now client m REQUEST_ENTITY_TOO_LARGE)))
+    by_fit true short = room short (can_open w m.kind) refl
+    by_fit false long = rule_refusal w now draw grown client bytes m REQUEST_ENTITY_TOO_LARGE first (by_length key e missed long refl)
+
+-- a request for a key is a case by the entry of the key
+rule_entry : (w : World) (now draw : ℕ) (grown : Bool) (client : Endpoint) (bytes : List ℕ) (m : Message) (key : CacheKey) → IsFirst w now client bytes m → verdict_in w m ≡ may_ask key → (o : Option Entry) → of_key entry_key key w.store ≡ o → Rule w now draw grown (arrival client bytes) (remembers now client m (on_entry w now client m key o))
+rule_entry w now draw grown client bytes m key first e None none = rule_miss w now draw grown client bytes m key first e (λ entry found. absurd (let f = sym none ∙ found in cc))
+rule_entry w now draw grown client bytes m key first e (Some entry) found = go (is_usable now entry.1) refl
+  where
+    ids : is_usable now entry.1 ≡ true → (b : Bool) → can_reply w m.kind ≡ b → Rule w now draw grown (arrival client bytes) (remembers now client m (cond b (hits w now client m key entry.1) (lacks_id w now)))
+    ids usable true free = hitting client bytes m key entry first e found usable free
+    ids usable false free = lacking client bytes m first free
+
+    go : (b : Bool) → is_usable now entry.1 ≡ b → Rule w now draw grown (arrival client bytes) (remembers now client m (cond b (cond (can_reply w m.kind) (hits w now client m key entry.1) (lacks_id w now)) (on_miss w now client m key)))
+    go true usable = ids usable (can_reply w m.kind) refl
+    go false stale = rule_miss w now draw grown client bytes m key first e (λ other also. subst (λ (o : Entry). is_usable now o.1 ≡ false) (same_Some entry other (sym found ∙ also)) stale)
 
 -- a request is a case by its verdict
-rule_verdict : (w : World) (now draw : ℕ) (client : Endpoint) (bytes : List ℕ) (m : Message) → IsBytes bytes → Asked w bytes m → (v : Verdict) → verdict_in w m ≡ v → Rule w now draw (arrival client bytes) (on_verdict w now client m v)
-rule_verdict w now draw client bytes m fits asked (refused_with code) e = rule_refusal w now draw client bytes m code fits asked (by_verdict e)
-rule_verdict w now draw client bytes m fits asked (may_ask key) e = rule_miss w now draw client bytes m key fits asked e
+rule_verdict : (w : World) (now draw : ℕ) (grown : Bool) (client : Endpoint) (bytes : List ℕ) (m : Message) → IsFirst w now client bytes m → (v : Verdict) → verdict_in w m ≡ v → Rule w now draw grown (arrival client bytes) (remembers now client m (on_verdict w now client m v))
+rule_verdict w now draw grown client bytes m first (refused_with code) e = rule_refusal w now draw grown client bytes m code first (by_verdict e)
+rule_verdict w now draw grown client bytes m first (may_ask key) e = rule_entry w now draw grown client bytes m key first e (of_key entry_key key w.store) refl
+
+-- a request is a case by what is known of it
+rule_known : (w : World) (now draw : ℕ) (grown : Bool) (client : Endpoint) (bytes : List ℕ) (m : Message) → IsBytes bytes → Asked w bytes m → (o : Option Record) → known_of w now client m ≡ o → Rule w now draw grown (arrival client bytes) (on_known w now client m o)
+rule_known w now draw grown client bytes m fits asked (Some known) e = repeating client bytes m known fits asked e
+rule_known w now draw grown client bytes m fits asked None e = go (has_record_room w now m.kind) refl
+  where
+    go : (b : Bool) → has_record_room w now m.kind ≡ b → Rule w now draw grown (arrival client bytes) (cond b (remembers now client m (on_new w now client m)) (forgets w now))
+    go true room = rule_verdict w now draw grown client bytes m (record { fits = fits; asked = asked; unknown = e; room = room }) (verdict_in w m) refl
+    go false room = forgetting client bytes m fits asked e room
 
 -- ---- what came
 
@@ -104,25 +158,24 @@ one_head : (bytes : List ℕ) (head : Head) → head_at bytes ≡ Some head → 
 one_head bytes head is other again also = let same : head ≡ again = same_Some head again (sym is ∙ also) in subst (λ (h : Head). is_con h.kind ≡ false) same other
 
 -- what isn't processed is rejected where it is confirmable
-rule_unprocessed : (w : World) (now draw : ℕ) (source : Endpoint) (bytes : List ℕ) (head : Head) → head_at bytes ≡ Some head → (IsNotCon bytes → IsNothing w source bytes) → Rule w now draw (arrival source bytes) (unprocessed w now source head.kind head.id)
-rule_unprocessed w now draw source bytes head is none = go (is_con head.kind) refl
+rule_unprocessed : (w : World) (now draw : ℕ) (grown : Bool) (source : Endpoint) (bytes : List ℕ) (head : Head) → head_at bytes ≡ Some head → IsNothing w source bytes → Rule w now draw grown (arrival source bytes) (unprocessed w now source head.kind head.id)
+rule_unprocessed w now draw grown source bytes head is none = go (is_con head.kind) refl
   where
-    go : (b : Bool) → is_con head.kind ≡ b → Rule w now draw (arrival source bytes) (cond b (rejects w now source head.id) (ignores w now))
-    go true con = rejecting source bytes head is con
-    go false other = ignoring source bytes (none (one_head bytes head is other))
+    go : (b : Bool) → is_con head.kind ≡ b → Rule w now draw grown (arrival source bytes) (cond b (rejects w now source head.id) (ignores w now))
+    go true con = rejecting source bytes head is con none
+    go false other = ignoring source bytes (one_head bytes head is other) none
 
 -- the message that was read is the only one
-nothing_else : (w : World) (source : Endpoint) (bytes : List ℕ) (m : Message) → message_in w.setting.limits.datagram bytes ≡ Some m → (is_non m.kind && is_request m.code) ≡ false → ((is_ack m.kind && is_response m.code) ≡ true → awaiting w source m ≡ None) → IsNotCon bytes → IsNothing w source bytes
-nothing_else w source bytes m read request response quiet =
+nothing_else : (w : World) (source : Endpoint) (bytes : List ℕ) (m : Message) → message_in w.setting.limits.datagram bytes ≡ Some m → (brings_requests m.kind && is_request m.code) ≡ false → ((is_ack m.kind && is_response m.code) ≡ true → awaiting w source m ≡ None) → IsNothing w source bytes
+nothing_else w source bytes m read request response =
     record {
-      quiet = quiet;
-      request = λ n again. subst (λ (k : Message). (is_non k.kind && is_request k.code) ≡ false) (same_Some m n (sym read ∙ again)) request;
+      request = λ n again. subst (λ (k : Message). (brings_requests k.kind && is_request k.code) ≡ false) (same_Some m n (sym read ∙ again)) request;
       response = λ n again. subst (λ (k : Message). (is_ack k.kind && is_response k.code) ≡ true → awaiting w source k ≡ None) (same_Some m n (sym read ∙ again)) response;
     }
 
 -- where no message is read, nothing is there
-nothing_read : (w : World) (source : Endpoint) (bytes : List ℕ) → message_in w.setting.limits.datagram bytes ≡ None → IsNotCon bytes → IsNothing w source bytes
-nothing_read w source bytes unread quiet = record { quiet = quiet; request = λ n again. absurd (let g = sym unread ∙ again in cc); response = λ n again. absurd (let g = sym unread ∙ again in cc) }
+nothing_read : (w : World) (source : Endpoint) (bytes : List ℕ) → message_in w.setting.limits.datagram bytes ≡ None → IsNothing w source bytes
+nothing_read w source bytes unread = record { request = λ n again. absurd (let g = sym unread ∙ again in cc); response = λ n again. absurd (let g = sym unread ∙ again in cc) }
 
 -- an acknowledgement isn't confirmable
 ack_not_con : (k : Kind) (b : Bool) → (is_ack k && b) ≡ true → is_con k ≡ false
@@ -132,44 +185,67 @@ ack_not_con Ack b e = refl
 ack_not_con Rst b e = refl
 
 -- a message that is read has its own head
-head_of_read : (w : World) (bytes : List ℕ) (m : Message) → IsBytes bytes → message_in w.setting.limits.datagram bytes ≡ Some m → head_at bytes ≡ Some (record { kind = m.kind; code = m.code; id = m.id })
+pub head_of_read : (w : World) (bytes : List ℕ) (m : Message) → IsBytes bytes → message_in w.setting.limits.datagram bytes ≡ Some m → head_at bytes ≡ Some (record { kind = m.kind; code = m.code; id = m.id })
 head_of_read w bytes m fits read = head_read bytes m (message_in-is w.setting.limits.datagram bytes m fits read).2
 
+-- an answer is a case by what is done with it towards the store
+rule_answer : (w : World) (now draw : ℕ) (grown : Bool) (source : Endpoint) (bytes : List ℕ) (m : Message) (x : Numbered Exchange) → IsBytes bytes → message_in w.setting.limits.datagram bytes ≡ Some m → (is_ack m.kind && is_response m.code) ≡ true → awaiting w source m ≡ Some x → Rule w now draw grown (arrival source bytes) (answers w now grown m x)
+rule_answer w now draw grown source bytes m x fits read response e = storable (is_storable a) refl
+  where
+    a : Answer
+    a = answer_of w.setting.limits.datagram now m
+
+    case : (storing : Storing) (store : List Entry) → IsStoring w now grown x a storing store → Rule w now draw grown (arrival source bytes) (answers_so w now x a storing store)
+    case storing store s = answering source bytes m x storing store fits read response e s
+
+    fitting : is_storable a ≡ true → entry_size (entry_made w now x a) ≤ w.setting.limits.cache_bytes → (o : Option Entry) → of_key entry_key x.1.key w.store ≡ o → (g : Bool) → grown ≡ g → Rule w now draw grown (arrival source bytes) (keeps_if w now g x a o)
+    fitting can small None new true g = case Kept _ (kept can small)
+    fitting can small None new false g = case NoMemory _ (no_memory can small new g)
+    fitting can small (Some old) there g f = case Kept _ (kept can small)
+
+    sized : is_storable a ≡ true → (b : Bool) → nat_le (entry_size (entry_made w now x a)) w.setting.limits.cache_bytes ≡ b → Rule w now draw grown (arrival source bytes) (cond b (keeps_if w now grown x a (of_key entry_key x.1.key w.store)) (answers_so w now x a TooLarge (others entry_key x.1.key w.store)))
+    sized can true small = fitting can (leb-true _ _ small) (of_key entry_key x.1.key w.store) refl grown refl
+    sized can false large = case TooLarge _ (too_large can (leb-false _ _ large))
+
+    storable : (b : Bool) → is_storable a ≡ b → Rule w now draw grown (arrival source bytes) (cond b (stores w now grown x a) (answers_so w now x a NotStored w.store))
+    storable true can = sized can (nat_le (entry_size (entry_made w now x a)) w.setting.limits.cache_bytes) refl
+    storable false not = case NotStored _ (not_stored not)
+
 -- a response is a case by what awaits it
-rule_response : (w : World) (now draw : ℕ) (source : Endpoint) (bytes : List ℕ) (m : Message) → IsBytes bytes → message_in w.setting.limits.datagram bytes ≡ Some m → (is_non m.kind && is_request m.code) ≡ false → (is_ack m.kind && is_response m.code) ≡ true
-    → (o : Option (Numbered Exchange)) → awaiting w source m ≡ o → Rule w now draw (arrival source bytes) (on_awaited w now m o)
-rule_response w now draw source bytes m fits read request response None e = ignoring source bytes (nothing_else w source bytes m read request (λ _. e) (one_head bytes (record { kind = m.kind; code = m.code; id = m.id }) (head_of_read w bytes m fits read) (ack_not_con m.kind (is_response m.code) response)))
-rule_response w now draw source bytes m fits read request response (Some x) e = answering source bytes m x fits read response e
+rule_response : (w : World) (now draw : ℕ) (grown : Bool) (source : Endpoint) (bytes : List ℕ) (m : Message) → IsBytes bytes → message_in w.setting.limits.datagram bytes ≡ Some m → (brings_requests m.kind && is_request m.code) ≡ false → (is_ack m.kind && is_response m.code) ≡ true
+    → (o : Option (Numbered Exchange)) → awaiting w source m ≡ o → Rule w now draw grown (arrival source bytes) (on_awaited w now grown m o)
+rule_response w now draw grown source bytes m fits read request response None e = ignoring source bytes (one_head bytes (record { kind = m.kind; code = m.code; id = m.id }) (head_of_read w bytes m fits read) (ack_not_con m.kind (is_response m.code) response)) (nothing_else w source bytes m read request (λ _. e))
+rule_response w now draw grown source bytes m fits read request response (Some x) e = rule_answer w now draw grown source bytes m x fits read response e
 
 -- a message is a case by its type and its code
-rule_message : (w : World) (now draw : ℕ) (source : Endpoint) (bytes : List ℕ) (m : Message) → IsBytes bytes → message_in w.setting.limits.datagram bytes ≡ Some m → Rule w now draw (arrival source bytes) (on_message w now source m)
-rule_message w now draw source bytes m fits read = request (is_non m.kind && is_request m.code) refl
+rule_message : (w : World) (now draw : ℕ) (grown : Bool) (source : Endpoint) (bytes : List ℕ) (m : Message) → IsBytes bytes → message_in w.setting.limits.datagram bytes ≡ Some m → Rule w now draw grown (arrival source bytes) (on_message w now grown source m)
+rule_message w now draw grown source bytes m fits read = request (brings_requests m.kind && is_request m.code) refl
   where
-    response : (is_non m.kind && is_request m.code) ≡ false → (b : Bool) → (is_ack m.kind && is_response m.code) ≡ b → Rule w now draw (arrival source bytes) (cond b (on_response w now source m) (unprocessed w now source m.kind m.id))
-    response other true e = rule_response w now draw source bytes m fits read other e (awaiting w source m) refl
-    response other false e = rule_unprocessed w now draw source bytes (record { kind = m.kind; code = m.code; id = m.id }) (head_of_read w bytes m fits read) (nothing_else w source bytes m read other (λ t. absurd (let g = sym t ∙ e in cc)))
+    response : (brings_requests m.kind && is_request m.code) ≡ false → (b : Bool) → (is_ack m.kind && is_response m.code) ≡ b → Rule w now draw grown (arrival source bytes) (cond b (on_response w now grown source m) (unprocessed w now source m.kind m.id))
+    response other true e = rule_response w now draw grown source bytes m fits read other e (awaiting w source m) refl
+    response other false e = rule_unprocessed w now draw grown source bytes (record { kind = m.kind; code = m.code; id = m.id }) (head_of_read w bytes m fits read) (nothing_else w source bytes m read other (λ t. absurd (let g = sym t ∙ e in cc)))
 
-    request : (b : Bool) → (is_non m.kind && is_request m.code) ≡ b → Rule w now draw (arrival source bytes) (cond b (on_request w now source m) (cond (is_ack m.kind && is_response m.code) (on_response w now source m) (unprocessed w now source m.kind m.id)))
-    request true e = rule_verdict w now draw source bytes m fits (record { read = read; request = e }) (verdict_in w m) refl
+    request : (b : Bool) → (brings_requests m.kind && is_request m.code) ≡ b → Rule w now draw grown (arrival source bytes) (cond b (on_request w now source m) (cond (is_ack m.kind && is_response m.code) (on_response w now grown source m) (unprocessed w now source m.kind m.id)))
+    request true e = rule_known w now draw grown source bytes m fits (record { read = read; request = e }) (known_of w now source m) refl
     request false e = response e (is_ack m.kind && is_response m.code) refl
 
 -- a datagram is a case by what is read of it
-rule_read : (w : World) (now draw : ℕ) (source : Endpoint) (bytes : List ℕ) → IsBytes bytes → (h : Option Head) → head_at bytes ≡ h → (o : Option Message) → message_in w.setting.limits.datagram bytes ≡ o → Rule w now draw (arrival source bytes) (on_read w now source h o)
-rule_read w now draw source bytes fits None is None read = ignoring source bytes (nothing_read w source bytes read (λ head also. absurd (let g = sym is ∙ also in cc)))
-rule_read w now draw source bytes fits None is (Some m) read =
+rule_read : (w : World) (now draw : ℕ) (grown : Bool) (source : Endpoint) (bytes : List ℕ) → IsBytes bytes → (h : Option Head) → head_at bytes ≡ h → (o : Option Message) → message_in w.setting.limits.datagram bytes ≡ o → Rule w now draw grown (arrival source bytes) (on_read w now grown source h o)
+rule_read w now draw grown source bytes fits None is None read = ignoring source bytes (λ head also. absurd (let g = sym is ∙ also in cc)) (nothing_read w source bytes read)
+rule_read w now draw grown source bytes fits None is (Some m) read =
     absurd (let head = head_read bytes m (message_in-is w.setting.limits.datagram bytes m fits read).2 in let g = sym is ∙ head in cc)
-rule_read w now draw source bytes fits (Some head) is None read = rule_unprocessed w now draw source bytes head is (nothing_read w source bytes read)
-rule_read w now draw source bytes fits (Some head) is (Some m) read = rule_message w now draw source bytes m fits read
+rule_read w now draw grown source bytes fits (Some head) is None read = rule_unprocessed w now draw grown source bytes head is (nothing_read w source bytes read)
+rule_read w now draw grown source bytes fits (Some head) is (Some m) read = rule_message w now draw grown source bytes m fits read
 
 -- ---- ticks
 
 -- a tick is a case by what is due
-rule_item : (w : World) (now draw : ℕ) (o : Option Item) → if_due now (least (items_of w)) ≡ o → Rule w now draw tick (on_item w now o)
-rule_item w now draw None e = idling e
-rule_item w now draw (Some (sending x)) e = forwarding x e
-rule_item w now draw (Some (serving v a)) e = delivering v a e
+rule_item : (w : World) (now draw : ℕ) (grown : Bool) (o : Option Item) → if_due now (least (items_of w)) ≡ o → Rule w now draw grown tick (on_item w now o)
+rule_item w now draw grown None e = idling e
+rule_item w now draw grown (Some (sending x)) e = forwarding x e
+rule_item w now draw grown (Some (serving v a)) e = delivering v a e
 
 -- a step is one of the cases
-pub rule_of : (w : World) (now draw : ℕ) (event : Event) → IsEvent event → Rule w now draw event (step_of w now draw event)
-rule_of w now draw (arrival source bytes) fits = rule_read w now draw source bytes fits (head_at bytes) refl (message_in w.setting.limits.datagram bytes) refl
-rule_of w now draw tick fits = rule_item w now draw (if_due now (least (items_of w))) refl
+pub rule_of : (w : World) (now draw : ℕ) (grown : Bool) (event : Event) → IsEvent event → Rule w now draw grown event (step_of w now draw grown event)
+rule_of w now draw grown (arrival source bytes) fits = rule_read w now draw grown source bytes fits (head_at bytes) refl (message_in w.setting.limits.datagram bytes) refl
+rule_of w now draw grown tick fits = rule_item w now draw grown (if_due now (least (items_of w))) refl

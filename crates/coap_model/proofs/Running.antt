@@ -1,5 +1,5 @@
 -- Runs of any length keep what is carried, and no step changes the setting.
-use Rattle.std.proofs.Common.{◌≡◌, ℕ, ◌+◌, List, [], ◌∷◌, refl, sym, ◌∙◌, subst}
+use Rattle.std.proofs.Common.{◌≡◌, ℕ, Bool, ◌+◌, List, [], ◌∷◌, refl, sym, ◌∙◌, subst, Option, Some, None}
 use Rattle.coap_routes.specs.Routes.{AreRoutes}
 use Rattle.coap_model.specs.Setting.{Setting}
 use Rattle.coap_model.specs.Events.{Event, IsEvent}
@@ -7,67 +7,82 @@ use Rattle.coap_model.specs.World.{World, Step}
 use Rattle.coap_model.specs.Step.{step_of}
 use Rattle.coap_model.specs.Carries.{Carries}
 use Rattle.coap_model.specs.Promised.{Promised}
-use Rattle.coap_model.specs.Runs.{Turn, AreTurns, Run, new_run, one_turn, run_of}
-use Rattle.coap_model.proofs.Rules.{Rule, refusing, lacking, overloading, opening, answering, rejecting, ignoring, forwarding, delivering, idling, rule_of}
+use Rattle.coap_model.specs.Requests.{repeats}
+use Rattle.coap_model.specs.Runs.{Taken, turns_of, AreTurns, Run, new_run, one_turn, run_of}
+use Rattle.coap_model.proofs.Rules.{Rule, refusing, lacking, overloading, hitting, opening, repeating, forgetting, answering, rejecting, ignoring, forwarding, delivering, idling, rule_of}
 use Rattle.coap_model.proofs.Carrying.{keeps_step, starts}
 use Rattle.coap_model.proofs.Promising.{promises}
 
 -- no case of a step changes the setting
-rule_setting : {w : World} {now draw : ℕ} {event : Event} {s : Step} → Rule w now draw event s → s.world.setting ≡ w.setting
-rule_setting (refusing client bytes m code fits asked deserved free) = refl
-rule_setting (lacking client bytes m fits asked free) = refl
-rule_setting (overloading client bytes m key fits asked verdict short full free) = refl
-rule_setting (opening client bytes m key fits asked verdict short room) = refl
-rule_setting (answering source bytes m x fits read response found) = refl
-rule_setting (rejecting source bytes head is con) = refl
-rule_setting (ignoring source bytes none) = refl
+rule_setting : {w : World} {now draw : ℕ} {grown : Bool} {event : Event} {s : Step} → Rule w now draw grown event s → s.world.setting ≡ w.setting
+rule_setting (refusing client bytes m code first denied free) = refl
+rule_setting (lacking client bytes m first free) = refl
+rule_setting (overloading client bytes m key first verdict none short full free) = refl
+rule_setting (hitting client bytes m key entry first verdict found usable free) = refl
+rule_setting (opening client bytes m key first verdict none short room) = refl
+rule_setting {w = w} {now = now} (repeating client bytes m known fits asked found) = repeated known.reply
+  where
+    repeated : (o : Option (List ℕ)) → (repeats w now client o).world.setting ≡ w.setting
+    repeated None = refl
+    repeated (Some reply) = refl
+rule_setting (forgetting client bytes m fits asked unknown full) = refl
+rule_setting (answering source bytes m x storing store fits read response found stored) = refl
+rule_setting (rejecting source bytes head is con none) = refl
+rule_setting (ignoring source bytes quiet none) = refl
 rule_setting (forwarding x due) = refl
 rule_setting (delivering v a due) = refl
 rule_setting (idling nothing) = refl
 
 -- so no step does
-pub setting_stays : (w : World) (now draw : ℕ) (event : Event) → IsEvent event → (step_of w now draw event).world.setting ≡ w.setting
-setting_stays w now draw event fits = rule_setting (rule_of w now draw event fits)
+pub setting_stays : (w : World) (now draw : ℕ) (grown : Bool) (event : Event) → IsEvent event → (step_of w now draw grown event).world.setting ≡ w.setting
+setting_stays w now draw grown event fits = rule_setting (rule_of w now draw grown event fits)
 
 -- the clock goes to the moment of the step, and one event on
 abbrev IsOneOn : World → ℕ → World → Type 0
 IsOneOn w now v = (v.last ≡ now) × (v.events ≡ w.events + 1)
 
 -- in each case the clock goes on by one event
-rule_clock : {w : World} {now draw : ℕ} {event : Event} {s : Step} → Rule w now draw event s → IsOneOn w now s.world
-rule_clock (refusing client bytes m code fits asked deserved free) = (refl, refl)
-rule_clock (lacking client bytes m fits asked free) = (refl, refl)
-rule_clock (overloading client bytes m key fits asked verdict short full free) = (refl, refl)
-rule_clock (opening client bytes m key fits asked verdict short room) = (refl, refl)
-rule_clock (answering source bytes m x fits read response found) = (refl, refl)
-rule_clock (rejecting source bytes head is con) = (refl, refl)
-rule_clock (ignoring source bytes none) = (refl, refl)
+rule_clock : {w : World} {now draw : ℕ} {grown : Bool} {event : Event} {s : Step} → Rule w now draw grown event s → IsOneOn w now s.world
+rule_clock (refusing client bytes m code first denied free) = (refl, refl)
+rule_clock (lacking client bytes m first free) = (refl, refl)
+rule_clock (overloading client bytes m key first verdict none short full free) = (refl, refl)
+rule_clock (hitting client bytes m key entry first verdict found usable free) = (refl, refl)
+rule_clock (opening client bytes m key first verdict none short room) = (refl, refl)
+rule_clock {w = w} {now = now} (repeating client bytes m known fits asked found) = repeated known.reply
+  where
+    repeated : (o : Option (List ℕ)) → IsOneOn w now (repeats w now client o).world
+    repeated None = (refl, refl)
+    repeated (Some reply) = (refl, refl)
+rule_clock (forgetting client bytes m fits asked unknown full) = (refl, refl)
+rule_clock (answering source bytes m x storing store fits read response found stored) = (refl, refl)
+rule_clock (rejecting source bytes head is con none) = (refl, refl)
+rule_clock (ignoring source bytes quiet none) = (refl, refl)
 rule_clock (forwarding x due) = (refl, refl)
 rule_clock (delivering v a due) = (refl, refl)
 rule_clock (idling nothing) = (refl, refl)
 
 -- so it does in each step
-pub clock_after : (w : World) (now draw : ℕ) (event : Event) → IsEvent event → ((step_of w now draw event).world.last ≡ now) × ((step_of w now draw event).world.events ≡ w.events + 1)
-clock_after w now draw event fits = rule_clock (rule_of w now draw event fits)
+pub clock_after : (w : World) (now draw : ℕ) (grown : Bool) (event : Event) → IsEvent event → ((step_of w now draw grown event).world.last ≡ now) × ((step_of w now draw grown event).world.events ≡ w.events + 1)
+clock_after w now draw grown event fits = rule_clock (rule_of w now draw grown event fits)
 
 -- runs keep what is carried
-pub runs_carry : (r : Run) (turns : List Turn) → Carries r.history r.world → AreTurns r.world.last turns → Carries (run_of r turns).history (run_of r turns).world
+pub runs_carry : (r : Run) (turns : List Taken) → Carries r.history r.world → AreTurns r.world.last (turns_of turns) → Carries (run_of r turns).history (run_of r turns).world
 runs_carry r [] c are = c
 runs_carry r (t ∷ turns) c are =
-    let next = keeps_step r.world r.history t.now t.draw t.event c are.0 are.1 in
-    runs_carry (one_turn r t) turns next (subst (λ (last : ℕ). AreTurns last turns) (sym (clock_after r.world t.now t.draw t.event are.1).0) are.2)
+    let next = keeps_step r.world r.history t.turn.now t.turn.draw t.grown t.turn.event c are.0 are.1 in
+    runs_carry (one_turn r t) turns next (subst (λ (last : ℕ). AreTurns last (turns_of turns)) (sym (clock_after r.world t.turn.now t.turn.draw t.grown t.turn.event are.1).0) are.2)
 
 -- and the setting
-setting_after : (r : Run) (turns : List Turn) → AreTurns r.world.last turns → Carries r.history r.world → (run_of r turns).world.setting ≡ r.world.setting
+setting_after : (r : Run) (turns : List Taken) → AreTurns r.world.last (turns_of turns) → Carries r.history r.world → (run_of r turns).world.setting ≡ r.world.setting
 setting_after r [] are c = refl
 setting_after r (t ∷ turns) are c =
-    let next = keeps_step r.world r.history t.now t.draw t.event c are.0 are.1 in
-    setting_after (one_turn r t) turns (subst (λ (last : ℕ). AreTurns last turns) (sym (clock_after r.world t.now t.draw t.event are.1).0) are.2) next ∙ setting_stays r.world t.now t.draw t.event are.1
+    let next = keeps_step r.world r.history t.turn.now t.turn.draw t.grown t.turn.event c are.0 are.1 in
+    setting_after (one_turn r t) turns (subst (λ (last : ℕ). AreTurns last (turns_of turns)) (sym (clock_after r.world t.turn.now t.turn.draw t.grown t.turn.event are.1).0) are.2) next ∙ setting_stays r.world t.turn.now t.turn.draw t.grown t.turn.event are.1
 
 -- so a run of a new proxy keeps its setting
-pub runs_keep_setting : (setting : Setting) (turns : List Turn) → AreRoutes setting.routes → AreTurns 0 turns → (run_of (new_run setting) turns).world.setting ≡ setting
+pub runs_keep_setting : (setting : Setting) (turns : List Taken) → AreRoutes setting.routes → AreTurns 0 (turns_of turns) → (run_of (new_run setting) turns).world.setting ≡ setting
 runs_keep_setting setting turns routes are = setting_after (new_run setting) turns are (starts setting routes)
 
 -- and is promised
-pub runs_promise : (setting : Setting) (turns : List Turn) → AreRoutes setting.routes → AreTurns 0 turns → Promised (run_of (new_run setting) turns).history (run_of (new_run setting) turns).world
+pub runs_promise : (setting : Setting) (turns : List Taken) → AreRoutes setting.routes → AreTurns 0 (turns_of turns) → Promised (run_of (new_run setting) turns).history (run_of (new_run setting) turns).world
 runs_promise setting turns routes are = promises _ _ (runs_carry (new_run setting) turns (starts setting routes) are)

@@ -367,20 +367,20 @@ case-short most id m token wide short fit plain small (as_valid left tag eight) 
 case-short most id m token wide short fit plain small (as_aged left) =
     omega (arith, spelling-length (showing.addressed Non id token (aged m left)), spelling-length (widest m), short, fit, shorter-value (uint_spelling left) (uint_spelling greatest_max_age) m.options (uint_spelling-four left small) four-bytes)
 
--- what is shown of an answer fits a datagram
-pub answer-fits : (most now got id : ℕ) (bytes : List ℕ) (m : Message) (token : List ℕ) (tags : List (List ℕ)) → 128 ≤ most → IsBytes bytes → Spells bytes m → length token ≤ 8 → length (spelling (shown now (answer_of most got m) id token tags)) ≤ most
+-- what is shown of an answer fits a datagram, and a longer one
+pub answer-fits : (most longest now got id : ℕ) (bytes : List ℕ) (m : Message) (token : List ℕ) (tags : List (List ℕ)) → 128 ≤ longest → most ≤ longest → IsBytes bytes → Spells bytes m → length token ≤ 8 → length (spelling (shown now (answer_of most got m) id token tags)) ≤ longest
 unfolding answer_of
-answer-fits most now got id bytes m token tags wide fit s short = go (is_passed_on most m) refl
+answer-fits most longest now got id bytes m token tags wide no_longer fit s short = go (is_passed_on most m) refl
   where
-    passed : is_passed_on most m ≡ true → length (spelling (shown now (record { message = without_observe m; got = got; own = false }) id token tags)) ≤ most
+    passed : is_passed_on most m ≡ true → length (spelling (shown now (record { message = without_observe m; got = got; own = false }) id token tags)) ≤ longest
     passed e =
         let a : Answer = record { message = without_observe m; got = got; own = false } in
         let parts = and_parts (is_screened m) (not (is_code m.code VALID) && fits most (without_observe m)) e in
         let more = and_parts (not (is_code m.code VALID)) (fits most (without_observe m)) parts.1 in
         let all = kept-all (λ o. not (o.number == 6)) m.options (values-bytes 0 s.options m.options s.options_are (options-bytes bytes m s fit)) in
         let small : left_of now a < 2 ^ 32 = let age = age-small (without_observe m) all in omega (arith, age) in
-        case-short most id (without_observe m) token wide short (leb-true _ _ more.1) (within-widest m s.message.options parts.0) small (shown-as (without_observe m) (left_told now a) tags)
+        case-short longest id (without_observe m) token wide short (let fits_most = leb-true _ _ more.1 in omega (arith, no_longer, fits_most)) (within-widest m s.message.options parts.0) small (shown-as (without_observe m) (left_told now a) tags)
 
-    go : (b : Bool) → is_passed_on most m ≡ b → length (spelling (shown now (cond {A = Answer} b (record { message = without_observe m; got = got; own = false }) (record { message = bad_gateway; got = got; own = true })) id token tags)) ≤ most
+    go : (b : Bool) → is_passed_on most m ≡ b → length (spelling (shown now (cond {A = Answer} b (record { message = without_observe m; got = got; own = false }) (record { message = bad_gateway; got = got; own = true })) id token tags)) ≤ longest
     go true e = passed e
     go false e = omega (arith, wide, short, spelling-length (shown now (record { message = bad_gateway; got = got; own = true }) id token tags))

@@ -10,7 +10,7 @@ use Rattle.coap_routes.specs.Request.{request_target}
 use Rattle.coap_cache.specs.declared.key.CacheKey.{CacheKey}
 use Rattle.coap_cache.specs.declared.stored.Stored.{Stored}
 use Rattle.coap_cache.specs.Entries.{Entry, entry_key, entry_size, stored_for, IsStore}
-use Rattle.coap_cache.specs.Lists.{has_key, of_key, others, put, total, used}
+use Rattle.coap_cache.specs.Lists.{has_key, of_key, others, put, used, total}
 use Rattle.coap_cache.proofs.Distinct.{of_key-key}
 use Rattle.coap_cache.proofs.Held.{IsStore-others, IsStore-used, IsStore-put}
 use Rattle.coap_model.specs.declared.report.Outcome.TheVariants.{Answered, Hit}

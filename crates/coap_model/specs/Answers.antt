@@ -1,5 +1,5 @@
 -- What a proxy makes of a response, and what its clients are shown of that.
-use Rattle.std.specs.Prelude.{ℕ, ◌-◌, ◌==◌, ◌&&◌, Bool, true, false, not, nat_le, is_some, if◌then◌else◌, List, [], filter, length, Option, Some, None}
+use Rattle.std.specs.Prelude.{ℕ, ◌-◌, ◌==◌, ◌&&◌, Bool, true, false, not, nat_le, nat_lt, is_some, if◌then◌else◌, List, [], filter, length, Option, Some, None}
 use Rattle.std.specs.Int.{div_ceil}
 use Rattle.coap_message.specs.declared.kind.Kind.TheVariants.{Non}
 use Rattle.coap_message.specs.declared.code.TheConstants.Code.{VALID, BAD_GATEWAY}
@@ -12,7 +12,8 @@ use Rattle.coap_option.specs.Screening.{first_refused}
 use Rattle.coap_option.specs.Selection.{max_age_of}
 use Rattle.coap_cache.specs.Renewing.{with_max_age}
 use Rattle.coap_cache.specs.Showing as showing
-use Rattle.coap_cache.specs.Showing.{addressed}
+use Rattle.coap_cache.specs.Showing.{addressed, tells_age}
+use Rattle.coap_cache.specs.declared.stored.Stored.{Stored}
 use Rattle.coap_exchange.specs.declared.exchange.Answer.{Answer}
 use Rattle.coap_model.specs.Messages.{eight_zeros}
 
@@ -56,6 +57,15 @@ answer_of most now m =
     if is_passed_on most m
     then record { message = without_observe m; got = now; own = false }
     else record { message = bad_gateway; got = now; own = true }
+
+-- It may be stored: a 2.05 or an error of class 4 or 5 that an origin sent, with a Max-Age above 0
+-- (RFC 7252, 5.6.1 and 5.9); never a reply of the proxy's own.
+abbrev pub is_storable : Answer → Bool
+is_storable a = not a.own && (tells_age a.message.code && nat_lt 0 (max_age_of a.message))
+
+-- the answer that a stored response is
+abbrev pub stored_answer : Stored → Answer
+stored_answer stored = record { message = stored.response; got = stored.got; own = false }
 
 -- ---- what a client is shown
 

@@ -24,7 +24,8 @@ use Rattle.coap_model.specs.OptionExamples.{key_of_temp}
 use Rattle.coap_model.specs.History.{no_item, moves, Deed}
 use Rattle.coap_model.specs.Forged as forged
 use Rattle.coap_model.specs.Forged.{setting, opened, asked}
-use Rattle.coap_model.specs.Cached.{is_storable, Cached, cached_with}
+use Rattle.coap_model.specs.Answers.{is_storable}
+use Rattle.coap_model.specs.Cached.{Cached, cached_with}
 
 -- ---- what may be kept
 

@@ -1,7 +1,7 @@
 -- The cache of a history: which responses it has brought that may be kept, and in which order (RFC
 -- 7252, 5.6). This file names no table. Nothing is a change yet (RFC 7252, 5.9.1), and no response
 -- is validated (RFC 7252, 5.9.1.3).
-use Rattle.std.specs.Prelude.{◌≡◌, ℕ, ◌<◌, ◌&&◌, Bool, true, false, not, nat_lt, List, [], ◌∷◌, Some, Ok}
+use Rattle.std.specs.Prelude.{◌≡◌, ℕ, ◌<◌, Bool, true, false, List, [], ◌∷◌, Some, Ok}
 use Rattle.coap_message.specs.Message.{Message}
 use Rattle.coap_message.specs.Spelling.{Spells}
 use Rattle.coap_target.specs.declared.endpoint.Endpoint.{Endpoint}
@@ -13,22 +13,16 @@ use Rattle.coap_cache.specs.Entries as entries
 use Rattle.coap_cache.specs.Entries.{entry_key, entry_size}
 use Rattle.coap_cache.specs.Lists.{of_key, others, put, used}
 use Rattle.coap_cache.specs.Showing.{tells_age}
-use Rattle.coap_exchange.specs.declared.exchange.Answer.{Answer}
 use Rattle.coap_model.specs.declared.report.Outcome.{Outcome}
 use Rattle.coap_model.specs.declared.report.Outcome.TheVariants.{Answered, Hit}
 use Rattle.coap_model.specs.declared.report.Storing.TheVariants.{Kept, TooLarge}
 use Rattle.coap_model.specs.Setting.{Setting}
 use Rattle.coap_model.specs.Forms.{key_sent, request_key}
-use Rattle.coap_model.specs.Answers.{without_observe, is_passed_on, answer_of}
-use Rattle.coap_model.specs.History.{Deed, Place, index, IsPlaceOf, Brings, Matches, Gets}
+use Rattle.coap_model.specs.Answers.{answer_of, is_storable, without_observe, is_passed_on}
+use Rattle.coap_model.specs.History.{Deed, Place, index, IsPlaceOf, Brings, Gets, Matches}
 use Rattle.coap_model.specs.Pairs.{Pairs}
 
 -- ---- what may be kept
-
--- a 2.05 or an error of class 4 or 5 that an origin sent, with a Max-Age above 0 (RFC 7252, 5.6.1
--- and 5.9); never a reply of the proxy's own
-abbrev pub is_storable : Answer → Bool
-is_storable a = not a.own && (tells_age a.message.code && nat_lt 0 (max_age_of a.message))
 
 -- The response was obtained for this key: a request of the key was sent at one place, and at the
 -- other came what may be kept of its answer. Every request that is sent on is a GET so far.
@@ -153,6 +147,11 @@ pub data IsCacheOf (setting : Setting) : List Deed → List Cached → Type 0 wh
       → leaves d.entry.report.outcome ≡ true
       → IsCacheOf setting past cached
       → IsCacheOf setting (d ∷ past) cached
+
+-- the element is the first of the list
+abbrev pub StandsFirst : {X : Type 0} → X → List X → Type 0
+StandsFirst x [] = ⊥
+StandsFirst x (y ∷ ys) = y ≡ x
 
 -- ---- a store
 

@@ -11,6 +11,10 @@ use Rattle.coap_exchange.specs.declared.exchange.ExchangeState.TheVariants.{Queu
 use Rattle.coap_exchange.specs.declared.exchange.Exchange.{Exchange}
 use Rattle.coap_exchange.specs.declared.waiter.Waiter.{Waiter}
 use Rattle.coap_exchange.specs.Table.{Numbered, IsRising}
+use Rattle.coap_message.specs.declared.kind.Kind.{Kind}
+use Rattle.coap_message.specs.declared.kind.Kind.TheVariants.{Con, Non}
+use Rattle.coap_dedup.specs.Lists.{AreUpTo, reply_bytes}
+use Rattle.coap_dedup.specs.Records.{Records, AreRecords, living_at}
 use Rattle.coap_model.specs.Setting.{Setting}
 use Rattle.coap_model.specs.Messages.{token_of}
 use Rattle.coap_model.specs.Forms.{forwarded, key_sent}
@@ -19,6 +23,8 @@ use Rattle.coap_model.specs.Answers.{answer_of}
 use Rattle.coap_exchange.specs.Exchanges.{is_queued, count_where}
 use Rattle.coap_model.specs.World.{World, reserved}
 use Rattle.coap_model.specs.History.{Entry, Deed, told_by, Place, index, IsPlaceOf, Never, Somewhere, opened_in, sent_in, served_in, ids_in, Sends, Asks, Gets, Serves, last_of, IsInOrder, AreIds}
+use Rattle.coap_model.specs.Cached.{IsStoreOf}
+use Rattle.coap_model.specs.Remembered.{most_remembered, remembered_at, remembered_for}
 use Rattle.coap_model.specs.Justified.{WasOpened, verdict_on, AllJustified}
 
 -- ---- the clock, the numbers and the ids
@@ -122,6 +128,27 @@ IsFresh setting history =
     → opened_in history < x
     → Never (Sends setting.salt x) history × Never (Gets setting x) history
 
+-- ---- the requests that are remembered
+
+-- Records are those that the history left, as long as they live, and are within their limit.
+pub record AreRemembered
+    (setting : Setting) (history : List Deed) (kind : Kind) (records : Records)
+    : Type 0 where
+  pub same :
+      (now : ℕ)
+      → last_of history ≤ now
+      → living_at now records ≡ remembered_at kind now history
+  pub limit : records.limit ≡ most_remembered kind setting.limits
+  pub lifetime : records.lifetime ≡ remembered_for kind
+  pub are : AreRecords records
+  pub until : AreUpTo (last_of history) records.items
+  -- a reply is no longer than the longest datagram, or than a short one
+  pub short :
+      (most : ℕ)
+      → 128 ≤ most
+      → setting.limits.datagram ≤ most
+      → AllByRecursion (λ r. reply_bytes r ≤ most) records.items
+
 -- ---- limits
 
 pub record IsWithin (w : World) : Type 0 where
@@ -141,6 +168,9 @@ pub record Bears (deeds : List Deed) (w : World) : Type 0 where
   pub exchanges : AllByRecursion (IsExchangeOf w.setting deeds) w.exchanges
   pub waiters : AllByRecursion (IsWaiterOf w.setting deeds) w.waiters
   pub whole : AreWhole deeds w
+  pub store : IsStoreOf w.setting deeds w.store
+  pub con_records : AreRemembered w.setting deeds Con w.con_records
+  pub non_records : AreRemembered w.setting deeds Non w.non_records
   pub within : IsWithin w
   pub past : AllJustified w.setting deeds
 

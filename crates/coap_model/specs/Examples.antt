@@ -1,12 +1,13 @@
 -- Runs of the step, computed on the definitions.
-use Rattle.std.specs.Prelude.{ℕ, ◌+◌, ◌-◌, List, [], ◌∷◌, replicate, Some, None}
+use Rattle.std.specs.Prelude.{ℕ, ◌+◌, ◌-◌, List, [], ◌∷◌, true, replicate, Some, None}
 use Rattle.coap_message.specs.declared.code.TheConstants.Code.{BAD_OPTION, NOT_FOUND, METHOD_NOT_ALLOWED, REQUEST_ENTITY_TOO_LARGE}
 use Rattle.coap_target.specs.declared.endpoint.Endpoint.{Endpoint}
 use Rattle.coap_routes.specs.Examples.{loopback}
 use Rattle.coap_routes.specs.Routes.{fixed_routes}
 use Rattle.coap_model.specs.declared.report.Outcome.{Outcome}
 use Rattle.coap_model.specs.declared.report.Outcome.TheVariants.{Ignored, Rejected, Refused, Opened, Overloaded, NoId, Answered, SentRequest, Delivered, Idle}
-use Rattle.coap_model.specs.declared.report.Storing.TheVariants.{NotStored}
+use Rattle.coap_model.specs.declared.report.Storing.{Storing}
+use Rattle.coap_model.specs.declared.report.Storing.TheVariants.{Kept, NotStored}
 use Rattle.coap_model.specs.declared.report.Report.{Report}
 use Rattle.coap_model.specs.Limits.{default_limits}
 use Rattle.coap_model.specs.Events.{arrival, tick}
@@ -25,7 +26,8 @@ sent_by s = (s.report, s.bytes)
 abbrev pub play : World → List Turn → List Sent
 play w [] = []
 play w (t ∷ turns) =
-    sent_by (step_of w t.now t.draw t.event) ∷ play (step_of w t.now t.draw t.event).world turns
+    let s = step_of w t.now t.draw true t.event in
+    sent_by s ∷ play s.world turns
 
 -- the origin of the fixed route, and clients by number
 abbrev pub origin : Endpoint
@@ -70,9 +72,13 @@ narrow_proxy =
       salt = 0;
     })
 
--- a Non-confirmable GET of the path `t`, with the id 7, and what follows
+-- a Non-confirmable GET of the path `t`, with this id, and what follows
+abbrev pub get_t_as : ℕ → List ℕ → List ℕ
+get_t_as id more = 0x50 ∷ 1 ∷ 0 ∷ id ∷ 0xB1 ∷ 0x74 ∷ more
+
+-- with the id 7
 abbrev pub get_t : List ℕ → List ℕ
-get_t more = 0x50 ∷ 1 ∷ 0 ∷ 7 ∷ 0xB1 ∷ 0x74 ∷ more
+get_t more = get_t_as 7 more
 
 -- the request that the origin is sent, with the id 1 and the token of the first exchange
 abbrev pub get_temp : List ℕ → List ℕ
@@ -95,10 +101,17 @@ abbrev pub answered_by : ℕ → List ℕ → List Turn
 answered_by served response =
     from 0 (client 1) (get_t []) ∷ tick_at 0 ∷ from 0 origin response ∷ tick_at served ∷ []
 
-abbrev pub delivered_as : List ℕ → List Sent
-delivered_as reply =
-    nothing Opened ∷ to SentRequest origin (get_temp []) ∷ nothing (Answered NotStored)
+abbrev pub delivered_with : Storing → List ℕ → List Sent
+delivered_with storing reply =
+    nothing Opened ∷ to SentRequest origin (get_temp []) ∷ nothing (Answered storing)
     ∷ to Delivered (client 1) reply ∷ []
+
+-- of an answer that is stored, and of one that isn't to be
+abbrev pub delivered_as : List ℕ → List Sent
+delivered_as reply = delivered_with Kept reply
+
+abbrev pub delivered_once : List ℕ → List Sent
+delivered_once reply = delivered_with NotStored reply
 
 -- the first answer
 abbrev pub first_answer : List Turn
@@ -133,7 +146,7 @@ abbrev pub changed : List Turn
 changed = answered_by 0 (answer 0x68 0x44 1 1 [])
 
 abbrev pub changed_sent : List Sent
-changed_sent = delivered_as (0x50 ∷ 0x44 ∷ 0 ∷ 2 ∷ [])
+changed_sent = delivered_once (0x50 ∷ 0x44 ∷ 0 ∷ 2 ∷ [])
 
 -- a 2.03, and a response with an option that isn't understood, are replaced by 5.02
 abbrev pub valid : List Turn
@@ -147,7 +160,7 @@ abbrev pub long_max_age : List Turn
 long_max_age = answered_by 0 (answer 0x68 0x45 1 1 (0xD5 ∷ 1 ∷ 0 ∷ 0 ∷ 0 ∷ 0 ∷ 10 ∷ []))
 
 abbrev pub replaced_sent : List Sent
-replaced_sent = delivered_as (0x50 ∷ 0xA2 ∷ 0 ∷ 2 ∷ [])
+replaced_sent = delivered_once (0x50 ∷ 0xA2 ∷ 0 ∷ 2 ∷ [])
 
 -- The response of another endpoint, or with another token or id, is no one's; in a confirmable
 -- message it is rejected. The right one is still taken after them.
@@ -165,7 +178,7 @@ impostor_sent =
     nothing Opened ∷ to SentRequest origin (get_temp []) ∷ nothing Ignored ∷ nothing Ignored
     ∷ nothing Ignored
     ∷ to Rejected origin (0x70 ∷ 0 ∷ 0 ∷ 9 ∷ []) ∷ nothing Ignored ∷ nothing Idle
-    ∷ nothing (Answered NotStored) ∷ to Delivered (client 1) (content_for_client 10) ∷ []
+    ∷ nothing (Answered Kept) ∷ to Delivered (client 1) (content_for_client 10) ∷ []
 
 -- refusals: a method other than GET, an option that isn't understood, a path without a map
 abbrev pub refusals : List Turn
@@ -188,8 +201,8 @@ segment n = 0x0D ∷ (n - 13) ∷ replicate n 0x61
 -- has 128
 abbrev pub long_paths : List Turn
 long_paths =
-    from 0 (client 1) (get_t (segment 110)) ∷ from 0 (client 1) (get_t (segment 109)) ∷ tick_at 0
-    ∷ []
+    from 0 (client 1) (get_t (segment 110)) ∷ from 0 (client 1) (get_t_as 8 (segment 109))
+    ∷ tick_at 0 ∷ []
 
 abbrev pub long_paths_sent : List Sent
 long_paths_sent =
@@ -201,7 +214,7 @@ long_paths_sent =
 -- a segment has at most 255 bytes
 abbrev pub long_segments : List Turn
 long_segments =
-    from 0 (client 1) (get_t (segment 256)) ∷ from 0 (client 1) (get_t (segment 255)) ∷ []
+    from 0 (client 1) (get_t (segment 256)) ∷ from 0 (client 1) (get_t_as 8 (segment 255)) ∷ []
 
 abbrev pub long_segments_sent : List Sent
 long_segments_sent =

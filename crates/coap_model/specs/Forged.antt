@@ -51,6 +51,15 @@ answered = record {
 abbrev pub past : List Deed
 past = answered ∷ asked ∷ opened ∷ []
 
+-- the same, where the request that is sent on has one more segment in its path
+abbrev pub asked_elsewhere : Deed
+asked_elsewhere = record asked {
+  entry = record asked.entry { bytes = get_temp (0x01 ∷ 0x78 ∷ []) };
+}
+
+abbrev pub past_elsewhere : List Deed
+past_elsewhere = answered ∷ asked_elsewhere ∷ opened ∷ []
+
 -- a delivery after 2,500 milliseconds
 abbrev pub delivery : Endpoint → List ℕ → Act → Deed
 delivery to bytes act = record {

@@ -7,6 +7,9 @@ use Rattle.coap_message.specs.Pieces.{pieces_spelling}
 use Rattle.coap_message.specs.Spelling.{options_spelling}
 use Rattle.coap_target.specs.declared.target.Target.{Target}
 use Rattle.coap_cache.specs.declared.key.CacheKey.{CacheKey}
+use Rattle.coap_cache.specs.Entries.{entry_size}
+use Rattle.coap_cache.specs.Lists.{total}
+use Rattle.coap_dedup.specs.Lists.{bytes_of}
 use Rattle.coap_exchange.specs.declared.exchange.ExchangeState.{ExchangeState}
 use Rattle.coap_exchange.specs.declared.exchange.ExchangeState.TheVariants.{Queued, Sent, Done}
 use Rattle.coap_exchange.specs.declared.exchange.Exchange.{Exchange}
@@ -46,11 +49,16 @@ exchange_bytes x = length x.1.form + key_bytes x.1.key + state_bytes x.1.state
 abbrev pub waiter_bytes : Numbered Waiter → ℕ
 waiter_bytes v = length v.1.token + length (pieces_spelling v.1.tags)
 
+-- what is stored, the replies that are kept, also those that no longer live, the exchanges and the
+-- waiters
 abbrev pub held : World → ℕ
-held w = sum_by exchange_bytes w.exchanges + sum_by waiter_bytes w.waiters
+held w =
+    total entry_size w.store
+    + (bytes_of w.con_records.items + bytes_of w.non_records.items)
+    + sum_by exchange_bytes w.exchanges
+    + sum_by waiter_bytes w.waiters
 
--- a bound on what the store, the records, the waiters and the exchanges hold together; there is no
--- store and there are no records yet
+-- a bound on what the store, the records, the waiters and the exchanges hold together
 abbrev pub most_held : Limits → ℕ
 most_held l =
     l.cache_bytes

@@ -1,19 +1,22 @@
 -- What the traffic alone says: which entry of a history opened, asked, got and admitted what. This
 -- file names no table. A history has its newest entry first.
-use Rattle.std.specs.Prelude.{◌≡◌, ◌⊎◌, ℕ, ◌+◌, ◌-◌, ◌%◌, ◌<◌, ◌≤◌, List, [], ◌∷◌, length, map, Bool, true, false, Some}
+use Rattle.std.specs.Prelude.{◌≡◌, ◌⊎◌, ℕ, ◌+◌, ◌-◌, ◌%◌, ◌<◌, ◌≤◌, List, [], ◌∷◌, length, map, Bool, true, false, if◌then◌else◌, Some}
 use Rattle.coap_message.specs.declared.kind.Kind.TheVariants.{Ack}
+use Rattle.std.specs.Option.{option_map_or}
+use Rattle.coap_message.specs.Reading.{head_at}
 use Rattle.coap_message.specs.Uint.{IsBytes}
 use Rattle.coap_message.specs.Message.{Message}
 use Rattle.coap_message.specs.Spelling.{Spells}
 use Rattle.coap_target.specs.declared.endpoint.Endpoint.{Endpoint}
 use Rattle.coap_model.specs.declared.report.Outcome.{Outcome}
-use Rattle.coap_model.specs.declared.report.Outcome.TheVariants.{Refused, Opened, Overloaded, Answered, SentRequest, Delivered}
+use Rattle.coap_model.specs.declared.report.Outcome.TheVariants.{Refused, Hit, Opened, Overloaded, Answered, SentRequest, Delivered}
+use Rattle.coap_model.specs.declared.report.Storing.TheVariants.{NoMemory}
 use Rattle.coap_model.specs.declared.report.Report.{Report}
 use Rattle.coap_model.specs.Limits.{Limits}
 use Rattle.coap_model.specs.Setting.{Setting}
-use Rattle.coap_model.specs.Events.{Event, arrival}
+use Rattle.coap_model.specs.Events.{Event, arrival, tick}
 use Rattle.coap_message.specs.Codes.{is_response}
-use Rattle.coap_model.specs.Messages.{token_of}
+use Rattle.coap_model.specs.Messages.{is_con, token_of}
 
 -- one step as the outside saw it, with all that the step read
 pub record Entry : Type 0 where
@@ -85,13 +88,29 @@ abbrev pub serves_one : Outcome → ℕ
 serves_one Delivered = 1
 serves_one _ = 0
 
--- requests that are sent on, and Non-confirmable replies, are given a message id
-abbrev pub gives_id : Outcome → ℕ
-gives_id (Refused code) = 1
-gives_id Overloaded = 1
-gives_id SentRequest = 1
-gives_id Delivered = 1
-gives_id _ = 0
+-- the datagram that an event brings is confirmable
+abbrev pub comes_con : Event → Bool
+comes_con (arrival source bytes) = option_map_or (λ h. is_con h.kind) (head_at bytes) false
+comes_con tick = false
+
+-- Requests that are sent on, and replies, are given a message id, but for replies to what is
+-- confirmable: they go out in its acknowledgement, which has its id (RFC 7252, 4.4 and 5.2.1).
+abbrev pub ids_given : Bool → Outcome → ℕ
+ids_given con (Refused code) = if con then 0 else 1
+ids_given con Hit = if con then 0 else 1
+ids_given con Overloaded = if con then 0 else 1
+ids_given con SentRequest = 1
+ids_given con Delivered = 1
+ids_given con _ = 0
+
+abbrev pub gives_id : Entry → ℕ
+gives_id e = ids_given (comes_con e.event) e.report.outcome
+
+-- what an outcome tells of the one choice that is left to the memory: whether there was some for one
+-- entry more of the store
+abbrev pub grown_of : Outcome → Bool
+grown_of (Answered NoMemory) = false
+grown_of _ = true
 
 -- exchanges that were opened, requests that were sent on, waiters that were served, ids that were
 -- given
@@ -105,7 +124,8 @@ abbrev pub served_in : List Deed → ℕ
 served_in history = count_in serves_one history
 
 abbrev pub ids_in : List Deed → ℕ
-ids_in history = count_in gives_id history
+ids_in [] = 0
+ids_in (d ∷ past) = ids_in past + gives_id d.entry
 
 -- Each exchange is opened for one client, and closed when that client is served.
 abbrev pub under_way : List Deed → ℕ
@@ -178,7 +198,7 @@ pub record Gets (setting : Setting) (x : ℕ) (p : Place) : Type 0 where
   pub act : p.deed.act ≡ moves x
   pub outcome : takes p.deed.entry.report.outcome ≡ true
   pub meets : Meets setting x p.before p.deed.entry.event
-  pub fits : IsBytes meets.brings.bytes
+  pub bytes : IsBytes meets.brings.bytes
 
 -- the waiter was served there
 pub record Serves (v : ℕ) (p : Place) : Type 0 where
@@ -198,7 +218,7 @@ IsInOrder (d ∷ past) = (last_of past ≤ d.entry.now) × IsInOrder past
 
 -- an id that an entry gave
 pub record Gives (id : ℕ) (e : Entry) : Type 0 where
-  pub gives : gives_id e.report.outcome ≡ 1
+  pub gives : gives_id e ≡ 1
   pub message : Message
   pub spells : Spells e.bytes message
   pub id_is : message.id ≡ id
@@ -207,5 +227,5 @@ pub record Gives (id : ℕ) (e : Entry) : Type 0 where
 abbrev pub AreIds : ℕ → List Deed → Type 0
 AreIds first [] = Unit {0}
 AreIds first (d ∷ past) =
-    (gives_id d.entry.report.outcome ≡ 1 → Gives ((first + ids_in past) % 65536) d.entry)
+    (gives_id d.entry ≡ 1 → Gives ((first + ids_in past) % 65536) d.entry)
     × AreIds first past

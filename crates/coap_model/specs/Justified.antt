@@ -1,5 +1,5 @@
 -- What justifies each entry of a history: the entries before it alone. No table is named.
-use Rattle.std.specs.Prelude.{◌≡◌, ◌≢◌, ℕ, ◌+◌, ◌%◌, ◌<◌, ◌≤◌, Bool, true, false, List, [], ◌∷◌, Some, None, Ok}
+use Rattle.std.specs.Prelude.{◌≡◌, ◌≢◌, ◌⊎◌, ℕ, ◌+◌, ◌%◌, ◌<◌, ◌≤◌, Bool, true, false, List, [], ◌∷◌, length, Option, Some, None, Ok}
 use Rattle.coap_message.specs.declared.kind.Kind.TheVariants.{Con, Non}
 use Rattle.coap_message.specs.declared.code.Code.{Code}
 use Rattle.coap_message.specs.declared.code.TheConstants.Code.{REQUEST_ENTITY_TOO_LARGE}
@@ -10,29 +10,48 @@ use Rattle.coap_message.specs.Spelling.{Spells}
 use Rattle.coap_target.specs.declared.endpoint.Endpoint.{Endpoint}
 use Rattle.coap_target.specs.declared.target.Target.{Target}
 use Rattle.coap_cache.specs.declared.key.CacheKey.{CacheKey}
+use Rattle.coap_cache.specs.Freshness.{is_fresh}
+use Rattle.coap_dedup.specs.declared.record.Record.{Record}
+use Rattle.coap_dedup.specs.Lists.{record_of}
+use Rattle.coap_cache.specs.Lists.{of_key}
 use Rattle.coap_option.specs.Selection.{sent_on, tags_of}
 use Rattle.coap_routes.specs.Request.{request_target}
 use Rattle.coap_model.specs.declared.report.Outcome.{Outcome}
-use Rattle.coap_model.specs.declared.report.Outcome.TheVariants.{Ignored, Rejected, Refused, Opened, Overloaded, NoId, Answered, SentRequest, Delivered, Idle}
-use Rattle.coap_model.specs.declared.report.Storing.TheVariants.{NotStored}
+use Rattle.coap_model.specs.declared.report.Outcome.TheVariants.{Ignored, Rejected, Again, NoRecordRoom, Refused, Hit, Opened, Overloaded, NoId, Answered, SentRequest, Delivered, Idle}
+use Rattle.coap_model.specs.declared.report.Storing.TheVariants.{Kept, TooLarge, NoMemory, NotStored}
 use Rattle.coap_model.specs.Setting.{Setting}
 use Rattle.coap_model.specs.Events.{Event, arrival, tick}
 use Rattle.coap_message.specs.Codes.{is_request}
-use Rattle.coap_model.specs.Messages.{reset, own_reply, busy_reply, token_of}
+use Rattle.coap_model.specs.Messages.{brings_requests, reset, own_reply, busy_reply, at_once, token_of}
+use Rattle.coap_model.specs.Remembered.{most_remembered, remembered_at}
 use Rattle.coap_model.specs.Forms.{forwarded, key_sent, request_key}
 use Rattle.coap_model.specs.Verdicts.{Verdict, refused_with, may_ask, verdict_of, form_fits}
-use Rattle.coap_model.specs.Answers.{answer_of, shown}
+use Rattle.coap_model.specs.Answers.{answer_of, stored_answer, shown}
+use Rattle.coap_model.specs.Cached.{IsObtained, Cached, cached_key, cached_size, cached_here, entry_of_cached, IsCacheOf, WasObtained}
 use Rattle.coap_model.specs.Due.{IsDueAt, IsSooner}
-use Rattle.coap_model.specs.History.{Entry, Act, no_item, admits, moves, serves, Deed, Place, IsPlaceOf, Never, gives_id, opened_in, ids_in, HasIds, HasRoom, Opens, Brings, Sends, Meets, Gets, Serves, Gives}
+use Rattle.coap_model.specs.History.{Entry, Act, no_item, admits, moves, serves, Deed, Place, IsPlaceOf, Never, takes, gives_id, opened_in, ids_in, HasIds, HasRoom, Opens, Brings, Sends, Meets, Gets, Serves, Gives}
 
 -- ---- requests
 
--- a Non-confirmable request of a client that is not too long for a datagram
+-- a request of a client that is not too long for a datagram
 pub record IsRequestOf
     (setting : Setting) (client : Endpoint) (request : Message) (event : Event) : Type 0 where
   pub brings : Brings setting.limits.datagram client request event
-  pub kind : request.kind ≡ Non
+  pub kind : brings_requests request.kind ≡ true
   pub method : is_request request.code ≡ true
+
+-- A request is new: no request of this client with its id, in a message of its type, is remembered,
+-- and there is room to remember it.
+pub record IsNew
+    (setting : Setting) (past : List Deed) (now : ℕ) (client : Endpoint) (request : Message)
+    : Type 0 where
+  pub unknown : record_of client request.id (remembered_at request.kind now past) ≡ None
+  pub room :
+      length (remembered_at request.kind now past) < most_remembered request.kind setting.limits
+
+-- there is an id for a reply that goes out at once, where it needs one
+abbrev pub HasIdFor : Message → List Deed → Type 0
+HasIdFor request past = request.kind ≡ Non → HasIds 1 past
 
 -- the request that opened the exchange of this number, and admitted the waiter of this number
 pub record WasOpened (setting : Setting) (past : List Deed) (number : ℕ) : Type 0 where
@@ -61,16 +80,31 @@ pub record IsSilent (e : Entry) : Type 0 where
   pub sent : e.report.send ≡ None
   pub bytes : e.bytes ≡ []
 
--- A request deserves a code: by its verdict, or since what would be sent on is too long for a
--- datagram.
-pub data Deserves (setting : Setting) (request : Message) (code : Code) : Type 0 where
-  by_verdict : verdict_on setting request ≡ refused_with code → Deserves setting request code
+-- an entry of the cache is fresh (RFC 7252, 5.6.1)
+abbrev pub is_fresh_at : ℕ → Cached → Bool
+is_fresh_at now entry = is_fresh now (entry_of_cached entry).1
+
+-- the cache of what was done before has no fresh entry of the key
+pub record IsMiss (setting : Setting) (past : List Deed) (key : CacheKey) (now : ℕ) : Type 0 where
+  pub cached : List Cached
+  pub is_cache : IsCacheOf setting past cached
+  pub stale :
+      (entry : Cached) → of_key cached_key key cached ≡ Some entry → is_fresh_at now entry ≡ false
+
+-- A request deserves a code: by its verdict, or since what would be sent on, where nothing answers
+-- it, is too long for a datagram.
+pub data Deserves
+    (setting : Setting) (past : List Deed) (now : ℕ) (request : Message) (code : Code)
+    : Type 0 where
+  by_verdict :
+      verdict_on setting request ≡ refused_with code → Deserves setting past now request code
   by_length :
       (key : CacheKey)
       → verdict_on setting request ≡ may_ask key
+      → IsMiss setting past key now
       → fits_on setting key request ≡ false
       → code ≡ REQUEST_ENTITY_TOO_LARGE
-      → Deserves setting request code
+      → Deserves setting past now request code
 
 -- a refusal: the code is one that the request deserves
 pub record IsRefusal (setting : Setting) (past : List Deed) (d : Deed) (code : Code) : Type 0 where
@@ -79,11 +113,39 @@ pub record IsRefusal (setting : Setting) (past : List Deed) (d : Deed) (code : C
   pub request : Message
   pub id : ℕ
   pub asked : IsRequestOf setting client request d.entry.event
-  pub deserved : Deserves setting request code
-  pub ids : HasIds 1 past
-  pub tells : Tells client (own_reply code [] id request.token) d.entry
+  pub new : IsNew setting past d.entry.now client request
+  pub deserved : Deserves setting past d.entry.now request code
+  pub ids : HasIdFor request past
+  pub tells : Tells client (at_once request (own_reply code [] id request.token)) d.entry
 
--- 5.03: an exchange could be opened, but there is no room
+-- A reply from the cache: the client is shown the entry of its key in the cache of what was done
+-- before, which was obtained and is fresh, with what is left of its Max-Age, or as a 2.03 where one
+-- of its tags is the entry's.
+pub record IsHit (setting : Setting) (past : List Deed) (d : Deed) : Type 0 where
+  pub act : d.act ≡ no_item
+  pub client : Endpoint
+  pub request : Message
+  pub key : CacheKey
+  pub cached : List Cached
+  pub entry : Cached
+  pub id : ℕ
+  pub asked : IsRequestOf setting client request d.entry.event
+  pub verdict : verdict_on setting request ≡ may_ask key
+  pub is_cache : IsCacheOf setting past cached
+  pub found : of_key cached_key key cached ≡ Some entry
+  pub key_is : entry.key ≡ key
+  pub obtained : WasObtained setting past entry
+  pub fresh : is_fresh_at d.entry.now entry ≡ true
+  pub new : IsNew setting past d.entry.now client request
+  pub ids : HasIdFor request past
+  pub tells :
+      Tells client
+      (at_once request
+      (shown d.entry.now (stored_answer (entry_of_cached entry).1) id request.token
+      (tags_of request))) d.entry
+
+-- 5.03: an exchange could be opened, but there is no room, or the request is Confirmable, which is
+-- not asked for yet
 pub record IsOverload (setting : Setting) (past : List Deed) (d : Deed) : Type 0 where
   pub act : d.act ≡ no_item
   pub client : Endpoint
@@ -92,10 +154,13 @@ pub record IsOverload (setting : Setting) (past : List Deed) (d : Deed) : Type 0
   pub id : ℕ
   pub asked : IsRequestOf setting client request d.entry.event
   pub verdict : verdict_on setting request ≡ may_ask key
+  pub miss : IsMiss setting past key d.entry.now
   pub fits : fits_on setting key request ≡ true
-  pub no_room : ¬ HasRoom setting.limits past
-  pub ids : HasIds 1 past
-  pub tells : Tells client (busy_reply setting.limits.retry_s id request.token) d.entry
+  pub no_room : request.kind ≡ Non → ¬ HasRoom setting.limits past
+  pub new : IsNew setting past d.entry.now client request
+  pub ids : HasIdFor request past
+  pub tells :
+      Tells client (at_once request (busy_reply setting.limits.retry_s id request.token)) d.entry
 
 -- silence: a reply is due, and no id is free for it
 pub record IsLack (setting : Setting) (past : List Deed) (d : Deed) : Type 0 where
@@ -103,7 +168,37 @@ pub record IsLack (setting : Setting) (past : List Deed) (d : Deed) : Type 0 whe
   pub client : Endpoint
   pub request : Message
   pub asked : IsRequestOf setting client request d.entry.event
+  pub kind : request.kind ≡ Non
+  pub new : IsNew setting past d.entry.now client request
   pub no_ids : ¬ HasIds 1 past
+  pub silent : IsSilent d.entry
+
+-- what a duplicate is told: the datagram that is remembered, or nothing
+abbrev pub SaysAgain : Endpoint → Option (List ℕ) → Entry → Type 0
+SaysAgain client None e = IsSilent e
+SaysAgain client (Some reply) e = (e.report.send ≡ Some client) × (e.bytes ≡ reply)
+
+-- a duplicate: a request of this client with its id, in a message of its type, is remembered
+pub record IsRepetition (setting : Setting) (past : List Deed) (d : Deed) : Type 0 where
+  pub act : d.act ≡ no_item
+  pub client : Endpoint
+  pub request : Message
+  pub known : Record
+  pub asked : IsRequestOf setting client request d.entry.event
+  pub found :
+      record_of client request.id (remembered_at request.kind d.entry.now past) ≡ Some known
+  pub says_again : SaysAgain client known.reply d.entry
+
+-- silence: as many requests are remembered as may be, and this is none of them
+pub record IsForgotten (setting : Setting) (past : List Deed) (d : Deed) : Type 0 where
+  pub act : d.act ≡ no_item
+  pub client : Endpoint
+  pub request : Message
+  pub asked : IsRequestOf setting client request d.entry.event
+  pub unknown : record_of client request.id (remembered_at request.kind d.entry.now past) ≡ None
+  pub full :
+      most_remembered request.kind setting.limits
+      ≤ length (remembered_at request.kind d.entry.now past)
   pub silent : IsSilent d.entry
 
 -- an exchange is opened: the request may be asked for, what would be sent on fits, and there is
@@ -115,7 +210,10 @@ pub record IsOpening (setting : Setting) (past : List Deed) (d : Deed) : Type 0 
   pub key : CacheKey
   pub asked : IsRequestOf setting client request d.entry.event
   pub verdict : verdict_on setting request ≡ may_ask key
+  pub miss : IsMiss setting past key d.entry.now
   pub fits : fits_on setting key request ≡ true
+  pub kind : request.kind ≡ Non
+  pub new : IsNew setting past d.entry.now client request
   pub room : HasRoom setting.limits past
   pub silent : IsSilent d.entry
 
@@ -151,6 +249,48 @@ pub record IsAnswer (setting : Setting) (past : List Deed) (d : Deed) : Type 0 w
   pub gets : Gets setting exchange (record { before = past; deed = d })
   pub first : Never (Gets setting exchange) past
   pub silent : IsSilent d.entry
+
+-- ---- what is stored
+
+-- what is got may be stored
+pub record IsObtainedHere (setting : Setting) (past : List Deed) (d : Deed) : Type 0 where
+  pub key : CacheKey
+  pub response : Message
+  pub asking : Place
+  pub obtained : IsObtained setting key response asking (record { before = past; deed = d })
+
+-- the bytes that it counts
+abbrev pub size_here :
+    {setting : Setting} {past : List Deed} {d : Deed} → IsObtainedHere setting past d → ℕ
+size_here {past = past} {d = d} o = cached_size (cached_here o.key o.response o.asking past d)
+
+-- an answer is stored: it was obtained, and counts no more than the store keeps
+pub record IsKept (setting : Setting) (past : List Deed) (d : Deed) : Type 0 where
+  pub answer : IsAnswer setting past d
+  pub here : IsObtainedHere setting past d
+  pub small : size_here here ≤ setting.limits.cache_bytes
+
+-- it isn't, since it alone counts more
+pub record IsTooLarge (setting : Setting) (past : List Deed) (d : Deed) : Type 0 where
+  pub answer : IsAnswer setting past d
+  pub here : IsObtainedHere setting past d
+  pub large : setting.limits.cache_bytes < size_here here
+
+-- it isn't, for want of memory: its key has no entry
+pub record IsWithoutMemory (setting : Setting) (past : List Deed) (d : Deed) : Type 0 where
+  pub answer : IsAnswer setting past d
+  pub here : IsObtainedHere setting past d
+  pub small : size_here here ≤ setting.limits.cache_bytes
+  pub cached : List Cached
+  pub is_cache : IsCacheOf setting past cached
+  pub new : of_key cached_key here.key cached ≡ None
+
+-- it isn't, since nothing was obtained
+pub record IsNotStored (setting : Setting) (past : List Deed) (d : Deed) : Type 0 where
+  pub answer : IsAnswer setting past d
+  pub none : ¬ IsObtainedHere setting past d
+
+-- ---- what clients are given
 
 -- A delivery: the exchange that was opened for this client's request was got after that, the
 -- request that was sent for it has the cache key of the client's, and the datagram is what this
@@ -228,11 +368,17 @@ pub record IsIdle (setting : Setting) (past : List Deed) (d : Deed) : Type 0 whe
 abbrev pub JustifiedBy : Outcome → Setting → List Deed → Deed → Type 0
 JustifiedBy Ignored setting past d = IsIgnored setting past d
 JustifiedBy Rejected setting past d = IsRejection setting past d
+JustifiedBy Again setting past d = IsRepetition setting past d
+JustifiedBy NoRecordRoom setting past d = IsForgotten setting past d
 JustifiedBy (Refused code) setting past d = IsRefusal setting past d code
+JustifiedBy Hit setting past d = IsHit setting past d
 JustifiedBy Opened setting past d = IsOpening setting past d
 JustifiedBy Overloaded setting past d = IsOverload setting past d
 JustifiedBy NoId setting past d = IsLack setting past d
-JustifiedBy (Answered NotStored) setting past d = IsAnswer setting past d
+JustifiedBy (Answered Kept) setting past d = IsKept setting past d
+JustifiedBy (Answered TooLarge) setting past d = IsTooLarge setting past d
+JustifiedBy (Answered NoMemory) setting past d = IsWithoutMemory setting past d
+JustifiedBy (Answered NotStored) setting past d = IsNotStored setting past d
 JustifiedBy SentRequest setting past d = IsForwarding setting past d
 JustifiedBy Delivered setting past d = IsDelivery setting past d
 JustifiedBy Idle setting past d = IsIdle setting past d
@@ -244,6 +390,59 @@ AllJustified setting [] = Unit {0}
 AllJustified setting (d ∷ past) =
     JustifiedBy d.entry.report.outcome setting past d × AllJustified setting past
 
+-- ---- what is owed
+
+-- an answer is kept, or memory was missing for it
+abbrev pub IsKeptIfGrown : Outcome → Type 0
+IsKeptIfGrown outcome = (outcome ≡ Answered Kept) ⊎ (outcome ≡ Answered NoMemory)
+
+-- What is owed to duplicates and by the cache. What is known of a request is told again, and where
+-- there is no room to remember it, there is silence. A request that is new and may be asked for,
+-- whose key has a fresh entry in the cache of what was done before, is answered from it, where it can
+-- be replied to. An answer that was obtained is kept, memory aside, where it counts no more than may
+-- be kept, and is too large where it counts more; any other answer isn't stored.
+pub record IsOwed (setting : Setting) (past : List Deed) (d : Deed) : Type 0 where
+  pub again :
+      (client : Endpoint) (request : Message) (known : Record)
+      → IsRequestOf setting client request d.entry.event
+      → record_of client request.id (remembered_at request.kind d.entry.now past) ≡ Some known
+      → d.entry.report.outcome ≡ Again
+  pub no_room :
+      (client : Endpoint) (request : Message)
+      → IsRequestOf setting client request d.entry.event
+      → record_of client request.id (remembered_at request.kind d.entry.now past) ≡ None
+      → most_remembered request.kind setting.limits
+      ≤ length (remembered_at request.kind d.entry.now past)
+      → d.entry.report.outcome ≡ NoRecordRoom
+  pub hit :
+      (client : Endpoint) (request : Message) (key : CacheKey) (cached : List Cached)
+      (entry : Cached)
+      → IsRequestOf setting client request d.entry.event
+      → IsNew setting past d.entry.now client request
+      → verdict_on setting request ≡ may_ask key
+      → IsCacheOf setting past cached
+      → of_key cached_key key cached ≡ Some entry
+      → is_fresh_at d.entry.now entry ≡ true
+      → HasIdFor request past
+      → d.entry.report.outcome ≡ Hit
+  pub small :
+      (o : IsObtainedHere setting past d)
+      → size_here o ≤ setting.limits.cache_bytes
+      → IsKeptIfGrown d.entry.report.outcome
+  pub large :
+      (o : IsObtainedHere setting past d)
+      → setting.limits.cache_bytes < size_here o
+      → d.entry.report.outcome ≡ Answered TooLarge
+  pub other :
+      takes d.entry.report.outcome ≡ true
+      → ¬ IsObtainedHere setting past d
+      → d.entry.report.outcome ≡ Answered NotStored
+
+-- Each deed gave it.
+abbrev pub AllOwed : Setting → List Deed → Type 0
+AllOwed setting [] = Unit {0}
+AllOwed setting (d ∷ past) = IsOwed setting past d × AllOwed setting past
+
 -- ---- one answer
 
 -- A deed may follow: the deeds before it justify it, and where it gives an id, it gives the one
@@ -251,10 +450,17 @@ AllJustified setting (d ∷ past) =
 pub record MayFollow (setting : Setting) (past : List Deed) (d : Deed) : Type 0 where
   pub justified : JustifiedBy d.entry.report.outcome setting past d
   pub id :
-      gives_id d.entry.report.outcome ≡ 1 → Gives ((setting.first_id + ids_in past) % 65536) d.entry
+      gives_id d.entry ≡ 1 → Gives ((setting.first_id + ids_in past) % 65536) d.entry
 
--- two entries of one event, at one moment and with one draw
+-- two outcomes don't differ in whether there was memory for an entry
+abbrev pub HaveOneMemory : Outcome → Outcome → Type 0
+HaveOneMemory (Answered Kept) (Answered NoMemory) = ⊥
+HaveOneMemory (Answered NoMemory) (Answered Kept) = ⊥
+HaveOneMemory _ _ = Unit {0}
+
+-- two entries of one event, at one moment, with one draw and with one memory
 pub record AreOfOneTurn (d e : Entry) : Type 0 where
   pub now : d.now ≡ e.now
   pub draw : d.draw ≡ e.draw
   pub event : d.event ≡ e.event
+  pub memory : HaveOneMemory d.report.outcome e.report.outcome

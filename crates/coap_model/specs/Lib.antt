@@ -5,6 +5,8 @@ pub mod Forms
 pub mod Verdicts
 pub mod Answers
 pub mod Events
+pub mod Remembered
+pub mod Duplicates
 pub mod World
 pub mod Requests
 pub mod Responses
@@ -12,8 +14,10 @@ pub mod Ticks
 pub mod Step
 pub mod Examples
 pub mod LimitExamples
-pub mod EdgeExamples
+pub mod ReplyExamples
+pub mod FormExamples
 pub mod OptionExamples
+pub mod DuplicateExamples
 pub mod History
 pub mod Due
 pub mod Justified
@@ -26,3 +30,5 @@ pub mod Forged
 pub mod Pairs
 pub mod Cached
 pub mod CacheExamples
+pub mod HitExamples
+pub mod StoringExamples

@@ -4,11 +4,11 @@ use Rattle.std.specs.Prelude.{ℕ, List, [], ◌∷◌, ◌++◌, replicate}
 use Rattle.coap_message.specs.declared.code.TheConstants.Code.{NOT_FOUND}
 use Rattle.coap_routes.specs.Routes.{fixed_routes}
 use Rattle.coap_model.specs.declared.report.Outcome.TheVariants.{Ignored, Rejected, Refused, Opened, Overloaded, NoId, Answered, SentRequest, Delivered}
-use Rattle.coap_model.specs.declared.report.Storing.TheVariants.{NotStored}
+use Rattle.coap_model.specs.declared.report.Storing.TheVariants.{Kept, NotStored}
 use Rattle.coap_model.specs.Limits.{Limits, default_limits}
 use Rattle.coap_model.specs.World.{World, new_world}
 use Rattle.coap_model.specs.Runs.{Turn}
-use Rattle.coap_model.specs.Examples.{Sent, origin, client, from, tick_at, nothing, to, proxy, get_t, answer}
+use Rattle.coap_model.specs.Examples.{get_t_as, Sent, origin, client, from, tick_at, nothing, to, proxy, get_t, answer}
 
 -- a proxy of these limits
 abbrev pub proxy_of : Limits → World
@@ -40,9 +40,16 @@ got id token = answer 0x68 0x45 id token (0xD1 ∷ 1 ∷ 10 ∷ 0xFF ∷ 0x32 �
 abbrev pub for_client : ℕ → List ℕ
 for_client id = 0x50 ∷ 0x45 ∷ 0 ∷ id ∷ 0xD1 ∷ 1 ∷ 10 ∷ 0xFF ∷ 0x32 ∷ 0x31 ∷ []
 
--- a request of the path `u`, which has no map, and its 4.04 with its id
-abbrev pub get_u : List ℕ
-get_u = 0x50 ∷ 1 ∷ 0 ∷ 4 ∷ 0xB1 ∷ 0x75 ∷ []
+-- the same without a moment in which it is fresh, so that it isn't stored
+abbrev pub got_stale : ℕ → ℕ → List ℕ
+got_stale id token = answer 0x68 0x45 id token (0xD0 ∷ 1 ∷ 0xFF ∷ 0x32 ∷ 0x31 ∷ [])
+
+abbrev pub stale_for_client : ℕ → List ℕ
+stale_for_client id = 0x50 ∷ 0x45 ∷ 0 ∷ id ∷ 0xD0 ∷ 1 ∷ 0xFF ∷ 0x32 ∷ 0x31 ∷ []
+
+-- a request of the path `u`, which has no map, with this id, and its 4.04 with its own
+abbrev pub get_u : ℕ → List ℕ
+get_u id = 0x50 ∷ 1 ∷ 0 ∷ id ∷ 0xB1 ∷ 0x75 ∷ []
 
 abbrev pub not_found : ℕ → ℕ → List ℕ
 not_found high low = 0x50 ∷ 0x84 ∷ high ∷ low ∷ []
@@ -57,8 +64,8 @@ abbrev pub until_served : List Turn
 until_served =
     from 0 (client 1) (get_t []) ∷ from 0 (client 3) (get_t []) ∷ tick_at 1
     ∷ from 2 (client 3) (0x51 ∷ 1 ∷ 0 ∷ 2 ∷ 0xAA ∷ 0xB1 ∷ 0x74 ∷ [])
-    ∷ from 3 origin (got 2 1) ∷ from 3 (client 3) (get_t []) ∷ from 3 (client 3) get_u ∷ tick_at 3
-    ∷ from 3 (client 3) (get_t []) ∷ tick_at 4 ∷ from 5 origin (got 7 2) ∷ tick_at 5 ∷ []
+    ∷ from 3 origin (got_stale 2 1) ∷ from 3 (client 3) (get_t_as 8 []) ∷ from 3 (client 3) (get_u 4)
+    ∷ tick_at 3 ∷ from 3 (client 3) (get_t_as 9 []) ∷ tick_at 4 ∷ from 5 origin (got_stale 7 2) ∷ tick_at 5 ∷ []
 
 abbrev pub until_served_sent : List Sent
 until_served_sent =
@@ -66,9 +73,9 @@ until_served_sent =
     ∷ to SentRequest origin (asked 2 1)
     ∷ to Overloaded (client 3) (0x51 ∷ 0xA3 ∷ 0 ∷ 3 ∷ 0xAA ∷ 0xD1 ∷ 1 ∷ 5 ∷ [])
     ∷ nothing (Answered NotStored) ∷ to Overloaded (client 3) (busy 4 (0xD1 ∷ 1 ∷ 5 ∷ []))
-    ∷ to (Refused NOT_FOUND) (client 3) (not_found 0 5) ∷ to Delivered (client 1) (for_client 6)
+    ∷ to (Refused NOT_FOUND) (client 3) (not_found 0 5) ∷ to Delivered (client 1) (stale_for_client 6)
     ∷ nothing Opened ∷ to SentRequest origin (asked 7 2) ∷ nothing (Answered NotStored)
-    ∷ to Delivered (client 3) (for_client 8) ∷ []
+    ∷ to Delivered (client 3) (stale_for_client 8) ∷ []
 
 -- the time after which to try again is a limit: none, and an hour
 abbrev pub retries_after : ℕ → World
@@ -116,7 +123,7 @@ counted_on_sent =
     nothing Opened
     ∷ to SentRequest origin
     (0x48 ∷ 1 ∷ 0x12 ∷ 0x34 ∷ 1 ∷ 2 ∷ 3 ∷ 4 ∷ 5 ∷ 6 ∷ 7 ∷ 9 ∷ 0xB4 ∷ 0x74 ∷ 0x65 ∷ 0x6D ∷ 0x70 ∷ [])
-    ∷ nothing (Answered NotStored)
+    ∷ nothing (Answered Kept)
     ∷ to Delivered (client 1) (0x50 ∷ 0x45 ∷ 0x12 ∷ 0x35 ∷ 0xD1 ∷ 1 ∷ 10 ∷ 0xFF ∷ 0x32 ∷ 0x31 ∷ [])
     ∷ []
 
@@ -124,10 +131,10 @@ counted_on_sent =
 abbrev pub after_ids : ℕ → World
 after_ids count = record proxy { given = count }
 
--- Where no id is free there is no reply to a request, but a Reset has the id of what it rejects.
-abbrev pub without_ids : List Turn
-without_ids =
-    from 0 (client 1) get_u ∷ from 0 (client 1) (get_t [])
+-- Where no id is free there is no reply to requests with this id of two clients, but a Reset has the id of what it rejects.
+abbrev pub without_ids : ℕ → List Turn
+without_ids id =
+    from 0 (client 1) (get_u id) ∷ from 0 (client 2) (get_t_as id [])
     ∷ from 0 (client 1) (0x40 ∷ 0 ∷ 0 ∷ 9 ∷ []) ∷ []
 
 abbrev pub without_ids_sent : List Sent
@@ -141,21 +148,21 @@ last_answer =
 
 -- the last id goes to a refusal
 abbrev pub last_refusal : List Turn
-last_refusal = from 0 (client 1) get_u ∷ without_ids
+last_refusal = from 0 (client 1) (get_u 4) ∷ without_ids 5
 
 abbrev pub last_refusal_sent : List Sent
 last_refusal_sent = to (Refused NOT_FOUND) (client 1) (not_found 0x80 0) ∷ without_ids_sent
 
 -- with two ids left an exchange is opened, which keeps both
 abbrev pub kept_ids : List Turn
-kept_ids = from 0 (client 1) (get_t []) ∷ without_ids ++ tick_at 0 ∷ without_ids
-    ++ from 0 origin last_answer ∷ tick_at 0 ∷ without_ids
+kept_ids = from 0 (client 1) (get_t []) ∷ without_ids 11 ++ tick_at 0 ∷ without_ids 12
+    ++ from 0 origin last_answer ∷ tick_at 0 ∷ without_ids 13
 
 abbrev pub kept_ids_sent : List Sent
 kept_ids_sent =
     nothing Opened ∷ without_ids_sent
     ++ to SentRequest origin
     (0x48 ∷ 1 ∷ 0x7F ∷ 0xFF ∷ 0 ∷ 0 ∷ 0 ∷ 0 ∷ 0 ∷ 0 ∷ 0 ∷ 1 ∷ 0xB4 ∷ 0x74 ∷ 0x65 ∷ 0x6D ∷ 0x70 ∷ [])
-    ∷ without_ids_sent ++ nothing (Answered NotStored)
+    ∷ without_ids_sent ++ nothing (Answered Kept)
     ∷ to Delivered (client 1) (0x50 ∷ 0x45 ∷ 0x80 ∷ 0 ∷ 0xD1 ∷ 1 ∷ 10 ∷ 0xFF ∷ 0x32 ∷ 0x31 ∷ [])
     ∷ without_ids_sent

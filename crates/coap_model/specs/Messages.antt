@@ -1,6 +1,6 @@
 -- What messages mean to a proxy: words that the step and the history share, as those of `Forms`,
 -- `Verdicts` and `Answers`. They speak of messages alone, and of no table.
-use Rattle.std.specs.Prelude.{ℕ, ◌+◌, ◌%◌, ◌^◌, Bool, true, false, List, [], ◌∷◌}
+use Rattle.std.specs.Prelude.{ℕ, ◌+◌, ◌%◌, ◌^◌, Bool, true, false, if◌then◌else◌, List, [], ◌∷◌, Option, Some, None}
 use Rattle.std.specs.Int.{w64, to_be_bytes}
 use Rattle.coap_message.specs.declared.kind.Kind.{Kind}
 use Rattle.coap_message.specs.declared.kind.Kind.TheVariants.{Con, Non, Ack, Rst}
@@ -24,6 +24,13 @@ is_non Non = true
 is_non Ack = false
 is_non Rst = false
 
+-- requests come in these (RFC 7252, 4.2 and 4.3)
+abbrev pub brings_requests : Kind → Bool
+brings_requests Con = true
+brings_requests Non = true
+brings_requests Ack = false
+brings_requests Rst = false
+
 abbrev pub is_ack : Kind → Bool
 is_ack Con = false
 is_ack Non = false
@@ -44,6 +51,26 @@ own_reply code options id token =
 -- 5.03, with the seconds after which to try again (RFC 7252, 5.9.3.4)
 abbrev pub busy_reply : ℕ → ℕ → List ℕ → Message
 busy_reply seconds id token = own_reply SERVICE_UNAVAILABLE (max_age_option seconds ∷ []) id token
+
+-- ---- replies that go out at once
+
+-- to a Confirmable request in its acknowledgement, which has its id (RFC 7252, 5.2.1), and to a
+-- Non-confirmable one in a message like it, with an id of the proxy's (RFC 7252, 5.2.3)
+abbrev pub reply_kind : Kind → Kind
+reply_kind kind = if is_con kind then Ack else Non
+
+abbrev pub reply_id : Message → ℕ → ℕ
+reply_id request id = if is_con request.kind then request.id else id
+
+-- a reply as it goes out at once to a request
+abbrev pub at_once : Message → Message → Message
+at_once request reply =
+    record reply { kind = reply_kind request.kind; id = reply_id request reply.id }
+
+-- what a duplicate is told: that of a Confirmable message what went out at once (RFC 7252, 4.2),
+-- and that of a Non-confirmable one nothing (RFC 7252, 4.3)
+abbrev pub told_again : Kind → List ℕ → Option (List ℕ)
+told_again kind sent = if is_con kind then Some sent else None
 
 -- ---- tokens
 

@@ -20,8 +20,8 @@ use Rattle.coap_model.specs.Limits.{default_limits}
 use Rattle.coap_model.specs.Forms.{key_sent}
 use Rattle.coap_model.specs.Runs.{Turn}
 use Rattle.coap_model.specs.World.{World, new_world}
-use Rattle.coap_model.specs.Examples.{Sent, origin, client, from, tick_at, nothing, to, get_temp, answer, answered_by, delivered_as}
-use Rattle.coap_model.specs.EdgeExamples.{named}
+use Rattle.coap_model.specs.Examples.{Sent, origin, client, from, tick_at, nothing, to, get_temp, answer, answered_by, delivered_as, delivered_once}
+use Rattle.coap_model.specs.FormExamples.{named}
 
 -- ---- the form, and keys
 
@@ -117,14 +117,14 @@ observed =
     ∷ from 0 origin (answer 0x68 0x44 1 1 (0x61 ∷ 3 ∷ 0xFF ∷ 0x32 ∷ [])) ∷ tick_at 0 ∷ []
 
 abbrev pub observed_sent : List Sent
-observed_sent = delivered_as (0x50 ∷ 0x44 ∷ 0 ∷ 2 ∷ 0xFF ∷ 0x32 ∷ [])
+observed_sent = delivered_once (0x50 ∷ 0x44 ∷ 0 ∷ 2 ∷ 0xFF ∷ 0x32 ∷ [])
 
 -- option 64 is safe to forward, 66 isn't: neither is recognised
 abbrev pub with_unknown : ℕ → List Turn
 with_unknown number = answered_by 0 (answer 0x68 0x44 1 1 (0xD1 ∷ (number - 13) ∷ 9 ∷ []))
 
 abbrev pub safe_sent : List Sent
-safe_sent = delivered_as (0x50 ∷ 0x44 ∷ 0 ∷ 2 ∷ 0xD1 ∷ 51 ∷ 9 ∷ [])
+safe_sent = delivered_once (0x50 ∷ 0x44 ∷ 0 ∷ 2 ∷ 0xD1 ∷ 51 ∷ 9 ∷ [])
 
 -- the longest payload beside an ETag of eight bytes that fits datagrams of 128 bytes has 101 bytes
 abbrev pub beside_a_tag : ℕ → List Turn
@@ -160,17 +160,17 @@ with_scheme options = 0x50 ∷ 1 ∷ 0 ∷ 7 ∷ (options ++ codes "coap")
 abbrev pub refused_targets : List Turn
 refused_targets =
     from 0 (client 1) (with_scheme (0x31 ∷ 0x62 ∷ 0x40 ∷ 0xD4 ∷ 19 ∷ []))
-    ∷ from 0 (client 1) (with_scheme (0x31 ∷ 0x62 ∷ 0xD4 ∷ 23 ∷ []))
-    ∷ from 0 (client 1) (with_scheme (0xB1 ∷ 0x75 ∷ 0xD4 ∷ 15 ∷ []))
-    ∷ from 0 (client 1) (with_scheme (0x31 ∷ 0x62 ∷ 0x40 ∷ 0xD0 ∷ 3 ∷ 0xD4 ∷ 3 ∷ []))
+    ∷ from 0 (client 2) (with_scheme (0x31 ∷ 0x62 ∷ 0xD4 ∷ 23 ∷ []))
+    ∷ from 0 (client 3) (with_scheme (0xB1 ∷ 0x75 ∷ 0xD4 ∷ 15 ∷ []))
+    ∷ from 0 (client 4) (with_scheme (0x31 ∷ 0x62 ∷ 0x40 ∷ 0xD0 ∷ 3 ∷ 0xD4 ∷ 3 ∷ []))
     ∷ []
 
 abbrev pub refused_targets_sent : List Sent
 refused_targets_sent =
     to (Refused BAD_REQUEST) (client 1) (0x50 ∷ 0x80 ∷ 0 ∷ 1 ∷ [])
-    ∷ to (Refused PROXYING_NOT_SUPPORTED) (client 1) (0x50 ∷ 0xA5 ∷ 0 ∷ 2 ∷ [])
-    ∷ to (Refused NOT_FOUND) (client 1) (0x50 ∷ 0x84 ∷ 0 ∷ 3 ∷ [])
-    ∷ to (Refused BAD_OPTION) (client 1) (0x50 ∷ 0x82 ∷ 0 ∷ 4 ∷ [])
+    ∷ to (Refused PROXYING_NOT_SUPPORTED) (client 2) (0x50 ∷ 0xA5 ∷ 0 ∷ 2 ∷ [])
+    ∷ to (Refused NOT_FOUND) (client 3) (0x50 ∷ 0x84 ∷ 0 ∷ 3 ∷ [])
+    ∷ to (Refused BAD_OPTION) (client 4) (0x50 ∷ 0x82 ∷ 0 ∷ 4 ∷ [])
     ∷ []
 
 -- a path without a map that would be too long for datagrams of 128 bytes when sent on

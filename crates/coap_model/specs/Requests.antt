@@ -1,5 +1,6 @@
 -- The step of a request (RFC 7252, 5.7.3).
-use Rattle.std.specs.Prelude.{ℕ, ◌+◌, if◌then◌else◌, List, [], ◌∷◌, ◌++◌}
+use Rattle.std.specs.Prelude.{ℕ, ◌+◌, ◌&&◌, Bool, if◌then◌else◌, List, [], ◌∷◌, ◌++◌, Option, Some, None}
+use Rattle.coap_message.specs.declared.kind.Kind.{Kind}
 use Rattle.coap_message.specs.declared.code.Code.{Code}
 use Rattle.coap_message.specs.declared.code.TheConstants.Code.{REQUEST_ENTITY_TOO_LARGE}
 use Rattle.coap_message.specs.Message.{Message}
@@ -7,15 +8,27 @@ use Rattle.coap_message.specs.Spelling.{spelling}
 use Rattle.coap_option.specs.Selection.{sent_on, tags_of}
 use Rattle.coap_target.specs.declared.endpoint.Endpoint.{Endpoint}
 use Rattle.coap_cache.specs.declared.key.CacheKey.{CacheKey}
+use Rattle.coap_cache.specs.declared.stored.Stored.{Stored}
+use Rattle.coap_cache.specs.Entries.{Entry, entry_key}
+use Rattle.coap_cache.specs.Freshness.{is_usable}
+use Rattle.coap_cache.specs.Lists.{of_key, used}
+use Rattle.coap_dedup.specs.declared.record.Record.{Record}
+use Rattle.coap_dedup.specs.Lists.{record_of}
+use Rattle.coap_dedup.specs.Records.{living_at, with_kept}
+use Rattle.coap_model.specs.Answers.{shown, stored_answer}
 use Rattle.coap_exchange.specs.declared.exchange.ExchangeState.TheVariants.{Queued}
 use Rattle.coap_exchange.specs.declared.exchange.Exchange.{Exchange}
 use Rattle.coap_exchange.specs.declared.waiter.Waiter.{Waiter}
 use Rattle.coap_exchange.specs.Table.{Numbered}
-use Rattle.coap_model.specs.declared.report.Outcome.TheVariants.{Refused, Overloaded, NoId, Opened}
-use Rattle.coap_model.specs.Messages.{own_reply, busy_reply, token_of}
+use Rattle.coap_model.specs.declared.report.Outcome.TheVariants.{Again, NoRecordRoom, Refused, Hit, Overloaded, NoId, Opened}
+use Rattle.coap_model.specs.Messages.{is_con, is_non, own_reply, busy_reply, at_once, told_again, token_of}
 use Rattle.coap_model.specs.Forms.{forwarded}
 use Rattle.coap_model.specs.Verdicts.{Verdict, refused_with, may_ask, verdict_of, form_fits}
-use Rattle.coap_model.specs.World.{World, Step, later, silent, says, next_id, has_ids, has_room}
+use Rattle.coap_model.specs.World.{World, Step, later, silent, says, records_of, has_record_room, next_id, can_reply, ids_to_reply, has_room}
+
+-- the clock, one event on, in which a request was replied to at once
+abbrev pub replied : World → ℕ → Message → World
+replied w now m = record (later w now) { given = w.given + ids_to_reply m.kind }
 
 -- no id is free for a reply: silence
 abbrev pub lacks_id : World → ℕ → Step
@@ -24,14 +37,13 @@ lacks_id w now = silent NoId (later w now)
 -- the client is refused with a code
 abbrev pub refuses : World → ℕ → Endpoint → Message → Code → Step
 refuses w now client m code =
-    says (Refused code) client (own_reply code [] (next_id w) m.token)
-    (record (later w now) { given = w.given + 1 })
+    says (Refused code) client (at_once m (own_reply code [] (next_id w) m.token)) (replied w now m)
 
 -- there is no room for the client: try again later
 abbrev pub overloads : World → ℕ → Endpoint → Message → Step
 overloads w now client m =
-    says Overloaded client (busy_reply w.setting.limits.retry_s (next_id w) m.token)
-    (record (later w now) { given = w.given + 1 })
+    says Overloaded client
+    (at_once m (busy_reply w.setting.limits.retry_s (next_id w) m.token)) (replied w now m)
 
 -- the token of the request of the exchange that is opened next
 abbrev pub next_token : World → List ℕ
@@ -71,22 +83,99 @@ opens w now client m key =
 
 -- there is no room for what could be opened
 abbrev pub turns_away : World → ℕ → Endpoint → Message → Step
-turns_away w now client m = if has_ids 1 w then overloads w now client m else lacks_id w now
+turns_away w now client m =
+    if can_reply w m.kind then overloads w now client m else lacks_id w now
 
 -- the client is refused, if an id is free to tell it
 abbrev pub turns_down : World → ℕ → Endpoint → Message → Code → Step
-turns_down w now client m code = if has_ids 1 w then refuses w now client m code else lacks_id w now
+turns_down w now client m code =
+    if can_reply w m.kind then refuses w now client m code else lacks_id w now
+
+-- the client is shown what is stored
+abbrev pub shows : World → ℕ → Endpoint → Message → Stored → Step
+shows w now client m stored =
+    says Hit client
+    (at_once m (shown now (stored_answer stored) (next_id w) m.token (tags_of m)))
+    (replied w now m)
+
+-- the client is answered from the store: the entry of the key moves to the front
+abbrev pub hits : World → ℕ → Endpoint → Message → CacheKey → Stored → Step
+hits w now client m key stored =
+    shows (record w { store = used entry_key key w.store }) now client m stored
+
+-- an exchange may be opened for a request that came in a message of this type; a Confirmable one
+-- isn't asked for yet
+abbrev pub can_open : World → Kind → Bool
+can_open w kind = is_non kind && has_room w
 
 -- an exchange is wanted for the key
 abbrev pub on_miss : World → ℕ → Endpoint → Message → CacheKey → Step
 on_miss w now client m key =
     if form_fits w.setting.limits.datagram key.target m
-    then (if has_room w then opens w now client m key else turns_away w now client m)
+    then (if can_open w m.kind then opens w now client m key else turns_away w now client m)
     else turns_down w now client m REQUEST_ENTITY_TOO_LARGE
+
+-- an entry of the key that is usable answers
+abbrev pub on_entry : World → ℕ → Endpoint → Message → CacheKey → Option Entry → Step
+on_entry w now client m key None = on_miss w now client m key
+on_entry w now client m key (Some entry) =
+    if is_usable now entry.1
+    then (if can_reply w m.kind then hits w now client m key entry.1 else lacks_id w now)
+    else on_miss w now client m key
+
+abbrev pub on_key : World → ℕ → Endpoint → Message → CacheKey → Step
+on_key w now client m key = on_entry w now client m key (of_key entry_key key w.store)
 
 abbrev pub on_verdict : World → ℕ → Endpoint → Message → Verdict → Step
 on_verdict w now client m (refused_with code) = turns_down w now client m code
-on_verdict w now client m (may_ask key) = on_miss w now client m key
+on_verdict w now client m (may_ask key) = on_key w now client m key
+
+-- ---- duplicates
+
+-- what is remembered of a request, where this goes out at once
+abbrev pub record_made : ℕ → Endpoint → Message → List ℕ → Record
+record_made now client m bytes =
+    record { from = client; id = m.id; at = now; reply = told_again m.kind bytes }
+
+-- the request is remembered, where this goes out at once
+abbrev pub with_record : ℕ → Endpoint → Message → List ℕ → World → World
+with_record now client m bytes w = record w {
+  con_records = if is_con m.kind
+      then with_kept (record_made now client m bytes) w.con_records
+      else w.con_records;
+  non_records = if is_con m.kind
+      then w.non_records
+      else with_kept (record_made now client m bytes) w.non_records;
+}
+
+-- and so with what a step sends
+abbrev pub remembers : ℕ → Endpoint → Message → Step → Step
+remembers now client m s = record s { world = with_record now client m s.bytes s.world }
+
+-- a request that is new
+abbrev pub on_new : World → ℕ → Endpoint → Message → Step
+on_new w now client m = on_verdict w now client m (verdict_of w.setting.routes m)
+
+-- a duplicate gets what its request got, and nothing else is done
+abbrev pub repeats : World → ℕ → Endpoint → Option (List ℕ) → Step
+repeats w now client None = silent Again (later w now)
+repeats w now client (Some bytes) =
+    record { report = record { send = Some client; outcome = Again }; bytes = bytes; world = later w now }
+
+-- there is no room to remember the request: silence
+abbrev pub forgets : World → ℕ → Step
+forgets w now = silent NoRecordRoom (later w now)
+
+abbrev pub on_known : World → ℕ → Endpoint → Message → Option Record → Step
+on_known w now client m None =
+    if has_record_room w now m.kind
+    then remembers now client m (on_new w now client m)
+    else forgets w now
+on_known w now client m (Some known) = repeats w now client known.reply
+
+-- what is known of a request
+abbrev pub known_of : World → ℕ → Endpoint → Message → Option Record
+known_of w now client m = record_of client m.id (living_at now (records_of m.kind w))
 
 abbrev pub on_request : World → ℕ → Endpoint → Message → Step
-on_request w now client m = on_verdict w now client m (verdict_of w.setting.routes m)
+on_request w now client m = on_known w now client m (known_of w now client m)

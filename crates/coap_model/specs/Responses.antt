@@ -1,19 +1,23 @@
 -- The step of a response that comes in an acknowledgement (RFC 7252, 5.2.1 and 5.3.2).
-use Rattle.std.specs.Prelude.{ℕ, ◌==◌, ◌&&◌, Bool, false, Option, Some, None}
+use Rattle.std.specs.Prelude.{ℕ, ◌==◌, ◌&&◌, Bool, false, nat_le, if◌then◌else◌, List, Option, Some, None}
 use Rattle.std.specs.List.{find}
 use Rattle.coap_message.specs.Message.{Message}
 use Rattle.coap_target.specs.declared.endpoint.Endpoint.{Endpoint}
 use Rattle.coap_target.specs.Endpoint.{same_endpoint}
 use Rattle.coap_target.specs.Equality.{same_bytes}
+use Rattle.coap_cache.specs.Entries.{Entry, entry_key, entry_size}
+use Rattle.coap_cache.specs.Lists.{of_key, others, put}
+use Rattle.coap_exchange.specs.declared.exchange.Answer.{Answer}
 use Rattle.coap_exchange.specs.declared.exchange.ExchangeState.{ExchangeState}
 use Rattle.coap_exchange.specs.declared.exchange.ExchangeState.TheVariants.{Queued, Sent, Done}
 use Rattle.coap_exchange.specs.declared.exchange.Exchange.{Exchange}
 use Rattle.coap_exchange.specs.Exchanges.{with_state}
 use Rattle.coap_exchange.specs.Table.{Numbered}
 use Rattle.coap_model.specs.declared.report.Outcome.TheVariants.{Answered}
-use Rattle.coap_model.specs.declared.report.Storing.TheVariants.{NotStored}
+use Rattle.coap_model.specs.declared.report.Storing.{Storing}
+use Rattle.coap_model.specs.declared.report.Storing.TheVariants.{Kept, TooLarge, NoMemory, NotStored}
 use Rattle.coap_model.specs.Messages.{token_of}
-use Rattle.coap_model.specs.Answers.{answer_of}
+use Rattle.coap_model.specs.Answers.{answer_of, is_storable}
 use Rattle.coap_model.specs.World.{World, Step, later, silent, ignores}
 
 -- whether it was sent with this id, and no answer has come
@@ -31,17 +35,68 @@ awaits salt source m x =
 abbrev pub awaiting : World → Endpoint → Message → Option (Numbered Exchange)
 awaiting w source m = find (awaits w.setting.salt source m) w.exchanges
 
--- the exchange has its answer
-abbrev pub answers : World → ℕ → Message → Numbered Exchange → Step
-answers w now m x =
-    silent (Answered NotStored)
-    (record (later w now) {
-      exchanges = with_state x.0 (Done (answer_of w.setting.limits.datagram now m)) w.exchanges;
+-- ---- what becomes of an answer
+
+-- the number of the event in which the request of an exchange was sent
+abbrev pub asked_of : ExchangeState → ℕ
+asked_of Queued = 0
+asked_of (Sent s) = s.asked
+asked_of (Done a) = 0
+
+-- what is stored of the answer of an exchange
+abbrev pub entry_made : World → ℕ → Numbered Exchange → Answer → Entry
+entry_made w now x a = (
+  x.1.key,
+  record {
+    response = a.message;
+    asked = asked_of x.1.state;
+    got_no = w.events;
+    got = now;
+    marked = false;
+  },
+)
+
+-- the exchange has its answer, and this is the store then
+abbrev pub answers_so : World → ℕ → Numbered Exchange → Answer → Storing → List Entry → Step
+answers_so w now x a storing store =
+    silent (Answered storing) (record (later w now) {
+      exchanges = with_state x.0 (Done a) w.exchanges;
+      store = store;
     })
 
-abbrev pub on_awaited : World → ℕ → Message → Option (Numbered Exchange) → Step
-on_awaited w now m None = ignores w now
-on_awaited w now m (Some x) = answers w now m x
+-- it stands first in the store, and what no longer fits is given up
+abbrev pub keeps : World → ℕ → Numbered Exchange → Answer → Step
+keeps w now x a =
+    answers_so w now x a Kept (put entry_key entry_size
+    w.setting.limits.cache_bytes w.setting.limits.cache_entries (entry_made w now x a) w.store)
 
-abbrev pub on_response : World → ℕ → Endpoint → Message → Step
-on_response w now source m = on_awaited w now m (awaiting w source m)
+-- only a key without an entry can want memory
+abbrev pub keeps_if : World → ℕ → Bool → Numbered Exchange → Answer → Option Entry → Step
+keeps_if w now grown x a None =
+    if grown then keeps w now x a else answers_so w now x a NoMemory w.store
+keeps_if w now grown x a (Some entry) = keeps w now x a
+
+-- an answer that alone counts more bytes than the store may keep isn't kept, nor what it replaces
+abbrev pub stores : World → ℕ → Bool → Numbered Exchange → Answer → Step
+stores w now grown x a =
+    if nat_le (entry_size (entry_made w now x a)) w.setting.limits.cache_bytes
+    then keeps_if w now grown x a (of_key entry_key x.1.key w.store)
+    else answers_so w now x a TooLarge (others entry_key x.1.key w.store)
+
+abbrev pub answers_with : World → ℕ → Bool → Numbered Exchange → Answer → Step
+answers_with w now grown x a =
+    if is_storable a
+    then stores w now grown x a
+    else answers_so w now x a NotStored w.store
+
+-- the exchange has its answer; `grown` says whether there is memory for one entry more
+abbrev pub answers : World → ℕ → Bool → Message → Numbered Exchange → Step
+answers w now grown m x =
+    answers_with w now grown x (answer_of w.setting.limits.datagram now m)
+
+abbrev pub on_awaited : World → ℕ → Bool → Message → Option (Numbered Exchange) → Step
+on_awaited w now grown m None = ignores w now
+on_awaited w now grown m (Some x) = answers w now grown m x
+
+abbrev pub on_response : World → ℕ → Bool → Endpoint → Message → Step
+on_response w now grown source m = on_awaited w now grown m (awaiting w source m)

@@ -1,5 +1,5 @@
 -- Runs: the steps of a list of turns, one after the other, and the history that they leave.
-use Rattle.std.specs.Prelude.{ℕ, ◌≤◌, List, [], ◌∷◌}
+use Rattle.std.specs.Prelude.{ℕ, ◌≤◌, Bool, List, [], ◌∷◌, map}
 use Rattle.coap_model.specs.Setting.{Setting}
 use Rattle.coap_model.specs.Events.{Event, IsEvent}
 use Rattle.coap_model.specs.World.{World, Step, new_world}
@@ -12,6 +12,15 @@ pub record Turn : Type 0 where
   pub draw : ℕ
   pub event : Event
 
+-- a turn that is taken, and whether there was memory for one entry more of the store
+pub record Taken : Type 0 where
+  pub turn : Turn
+  pub grown : Bool
+
+-- the turns, whatever memory they found
+abbrev pub turns_of : List Taken → List Turn
+turns_of taken = map (λ t. t.turn) taken
+
 -- moments don't go back, and datagrams are bytes
 abbrev pub AreTurns : ℕ → List Turn → Type 0
 AreTurns last [] = Unit {0}
@@ -23,8 +32,8 @@ entry_of now draw event s =
     record { now = now; draw = draw; event = event; report = s.report; bytes = s.bytes }
 
 -- the entry of the step of an event at a moment
-abbrev pub answer_at : World → ℕ → ℕ → Event → Entry
-answer_at w now draw event = entry_of now draw event (step_of w now draw event)
+abbrev pub answer_at : World → ℕ → ℕ → Bool → Event → Entry
+answer_at w now draw grown event = entry_of now draw event (step_of w now draw grown event)
 
 -- a proxy, and what happened to it
 pub record Run : Type 0 where
@@ -34,12 +43,15 @@ pub record Run : Type 0 where
 abbrev pub new_run : Setting → Run
 new_run setting = record { world = new_world setting; history = [] }
 
-abbrev pub one_turn : Run → Turn → Run
+abbrev pub step_taken : World → Taken → Step
+step_taken w t = step_of w t.turn.now t.turn.draw t.grown t.turn.event
+
+abbrev pub one_turn : Run → Taken → Run
 one_turn r t = record {
-  world = (step_of r.world t.now t.draw t.event).world;
-  history = entry_of t.now t.draw t.event (step_of r.world t.now t.draw t.event) ∷ r.history;
+  world = (step_taken r.world t).world;
+  history = entry_of t.turn.now t.turn.draw t.turn.event (step_taken r.world t) ∷ r.history;
 }
 
-abbrev pub run_of : Run → List Turn → Run
+abbrev pub run_of : Run → List Taken → Run
 run_of r [] = r
 run_of r (t ∷ turns) = run_of (one_turn r t) turns

@@ -1,5 +1,5 @@
 -- One step: a datagram or a tick at a moment.
-use Rattle.std.specs.Prelude.{ℕ, ◌&&◌, nat_le, if◌then◌else◌, List, length, Option, Some, None}
+use Rattle.std.specs.Prelude.{ℕ, ◌&&◌, Bool, nat_le, if◌then◌else◌, List, length, Option, Some, None}
 use Rattle.std.specs.Result.{result_ok}
 use Rattle.coap_message.specs.declared.kind.Kind.{Kind}
 use Rattle.coap_message.specs.declared.message.Head.{Head}
@@ -9,7 +9,7 @@ use Rattle.coap_target.specs.declared.endpoint.Endpoint.{Endpoint}
 use Rattle.coap_model.specs.declared.report.Outcome.TheVariants.{Rejected}
 use Rattle.coap_model.specs.Events.{Event, arrival, tick}
 use Rattle.coap_message.specs.Codes.{is_request, is_response}
-use Rattle.coap_model.specs.Messages.{is_con, is_non, is_ack, reset}
+use Rattle.coap_model.specs.Messages.{is_con, brings_requests, is_ack, reset}
 use Rattle.coap_model.specs.World.{World, Step, later, says, ignores}
 use Rattle.coap_model.specs.Requests.{on_request}
 use Rattle.coap_model.specs.Responses.{on_response}
@@ -23,34 +23,35 @@ rejects w now source id = says Rejected source (reset id) (later w now)
 abbrev pub unprocessed : World → ℕ → Endpoint → Kind → ℕ → Step
 unprocessed w now source kind id = if is_con kind then rejects w now source id else ignores w now
 
-abbrev pub on_no_request : World → ℕ → Endpoint → Message → Step
-on_no_request w now source m =
+abbrev pub on_no_request : World → ℕ → Bool → Endpoint → Message → Step
+on_no_request w now grown source m =
     if is_ack m.kind && is_response m.code
-    then on_response w now source m
+    then on_response w now grown source m
     else unprocessed w now source m.kind m.id
 
--- Non-confirmable requests, and responses in acknowledgements, are what is processed so far.
-abbrev pub on_message : World → ℕ → Endpoint → Message → Step
-on_message w now source m =
-    if is_non m.kind && is_request m.code
+-- Requests, and responses in acknowledgements, are what is processed so far.
+abbrev pub on_message : World → ℕ → Bool → Endpoint → Message → Step
+on_message w now grown source m =
+    if brings_requests m.kind && is_request m.code
     then on_request w now source m
-    else on_no_request w now source m
+    else on_no_request w now grown source m
 
 -- the message that a datagram spells, if it isn't too long
 unfoldable pub message_in : ℕ → List ℕ → Option Message
 message_in most bytes = if nat_le (length bytes) most then result_ok (read_message bytes) else None
 
-abbrev pub on_read : World → ℕ → Endpoint → Option Head → Option Message → Step
-on_read w now source None m = ignores w now
-on_read w now source (Some head) None = unprocessed w now source head.kind head.id
-on_read w now source (Some head) (Some m) = on_message w now source m
+abbrev pub on_read : World → ℕ → Bool → Endpoint → Option Head → Option Message → Step
+on_read w now grown source None m = ignores w now
+on_read w now grown source (Some head) None = unprocessed w now source head.kind head.id
+on_read w now grown source (Some head) (Some m) = on_message w now grown source m
 
 -- fewer than four bytes, or another version, are ignored
-abbrev pub on_datagram : World → ℕ → Endpoint → List ℕ → Step
-on_datagram w now source bytes =
-    on_read w now source (head_at bytes) (message_in w.setting.limits.datagram bytes)
+abbrev pub on_datagram : World → ℕ → Bool → Endpoint → List ℕ → Step
+on_datagram w now grown source bytes =
+    on_read w now grown source (head_at bytes) (message_in w.setting.limits.datagram bytes)
 
--- one step, at a moment, with a draw, which no step reads yet
-abbrev pub step_of : World → ℕ → ℕ → Event → Step
-step_of w now draw (arrival source bytes) = on_datagram w now source bytes
-step_of w now draw tick = on_tick w now
+-- One step, at a moment, with a draw, which no step reads yet. `grown` is the one choice that is
+-- left to the memory: whether there is some for one entry more of the store.
+abbrev pub step_of : World → ℕ → ℕ → Bool → Event → Step
+step_of w now draw grown (arrival source bytes) = on_datagram w now grown source bytes
+step_of w now draw grown tick = on_tick w now

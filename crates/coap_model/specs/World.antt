@@ -1,8 +1,13 @@
 -- The tables of a proxy as one value, and what a step makes of them.
-use Rattle.std.specs.Prelude.{ℕ, ◌+◌, ◌&&◌, Bool, nat_le, nat_lt, List, [], length, Some, None}
+use Rattle.std.specs.Prelude.{ℕ, ◌+◌, ◌&&◌, ◌||◌, Bool, nat_le, nat_lt, if◌then◌else◌, List, [], length, Some, None}
 use Rattle.coap_message.specs.Message.{Message}
 use Rattle.coap_message.specs.Spelling.{spelling}
+use Rattle.coap_message.specs.declared.kind.Kind.{Kind}
 use Rattle.coap_target.specs.declared.endpoint.Endpoint.{Endpoint}
+use Rattle.coap_dedup.specs.declared.record.TheConstants.{EXCHANGE_LIFETIME, NON_LIFETIME}
+use Rattle.coap_dedup.specs.Records.{Records, living_at, no_records}
+use Rattle.coap_cache.specs.Entries.{Entry, entry_size}
+use Rattle.coap_cache.specs.Lists.{total}
 use Rattle.coap_exchange.specs.declared.exchange.Exchange.{Exchange}
 use Rattle.coap_exchange.specs.declared.waiter.Waiter.{Waiter}
 use Rattle.coap_exchange.specs.Exchanges.{is_queued, count_where}
@@ -13,12 +18,18 @@ use Rattle.coap_model.specs.declared.report.Outcome.TheVariants.{Ignored}
 use Rattle.coap_model.specs.declared.report.Report.{Report}
 use Rattle.coap_model.specs.declared.report.Counts.{Counts}
 use Rattle.coap_model.specs.Setting.{Setting}
+use Rattle.coap_model.specs.Messages.{is_con}
 
 pub record World : Type 0 where
   pub setting : Setting
   -- the exchanges under way and the clients that wait, in order of number
   pub exchanges : List (Numbered Exchange)
   pub waiters : List (Numbered Waiter)
+  -- the responses that are stored, the most recently used first
+  pub store : List Entry
+  -- what is remembered of the Confirmable and of the Non-confirmable requests that came
+  pub con_records : Records
+  pub non_records : Records
   -- how many of each there ever were
   pub opened : ℕ
   pub admitted : ℕ
@@ -41,6 +52,9 @@ new_world setting = record {
   setting = setting;
   exchanges = [];
   waiters = [];
+  store = [];
+  con_records = no_records setting.limits.con_records EXCHANGE_LIFETIME;
+  non_records = no_records setting.limits.non_records NON_LIFETIME;
   opened = 0;
   admitted = 0;
   given = 0;
@@ -64,6 +78,17 @@ says outcome to m w =
 abbrev pub ignores : World → ℕ → Step
 ignores w now = silent Ignored (later w now)
 
+-- ---- requests that came before
+
+-- what is remembered of the requests that came in messages of this type
+abbrev pub records_of : Kind → World → Records
+records_of kind w = if is_con kind then w.con_records else w.non_records
+
+-- one more may be remembered
+abbrev pub has_record_room : World → ℕ → Kind → Bool
+has_record_room w now kind =
+    nat_lt (length (living_at now (records_of kind w))) (records_of kind w).limit
+
 -- ---- message ids
 
 -- the id that is given next (RFC 7252, 4.4)
@@ -79,6 +104,15 @@ reserved w = length w.waiters + count_where is_queued w.exchanges
 abbrev pub has_ids : ℕ → World → Bool
 has_ids k w = nat_le (w.given + reserved w + k) 32768
 
+-- a reply may go out at once to a request that came in a message of this type: in an
+-- acknowledgement it needs no id
+abbrev pub can_reply : World → Kind → Bool
+can_reply w kind = is_con kind || has_ids 1 w
+
+-- how many ids it takes
+abbrev pub ids_to_reply : Kind → ℕ
+ids_to_reply kind = if is_con kind then 0 else 1
+
 -- ---- room
 
 abbrev pub has_room : World → Bool
@@ -90,10 +124,10 @@ has_room w =
 
 abbrev pub counts : World → Counts
 counts w = record {
-  cached_bytes = 0;
-  entries = 0;
-  con_records = 0;
-  non_records = 0;
+  cached_bytes = total entry_size w.store;
+  entries = length w.store;
+  con_records = length (living_at w.last w.con_records);
+  non_records = length (living_at w.last w.non_records);
   exchanges = length w.exchanges;
   waiters = length w.waiters;
 }

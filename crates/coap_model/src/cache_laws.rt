@@ -1,5 +1,5 @@
 //! Laws of the cache of a history: public functions that do nothing, whose contracts are the laws.
-ghost use Rattle.std.specs.Prelude.{◌≡◌, ℕ, true, false, List, [], ◌∷◌, length, map, Some, None, Ok};
+ghost use Rattle.std.specs.Prelude.{◌≡◌, ℕ, ◌<◌, ◌≤◌, true, false, List, [], ◌∷◌, length, map, Some, None, Ok};
 ghost use Rattle.std.specs.List.{AllByRecursion};
 ghost use Rattle.coap_message.specs.Message.{Message};
 ghost use Rattle.coap_target.specs.declared.endpoint.Endpoint.{Endpoint};
@@ -10,14 +10,25 @@ ghost use Rattle.coap_cache.specs.declared.stored.Stored.{Stored};
 ghost use Rattle.coap_cache.specs.Entries.{Entry, entry_key, entry_size, stored_for, IsStore};
 ghost use Rattle.coap_cache.specs.Lists.{of_key, others, put, total, used};
 ghost use Rattle.coap_model.specs.declared.report.Outcome.TheVariants.{Answered, Hit};
-ghost use Rattle.coap_model.specs.declared.report.Storing.TheVariants.{Kept, TooLarge};
+ghost use Rattle.coap_model.specs.declared.report.Storing.TheVariants.{Kept, TooLarge, NoMemory};
 ghost use Rattle.coap_model.specs.Setting.{Setting};
 ghost use Rattle.coap_model.specs.Forms.{request_key};
-ghost use Rattle.coap_model.specs.History.{Deed, Place, Brings};
-ghost use Rattle.coap_model.specs.Cached.{IsObtained, IsOfOrigin, Cached, cached_key, cached_size, cached_here, entry_of_cached, store_limits, leaves, IsCacheOf, IsStored, IsStoreOf, WasObtained, IsEntryOf};
+ghost use Rattle.coap_model.specs.History as told;
+ghost use Rattle.coap_model.specs.History.{Deed, Place, Brings, takes, Gets};
+ghost use Rattle.coap_model.specs.Cached.{IsObtained, IsOfOrigin, Cached, cached_key, cached_size, cached_here, entry_of_cached, store_limits, leaves, IsCacheOf, StandsFirst, IsStored, IsStoreOf, WasObtained, IsEntryOf};
+ghost use Rattle.coap_model.specs.Limits.{AreLimits};
+ghost use Rattle.coap_model.specs.World.{World, counts};
+ghost use Rattle.coap_model.specs.Justified.{IsObtainedHere, size_here, JustifiedBy};
+ghost use Rattle.coap_model.specs.Carries.{Carries};
+ghost use Rattle.coap_model.specs.Examples.{play, proxy, tick_at};
+ghost use Rattle.coap_model.specs.StoringExamples.{answer_with, answer_in_place, still_delivered};
+ghost use Rattle.coap_model.specs.LimitExamples.{after_ids};
+ghost use Rattle.coap_model.specs.FormExamples.{after};
+ghost use Rattle.coap_model.specs.HitExamples.{seconds, no_second, aged, aged_sent, stale, stale_sent, aged_from_coming, aged_from_coming_sent, again_after, kept_and_hit, kept_and_missed, not_kept, within_bytes, too_large_sent, outgrown, within_entries, two_keys, two_keys_sent, used_since, used_since_sent, with_size, with_accept, with_accept_sent, greatest_token, greatest_token_sent, get_with_tag, tagged, tagged_sent, last_hit, last_hit_sent};
+ghost use Rattle.coap_model.specs.OptionExamples.{key_of_temp};
 ghost use Rattle.coap_model.specs.Forged as forged;
-ghost use Rattle.coap_model.specs.Forged.{setting};
-ghost use Rattle.coap_model.specs.CacheExamples.{storable_in, max_age, empty_max_age, entry_for, two, kept_within, answered, kept_past, hit_past, asked_past, first_entry, second_entry, first_stored};
+ghost use Rattle.coap_model.specs.Forged.{setting, opened, asked};
+ghost use Rattle.coap_model.specs.CacheExamples.{storable_in, content_for, max_age, empty_max_age, entry_for, two, kept_within, answered, kept_past, hit_past, asked_past, first_entry, second_entry, first_stored};
 
 /// What may be kept of a response, by its code and its Max-Age: a 2.05 and the errors of an origin,
 /// if they stay fresh for at least a second, and no reply of the proxy's own.
@@ -58,8 +69,48 @@ pub fn examples_of_keeping()
     ensures stored { entry_of_cached first_entry ≡ (first_entry.key, first_stored) }
 {}
 
+/// Runs in which clients are answered from the cache, computed on the definitions: how an answer
+/// ages, what is kept and within which limits, which requests it answers, and that it takes an id.
+pub fn examples_of_hits()
+    ensures at_once { play proxy (aged 0) ≡ aged_sent (seconds 10) }
+    ensures in_the_first_second { play proxy (aged 1) ≡ aged_sent (seconds 9) }
+    ensures in_the_last_second { play proxy (aged 9001) ≡ aged_sent no_second }
+    ensures at_the_last_moment { play proxy (aged 10000) ≡ aged_sent no_second }
+    ensures a_moment_later { play proxy stale ≡ stale_sent }
+    ensures from_its_coming { play proxy aged_from_coming ≡ aged_from_coming_sent }
+    ensures an_error { play proxy (again_after 2500 0x84 (seconds 10))
+        ≡ kept_and_hit 0x84 (seconds 10) (seconds 7) }
+    ensures an_error_of_class_5 { play proxy (again_after 60000 0xA0 [])
+        ≡ kept_and_hit 0xA0 (seconds 60) no_second }
+    ensures an_error_no_more { play proxy (again_after 60001 0xA0 [])
+        ≡ kept_and_missed 0xA0 (seconds 60) }
+    ensures without_max_age { play proxy (again_after 1000 0x45 [])
+        ≡ kept_and_hit 0x45 (seconds 60) (seconds 59) }
+    ensures max_age_0 { play proxy (again_after 0 0x45 no_second) ≡ not_kept 0x45 no_second }
+    ensures an_error_of_max_age_0 { play proxy (again_after 0 0x84 no_second)
+        ≡ not_kept 0x84 no_second }
+    ensures a_change { play proxy (again_after 0 0x44 []) ≡ not_kept 0x44 [] }
+    ensures in_73_bytes { play (within_bytes 73) (aged 0) ≡ aged_sent (seconds 10) }
+    ensures not_in_72_bytes { play (within_bytes 72) (aged 0) ≡ too_large_sent }
+    ensures not_in_no_bytes { play (within_bytes 0) (aged 0) ≡ too_large_sent }
+    ensures counted { (counts (after (within_bytes 73) (aged 0))).cached_bytes ≡ 73 }
+    ensures outgrown { (counts (after (within_bytes 72) outgrown)).entries ≡ 0 }
+    ensures room_to_grow { (counts (after (within_bytes 73) outgrown)).entries ≡ 1 }
+    ensures two_keys { play (within_entries 1) two_keys ≡ two_keys_sent }
+    ensures used_since { play (within_entries 2) used_since ≡ used_since_sent }
+    ensures with_size { play proxy with_size ≡ aged_sent (seconds 10) }
+    ensures with_accept { play proxy with_accept ≡ with_accept_sent }
+    ensures greatest_token { play proxy greatest_token ≡ greatest_token_sent }
+    ensures held { play proxy (tagged (get_with_tag 0xAB))
+        ≡ tagged_sent (0x50 ∷ 0x43 ∷ 0 ∷ 3 ∷ 0x41 ∷ 0xAB ∷ 0xA1 ∷ 7 ∷ []) }
+    ensures other_tag { play proxy (tagged (get_with_tag 0xEF))
+        ≡ tagged_sent (0x50 ∷ 0x45 ∷ 0 ∷ 3 ∷ 0x41 ∷ 0xAB ∷ 0xA1 ∷ 7 ∷ 0xFF ∷ 0x32 ∷ 0x31 ∷ []) }
+    ensures last_id { play (after_ids 32765) last_hit ≡ last_hit_sent }
+{}
+
 /// Histories and their caches: an answer that isn't stored, one that is kept, a client who is shown
-/// it, one that takes its place, and one that is too large.
+/// it, one that takes its place, and one that is too large. An entry isn't obtained before it is
+/// got, and the answer to another request isn't this one's.
 pub fn examples_of_caches()
     ensures not_stored { IsCacheOf setting forged.past [] }
     ensures kept { IsCacheOf setting kept_past (first_entry ∷ []) }
@@ -68,6 +119,19 @@ pub fn examples_of_caches()
     ensures in_place { IsCacheOf setting (answered 20 3 2 (Answered Kept) ∷ asked_past)
         (second_entry ∷ []) }
     ensures too_large { IsCacheOf setting (answered 20 3 2 (Answered TooLarge) ∷ asked_past) [] }
+    ensures not_got_yet { ¬ WasObtained setting (asked ∷ opened ∷ []) first_entry }
+    ensures not_its_answer { ¬ IsOfOrigin setting key_of_temp (content_for 1 2)
+        (record { before = opened ∷ []; deed = asked })
+        (record { before = asked ∷ opened ∷ []; deed = answered 5 1 2 (Answered Kept) }) }
+{}
+
+/// Answers for which there is memory, or not: only a key without an entry wants it, and the client
+/// gets its answer nonetheless.
+pub fn examples_of_memory()
+    ensures memory { (answer_with true).report.outcome ≡ Answered Kept }
+    ensures no_memory { (answer_with false).report.outcome ≡ Answered NoMemory }
+    ensures still_delivered { play (answer_with false).world (tick_at 0 ∷ []) ≡ still_delivered }
+    ensures in_place { (answer_in_place false).report.outcome ≡ Answered Kept }
 {}
 
 /// What is obtained for a key came from the endpoint that was asked with that key: it is what that
@@ -76,6 +140,29 @@ pub fn what_is_obtained_came_from_its_origin()
     ensures { (setting : Setting) (key : CacheKey) (response : Message) (asking getting : Place)
         → IsObtained setting key response asking getting
         → IsOfOrigin setting key response asking getting }
+{}
+
+/// The same the other way: what came so from the endpoint that was asked for an exchange, at the
+/// place where the exchange was got, is obtained.
+pub fn what_came_from_its_origin_is_obtained()
+    ensures { (setting : Setting) (key : CacheKey) (response : Message) (asking getting : Place)
+        (x : ℕ) (g : Gets setting x getting)
+        → g.meets.asking ≡ asking
+        → IsOfOrigin setting key response asking getting
+        → IsObtained setting key response asking getting }
+{}
+
+/// What was obtained and counts no more than may be kept is kept where its key has an entry: only a
+/// key without one can want memory.
+pub fn what_takes_a_place_is_kept()
+    ensures { (setting : Setting) (past : List Deed) (d : Deed) (cached : List Cached)
+        (entry : Cached) (here : IsObtainedHere setting past d)
+        → JustifiedBy d.entry.report.outcome setting past d
+        → takes d.entry.report.outcome ≡ true
+        → size_here here ≤ setting.limits.cache_bytes
+        → IsCacheOf setting past cached
+        → of_key cached_key here.key cached ≡ Some entry
+        → d.entry.report.outcome ≡ Answered Kept }
 {}
 
 /// A history has at most one cache. Each entry of it was obtained in the history. It keeps within
@@ -151,4 +238,25 @@ pub fn stores_have_what_caches_have()
     ensures within { (setting : Setting) (history : List Deed) (store : List Entry)
         → IsStoreOf setting history store
         → IsStore (store_limits setting) store }
+{}
+
+/// An answer that is kept stands first: in the cache of the history, and in the store of a proxy,
+/// with the response that came, the numbers of the events in which it was asked for and got, and
+/// the moment of the latter.
+pub fn what_is_kept_stands_first()
+    ensures in_the_cache { (setting : Setting) (past : List Deed) (d : Deed) (key : CacheKey)
+        (response : Message) (asking : Place) (cached : List Cached)
+        → 1 ≤ setting.limits.cache_entries
+        → JustifiedBy d.entry.report.outcome setting past d
+        → d.entry.report.outcome ≡ Answered Kept
+        → IsObtained setting key response asking (record { before = past; deed = d })
+        → IsCacheOf setting (d ∷ past) cached
+        → StandsFirst (cached_here key response asking past d) cached }
+    ensures in_the_store { (w : World) (history : List told.Entry) (c : Carries history w)
+        (past : List Deed) (d : Deed) (key : CacheKey) (response : Message) (asking : Place)
+        → AreLimits w.setting.limits
+        → c.deeds ≡ d ∷ past
+        → d.entry.report.outcome ≡ Answered Kept
+        → IsObtained w.setting key response asking (record { before = past; deed = d })
+        → StandsFirst (entry_of_cached (cached_here key response asking past d)) w.store }
 {}

@@ -1,6 +1,6 @@
 //! Laws of the step: public functions that do nothing, whose contracts are the laws.
-ghost use Rattle.std.specs.Prelude.{◌≡◌, ◌≢◌, ℕ, ◌+◌, ◌-◌, ◌*◌, ◌<◌, ◌≤◌, true, false, List, [], ◌∷◌, filter, length, Some, None};
-ghost use Rattle.coap_message.specs.declared.kind.Kind.TheVariants.{Con};
+ghost use Rattle.std.specs.Prelude.{◌≡◌, ◌≢◌, ℕ, ◌+◌, ◌-◌, ◌*◌, ◌%◌, ◌<◌, ◌≤◌, Bool, true, List, [], ◌∷◌, filter, length, map, Some, None, false};
+ghost use Rattle.coap_message.specs.declared.kind.Kind.TheVariants.{Con, Non};
 ghost use Rattle.coap_message.specs.declared.message.Head.{Head};
 ghost use Rattle.coap_message.specs.Message.{Message};
 ghost use Rattle.coap_message.specs.Reading.{head_at};
@@ -11,9 +11,14 @@ ghost use Rattle.coap_routes.specs.Routes.{AreRoutes};
 ghost use Rattle.coap_exchange.specs.declared.exchange.Answer.{Answer};
 ghost use Rattle.coap_model.specs.Limits.{AreLimits, default_limits};
 ghost use Rattle.coap_model.specs.Setting.{Setting};
-ghost use Rattle.coap_model.specs.declared.report.Outcome.TheVariants.{Rejected, Refused, Opened, Overloaded, NoId, Answered, Idle};
-ghost use Rattle.coap_model.specs.declared.report.Storing.TheVariants.{NotStored};
-ghost use Rattle.coap_model.specs.Messages.{eight_zeros};
+ghost use Rattle.coap_model.specs.declared.report.Outcome.{Outcome};
+ghost use Rattle.coap_model.specs.declared.report.Outcome.TheVariants.{Rejected, Again, NoRecordRoom, Hit, Opened, Idle, Refused, Overloaded, NoId, Answered};
+ghost use Rattle.coap_cache.specs.Lists.{of_key};
+ghost use Rattle.coap_dedup.specs.declared.record.Record.{Record};
+ghost use Rattle.coap_dedup.specs.Lists.{record_of};
+ghost use Rattle.coap_model.specs.Remembered.{most_remembered, remembered_at};
+ghost use Rattle.coap_model.specs.Cached.{Cached, cached_key, IsCacheOf};
+ghost use Rattle.coap_model.specs.declared.report.Storing.TheVariants.{NoMemory, NotStored};
 ghost use Rattle.coap_option.specs.declared.side.Side.{Side};
 ghost use Rattle.coap_option.specs.Screening.{first_refused};
 ghost use Rattle.coap_option.specs.Selection.{max_age_of, sent_on};
@@ -23,23 +28,27 @@ ghost use Rattle.coap_model.specs.Verdicts.{may_ask};
 ghost use Rattle.coap_model.specs.Answers.{left_of};
 ghost use Rattle.coap_model.specs.Events.{Event, arrival, tick, IsEvent};
 ghost use Rattle.coap_model.specs.World.{World, new_world, counts};
-ghost use Rattle.coap_message.specs.declared.code.Code.{Code};
+ghost use Rattle.coap_message.specs.declared.code.TheConstants.Code.{NOT_FOUND};
 ghost use Rattle.coap_model.specs.Memory.{takes_memory};
 ghost use Rattle.coap_model.specs.Step.{step_of};
 ghost use Rattle.coap_model.specs.Ticks.{next_due};
-ghost use Rattle.coap_model.specs.History.{Entry, Act, no_item, serves, Deed, HasRoom};
+ghost use Rattle.coap_model.specs.History.{Entry, Act, no_item, serves, takes, grown_of, gives_id, ids_in, Deed, Place, IsPlaceOf, Somewhere, Gives, HasRoom};
+ghost use Rattle.coap_model.specs.Messages.{brings_requests, eight_zeros};
+ghost use Rattle.coap_model.specs.Duplicates.{IsRememberedAt, Repeats};
 ghost use Rattle.coap_model.specs.Due.{IsDueAt, IsNextDue};
-ghost use Rattle.coap_model.specs.Justified.{IsRequestOf, verdict_on, fits_on, IsAwaited, IsActing, IsForwarding, IsDelivery, JustifiedBy, AllJustified, MayFollow, AreOfOneTurn};
+ghost use Rattle.coap_model.specs.Justified.{IsRequestOf, IsNew, IsUnprocessable, verdict_on, fits_on, IsMiss, HaveOneMemory, IsAwaited, IsActing, IsDelivery, JustifiedBy, AllJustified, IsOwed, MayFollow, AreOfOneTurn, IsForwarding};
 ghost use Rattle.coap_model.specs.Forged as forged;
 ghost use Rattle.coap_model.specs.Forged.{asked, delivery, right, at_an_arrival};
 ghost use Rattle.coap_model.specs.Carries.{Carries};
 ghost use Rattle.coap_model.specs.Promised.{IdsDiffer, Promised};
-ghost use Rattle.coap_model.specs.Runs.{Turn, AreTurns, new_run, run_of, entry_of, answer_at};
-ghost use Rattle.coap_model.specs.Examples.{origin, from, tick_at, client, content_for_client, play, proxy, small_proxy, narrow_proxy, first_answer, first_answer_sent, late_answer, late_answer_sent, error, error_sent, fault, fault_sent, changed, changed_sent, valid, replaced_sent, block_in_response, long_max_age, impostor, impostor_sent, refusals, refusals_sent, long_paths, long_paths_sent, long_segments, long_segments_sent, payload_in_get, payload_in_get_sent, full, full_sent, unprocessed_messages, unprocessed_messages_sent, too_long, too_long_sent, payload_of, payload_of_109_sent, spent_proxy, last_id, last_id_sent, wrapping_proxy, wrapping, wrapping_sent};
-ghost use Rattle.coap_model.specs.EdgeExamples.{after, asks_at, with_token, tokens, tokens_sent, two_faults, two_faults_sent, of_class_3, of_class_3_sent, changed_with_age, changed_with_age_sent, two_ages, greatest_age, greatest_age_sent, shorter_age, shorter_age_sent, ten_seconds_after, one_left, none_left, of_one_moment, of_one_moment_sent, request_first, request_first_sent, client_first, client_first_sent, named, named_form, target_in};
+ghost use Rattle.coap_model.specs.Runs.{Taken, turns_of, AreTurns, new_run, run_of, entry_of, answer_at};
+ghost use Rattle.coap_model.specs.Examples.{nothing, to, origin, from, tick_at, client, content_for_client, play, proxy, small_proxy, narrow_proxy, first_answer, first_answer_sent, late_answer, late_answer_sent, error, error_sent, fault, fault_sent, changed, changed_sent, valid, replaced_sent, block_in_response, long_max_age, impostor, impostor_sent, refusals, refusals_sent, long_paths, long_paths_sent, long_segments, long_segments_sent, payload_in_get, payload_in_get_sent, full, full_sent, unprocessed_messages, unprocessed_messages_sent, too_long, too_long_sent, payload_of, payload_of_109_sent, spent_proxy, last_id, last_id_sent, wrapping_proxy, wrapping, wrapping_sent};
+ghost use Rattle.coap_model.specs.ReplyExamples.{asks_at, with_token, tokens, tokens_sent, two_faults, two_faults_sent, of_class_3, of_class_3_sent, changed_with_age, changed_with_age_sent, two_ages, greatest_age, greatest_age_sent, shorter_age, shorter_age_sent, ten_seconds_after, one_left, none_left, of_one_moment, of_one_moment_sent, request_first, request_first_sent, client_first, client_first_sent};
+ghost use Rattle.coap_model.specs.FormExamples.{after, named, named_form, target_in};
 ghost use Rattle.coap_model.specs.OptionExamples.{others, form_with_others, key_in, key_of_others, form_with_tag, key_of_temp, get_with_others, get_with_tags, with_tag, held_sent, other_tag_sent, accepted, accepted_sent, observed, observed_sent, with_unknown, safe_sent, beside_a_tag, beside_a_tag_sent, forward_proxy, refused_targets, refused_targets_sent, long_without_map, long_without_map_sent, to_sensor, to_sensor_sent};
+ghost use Rattle.coap_model.specs.DuplicateExamples.{con_u, con_not_found, twice_until, refused_with, of_one_id, of_one_id_sent, one_record, two_clients, two_clients_sent, con_asks, con_asks_sent, con_hits, con_hits_sent};
 ghost use Rattle.coap_model.specs.Held.{target_bytes, held, most_held};
-ghost use Rattle.coap_model.specs.LimitExamples.{got, one_exchange, one_waiter, until_served, until_served_sent, retries_after, two_requests, second_is_told, narrow, long_datagrams, long_datagrams_sent, later_proxy, counted_on, counted_on_sent, after_ids, last_refusal, last_refusal_sent, kept_ids, kept_ids_sent};
+ghost use Rattle.coap_model.specs.LimitExamples.{get_u, not_found, got, one_exchange, one_waiter, until_served, until_served_sent, retries_after, two_requests, second_is_told, narrow, long_datagrams, long_datagrams_sent, later_proxy, counted_on, counted_on_sent, after_ids, last_refusal, last_refusal_sent, kept_ids, kept_ids_sent};
 
 /// Runs of the step, computed on the definitions.
 pub fn examples()
@@ -78,10 +87,10 @@ pub fn examples_at_limits()
     ensures kept_ids { play (after_ids 32766) kept_ids ≡ kept_ids_sent }
 {}
 
-/// Words that the step and the history share, computed at their edges: a client's token, two faults
-/// in one request, what a response gives at some age, what is due first, the form of a target with
-/// a host and a query, which is read back off it, what is held, and which replies need no memory.
-pub fn examples_at_edges()
+/// What clients are given, computed at the edges of words that the step and the history share: a
+/// client's token, two faults in one request, what a response gives at some age, and what is due
+/// first.
+pub fn examples_of_replies()
     ensures tokens { play one_exchange tokens ≡ tokens_sent }
     ensures two_faults { play proxy two_faults ≡ two_faults_sent }
     ensures of_class_3 { play proxy of_class_3 ≡ of_class_3_sent }
@@ -95,26 +104,30 @@ pub fn examples_at_edges()
     ensures of_one_moment { play proxy of_one_moment ≡ of_one_moment_sent }
     ensures request_first { play proxy request_first ≡ request_first_sent }
     ensures client_first { play proxy client_first ≡ client_first_sent }
+{}
+
+/// The form of a target with a host and a query, and that target read back off it; what is held,
+/// counted and due after some turns; and which replies need no memory.
+pub fn examples_of_forms_and_tables()
     ensures form { spelling (forwarded eight_zeros named [] 7) ≡ named_form }
     ensures read_back { target_in origin named_form ≡ Some named }
     ensures held_when_opened { held (after proxy (asks_at 0 1 ∷ [])) ≡ 22 }
     ensures held_with_token { held (after proxy (from 0 (client 1) (with_token 0x74) ∷ [])) ≡ 24 }
     ensures held_with_host { target_bytes named ≡ 11 }
     ensures held_with_accept { held (after proxy accepted) ≡ 27 }
-    ensures held_when_answered { held (after proxy (asks_at 0 1 ∷ tick_at 0 ∷ from 0 origin (got 1 1) ∷ [])) ≡ 27 }
+    ensures held_when_answered { held (after proxy (asks_at 0 1 ∷ tick_at 0 ∷ from 0 origin (got 1 1) ∷ [])) ≡ 100 }
     ensures bound { most_held default_limits ≡ 16998400 }
     ensures counted { counts (after proxy (asks_at 0 1 ∷ asks_at 0 2 ∷ []))
         ≡ record {
           cached_bytes = 0;
           entries = 0;
           con_records = 0;
-          non_records = 0;
+          non_records = 2;
           exchanges = 2;
           waiters = 2;
         } }
-    ensures no_memory_to_refuse { (code : Code) → takes_memory false (Refused code) ≡ false }
-    ensures no_memory_to_turn_away { takes_memory false Overloaded ≡ false }
-    ensures no_memory_for_silence { takes_memory false NoId ≡ false }
+    ensures no_memory_to_repeat { takes_memory Again ≡ false }
+    ensures no_memory_to_forget { takes_memory NoRecordRoom ≡ false }
     ensures none_due { next_due proxy ≡ None }
     ensures due_at_opening { next_due (after proxy (asks_at 5 1 ∷ [])) ≡ Some 5 }
 {}
@@ -142,8 +155,39 @@ pub fn examples_of_options()
     ensures to_sensor { play forward_proxy to_sensor ≡ to_sensor_sent }
 {}
 
-/// Each request that is sent on has the cache key of the client's request for which it is sent, read
-/// off the bytes that were sent.
+/// Duplicates and Confirmable requests, computed: how long a request is remembered of each type,
+/// what is told again, which requests are one, where there is no room to remember one, what is held
+/// and counted, and that an acknowledgement needs no message id.
+pub fn examples_of_duplicates()
+    ensures non_again { play proxy (twice_until 144999 (get_u 7)) ≡ refused_with (not_found 0 1) (nothing Again) }
+    ensures non_anew { play proxy (twice_until 145000 (get_u 7))
+        ≡ refused_with (not_found 0 1) (to (Refused NOT_FOUND) (client 1) (not_found 0 2)) }
+    ensures con_again { play proxy (twice_until 246999 (con_u 1))
+        ≡ refused_with (con_not_found 1) (to Again (client 1) (con_not_found 1)) }
+    ensures con_anew { play proxy (twice_until 247000 (con_u 1))
+        ≡ refused_with (con_not_found 1) (to (Refused NOT_FOUND) (client 1) (con_not_found 1)) }
+    ensures of_one_id { play proxy of_one_id ≡ of_one_id_sent }
+    ensures no_room { play one_record two_clients ≡ two_clients_sent }
+    ensures not_asked_yet { play proxy con_asks ≡ con_asks_sent }
+    ensures hit { play proxy con_hits ≡ con_hits_sent }
+    ensures no_id { play (after_ids 32768) (from 0 (client 1) (con_u 1) ∷ from 0 (client 1) (get_u 1) ∷ [])
+        ≡ refused_with (con_not_found 1) (nothing NoId) }
+    ensures held { held (after proxy (twice_until 300000 (con_u 1))) ≡ 4 }
+    ensures held_of_none { held (after proxy (from 0 (client 1) (get_u 7) ∷ [])) ≡ 0 }
+    ensures counted { counts (after proxy (from 0 (client 1) (con_u 1) ∷ from 0 (client 1) (get_u 7)
+        ∷ tick_at 145000 ∷ []))
+        ≡ record {
+          cached_bytes = 0;
+          entries = 0;
+          con_records = 1;
+          non_records = 0;
+          exchanges = 0;
+          waiters = 0;
+        } }
+{}
+
+/// Each request that is sent on has the cache key of the client's request for which it is sent,
+/// read off the bytes that were sent.
 pub fn requests_keep_their_key()
     ensures { (setting : Setting) (past : List Deed) (d : Deed) (f : IsForwarding setting past d) (m : Message)
         → AreRoutes setting.routes
@@ -171,17 +215,17 @@ pub fn left_and_age_add_up()
 
 /// A tick does nothing exactly where nothing is due, or only later.
 pub fn ticks_are_idle_where_nothing_is_due()
-    ensures none { (w : World) (now draw : ℕ)
+    ensures none { (w : World) (now draw : ℕ) (grown : Bool)
         → next_due w ≡ None
-        → (step_of w now draw tick).report.outcome ≡ Idle }
-    ensures later { (w : World) (now draw at : ℕ)
+        → (step_of w now draw grown tick).report.outcome ≡ Idle }
+    ensures later { (w : World) (now draw at : ℕ) (grown : Bool)
         → next_due w ≡ Some at
         → now < at
-        → (step_of w now draw tick).report.outcome ≡ Idle }
-    ensures due { (w : World) (now draw at : ℕ)
+        → (step_of w now draw grown tick).report.outcome ≡ Idle }
+    ensures due { (w : World) (now draw at : ℕ) (grown : Bool)
         → next_due w ≡ Some at
         → at ≤ now
-        → (step_of w now draw tick).report.outcome ≢ Idle }
+        → (step_of w now draw grown tick).report.outcome ≢ Idle }
 {}
 
 /// Deliveries that are right but for one thing are not justified.
@@ -195,6 +239,9 @@ pub fn forged_deliveries_are_refused()
         (delivery (client 2) (content_for_client 7) (serves 1)) }
     ensures untimely { ¬ IsDelivery forged.setting forged.past (at_an_arrival right) }
     ensures out_of_turn { ¬ IsDelivery forged.setting (forged.opened ∷ forged.past) right }
+    ensures early { ¬ IsDelivery forged.setting (forged.opened ∷ forged.answered ∷ asked ∷ [])
+        right }
+    ensures elsewhere { ¬ IsDelivery forged.setting forged.past_elsewhere right }
     ensures another_age { ¬ IsDelivery forged.setting forged.past
         (delivery (client 1) (content_for_client 10) (serves 1)) }
 {}
@@ -202,12 +249,12 @@ pub fn forged_deliveries_are_refused()
 /// Each step of a proxy that carries a history leaves a proxy that carries the history with the
 /// step's entry in front, where moments don't go back and datagrams are bytes.
 pub fn steps_are_carried()
-    ensures carried { (w : World) (history : List Entry) (now draw : ℕ) (event : Event)
+    ensures carried { (w : World) (history : List Entry) (now draw : ℕ) (grown : Bool) (event : Event)
         → Carries history w
         → w.last ≤ now
         → IsEvent event
-        → Carries (entry_of now draw event (step_of w now draw event) ∷ history)
-        (step_of w now draw event).world }
+        → Carries (entry_of now draw event (step_of w now draw grown event) ∷ history)
+        (step_of w now draw grown event).world }
 {}
 
 /// A proxy that has done nothing carries the empty history.
@@ -218,41 +265,108 @@ pub fn new_proxies_carry_nothing()
 /// No step changes the limits, the routes, the first message id and the salt, where datagrams are
 /// bytes.
 pub fn settings_stay()
-    ensures stays { (w : World) (now draw : ℕ) (event : Event)
+    ensures stays { (w : World) (now draw : ℕ) (grown : Bool) (event : Event)
         → IsEvent event
-        → (step_of w now draw event).world.setting ≡ w.setting }
+        → (step_of w now draw grown event).world.setting ≡ w.setting }
+{}
+
+/// Whether there was memory for one entry more of the store is the one choice of a step that its
+/// event leaves open, and its report tells it: the step is the one of its own report, and only what
+/// wasn't stored for want of memory tells that there was none.
+pub fn memory_is_told()
+    ensures step { (w : World) (now draw : ℕ) (event : Event) (grown : Bool)
+        → step_of w now draw (grown_of (step_of w now draw grown event).report.outcome) event
+        ≡ step_of w now draw grown event }
+    ensures wanting { (outcome : Outcome) → grown_of outcome ≡ false → outcome ≡ Answered NoMemory }
 {}
 
 /// What a proxy carries it promises: each entry is justified by the entries before it, each waiter
-/// is served at most once, message ids count up and none comes back, and exchanges, waiters and the
-/// bytes held are within their limits.
+/// is served at most once, message ids count up and none comes back, and exchanges, waiters, what is
+/// remembered, what is stored and the bytes held are within their limits.
 pub fn what_is_carried_is_promised()
     ensures promised { (history : List Entry) (w : World) → Carries history w → Promised history w }
 {}
 
-/// What is owed is given, where an entry is justified by what was done before it: a request that
-/// may be asked for, with room, is opened; a response that an exchange awaits is its answer; a
-/// confirmable datagram is rejected where it isn't processed, which is always so far; and a tick at
-/// which something is due does what is due first.
+/// What is promised, place by place: each deed is justified by those before it, comes no earlier
+/// than they did, and gives the message id that is due, which no other gave; the history tells of
+/// these deeds and of nothing else; and what the proxy counts and holds is within its limits.
+pub fn what_is_promised_holds_at_each_place()
+    ensures justified { (history : List Entry) (w : World) (p : Promised history w) (place : Place)
+        → IsPlaceOf p.deeds place
+        → JustifiedBy place.deed.entry.report.outcome w.setting place.before place.deed }
+    ensures in_order { (history : List Entry) (w : World) (p : Promised history w)
+        (place earlier : Place)
+        → IsPlaceOf p.deeds place
+        → IsPlaceOf place.before earlier
+        → earlier.deed.entry.now ≤ place.deed.entry.now }
+    ensures id { (history : List Entry) (w : World) (p : Promised history w) (place : Place)
+        → IsPlaceOf p.deeds place
+        → gives_id place.deed.entry ≡ 1
+        → Gives ((w.setting.first_id + ids_in place.before) % 65536) place.deed.entry }
+    ensures once { (history : List Entry) (w : World) (p : Promised history w) (a b : Place)
+        (id : ℕ)
+        → IsPlaceOf p.deeds a
+        → IsPlaceOf p.deeds b
+        → Gives id a.deed.entry
+        → Gives id b.deed.entry
+        → a ≡ b }
+    ensures told { (history : List Entry) (w : World) (p : Promised history w)
+        → map (λ d. d.entry) p.deeds ≡ history }
+    ensures exchanges { (history : List Entry) (w : World)
+        → Promised history w
+        → (counts w).exchanges ≤ w.setting.limits.exchanges }
+    ensures waiters { (history : List Entry) (w : World)
+        → Promised history w
+        → (counts w).waiters ≤ w.setting.limits.waiters }
+    ensures entries { (history : List Entry) (w : World)
+        → Promised history w
+        → (counts w).entries ≤ w.setting.limits.cache_entries }
+    ensures cached_bytes { (history : List Entry) (w : World)
+        → Promised history w
+        → (counts w).cached_bytes ≤ w.setting.limits.cache_bytes }
+    ensures con_records { (history : List Entry) (w : World)
+        → Promised history w
+        → (counts w).con_records ≤ w.setting.limits.con_records }
+    ensures non_records { (history : List Entry) (w : World)
+        → Promised history w
+        → (counts w).non_records ≤ w.setting.limits.non_records }
+    ensures held { (history : List Entry) (w : World)
+        → Promised history w
+        → held w ≤ most_held w.setting.limits }
+{}
+
+/// What is owed is given, where an entry is justified by what was done before it: a request that is
+/// remembered is told again what it was told, and one for which there is no room to remember it
+/// meets silence; of the others one whose key has a fresh entry is answered from the cache, and one
+/// that may be asked for, with room, is opened; a response that an exchange awaits is its answer,
+/// which is kept by its size where it was obtained; a confirmable datagram that can't be processed
+/// is rejected; and a tick at which something is due does what is due first.
 pub fn what_is_owed_is_given()
+    ensures owed { (setting : Setting) (past : List Deed) (d : Deed)
+        → JustifiedBy d.entry.report.outcome setting past d
+        → IsOwed setting past d }
     ensures opened { (setting : Setting) (past : List Deed) (d : Deed) (client : Endpoint) (request : Message)
         (key : CacheKey)
         → JustifiedBy d.entry.report.outcome setting past d
         → IsRequestOf setting client request d.entry.event
+        → IsNew setting past d.entry.now client request
+        → request.kind ≡ Non
         → verdict_on setting request ≡ may_ask key
+        → IsMiss setting past key d.entry.now
         → fits_on setting key request ≡ true
         → HasRoom setting.limits past
         → d.entry.report.outcome ≡ Opened }
     ensures answered { (setting : Setting) (past : List Deed) (d : Deed) (exchange : ℕ)
         → JustifiedBy d.entry.report.outcome setting past d
         → IsAwaited setting past exchange d.entry.event
-        → d.entry.report.outcome ≡ Answered NotStored }
+        → takes d.entry.report.outcome ≡ true }
     ensures rejected { (setting : Setting) (past : List Deed) (d : Deed) (source : Endpoint) (bytes : List ℕ)
         (head : Head)
         → JustifiedBy d.entry.report.outcome setting past d
         → d.entry.event ≡ arrival source bytes
         → head_at bytes ≡ Some head
         → head.kind ≡ Con
+        → IsUnprocessable setting past d.entry.event
         → d.entry.report.outcome ≡ Rejected }
     ensures done { (setting : Setting) (past : List Deed) (d : Deed) (act : Act) (at : ℕ)
         → JustifiedBy d.entry.report.outcome setting past d
@@ -260,6 +374,19 @@ pub fn what_is_owed_is_given()
         → IsDueAt setting past act at
         → at ≤ d.entry.now
         → IsActing setting past d }
+{}
+
+/// A request is known where it repeats one, by the places of the history, and what is known of it is
+/// what was sent at once there: so a duplicate is told what its request was told, or nothing.
+pub fn duplicates_repeat_a_place()
+    ensures known { (past : List Deed) (now : ℕ) (client : Endpoint) (request : Message) (known : Record)
+        → record_of client request.id (remembered_at request.kind now past) ≡ Some known
+        → Somewhere (IsRememberedAt now client request known) past }
+    ensures each { (past : List Deed) (now : ℕ) (client : Endpoint) (request : Message) (p : Place)
+        → brings_requests request.kind ≡ true
+        → IsPlaceOf past p
+        → Repeats now client request p
+        → record_of client request.id (remembered_at request.kind now past) ≢ None }
 {}
 
 /// The histories allow one answer: two deeds that may follow the same deeds, of one event at one
@@ -274,14 +401,17 @@ pub fn one_answer_is_justified()
         → AreOfOneTurn d.entry e.entry
         → d ≡ e }
     ensures of_the_step { (w : World) (history : List Entry) (c : Carries history w) (d : Deed)
+        (grown : Bool)
         → w.last ≤ d.entry.now
         → IsEvent d.entry.event
         → MayFollow w.setting c.deeds d
-        → d.entry ≡ answer_at w d.entry.now d.entry.draw d.entry.event }
+        → HaveOneMemory d.entry.report.outcome
+        (answer_at w d.entry.now d.entry.draw grown d.entry.event).report.outcome
+        → d.entry ≡ answer_at w d.entry.now d.entry.draw grown d.entry.event }
 {}
 
-/// The moment at which a tick is wanted is the least at which anything is due by the history, and
-/// none is wanted where nothing is.
+/// The moment at which a tick is wanted is the least at which anything is due by the history, which
+/// is one moment, and none is wanted where nothing is.
 pub fn next_due_is_least()
     ensures next { (w : World) (history : List Entry) (c : Carries history w) (at : ℕ)
         → next_due w ≡ Some at
@@ -290,27 +420,31 @@ pub fn next_due_is_least()
         → next_due w ≡ None
         → (act : Act) (at : ℕ)
         → ¬ IsDueAt w.setting c.deeds act at }
+    ensures one { (setting : Setting) (past : List Deed) (a b : ℕ)
+        → IsNextDue setting past a
+        → IsNextDue setting past b
+        → a ≡ b }
 {}
 
 /// No datagram that a step sends is longer than the limit `datagram`, where the limits are within
 /// their ranges.
 pub fn datagrams_fit()
-    ensures fits { (w : World) (history : List Entry) (now draw : ℕ) (event : Event)
+    ensures fits { (w : World) (history : List Entry) (now draw : ℕ) (grown : Bool) (event : Event)
         → Carries history w
         → AreLimits w.setting.limits
         → IsEvent event
-        → length (step_of w now draw event).bytes ≤ w.setting.limits.datagram }
+        → length (step_of w now draw grown event).bytes ≤ w.setting.limits.datagram }
 {}
 
 /// Whatever happens to a new proxy at moments that don't go back, where datagrams are bytes and
 /// origins are targets, it promises the same of all that happened.
 pub fn runs_are_promised()
-    ensures kept { (setting : Setting) (turns : List Turn)
+    ensures kept { (setting : Setting) (turns : List Taken)
         → AreRoutes setting.routes
-        → AreTurns 0 turns
+        → AreTurns 0 (turns_of turns)
         → (run_of (new_run setting) turns).world.setting ≡ setting }
-    ensures promised { (setting : Setting) (turns : List Turn)
+    ensures promised { (setting : Setting) (turns : List Taken)
         → AreRoutes setting.routes
-        → AreTurns 0 turns
+        → AreTurns 0 (turns_of turns)
         → Promised (run_of (new_run setting) turns).history (run_of (new_run setting) turns).world }
 {}

@@ -1,6 +1,6 @@
 //! The limits of a proxy.
 ghost use Rattle.std.specs.Prelude.{◌≡◌, None, Some, not, IfOk, IfErr};
-ghost use Rattle.coap_model.specs.Limits.{default_limits, range_of, value_of, is_out, first_fault};
+ghost use Rattle.coap_model.specs.Limits.{AreLimits, default_limits, range_of, value_of, is_out, first_fault};
 
 use std::marker::Model;
 use thiserror::Error;
@@ -143,8 +143,7 @@ impl Default for LimitValues {
     }
 }
 
-/// The limits of a proxy, each within its range. Those of the cache and of the records, `nstart`
-/// and `exchange_ms` limit nothing yet.
+/// The limits of a proxy, each within its range. `nstart` and `exchange_ms` limit nothing yet.
 #[derive(Clone, Copy, Debug, PartialEq, Eq)]
 pub struct Limits {
     values: LimitValues,
@@ -178,9 +177,10 @@ impl Limits {
         }
     }
 
-    /// The value of each.
+    /// The value of each, within its range.
     pub fn values(&self) -> &LimitValues
         ensures exact { result.now ≡ self.now }
+        ensures in_range { AreLimits self.now }
     {
         &self.values
     }

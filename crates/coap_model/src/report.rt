@@ -15,9 +15,7 @@ pub enum Storing {
     NotStored,
 }
 
-/// What a step did. Those that come so far are `Ignored`, `Rejected`, `Refused`, `Opened`,
-/// `Overloaded`, `NoId`, `Answered` with `NotStored`, `SentRequest`, `Delivered` and `Idle`; the
-/// others don't come yet.
+/// What a step did. `Joined`, `Acked`, `Resent` and `GaveUp` don't come yet.
 #[derive(Clone, Copy, Debug, PartialEq, Eq)]
 pub enum Outcome {
     /// Nothing: the datagram is no one's business.
@@ -36,7 +34,8 @@ pub enum Outcome {
     Joined,
     /// An exchange was opened, and the client waits for it.
     Opened,
-    /// There was no room for an exchange or a client, or too few message ids were free: 5.03.
+    /// There was no room for an exchange or a client, or too few message ids were free, or the
+    /// request is Confirmable, which isn't asked for yet: 5.03.
     Overloaded,
     /// No message id was free for the reply.
     NoId,
@@ -64,7 +63,7 @@ pub struct Report {
 }
 
 /// How much a proxy holds: bytes and entries of its cache, duplicate records, exchanges, clients
-/// that wait. The first four are 0 so far.
+/// that wait. Of the records those that live count.
 #[derive(Clone, Copy, Debug, PartialEq, Eq)]
 pub struct Counts {
     pub cached_bytes: u64,

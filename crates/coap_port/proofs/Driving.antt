@@ -2,12 +2,12 @@
 use Rattle.std.proofs.Common.{◌≡◌, ℕ, Bool, true, false, cond, List, [], ◌∷◌, refl, ap, ◌∙◌, subst}
 use Rattle.coap_model.specs.Carries.{Carries}
 use Rattle.coap_model.specs.History.{Entry}
-use Rattle.coap_model.specs.Runs.{Run, Turn, one_turn}
+use Rattle.coap_model.specs.Runs.{Run, Turn, one_turn, step_taken}
 use Rattle.coap_model.specs.Ticks.{next_due}
 use Rattle.coap_model.specs.World.{World}
 use Rattle.coap_target.specs.declared.endpoint.Endpoint.{Endpoint}
 use Rattle.std.specs.Prelude.{is_some}
-use Rattle.coap_port.specs.Driven.{takes_some, DidTurn, DoesTurn, Given, IsDriven, came_last, last_moment, run_at, run_by, run_given, sent_at, stats_of, step_at, wait_for, world_by}
+use Rattle.coap_port.specs.Driven.{taken_of, takes_some, DidTurn, DoesTurn, Given, IsDriven, came_last, last_moment, run_at, run_by, run_given, sent_at, stats_of, wait_for, world_by}
 use Rattle.coap_port.specs.Stats.{no_stats, with_turn}
 use Rattle.coap_port.specs.declared.stats.Stats.{Stats}
 
@@ -15,9 +15,9 @@ use Rattle.coap_port.specs.declared.stats.Stats.{Stats}
 given-apart : (r q : Run) (g : Given) → r.world ≡ q.world → (run_given r g).world ≡ (run_given q g).world
 given-apart r q g e = go g.lost
   where
-    go : (lost : Bool) → (cond lost r (one_turn r g.turn)).world ≡ (cond lost q (one_turn q g.turn)).world
+    go : (lost : Bool) → (cond lost r (one_turn r (taken_of g))).world ≡ (cond lost q (one_turn q (taken_of g))).world
     go true = e
-    go false = ap (λ (w : World). (step_at w g.turn).world) e
+    go false = ap (λ (w : World). (step_taken w (taken_of g)).world) e
 
 -- nor do those after many
 run-apart : (r q : Run) (givens : List Given) → r.world ≡ q.world → (run_by r givens).world ≡ (run_by q givens).world

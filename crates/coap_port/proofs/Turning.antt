@@ -5,15 +5,15 @@ use Rattle.coap_message.specs.Datagram.{Datagram}
 use Rattle.coap_model.proofs.Running.{clock_after}
 use Rattle.coap_model.specs.Carries.{Carries}
 use Rattle.coap_model.specs.Events.{Event, IsEvent}
-use Rattle.coap_model.specs.History.{Entry}
-use Rattle.coap_model.specs.Memory.{brings_uri, takes_memory}
+use Rattle.coap_model.specs.History.{Entry, grown_of}
+use Rattle.coap_model.specs.Memory.{takes_memory}
 use Rattle.coap_model.specs.Runs.{Turn}
 use Rattle.coap_model.specs.Step.{step_of}
 use Rattle.coap_model.specs.Ticks.{next_due}
 use Rattle.coap_model.specs.World.{Step, World}
 use Rattle.coap_model.specs.declared.report.Report.{Report}
 use Rattle.coap_target.specs.declared.endpoint.Endpoint.{Endpoint}
-use Rattle.coap_port.specs.Driven.{DidTurn, HandsOver, datagram_of, is_arrival, step_at, wait_for}
+use Rattle.coap_port.specs.Driven.{DidTurn, HandsOver, datagram_of, is_arrival, wait_for}
 use Rattle.coap_port.specs.Given.{event_given}
 use Rattle.coap_port.specs.Stats.{with_turn}
 use Rattle.coap_port.specs.declared.stats.Stats.{Stats}
@@ -36,11 +36,11 @@ module _ {P : Type 0} (gives : P → ℕ → Turn → P → Type 0) (takes : P �
     (asked : wait ≡ wait_for came (clock p) (next_due v)) (gave : gives p wait t m) (arrives : arrived ≡ is_arrival t.event) (moment : clock m ≡ t.now) where
   -- a step was done, and what it sent was handed over
   pub did-step : (v' : World) (q : P) (s' : Stats) (event : Event) (report : Report) (out out' : Datagram) (went : Bool) → event ≡ t.event → IsEvent t.event
-      → Does (step_of v t.now t.draw event) report out out' v' → CarriesOn v (entry_told t.now t.draw event report out'.bytes) v'
+      → Does (step_of v t.now t.draw (grown_of report.outcome) event) report out out' v' → CarriesOn v (entry_told t.now t.draw event report out'.bytes) v'
       → HandsOver takes m (told report out'.bytes) went q → clock q ≡ clock m → failures q ≡ failures p
       → s' ≡ with_turn false (is_some report.send) went s → DidTurn gives takes clock failures came v p s v' q s' arrived
   did-step v' q s' event report out out' went same bytes does carries handed still-now still counted = record {
-    given = record { wait = wait; turn = t; lost = false; went = went };
+    given = record { wait = wait; turn = t; lost = false; grown = grown_of report.outcome; went = went };
     does = (m, gave, subst (λ (d : Option (Endpoint × List ℕ)). HandsOver takes m d went q) sent handed);
     asked = asked;
     lost = λ (h : false ≡ true). absurd cc;
@@ -55,10 +55,10 @@ module _ {P : Type 0} (gives : P → ℕ → Turn → P → Type 0) (takes : P �
   }
     where
       step : Step
-      step = step_at v t
+      step = step_of v t.now t.draw (grown_of report.outcome) t.event
 
       done : Does step report out out' v'
-      done = subst (λ (e : Event). Does (step_of v t.now t.draw e) report out out' v') same does
+      done = subst (λ (e : Event). Does (step_of v t.now t.draw (grown_of report.outcome) e) report out out' v') same does
 
       on : CarriesOn v (entry_told t.now t.draw t.event report out'.bytes) v'
       on = subst (λ (e : Event). CarriesOn v (entry_told t.now t.draw e report out'.bytes) v') same carries
@@ -73,16 +73,16 @@ module _ {P : Type 0} (gives : P → ℕ → Turn → P → Type 0) (takes : P �
       entry = ap (entry_told t.now t.draw t.event report) spelled ∙ ap (λ (r : Report). entry_told t.now t.draw t.event r step.bytes) done.0
 
       clock-is : (step.world.last ≡ t.now) × (step.world.events ≡ v.events + 1)
-      clock-is = clock_after v t.now t.draw t.event bytes
+      clock-is = clock_after v t.now t.draw (grown_of report.outcome) t.event bytes
 
   -- a step found no memory
-  pub did-nothing : (v' : World) (s' : Stats) (event : Event) → event ≡ t.event → v' ≡ v → takes_memory (brings_uri v.setting.limits.datagram event) (step_of v t.now t.draw event).report.outcome ≡ true
+  pub did-nothing : (v' : World) (s' : Stats) (event : Event) → event ≡ t.event → v' ≡ v → takes_memory (step_of v t.now t.draw true event).report.outcome ≡ true
       → v.last ≤ t.now → failures m ≡ failures p → s' ≡ with_turn true false false s → DidTurn gives takes clock failures came v p s v' m s' arrived
   did-nothing v' s' event same nothing memory onward still counted = record {
-    given = record { wait = wait; turn = t; lost = true; went = false };
+    given = record { wait = wait; turn = t; lost = true; grown = true; went = false };
     does = (m, gave, refl);
     asked = asked;
-    lost = λ h. subst (λ (e : Event). takes_memory (brings_uri v.setting.limits.datagram e) (step_of v t.now t.draw e).report.outcome ≡ true) same memory;
+    lost = λ h. subst (λ (e : Event). takes_memory (step_of v t.now t.draw true e).report.outcome ≡ true) same memory;
     world = nothing;
     carries = λ history c. subst (λ (w : World). Carries history w) (sym nothing) c;
     counted = counted;

@@ -5,8 +5,8 @@ use Rattle.coap_target.specs.declared.endpoint.Endpoint.{Endpoint}
 use Rattle.coap_model.specs.Carries.{Carries}
 use Rattle.coap_model.specs.Events.{Event, arrival, tick}
 use Rattle.coap_model.specs.History.{Entry}
-use Rattle.coap_model.specs.Memory.{brings_uri, takes_memory}
-use Rattle.coap_model.specs.Runs.{Run, Turn, one_turn}
+use Rattle.coap_model.specs.Memory.{takes_memory}
+use Rattle.coap_model.specs.Runs.{Turn, Taken, Run, one_turn, step_taken}
 use Rattle.coap_model.specs.Step.{step_of}
 use Rattle.coap_model.specs.Ticks.{next_due}
 use Rattle.coap_model.specs.World.{Step, World}
@@ -16,27 +16,29 @@ use Rattle.coap_port.specs.declared.error.DriveError.TheVariants.{Port, OutOfMem
 use Rattle.coap_port.specs.declared.stats.Stats.{Stats}
 
 -- A turn that a port gave: the wait that it was asked with, whether its step found no memory, so
--- that nothing was done, and what the port answered to what was sent, if anything was sent.
+-- that nothing was done, or else whether there was some for one entry more of the store, and what
+-- the port answered to what was sent, if anything was sent.
 pub record Given : Type 0 where
   pub wait : ℕ
   pub turn : Turn
   pub lost : Bool
+  pub grown : Bool
   pub went : Bool
 
 -- ---- what a turn does
 
-abbrev pub step_at : World → Turn → Step
-step_at w t = step_of w t.now t.draw t.event
+abbrev pub taken_of : Given → Taken
+taken_of g = record { turn = g.turn; grown = g.grown }
 
 abbrev pub run_given : Run → Given → Run
-run_given r g = if g.lost then r else one_turn r g.turn
+run_given r g = if g.lost then r else one_turn r (taken_of g)
 
 -- the datagram that is sent, and where it goes
 abbrev pub datagram_of : Step → Option (Endpoint × List ℕ)
 datagram_of s = option_map (λ to. (to, s.bytes)) s.report.send
 
 abbrev pub sent_at : World → Given → Option (Endpoint × List ℕ)
-sent_at w g = if g.lost then None else datagram_of (step_at w g.turn)
+sent_at w g = if g.lost then None else datagram_of (step_taken w (taken_of g))
 
 -- ---- how long a port is asked to wait
 
@@ -83,7 +85,7 @@ AreAsked w first (g ∷ before) =
 -- a turn whose step takes memory
 abbrev pub takes_some : World → Turn → Bool
 takes_some w t =
-    takes_memory (brings_uri w.setting.limits.datagram t.event) (step_at w t).report.outcome
+    takes_memory (step_of w t.now t.draw true t.event).report.outcome
 
 -- only what takes memory is lost
 abbrev pub AreLostForMemory : World → List Given → Type 0

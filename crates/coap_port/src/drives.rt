@@ -6,6 +6,7 @@ use crate::error::{DriveError, PortFault};
 use crate::port::Port;
 use crate::stats::Stats;
 use crate::turns::do_turn;
+use coap_cache::Store;
 use coap_core::Core;
 use coap_message::Datagram;
 use std::alloc::Global;
@@ -21,9 +22,9 @@ use std::alloc::Global;
 /// # Errors
 /// `Port` where the port gave no turn, with what was done before; `OutOfMemory` where there was no
 /// memory for the two buffers, and then nothing was done.
-pub fn drive<P: Port>(
+pub fn drive<P: Port, S: Store + Drop>(
     alloc: Global,
-    core: &mut Core,
+    core: &mut Core<S>,
     port: &mut P,
     turns: u64,
 ) -> Result<Stats, DriveError>

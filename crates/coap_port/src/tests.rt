@@ -1,4 +1,5 @@
 use crate::{DriveError, Handed, MemoryPort, Port, Scripted, Stats, drive};
+use coap_cache::ListStore;
 use coap_core::{Core, LimitValues, Limits};
 use coap_message::{OutOfMemory, Seq};
 use coap_routes::Routes;
@@ -47,16 +48,16 @@ fn port(alloc: Global, refused: Option<usize>) -> Result<MemoryPort, OutOfMemory
 }
 
 /// A core with the default limits that maps `t` to the origin.
-fn core(alloc: Global) -> Result<Core, Fail> {
+fn core(alloc: Global) -> Result<Core<ListStore>, Fail> {
     let limits = Limits::new(LimitValues::default())?;
-    Ok(Core::new(alloc, limits, Routes::fixed(alloc)?, 1, 0)?)
+    Ok(Core::new(alloc, (), limits, Routes::fixed(alloc)?, 1, 0)?)
 }
 
 /// Drives a core over a port, where that may be done.
 fn go(
     rt: &impl Abort,
     alloc: Global,
-    core: &mut Core,
+    core: &mut Core<ListStore>,
     port: &mut MemoryPort,
     turns: u64,
 ) -> Result<Stats, DriveError> {

@@ -10,6 +10,7 @@ ghost use Rattle.coap_port.specs.Stats.{AreWithin, with_turn};
 use crate::error::PortFault;
 use crate::port::Port;
 use crate::stats::Stats;
+use coap_cache::Store;
 use coap_core::{Core, Event};
 use coap_message::{Datagram, OutOfMemory};
 use coap_target::Endpoint;
@@ -88,8 +89,8 @@ fn count(stats: &mut Stats, lost: bool, sent: bool, went: bool)
 ///
 /// # Errors
 /// The port gave nothing. Nothing was done then.
-pub(crate) fn do_turn<P: Port>(
-    core: &mut Core,
+pub(crate) fn do_turn<P: Port, S: Store + Drop>(
+    core: &mut Core<S>,
     port: &mut P,
     came: bool,
     input: &mut Datagram,

@@ -15,6 +15,10 @@ use Rattle.coap_proxyd.specs.declared.planning.Plan.{Plan}
 use Rattle.coap_proxyd.specs.Faults.{drive_fault, replay_fault}
 use Rattle.coap_replay.specs.Replays.{IsReplayed}
 
+-- how many turns a plan says: 2^63 - 1 where it says nothing, and no more than that
+abbrev pub turns_of : Plan → ℕ
+turns_of plan = min (unwrap_or plan.turns 9223372036854775807) 9223372036854775807
+
 -- ---- over an input
 
 -- how the program ends after a replay
@@ -22,18 +26,15 @@ abbrev pub ended_as : Result ℕ ReplayError → Result (Unit {0}) Fault
 ended_as (Ok count) = Ok tt
 ended_as (Err e) = Err (replay_fault e)
 
--- a replay by that proxy; or there was no memory for the proxy, and nothing was written
-abbrev pub IsServed : World → Option (List ℕ) → Option (List ℕ) → Option (List ℕ)
+-- a replay by that proxy, of so many turns at most; or there was no memory for the proxy, and nothing
+-- was written
+abbrev pub IsServed : ℕ → World → Option (List ℕ) → Option (List ℕ) → Option (List ℕ)
     → Result (Unit {0}) Fault → Type 0
-IsServed proxy input old new result = ((result ≡ Err OutOfMemory) × Appends old new [])
+IsServed turns proxy input old new result = ((result ≡ Err OutOfMemory) × Appends old new [])
     ⊎ ((after : World) × (left : Option (List ℕ)) × (replayed : Result ℕ ReplayError)
-    × IsReplayed proxy after input left old new replayed × (result ≡ ended_as replayed))
+    × IsReplayed proxy after turns input left old new replayed × (result ≡ ended_as replayed))
 
 -- ---- over a port
-
--- how many turns a plan says: 2^63 - 1 where it says nothing, and no more than that
-abbrev pub turns_of : Plan → ℕ
-turns_of plan = min (unwrap_or plan.turns 9223372036854775807) 9223372036854775807
 
 -- how the program ends after a loop over a port
 abbrev pub driven_as : Result Stats DriveError → Result (Unit {0}) Fault

@@ -11,6 +11,7 @@ ghost use Rattle.coap_proxyd.specs.declared.fault.Fault.TheVariants as faults;
 
 use crate::fault::Fault;
 use crate::words::Wanted;
+use coap_cache::Store;
 use coap_core::{Core, LimitValues, Limits};
 use coap_message::OutOfMemory;
 use coap_routes::{RouteError, Routes};
@@ -139,15 +140,16 @@ fn routes_of(alloc: Global, config: &Config) -> Result<Routes, Fault>
 }
 
 /// The core of a plan, with a first message id and a salt where it says none.
-pub(crate) fn core_of(
+pub(crate) fn core_of<S: Store + Drop>(
     alloc: Global,
+    seed: S::Seed,
     plan: Plan,
     first_id: u16,
     salt: u64,
-) -> Result<Core, OutOfMemory>
+) -> Result<Core<S>, OutOfMemory>
     ensures { IfOk result (λ core. core ≡ new_world (spec.setting_of plan first_id salt)) }
 {
     let first_id = plan.first_id.unwrap_or(first_id);
     let salt = plan.salt.unwrap_or(salt);
-    Core::new(alloc, plan.limits, plan.routes, first_id, salt)
+    Core::new(alloc, seed, plan.limits, plan.routes, first_id, salt)
 }

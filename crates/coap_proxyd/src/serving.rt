@@ -6,6 +6,7 @@ ghost use Rattle.coap_proxyd.specs.Serving as spec;
 
 use crate::fault::Fault;
 use crate::planning::{Plan, core_of};
+use coap_cache::Store;
 use coap_port::{Port, drive};
 use coap_replay::replay;
 use std::alloc::Global;
@@ -14,26 +15,38 @@ use std::io::{BufReader, Read, Write};
 /// The most turns that are done: 2^63 - 1.
 const MOST_TURNS: u64 = i64::MAX as u64;
 
-/// Does the events of an input by a new core, and writes the datagrams that are sent. Message ids
-/// begin with 1 and the salt is 0, where the plan says nothing else.
+/// How many turns a plan says: as many as there may be, where it says nothing.
+fn turns_of(plan: &Plan) -> u64
+    ensures { result ≡ spec.turns_of plan.now }
+{
+    plan.turns.unwrap_or(MOST_TURNS).min(MOST_TURNS)
+}
+
+/// Does the events of an input by a new core, whose store is made of this seed, for as many turns as
+/// the plan says, or else as many as there may be, and writes the datagrams that are sent. Message
+/// ids begin with 1 and the salt is 0, where the plan says nothing else.
 ///
 /// # Errors
 /// `OutOfMemory` where the core finds no memory, and nothing is written then. Else the fault of the
 /// replay.
-pub fn serve_events<R: Read + Drop, W: Write>(
+pub fn serve_events<R: Read + Drop, W: Write, S: Store + Drop>(
     alloc: Global,
+    seed: S::Seed,
     plan: Plan,
     input: R,
     output: &mut W,
 ) -> Result<(), Fault>
-    ensures { spec.IsServed (new_world (setting_of plan 1 0)) (R.remaining input)
+    ensures { spec.IsServed (spec.turns_of plan) (new_world (setting_of plan 1 0)) (R.remaining input)
         (W.contents output.old) (W.contents output.new) result }
 {
-    let (Ok(mut core), Ok(mut reader)) = (core_of(alloc, plan, 1, 0), BufReader::new(alloc, input))
-    else {
+    let turns = turns_of(&plan);
+    let (Ok(mut core), Ok(mut reader)) = (
+        core_of::<S>(alloc, seed, plan, 1, 0),
+        BufReader::new(alloc, input),
+    ) else {
         return Err(Fault::OutOfMemory);
     };
-    replay(alloc, &mut reader, output, &mut core)?;
+    replay(alloc, &mut reader, output, &mut core, turns)?;
     Ok(())
 }
 
@@ -43,8 +56,9 @@ pub fn serve_events<R: Read + Drop, W: Write>(
 /// # Errors
 /// `Socket` where the port failed; `OutOfMemory` where there was no memory for the core, or for the
 /// buffers of the loop, and then nothing was done.
-pub fn serve_port<P: Port>(
+pub fn serve_port<P: Port, S: Store + Drop>(
     alloc: Global,
+    seed: S::Seed,
     plan: Plan,
     first_id: u16,
     salt: u64,
@@ -54,8 +68,8 @@ pub fn serve_port<P: Port>(
     ensures { spec.IsServedOver (P.gives (plan.limits.datagram + 1)) P.takes P.clock P.failures (spec.turns_of plan)
         (new_world (setting_of plan first_id salt)) port.old port.new result }
 {
-    let turns = plan.turns.unwrap_or(MOST_TURNS).min(MOST_TURNS);
-    let Ok(mut core) = core_of(alloc, plan, first_id, salt) else {
+    let turns = turns_of(&plan);
+    let Ok(mut core) = core_of::<S>(alloc, seed, plan, first_id, salt) else {
         return Err(Fault::OutOfMemory);
     };
     drive(alloc, &mut core, port, turns)?;

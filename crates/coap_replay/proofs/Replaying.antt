@@ -1,5 +1,5 @@
 -- A replay turn by turn: what was done and written so far, and what is still asked for.
-use Rattle.std.proofs.Common.{◌≡◌, ◌⊎◌, inl, inr, ℕ, ◌+◌, ◌≤◌, List, [], ◌∷◌, ◌++◌, length, Option, Some, None, Result, Ok, Err, refl, sym, ap, ◌∙◌, subst, append_assoc, arith}
+use Rattle.std.proofs.Common.{◌≡◌, inl, inr, ℕ, Bool, ◌+◌, ◌≤◌, ◌<◌, List, [], ◌∷◌, ◌++◌, length, Option, Some, None, Result, Ok, Err, refl, sym, ap, ◌∙◌, subst, append_assoc, arith}
 use Rattle.std.specs.Prelude.{IfSome}
 use Rattle.std.specs.Io.KnownBytes.{Appends}
 use Rattle.std.proofs.KnownBytes.{Appends-trans}
@@ -7,7 +7,7 @@ use Rattle.std.proofs.lemmas.List.{append-nil, length-append}
 use Rattle.coap_model.specs.World.{World}
 use Rattle.coap_model.specs.Events.{IsEvent}
 use Rattle.coap_model.specs.Carries.{Carries}
-use Rattle.coap_model.specs.Runs.{Turn, AreTurns, Run, one_turn, run_of}
+use Rattle.coap_model.specs.Runs.{Turn, Taken, turns_of, AreTurns, Run, one_turn, run_of, step_taken}
 use Rattle.coap_model.proofs.Running.{clock_after, runs_carry}
 use Rattle.coap_lines.specs.declared.reading.turn.Turn.{Turn as TurnRead}
 use Rattle.coap_lines.specs.Turns.{turn_seen}
@@ -18,44 +18,49 @@ use Rattle.coap_replay.specs.declared.error.ReplayError.{ReplayError}
 use Rattle.coap_replay.specs.declared.error.ReplayError.TheVariants.{BadEvent, OutOfMemory, Read, Write}
 use Rattle.coap_replay.specs.declared.replays.Asked.{Asked}
 use Rattle.coap_replay.specs.declared.replays.Asked.TheVariants.{End, Skip, Do}
-use Rattle.coap_replay.specs.Replays.{AsksNext, DoesTurn, HasDone, IfDo, IsAtEvent, IsAtStart, IsBroken, IsReplayed, IsUpTo, MayBeDone, line_sent, output_of, run_at, script_for, step_at, with_turns, world_after}
+use Rattle.coap_replay.specs.Replays.{AsksNext, DoesTurn, HasDone, IfDo, IsAtEvent, IsBroken, IsReadTo, IsReplayed, IsThrough, IsUpTo, MayBeDone, line_sent, output_of, run_at, script_for, taken, with_turns, world_after}
 
 -- ---- one turn more
 
 -- a run with one turn more
-run-more : (r : Run) (ts : List Turn) (t : Turn) → run_of r (ts ++ t ∷ []) ≡ one_turn (run_of r ts) t
+run-more : (r : Run) (ts : List Taken) (t : Taken) → run_of r (ts ++ t ∷ []) ≡ one_turn (run_of r ts) t
 run-more r [] t = refl
 run-more r (u ∷ ts) t = run-more (one_turn r u) ts t
 
 -- the tables after a run don't hang on the history before it
-run-apart : (r q : Run) (ts : List Turn) → r.world ≡ q.world → (run_of r ts).world ≡ (run_of q ts).world
+run-apart : (r q : Run) (ts : List Taken) → r.world ≡ q.world → (run_of r ts).world ≡ (run_of q ts).world
 run-apart r q [] e = e
-run-apart r q (t ∷ ts) e = run-apart (one_turn r t) (one_turn q t) ts (ap (λ (w : World). (step_at w t).world) e)
+run-apart r q (t ∷ ts) e = run-apart (one_turn r t) (one_turn q t) ts (ap (λ (w : World). (step_taken w t).world) e)
 
 -- what is written with one turn more
-output-more : (r : Run) (ts : List Turn) (t : Turn) → output_of r.world (ts ++ t ∷ []) ≡ output_of r.world ts ++ line_sent (run_of r ts).world t
+output-more : (r : Run) (ts : List Taken) (t : Taken) → output_of r.world (ts ++ t ∷ []) ≡ output_of r.world ts ++ line_sent (run_of r ts).world t
 output-more r [] t = append-nil (line_sent r.world t)
 output-more r (u ∷ ts) t =
-    ap (λ (l : List ℕ). line_sent r.world u ++ l) (output-more (one_turn r u) ts t) ∙ sym (append_assoc (line_sent r.world u) (output_of (step_at r.world u).world ts) (line_sent (run_of (one_turn r u) ts).world t))
+    ap (λ (l : List ℕ). line_sent r.world u ++ l) (output-more (one_turn r u) ts t) ∙ sym (append_assoc (line_sent r.world u) (output_of (step_taken r.world u).world ts) (line_sent (run_of (one_turn r u) ts).world t))
 
 -- one turn more that doesn't go back
-are-more : (r : Run) (ts : List Turn) (t : Turn) → AreTurns r.world.last ts → (run_of r ts).world.last ≤ t.now → IsEvent t.event → AreTurns r.world.last (ts ++ t ∷ [])
+are-more : (r : Run) (ts : List Taken) (t : Taken) → AreTurns r.world.last (turns_of ts) → (run_of r ts).world.last ≤ t.turn.now → IsEvent t.turn.event → AreTurns r.world.last (turns_of (ts ++ t ∷ []))
 are-more r [] t are onward event = (onward, event, tt)
 are-more r (u ∷ ts) t are onward event =
-    let last = (clock_after r.world u.now u.draw u.event are.1).0 in
-    let rest = are-more (one_turn r u) ts t (subst (λ (n : ℕ). AreTurns n ts) (sym last) are.2) onward event in
-    (are.0, are.1, subst (λ (n : ℕ). AreTurns n (ts ++ t ∷ [])) last rest)
+    let last = (clock_after r.world u.turn.now u.turn.draw u.grown u.turn.event are.1).0 in
+    let rest = are-more (one_turn r u) ts t (subst (λ (n : ℕ). AreTurns n (turns_of ts)) (sym last) are.2) onward event in
+    (are.0, are.1, subst (λ (n : ℕ). AreTurns n (turns_of (ts ++ t ∷ []))) last rest)
+
+-- turns as they were asked for, with one more
+turns_of-more : (ts : List Taken) (t : Taken) → turns_of (ts ++ t ∷ []) ≡ turns_of ts ++ t.turn ∷ []
+turns_of-more [] t = refl
+turns_of-more (u ∷ ts) t = ap (λ (l : List Turn). u.turn ∷ l) (turns_of-more ts t)
 
 -- nothing was done
 done-nothing : (w : World) → HasDone w [] w
 done-nothing w = record { are = tt; world = refl; carries = λ history c. c }
 
 -- one turn more was done
-done-more : (w v : World) (ts : List Turn) (t : Turn) → HasDone w ts v → MayBeDone v.last v.events t → HasDone w (ts ++ t ∷ []) (step_at v t).world
+done-more : (w v : World) (ts : List Taken) (t : Taken) → HasDone w ts v → MayBeDone v.last v.events t.turn → HasDone w (ts ++ t ∷ []) (step_taken v t).world
 done-more w v ts t d may =
-    let onward : (world_after w ts).last ≤ t.now = subst (λ (u : World). u.last ≤ t.now) d.world may.onward in
+    let onward : (world_after w ts).last ≤ t.turn.now = subst (λ (u : World). u.last ≤ t.turn.now) d.world may.onward in
     let are = are-more (run_at w []) ts t d.are onward may.event in
-    let world : (step_at v t).world ≡ world_after w (ts ++ t ∷ []) = ap (λ (u : World). (step_at u t).world) d.world ∙ sym (ap (λ (r : Run). r.world) (run-more (run_at w []) ts t)) in
+    let world : (step_taken v t).world ≡ world_after w (ts ++ t ∷ []) = ap (λ (u : World). (step_taken u t).world) d.world ∙ sym (ap (λ (r : Run). r.world) (run-more (run_at w []) ts t)) in
     record {
       are = are;
       world = world;
@@ -65,14 +70,14 @@ done-more w v ts t d may =
 -- ---- where a replay is
 
 -- what is left of an input stands after the lines that were read, and asks for what is still asked for
-abbrev pub StillAsks : World → List ℕ → Option (List ℕ) → List Turn → ℕ → World → Type 0
+abbrev pub StillAsks : World → List ℕ → Option (List ℕ) → List Taken → ℕ → World → Type 0
 StillAsks w input None turns lines v = ⊥
 StillAsks w input (Some rest) turns lines v = (done : List ℕ) × (input ≡ done ++ rest) × IsCutBetween done rest
     × (length (lines_of done) ≡ lines) × (script_for w input ≡ with_turns turns (script_from (lines + 1) v.last v.events (lines_of rest)))
 
 -- so many lines were read, so many turns done, and their lines written
 pub record IsAt (w v : World) (input left old new : Option (List ℕ)) (lines count : ℕ) : Type 0 where
-  pub turns : List Turn
+  pub turns : List Taken
   pub done : HasDone w turns v
   pub written : Appends old new (output_of w turns)
   pub counted : count ≡ length turns
@@ -93,15 +98,19 @@ pub at-start : (w : World) (input old : Option (List ℕ)) → IsAt w w input in
 at-start w input old = record { turns = []; done = done-nothing w; written = nothing-written old; counted = refl; asked = at-first w input }
 
 -- memory is missing before the first line
-pub ends-at-start : (w : World) (input old : Option (List ℕ)) → IsReplayed w w input input old old (Err (OutOfMemory 1))
-ends-at-start w input old = record { turns = []; done = done-nothing w; ends = (nothing-written old, of-any input) }
+pub ends-at-start : (w : World) (most : ℕ) (input old : Option (List ℕ)) → IsReplayed w w most input input old old (Err (OutOfMemory 1))
+ends-at-start w most input old = record { turns = []; done = done-nothing w; ends = (nothing-written old, inl (refl, refl, refl)) }
+
+-- no turn is to be done
+pub ends-none : (w : World) (input old : Option (List ℕ)) → IsReplayed w w 0 input input old old (Ok 0)
+ends-none w input old = record { turns = []; done = done-nothing w; ends = (refl, omega arith, nothing-written old, of-any input) }
   where
-    of-any : (o : Option (List ℕ)) → IfSome o (λ i. IsAtStart i o [] 1 ⊎ IsAtEvent w i [] 1)
+    of-any : (o : Option (List ℕ)) → IfSome o (λ i. IsThrough w 0 i o [])
     of-any None = tt
-    of-any (Some i) = inl (refl, refl, refl)
+    of-any (Some i) = inr (refl, inl (refl, refl))
 
 -- the lines that were read are those before the next one
-up-to-next : (w v : World) (i rest : List ℕ) (turns : List Turn) (lines : ℕ) → v ≡ world_after w turns → StillAsks w i (Some rest) turns lines v → IsUpTo w i turns (lines + 1) (lines_of rest)
+up-to-next : (w v : World) (i rest : List ℕ) (turns : List Taken) (lines : ℕ) → v ≡ world_after w turns → StillAsks w i (Some rest) turns lines v → IsUpTo w i turns (lines + 1) (lines_of rest)
 up-to-next w v i rest turns lines world (done, split, cut, len, script) = record {
   front = lines_of done;
   split = ap lines_of split ∙ lines_of-cut done rest cut;
@@ -110,7 +119,7 @@ up-to-next w v i rest turns lines world (done, split, cut, len, script) = record
 }
 
 -- a line that was begun is the next one
-broken : (w v : World) (i rest : List ℕ) (left' : Option (List ℕ)) (turns : List Turn) (lines : ℕ) → v ≡ world_after w turns → StillAsks w i (Some rest) turns lines v → IsBegun (Some rest) left' → IsBroken w i left' turns
+broken : (w v : World) (i rest : List ℕ) (left' : Option (List ℕ)) (turns : List Taken) (lines : ℕ) → v ≡ world_after w turns → StillAsks w i (Some rest) turns lines v → IsBegun (Some rest) left' → IsBroken w i left' turns
 broken w v i rest None turns lines world s (part, clear, taken) = absurd taken
 broken w v i rest (Some rest') turns lines world (done, split, cut, len, script) (part, clear, taken) =
     let up : IsUpTo w i turns (lines + 1) (lines_of rest) = up-to-next w v i rest turns lines world (done, split, cut, len, script) in
@@ -118,7 +127,7 @@ broken w v i rest (Some rest') turns lines world (done, split, cut, len, script)
     (done, part, split ∙ ap (λ (r : List ℕ). done ++ r) taken ∙ sym (append_assoc done part rest'), clear, same)
 
 -- what is still asked for after a line more, by what the script is then
-line-more : (w v v' : World) (i rest rest' line : List ℕ) (turns turns' : List Turn) (lines : ℕ) → StillAsks w i (Some rest) turns lines v → IsLine rest rest' line
+line-more : (w v v' : World) (i rest rest' line : List ℕ) (turns turns' : List Taken) (lines : ℕ) → StillAsks w i (Some rest) turns lines v → IsLine rest rest' line
     → (script_for w i ≡ with_turns turns (script_from (lines + 1) v.last v.events (lines_of rest)) → script_for w i ≡ with_turns turns' (script_from (lines + 1 + 1) v'.last v'.events (lines_of rest')))
     → StillAsks w i (Some rest') turns' (lines + 1) v'
 line-more w v v' i rest rest' line turns turns' lines (done, split, cut, len, script) is goes =
@@ -130,7 +139,11 @@ line-more w v v' i rest rest' line turns turns' lines (done, split, cut, len, sc
       goes script,
     )
 
-module _ (w v : World) (input left left' old new : Option (List ℕ)) (lines count : ℕ) (at : IsAt w v input left old new lines count) where
+module _ (w v : World) (input left left' old new : Option (List ℕ)) (lines count most : ℕ) (at : IsAt w v input left old new lines count) (more : count < most) where
+  -- fewer turns were done than may be
+  fewer : length at.turns < most
+  fewer = omega (arith, at.counted, more)
+
   -- what holds of an input that is known
   of-known : (P : List ℕ → Type 0) (Q : List ℕ → Type 0) → IfSome left Q → ((i rest : List ℕ) → StillAsks w i (Some rest) at.turns lines v → Q rest → P i) → IfSome input P
   of-known P Q q each = go input left at.asked q
@@ -150,8 +163,8 @@ module _ (w v : World) (input left left' old new : Option (List ℕ)) (lines cou
       rw is (lines_of rest, turn, up-to i rest s, subst (λ (u : World). AsksFor (lines + 1) u.last u.events (lines_of rest) turn) at.done.world asks)
 
   -- no line was begun
-  pub ends-unread : IsReplayed w v input left old new (Err Read)
-  ends-unread = record { turns = at.turns; done = at.done; ends = (at.written, go input left at.asked) }
+  pub ends-unread : IsReplayed w v most input left old new (Err Read)
+  ends-unread = record { turns = at.turns; done = at.done; ends = (fewer, at.written, go input left at.asked) }
     where
       go : (o l : Option (List ℕ)) → IfSome o (λ i. StillAsks w i l at.turns lines v) → IfSome o (λ i. IsBroken w i l at.turns)
       go None l s = tt
@@ -159,27 +172,27 @@ module _ (w v : World) (input left left' old new : Option (List ℕ)) (lines cou
       go (Some i) (Some rest) s = broken w v i rest (Some rest) at.turns lines at.done.world s ([], refl, refl)
 
   -- no line is left
-  ends-done : IfSome left (λ rest. AsksNext (lines + 1) v.last v.events rest left' (Ok End)) → IsReplayed w v input left' old new (Ok count)
+  ends-done : IfSome left (λ rest. AsksNext (lines + 1) v.last v.events rest left' (Ok End)) → IsReplayed w v most input left' old new (Ok count)
   ends-done asks =
       record {
         turns = at.turns;
         done = at.done;
-        ends = (at.counted, at.written, of-known (λ i. script_for w i ≡ record { turns = at.turns; bad = None }) (λ rest. AsksNext (lines + 1) v.last v.events rest left' (Ok End)) asks (λ i rest s a. s.4 ∙ rw (a, append-nil at.turns) refl));
+        ends = (at.counted, omega (arith, more), at.written, of-known (λ i. IsThrough w most i left' at.turns) (λ rest. AsksNext (lines + 1) v.last v.events rest left' (Ok End)) asks (λ i rest s a. inl (fewer, s.4 ∙ rw (a, append-nil (turns_of at.turns)) refl)));
       }
 
   -- a line can't be done, or not be read
-  pub ends-refused : (e : ReplayError) → IfSome left (λ rest. AsksNext (lines + 1) v.last v.events rest left' (Err e)) → IfDo (MayBeDone v.last v.events) (Err e) → IsReplayed w v input left' old new (Err e)
+  pub ends-refused : (e : ReplayError) → IfSome left (λ rest. AsksNext (lines + 1) v.last v.events rest left' (Err e)) → IfDo (MayBeDone v.last v.events) (Err e) → IsReplayed w v most input left' old new (Err e)
   ends-refused (BadEvent line) asks may =
       record {
         turns = at.turns;
         done = at.done;
-        ends = (at.written, of-known (λ i. script_for w i ≡ record { turns = at.turns; bad = Some line }) (λ rest. AsksNext (lines + 1) v.last v.events rest left' (Err (BadEvent line))) asks (λ i rest s a. s.4 ∙ rw (a.1, a.0, append-nil at.turns) refl));
+        ends = (fewer, at.written, of-known (λ i. script_for w i ≡ record { turns = turns_of at.turns; bad = Some line }) (λ rest. AsksNext (lines + 1) v.last v.events rest left' (Err (BadEvent line))) asks (λ i rest s a. s.4 ∙ rw (a.1, a.0, append-nil (turns_of at.turns)) refl));
       }
   ends-refused (OutOfMemory line) asks may =
       record {
         turns = at.turns;
         done = at.done;
-        ends = (at.written, of-known (λ i. IsAtStart i left' at.turns line ⊎ IsAtEvent w i at.turns line) (λ rest. AsksNext (lines + 1) v.last v.events rest left' (Err (OutOfMemory line))) asks (λ i rest s a. inr (missing i rest s left' a)));
+        ends = (at.written, inr (fewer, of-known (λ i. IsAtEvent w i at.turns line) (λ rest. AsksNext (lines + 1) v.last v.events rest left' (Err (OutOfMemory line))) asks (λ i rest s a. missing i rest s left' a)));
       }
     where
       missing : (i rest : List ℕ) → StillAsks w i (Some rest) at.turns lines v → (l' : Option (List ℕ)) → AsksNext (lines + 1) v.last v.events rest l' (Err (OutOfMemory line)) → IsAtEvent w i at.turns line
@@ -189,7 +202,7 @@ module _ (w v : World) (input left left' old new : Option (List ℕ)) (lines cou
       record {
         turns = at.turns;
         done = at.done;
-        ends = (at.written, of-known (λ i. IsBroken w i left' at.turns) (λ rest. IsBegun (Some rest) left') asks (λ i rest s a. broken w v i rest left' at.turns lines at.done.world s a));
+        ends = (fewer, at.written, of-known (λ i. IsBroken w i left' at.turns) (λ rest. IsBegun (Some rest) left') asks (λ i rest s a. broken w v i rest left' at.turns lines at.done.world s a));
       }
   ends-refused Write asks may = absurd may
 
@@ -205,79 +218,133 @@ module _ (w v : World) (input left left' old new : Option (List ℕ)) (lines cou
           line-more w v v i rest more line at.turns at.turns lines s is (λ script. script ∙ ap (with_turns at.turns) next)
 
   module _ (turn : TurnRead) (asks : IfSome left (λ rest. AsksNext (lines + 1) v.last v.events rest left' (Ok (Do turn)))) (may : MayBeDone v.last v.events (turn_seen turn)) where
-    abbrev t : Turn
-    t = turn_seen turn
+    module _ (grown : Bool) where
+      abbrev t : Taken
+      t = taken (turn_seen turn) grown
 
-    abbrev turns : List Turn
-    turns = at.turns ++ t ∷ []
+      abbrev turns : List Taken
+      turns = at.turns ++ t ∷ []
 
-    -- one more is done
-    done : HasDone w turns (step_at v t).world
-    done = done-more w v at.turns t at.done may
+      -- one more is done
+      done : HasDone w turns (step_taken v t).world
+      done = done-more w v at.turns t at.done may
 
-    -- its line is that of the tables before it
-    line : line_sent (world_after w at.turns) t ≡ line_sent v t
-    line = rw (← at.done.world) refl
+      -- so many are done then, and no more than may be
+      count-then : count + 1 ≡ length turns
+      count-then = omega (arith, at.counted, length-append at.turns (t ∷ []))
 
-    -- what is written then
-    output : output_of w turns ≡ output_of w at.turns ++ line_sent v t
-    output = output-more (run_at w []) at.turns t ∙ rw (← at.done.world) refl
+      no-more : length turns ≤ most
+      no-more = omega (arith, count-then, more)
 
-    -- what is still asked for then
-    asked : IfSome input (λ i. StillAsks w i left' turns (lines + 1) (step_at v t).world)
-    asked = go input left at.asked left' asks
-      where
-        one-more : (ls : List (List ℕ)) (l e : ℕ) → l ≡ t.now → e ≡ v.events + 1 → with_turns at.turns (with_turn t (script_from (lines + 1 + 1) t.now (v.events + 1) ls)) ≡ with_turns turns (script_from (lines + 1 + 1) l e ls)
-        one-more ls l e p q = rw (p, q, append_assoc at.turns (t ∷ []) (script_from (lines + 1 + 1) t.now (v.events + 1) ls).turns) refl
+      -- its line is that of the tables before it
+      line : line_sent (world_after w at.turns) t ≡ line_sent v t
+      line = rw (← at.done.world) refl
 
-        clock : ((step_at v t).world.last ≡ t.now) × ((step_at v t).world.events ≡ v.events + 1)
-        clock = clock_after v t.now t.draw t.event may.event
+      -- what is written then
+      output : output_of w turns ≡ output_of w at.turns ++ line_sent v t
+      output = output-more (run_at w []) at.turns t ∙ rw (← at.done.world) refl
 
-        go : (o l : Option (List ℕ)) → IfSome o (λ i. StillAsks w i l at.turns lines v) → (l' : Option (List ℕ)) → IfSome l (λ rest. AsksNext (lines + 1) v.last v.events rest l' (Ok (Do turn))) → IfSome o (λ i. StillAsks w i l' turns (lines + 1) (step_at v t).world)
-        go None l s l' a = tt
-        go (Some i) None s l' a = absurd s
-        go (Some i) (Some rest) s None a = absurd a
-        go (Some i) (Some rest) s (Some more) (text, is, (other, next)) =
-            line-more w v (step_at v t).world i rest more text at.turns turns lines s is
-            (λ script. script ∙ ap (λ (ls : List (List ℕ)). with_turns at.turns (script_from (lines + 1) v.last v.events ls)) is.0 ∙ ap (with_turns at.turns) next ∙ one-more (lines_of more) (step_at v t).world.last (step_at v t).world.events clock.0 clock.1)
+      -- what is still asked for then
+      asked : IfSome input (λ i. StillAsks w i left' turns (lines + 1) (step_taken v t).world)
+      asked = go input left at.asked left' asks
+        where
+          one-more : (ls : List (List ℕ)) (l e : ℕ) → l ≡ t.turn.now → e ≡ v.events + 1 → with_turns at.turns (with_turn t.turn (script_from (lines + 1 + 1) t.turn.now (v.events + 1) ls)) ≡ with_turns turns (script_from (lines + 1 + 1) l e ls)
+          one-more ls l e p q = rw (p, q, turns_of-more at.turns t, append_assoc (turns_of at.turns) (t.turn ∷ []) (script_from (lines + 1 + 1) t.turn.now (v.events + 1) ls).turns) refl
 
-    -- the event was done, and its line written
-    pub goes-further : (v' : World) (new' : Option (List ℕ)) → v' ≡ (step_at v t).world → Appends new new' (line_sent v t) → IsAt w v' input left' old new' (lines + 1) (count + 1)
-    goes-further v' new' is wrote =
-        rw is (record {
-          turns = turns;
-          done = done;
-          written = rw output (Appends-trans old new new' (output_of w at.turns) (line_sent v t) at.written wrote);
-          counted = omega (arith, at.counted, length-append at.turns (t ∷ []));
-          asked = asked;
-        })
+          clock : ((step_taken v t).world.last ≡ t.turn.now) × ((step_taken v t).world.events ≡ v.events + 1)
+          clock = clock_after v t.turn.now t.turn.draw t.grown t.turn.event may.event
+
+          go : (o l : Option (List ℕ)) → IfSome o (λ i. StillAsks w i l at.turns lines v) → (l' : Option (List ℕ)) → IfSome l (λ rest. AsksNext (lines + 1) v.last v.events rest l' (Ok (Do turn))) → IfSome o (λ i. StillAsks w i l' turns (lines + 1) (step_taken v t).world)
+          go None l s l' a = tt
+          go (Some i) None s l' a = absurd s
+          go (Some i) (Some rest) s None a = absurd a
+          go (Some i) (Some rest) s (Some more) (text, is, (other, next)) =
+              line-more w v (step_taken v t).world i rest more text at.turns turns lines s is
+              (λ script. script ∙ ap (λ (ls : List (List ℕ)). with_turns at.turns (script_from (lines + 1) v.last v.events ls)) is.0 ∙ ap (with_turns at.turns) next ∙ one-more (lines_of more) (step_taken v t).world.last (step_taken v t).world.events clock.0 clock.1)
+
+      -- the event was done, and its line written
+      pub goes-further : (v' : World) (new' : Option (List ℕ)) → v' ≡ (step_taken v t).world → Appends new new' (line_sent v t) → IsAt w v' input left' old new' (lines + 1) (count + 1)
+      goes-further v' new' is wrote =
+          rw is (record {
+            turns = turns;
+            done = done;
+            written = rw output (Appends-trans old new new' (output_of w at.turns) (line_sent v t) at.written wrote);
+            counted = count-then;
+            asked = asked;
+          })
+
+      -- nothing was read behind its line
+      read-to : IfSome input (λ i. IsReadTo w i left' turns)
+      read-to = go input left at.asked left' asks
+        where
+          go : (o l : Option (List ℕ)) → IfSome o (λ i. StillAsks w i l at.turns lines v) → (l' : Option (List ℕ)) → IfSome l (λ rest. AsksNext (lines + 1) v.last v.events rest l' (Ok (Do turn))) → IfSome o (λ i. IsReadTo w i l' turns)
+          go None l s l' a = tt
+          go (Some i) None s l' a = absurd s
+          go (Some i) (Some rest) s None a = absurd a
+          go (Some i) (Some rest) s (Some after) (text, is, asked) =
+              let (before, split, cut, len, script) = s in
+              let here : length (lines_of before) + 1 ≡ lines + 1 = omega (arith, len) in
+              let for : AsksFor (lines + 1) v.last v.events (lines_of rest) (turn_seen turn) = subst (λ (ls : List (List ℕ)). AsksFor (lines + 1) v.last v.events ls (turn_seen turn)) (sym is.0) asked in
+              inr (
+                at.turns,
+                t,
+                refl,
+                before,
+                rest,
+                after,
+                text,
+                split,
+                is,
+                refl,
+                subst (λ (n : ℕ). IsUpTo w i at.turns n (lines_of rest)) (sym here) (up-to i rest s),
+                subst (λ (n : ℕ). AsksFor n (world_after w at.turns).last (world_after w at.turns).events (lines_of rest) (turn_seen turn)) (sym here)
+                    (subst (λ (u : World). AsksFor (lines + 1) u.last u.events (lines_of rest) (turn_seen turn)) at.done.world for),
+              )
+
+      -- the event was done and its line written, and no further one is to be done
+      pub ends-enough : (v' : World) (new' : Option (List ℕ)) → v' ≡ (step_taken v t).world → Appends new new' (line_sent v t) → count + 1 ≡ most → IsReplayed w v' most input left' old new' (Ok (count + 1))
+      ends-enough v' new' is wrote enough =
+          rw is (record {
+            turns = turns;
+            done = done;
+            ends = (
+              count-then,
+              omega (arith, enough),
+              rw output (Appends-trans old new new' (output_of w at.turns) (line_sent v t) at.written wrote),
+              through input read-to,
+            );
+          })
+        where
+          through : (o : Option (List ℕ)) → IfSome o (λ i. IsReadTo w i left' turns) → IfSome o (λ i. IsThrough w most i left' turns)
+          through None r = tt
+          through (Some i) r = inr (sym count-then ∙ enough, r)
 
     -- or it failed
-    pub ends-turn : (v' : World) (new' : Option (List ℕ)) (e : ReplayError) → DoesTurn v v' t new new' (lines + 1) (Err e) → IsReplayed w v' input left' old new' (Err e)
+    pub ends-turn : (v' : World) (new' : Option (List ℕ)) (e : ReplayError) → DoesTurn v v' (turn_seen turn) new new' (lines + 1) (Err e) → IsReplayed w v' most input left' old new' (Err e)
     ends-turn v' new' (BadEvent line) does = absurd does
     ends-turn v' new' Read does = absurd does
-    ends-turn v' new' (OutOfMemory line) (is, nothing, same) = rw same (record { turns = at.turns; done = at.done; ends = (wrote, go input left at.asked left' asks) })
+    ends-turn v' new' (OutOfMemory line) (is, nothing, same) = rw same (record { turns = at.turns; done = at.done; ends = (wrote, inr (fewer, go input left at.asked left' asks)) })
       where
         wrote : Appends old new' (output_of w at.turns)
         wrote = subst (λ (l : List ℕ). Appends old new' l) (append-nil (output_of w at.turns)) (Appends-trans old new new' (output_of w at.turns) [] at.written nothing)
 
-        go : (o l : Option (List ℕ)) → IfSome o (λ i. StillAsks w i l at.turns lines v) → (l' : Option (List ℕ)) → IfSome l (λ rest. AsksNext (lines + 1) v.last v.events rest l' (Ok (Do turn))) → IfSome o (λ i. IsAtStart i left' at.turns line ⊎ IsAtEvent w i at.turns line)
+        go : (o l : Option (List ℕ)) → IfSome o (λ i. StillAsks w i l at.turns lines v) → (l' : Option (List ℕ)) → IfSome l (λ rest. AsksNext (lines + 1) v.last v.events rest l' (Ok (Do turn))) → IfSome o (λ i. IsAtEvent w i at.turns line)
         go None l s l' a = tt
         go (Some i) None s l' a = absurd s
         go (Some i) (Some rest) s None a = absurd a
         go (Some i) (Some rest) s (Some more) (text, read, asks) =
-            inr (at-event i rest line t s is (subst (λ (ls : List (List ℕ)). AsksFor (lines + 1) v.last v.events ls t) (sym read.0) asks))
-    ends-turn v' new' Write (is, (front, back, split, wrote)) =
+            at-event i rest line (turn_seen turn) s is (subst (λ (ls : List (List ℕ)). AsksFor (lines + 1) v.last v.events ls (turn_seen turn)) (sym read.0) asks)
+    ends-turn v' new' Write (grown, is, (front, back, split, wrote)) =
         rw is (record {
-          turns = turns;
-          done = done;
-          ends = ((at.turns, t, front, back, refl, line ∙ split, Appends-trans old new new' (output_of w at.turns) front at.written wrote), go input left' asked);
+          turns = turns grown;
+          done = done grown;
+          ends = (no-more grown, (at.turns, t grown, front, back, refl, line grown ∙ split, Appends-trans old new new' (output_of w at.turns) front at.written wrote), go input left' (asked grown));
         })
       where
-        go : (o l : Option (List ℕ)) → IfSome o (λ i. StillAsks w i l turns (lines + 1) (step_at v t).world) → IfSome o (λ i. (line : ℕ) × (left : List (List ℕ)) × IsUpTo w i turns line left)
+        go : (o l : Option (List ℕ)) → IfSome o (λ i. StillAsks w i l (turns grown) (lines + 1) (step_taken v (t grown)).world) → IfSome o (λ i. (line : ℕ) × (left : List (List ℕ)) × IsUpTo w i (turns grown) line left)
         go None l s = tt
         go (Some i) None s = absurd s
-        go (Some i) (Some rest) s = (lines + 1 + 1, lines_of rest, up-to-next w (step_at v t).world i rest turns (lines + 1) done.world s)
+        go (Some i) (Some rest) s = (lines + 1 + 1, lines_of rest, up-to-next w (step_taken v (t grown)).world i rest (turns grown) (lines + 1) (done grown).world s)
 
 -- ---- what a line asks for, by the clock that was read
 

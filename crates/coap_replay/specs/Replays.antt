@@ -1,13 +1,12 @@
 -- What a replay does: the turns that were done, what they left, and what was written for them.
-use Rattle.std.specs.Prelude.{◌≡◌, ◌⊎◌, ℕ, ◌+◌, ◌≤◌, ◌<◌, ◌^◌, false, List, [], ◌∷◌, ◌++◌, length, Option, Some, None, Result, Ok, Err, IfSome}
+use Rattle.std.specs.Prelude.{◌≡◌, ◌⊎◌, ℕ, ◌+◌, ◌≤◌, ◌<◌, ◌^◌, false, List, [], ◌∷◌, ◌++◌, length, Option, Some, None, Result, Ok, Err, IfSome, Bool}
 use Rattle.std.specs.Io.KnownBytes.{Appends}
 use Rattle.coap_target.specs.declared.endpoint.Endpoint.{Endpoint}
-use Rattle.coap_model.specs.World.{World, Step}
-use Rattle.coap_model.specs.Step.{step_of}
+use Rattle.coap_model.specs.World.{World}
 use Rattle.coap_model.specs.History.{Entry}
 use Rattle.coap_model.specs.Events.{IsEvent}
 use Rattle.coap_model.specs.Carries.{Carries}
-use Rattle.coap_model.specs.Runs.{Turn, AreTurns, Run, run_of}
+use Rattle.coap_model.specs.Runs.{Taken, turns_of, step_taken, Turn, AreTurns, Run, run_of}
 use Rattle.coap_replay.specs.declared.error.ReplayError.{ReplayError}
 use Rattle.coap_replay.specs.declared.error.ReplayError.TheVariants.{BadEvent, OutOfMemory, Read, Write}
 use Rattle.coap_replay.specs.declared.replays.Asked.{Asked}
@@ -24,16 +23,13 @@ abbrev pub line_for : ℕ → Option Endpoint → List ℕ → List ℕ
 line_for now None bytes = []
 line_for now (Some to) bytes = line_of now to bytes
 
-abbrev pub step_at : World → Turn → Step
-step_at w t = step_of w t.now t.draw t.event
-
-abbrev pub line_sent : World → Turn → List ℕ
-line_sent w t = line_for t.now (step_at w t).report.send (step_at w t).bytes
+abbrev pub line_sent : World → Taken → List ℕ
+line_sent w t = line_for t.turn.now (step_taken w t).report.send (step_taken w t).bytes
 
 -- the lines of the turns of a proxy
-abbrev pub output_of : World → List Turn → List ℕ
+abbrev pub output_of : World → List Taken → List ℕ
 output_of w [] = []
-output_of w (t ∷ turns) = line_sent w t ++ output_of (step_at w t).world turns
+output_of w (t ∷ turns) = line_sent w t ++ output_of (step_taken w t).world turns
 
 -- ---- what is done
 
@@ -41,13 +37,13 @@ abbrev pub run_at : World → List Entry → Run
 run_at w history = record { world = w; history = history }
 
 -- the tables after turns
-abbrev pub world_after : World → List Turn → World
+abbrev pub world_after : World → List Taken → World
 world_after w turns = (run_of (run_at w []) turns).world
 
 -- A proxy did these turns, whose moments don't go back, and nothing else. It carries the history of them in
 -- front of any that it carried before.
-pub record HasDone (w : World) (turns : List Turn) (v : World) : Type 0 where
-  pub are : AreTurns w.last turns
+pub record HasDone (w : World) (turns : List Taken) (v : World) : Type 0 where
+  pub are : AreTurns w.last (turns_of turns)
   pub world : v ≡ world_after w turns
   pub carries : (history : List Entry) → Carries history w
       → Carries (run_of (run_at w history) turns).history v
@@ -59,17 +55,17 @@ abbrev pub script_for : World → List ℕ → Script
 script_for w input = script_from 1 w.last w.events (lines_of input)
 
 -- turns, and what is asked for after them
-abbrev pub with_turns : List Turn → Script → Script
-with_turns turns script = record { turns = turns ++ script.turns; bad = script.bad }
+abbrev pub with_turns : List Taken → Script → Script
+with_turns turns script = record { turns = turns_of turns ++ script.turns; bad = script.bad }
 
 -- what lines ask for, from a number on, of a proxy that did these turns
-abbrev pub script_after : World → List Turn → ℕ → List (List ℕ) → Script
+abbrev pub script_after : World → List Taken → ℕ → List (List ℕ) → Script
 script_after w turns line left =
     script_from line (world_after w turns).last (world_after w turns).events left
 
 -- These turns are those of the lines of an input before the one of this number, and these lines are left: that
 -- one, if there is one, and those after it.
-pub record IsUpTo (w : World) (input : List ℕ) (turns : List Turn) (line : ℕ) (left : List (List ℕ))
+pub record IsUpTo (w : World) (input : List ℕ) (turns : List Taken) (line : ℕ) (left : List (List ℕ))
     : Type 0 where
   pub front : List (List ℕ)
   pub split : lines_of input ≡ front ++ left
@@ -77,57 +73,80 @@ pub record IsUpTo (w : World) (input : List ℕ) (turns : List Turn) (line : ℕ
   pub asked : script_for w input ≡ with_turns turns (script_after w turns line left)
 
 -- the line of this number exists, and says an event that may follow these turns
-abbrev pub IsAtEvent : World → List ℕ → List Turn → ℕ → Type 0
+abbrev pub IsAtEvent : World → List ℕ → List Taken → ℕ → Type 0
 IsAtEvent w input turns line = (left : List (List ℕ)) × (turn : Turn)
     × IsUpTo w input turns line left
     × AsksFor line (world_after w turns).last (world_after w turns).events left turn
 
--- nothing was read and done yet
-abbrev pub IsAtStart : List ℕ → Option (List ℕ) → List Turn → ℕ → Type 0
-IsAtStart input left turns line = (left ≡ Some input) × (turns ≡ []) × (line ≡ 1)
+-- nothing was read and done yet, and the line is the first
+abbrev pub IsAtStart : Option (List ℕ) → Option (List ℕ) → List Taken → ℕ → Type 0
+IsAtStart input left turns line = (left ≡ input) × (turns ≡ []) × (line ≡ 1)
 
 -- Of the line after these turns a part was taken, perhaps nothing, and not its line feed: `rest` is what the reader
 -- has left, `done` are the lines before it.
-abbrev pub IsBroken : World → List ℕ → Option (List ℕ) → List Turn → Type 0
+abbrev pub IsBroken : World → List ℕ → Option (List ℕ) → List Taken → Type 0
 IsBroken w input None turns = ⊥
 IsBroken w input (Some rest) turns = (done part : List ℕ)
     × (input ≡ done ++ part ++ rest) × (has line_feed part ≡ false)
     × IsUpTo w input turns (length (lines_of done) + 1) (lines_of (part ++ rest))
 
 -- what is written is all lines of these turns but the last, and a beginning of that
-abbrev pub IsWrittenInPart : World → Option (List ℕ) → Option (List ℕ) → List Turn → Type 0
-IsWrittenInPart w old new turns = (before : List Turn) × (turn : Turn) × (front back : List ℕ)
+abbrev pub IsWrittenInPart : World → Option (List ℕ) → Option (List ℕ) → List Taken → Type 0
+IsWrittenInPart w old new turns = (before : List Taken) × (turn : Taken) × (front back : List ℕ)
     × (turns ≡ before ++ turn ∷ []) × (line_sent (world_after w before) turn ≡ front ++ back)
     × Appends old new (output_of w before ++ front)
 
--- How a replay ends, that did these turns. `input` is what the reader had left at first, and `left` what it has
--- left now, where that is known; `old` and `new` are what was written before and after.
---   Ok: all lines were done, and their lines written.
+-- Of an input nothing was read behind the line of the last of these turns, and nothing at all without
+-- turns. `done` are the lines before that one, with which `text` begins, and `rest` is what the reader
+-- has left.
+abbrev pub IsReadTo : World → List ℕ → Option (List ℕ) → List Taken → Type 0
+IsReadTo w input left turns = ((turns ≡ []) × (left ≡ Some input))
+    ⊎ ((before : List Taken) × (last : Taken) × (turns ≡ before ++ last ∷ [])
+    × (done text rest line : List ℕ) × (input ≡ done ++ text) × IsLine text rest line
+    × (left ≡ Some rest) × IsUpTo w input before (length (lines_of done) + 1) (lines_of text)
+    × AsksFor (length (lines_of done) + 1) (world_after w before).last (world_after w before).events
+    (lines_of text) last.turn)
+
+-- The lines of an input say fewer turns than so many, and these are all of them; or these are so many,
+-- and nothing was read behind the last.
+abbrev pub IsThrough : World → ℕ → List ℕ → Option (List ℕ) → List Taken → Type 0
+IsThrough w most input left turns = ((length turns < most)
+    × (script_for w input ≡ record { turns = turns_of turns; bad = None }))
+    ⊎ ((length turns ≡ most) × IsReadTo w input left turns)
+
+-- How a replay of at most so many turns ends, that did these turns. `input` is what the reader had left
+-- at first, and `left` what it has left now, where that is known; `old` and `new` are what was written
+-- before and after.
+--   Ok: all lines were done, or as many turns as may be, and their lines written.
 --   A bad line: the lines before it were done, and their lines written.
---   Want of memory at a line: the lines before it were done, and their lines written. Its event was not done; or
---   nothing was read at all, and the number is 1.
---   `Read`: some lines were done, perhaps none, and their lines written. The next one was not read whole, but for
---   its line feed. That the reader failed isn't said.
---   `Write`: some lines were done, at least one, and their lines written but for an end of the last. That the
---   writer failed isn't said.
-abbrev pub Ends : World → Option (List ℕ) → Option (List ℕ) → Option (List ℕ) → Option (List ℕ)
-    → List Turn → Result ℕ ReplayError → Type 0
-Ends w input left old new turns (Ok n) = (n ≡ length turns) × Appends old new (output_of w turns)
-    × IfSome input (λ i. script_for w i ≡ record { turns = turns; bad = None })
-Ends w input left old new turns (Err (BadEvent line)) = Appends old new (output_of w turns)
-    × IfSome input (λ i. script_for w i ≡ record { turns = turns; bad = Some line })
-Ends w input left old new turns (Err (OutOfMemory line)) = Appends old new (output_of w turns)
-    × IfSome input (λ i. IsAtStart i left turns line ⊎ IsAtEvent w i turns line)
-Ends w input left old new turns (Err Read) = Appends old new (output_of w turns)
-    × IfSome input (λ i. IsBroken w i left turns)
-Ends w input left old new turns (Err Write) = IsWrittenInPart w old new turns
+--   Want of memory at a line: the lines before it were done, and their lines written. Its event was not
+--   done; or nothing was read at all, and the number is 1.
+--   `Read`: some lines were done, perhaps none, and their lines written. The next one was not read
+--   whole, but for its line feed. That the reader failed isn't said.
+--   `Write`: some lines were done, at least one, and their lines written but for an end of the last.
+--   That the writer failed isn't said.
+-- A line that is bad, that finds no memory or that can't be read comes before so many turns are done.
+abbrev pub Ends : World → ℕ → Option (List ℕ) → Option (List ℕ) → Option (List ℕ)
+    → Option (List ℕ) → List Taken → Result ℕ ReplayError → Type 0
+Ends w most input left old new turns (Ok n) = (n ≡ length turns) × (n ≤ most)
+    × Appends old new (output_of w turns) × IfSome input (λ i. IsThrough w most i left turns)
+Ends w most input left old new turns (Err (BadEvent line)) = (length turns < most)
+    × Appends old new (output_of w turns)
+    × IfSome input (λ i. script_for w i ≡ record { turns = turns_of turns; bad = Some line })
+Ends w most input left old new turns (Err (OutOfMemory line)) = Appends old new (output_of w turns)
+    × (IsAtStart input left turns line
+    ⊎ ((length turns < most) × IfSome input (λ i. IsAtEvent w i turns line)))
+Ends w most input left old new turns (Err Read) = (length turns < most)
+    × Appends old new (output_of w turns) × IfSome input (λ i. IsBroken w i left turns)
+Ends w most input left old new turns (Err Write) = (length turns ≤ most)
+    × IsWrittenInPart w old new turns
     × IfSome input (λ i. (line : ℕ) × (lines : List (List ℕ)) × IsUpTo w i turns line lines)
 
-pub record IsReplayed (w v : World) (input left old new : Option (List ℕ))
+pub record IsReplayed (w v : World) (most : ℕ) (input left old new : Option (List ℕ))
     (result : Result ℕ ReplayError) : Type 0 where
-  pub turns : List Turn
+  pub turns : List Taken
   pub done : HasDone w turns v
-  pub ends : Ends w input left old new turns result
+  pub ends : Ends w most input left old new turns result
 
 -- ---- a line of it
 
@@ -167,14 +186,21 @@ IfDo P (Err (OutOfMemory line)) = Unit {0}
 IfDo P (Err Read) = Unit {0}
 IfDo P (Err Write) = ⊥
 
+-- a turn, and whether there was memory for one entry more of the store
+abbrev pub taken : Turn → Bool → Taken
+taken t grown = record { turn = t; grown = grown }
+
 -- A turn was done, and its line written. Or memory was missing, and nothing was done or written; or the writer failed
 -- at its line.
 abbrev pub DoesTurn : World → World → Turn → Option (List ℕ) → Option (List ℕ) → ℕ
     → Result (Unit {0}) ReplayError → Type 0
-DoesTurn w v t old new number (Ok u) = (v ≡ (step_at w t).world) × Appends old new (line_sent w t)
+DoesTurn w v t old new number (Ok u) = (grown : Bool)
+    × (v ≡ (step_taken w (taken t grown)).world)
+    × Appends old new (line_sent w (taken t grown))
 DoesTurn w v t old new number (Err (BadEvent line)) = ⊥
 DoesTurn w v t old new number (Err (OutOfMemory line)) =
     (line ≡ number) × Appends old new [] × (v ≡ w)
 DoesTurn w v t old new number (Err Read) = ⊥
-DoesTurn w v t old new number (Err Write) = (v ≡ (step_at w t).world)
-    × ((front back : List ℕ) × (line_sent w t ≡ front ++ back) × Appends old new front)
+DoesTurn w v t old new number (Err Write) = (grown : Bool)
+    × (v ≡ (step_taken w (taken t grown)).world)
+    × ((front back : List ℕ) × (line_sent w (taken t grown) ≡ front ++ back) × Appends old new front)

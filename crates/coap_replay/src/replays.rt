@@ -6,6 +6,7 @@ ghost use Rattle.coap_lines.specs.Room.{longest_line};
 ghost use Rattle.coap_lines.specs.Turns.{turn_seen, event_seen};
 
 use crate::error::ReplayError;
+use coap_cache::Store;
 use coap_core::{Core, Event, Report};
 use coap_lines::{
     Input, LONGEST, LineError, Next, Turn, is_skipped, line_buffer, next_line, put_line, read_turn,
@@ -97,9 +98,9 @@ fn line_for(text: &mut Vec<u8>, now: u64, report: Report, out: &Datagram)
 
 /// Does a turn, and writes the line of what it sends, for which there is room. Where memory is missing, nothing was
 /// done.
-fn do_turn<W: Write>(
+fn do_turn<W: Write, S: Store + Drop>(
     writer: &mut W,
-    core: &mut Core,
+    core: &mut Core<S>,
     turn: Turn,
     number: u64,
     out: &mut Datagram,
@@ -124,8 +125,9 @@ fn do_turn<W: Write>(
     Ok(())
 }
 
-/// Does the events of an input, one after the other, and writes the lines of what is sent: those that the
-/// core sends at each event, and nothing else. Answers how many events were done.
+/// Does the events of an input, one after the other, and writes the lines of what is sent: those that
+/// the core sends at each event, and nothing else. Answers how many events were done. After so many
+/// turns it ends, and reads nothing behind the line of the last: a bad line there isn't seen.
 ///
 /// Room for a line that is read and for one that is written is made before the first event.
 ///
@@ -133,15 +135,19 @@ fn do_turn<W: Write>(
 /// The number of the first bad line; of the line whose event found no memory, or 1 where there was none before
 /// the first line; `Read` and `Write` where the reader or the writer failed. What the lines before say was done, and
 /// their lines were written; the event of the line was not done, but for `Write`.
-pub fn replay<R: BufRead, W: Write>(
+pub fn replay<R: BufRead, W: Write, S: Store + Drop>(
     alloc: Global,
     reader: &mut R,
     writer: &mut W,
-    core: &mut Core,
+    core: &mut Core<S>,
+    turns: u64,
 ) -> Result<u64, ReplayError>
-    ensures replayed { IsReplayed core.old core.new (R.remaining reader.old) (R.remaining reader.new)
-        (W.contents writer.old) (W.contents writer.new) result }
+    ensures replayed { IsReplayed core.old core.new turns (R.remaining reader.old)
+        (R.remaining reader.new) (W.contents writer.old) (W.contents writer.new) result }
 {
+    if turns == 0 {
+        return Ok(0);
+    }
     let (Ok(mut line), Ok(mut text), Ok(mut out)) = (
         Vec::with_capacity(alloc, LONGEST + 1),
         line_buffer(alloc, core.datagram()),
@@ -158,6 +164,9 @@ pub fn replay<R: BufRead, W: Write>(
             Asked::Do(turn) => {
                 do_turn(writer, core, turn, number, &mut out, &mut text)?;
                 count += 1;
+                if count == turns {
+                    return Ok(count);
+                }
             }
         }
     }

@@ -3,6 +3,7 @@ use Rattle.std.specs.Prelude.{ℕ, ◌+◌, ◌-◌, ◌==◌, ◌&&◌, ◌||�
 use Rattle.coap_message.specs.declared.kind.Kind.TheVariants.{Con}
 use Rattle.coap_message.specs.declared.options.Opt.{Opt}
 use Rattle.coap_message.specs.Message.{Message, message_of}
+use Rattle.coap_message.specs.Options.{option_of}
 use Rattle.coap_option.specs.declared.side.Side.{Side}
 use Rattle.coap_option.specs.Recognition.{is_recognised}
 
@@ -58,3 +59,17 @@ is_known side before number =
 -- If-Match, ETag, If-None-Match, Content-Format, Accept, Size1
 abbrev pub not_used_up : List Opt
 not_used_up = zeros 1 1 ∷ zeros 4 1 ∷ zeros 5 0 ∷ zeros 12 1 ∷ zeros 17 1 ∷ zeros 60 1 ∷ []
+
+-- an ETag, an empty Accept and an empty Size1
+abbrev pub tagged : List Opt
+tagged = option_of 4 (7 ∷ []) ∷ zeros 17 0 ∷ zeros 60 0 ∷ []
+
+-- two ETags, a Uri-Path, two Uri-Queries and an Accept
+abbrev pub longer : List Opt
+longer =
+    option_of 4 (7 ∷ []) ∷ option_of 4 (8 ∷ 9 ∷ []) ∷ option_of 11 (0x74 ∷ [])
+    ∷ option_of 15 (0x61 ∷ []) ∷ option_of 15 (0x62 ∷ []) ∷ option_of 17 (0x3C ∷ []) ∷ []
+
+-- two options that aren't recognised, the second a NoCacheKey one
+abbrev pub unknown : List Opt
+unknown = option_of 65000 (0xAA ∷ 0x0B ∷ []) ∷ zeros 65532 0 ∷ []

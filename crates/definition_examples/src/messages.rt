@@ -49,7 +49,10 @@ pub fn numbers()
     ensures high_byte_first { uint_of (1 ∷ 44 ∷ []) ≡ 300 }
     ensures zeros_at_the_head { uint_of (0 ∷ 0 ∷ 1 ∷ 44 ∷ []) ≡ 300 }
     ensures zero { uint_spelling 0 ≡ [] }
+    ensures one_byte { uint_spelling 255 ≡ 255 ∷ [] }
     ensures two_bytes { uint_spelling 300 ≡ 1 ∷ 44 ∷ [] }
+    ensures least_of_two { uint_spelling 256 ≡ 1 ∷ 0 ∷ [] }
+    ensures least_of_three { uint_spelling 65536 ≡ 1 ∷ 0 ∷ 0 ∷ [] }
     ensures greatest { uint_spelling (2 ^ 64 - 1) ≡ replicate 8 255 }
 {}
 

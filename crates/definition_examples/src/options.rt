@@ -7,7 +7,7 @@ ghost use Rattle.coap_option.specs.Classes.{is_critical, is_no_cache_key, is_uns
 ghost use Rattle.coap_option.specs.Screening.{first_refused};
 ghost use Rattle.coap_option.specs.Selection.{key_of, max_age_of, sent_on, tags_of};
 ghost use Rattle.coap_option.specs.Side.{side_of};
-ghost use Rattle.definition_examples.specs.Options.{content, get, has_range, is_known, not_used_up, of_requests, of_responses, put, zeros};
+ghost use Rattle.definition_examples.specs.Options.{content, get, has_range, is_known, longer, not_used_up, of_requests, of_responses, put, tagged, unknown, zeros};
 
 use coap_option::Side;
 use coap_option::numbers::*;
@@ -117,4 +117,19 @@ pub fn selected()
         (content (option_of 14 (1 ∷ []) ∷ option_of 14 (2 ∷ []) ∷ []))
         ≡ 1 }
     ensures long_max_age { max_age_of (content (zeros 14 5 ∷ [])) ≡ 60 }
+{}
+
+/// Of some GETs, the options that are sent on, those that are part of the key, and the tags: one with
+/// an ETag, an empty Accept and an empty Size1; one with two ETags, a path, two parts of a query and
+/// an Accept; and one with two options that aren't recognised, the second a NoCacheKey one.
+pub fn asked()
+    ensures sent_of_tagged { sent_on (get tagged) ≡ zeros 17 0 ∷ zeros 60 0 ∷ [] }
+    ensures key_of_tagged { key_of (get tagged) ≡ zeros 17 0 ∷ [] }
+    ensures tags_of_tagged { tags_of (get tagged) ≡ (7 ∷ []) ∷ [] }
+    ensures sent_of_longer { sent_on (get longer) ≡ option_of 17 (0x3C ∷ []) ∷ [] }
+    ensures key_of_longer { key_of (get longer) ≡ option_of 17 (0x3C ∷ []) ∷ [] }
+    ensures tags_of_longer { tags_of (get longer) ≡ (7 ∷ []) ∷ (8 ∷ 9 ∷ []) ∷ [] }
+    ensures sent_of_unknown { sent_on (get unknown) ≡ unknown }
+    ensures key_of_unknown { key_of (get unknown) ≡ option_of 65000 (0xAA ∷ 0x0B ∷ []) ∷ [] }
+    ensures tags_of_unknown { tags_of (get unknown) ≡ [] }
 {}

@@ -103,6 +103,8 @@ pub fn read()
     ensures upper_case { uri_read (Ok (record plain_url { host = Some (Domain (codes "H")) }))
         ≡ Ok (uri named 5683 (codes "a" ∷ []) []) }
     ensures escaped_upper_case { name_or None (codes "%48") ≡ Name (codes "H") }
+    ensures escaped_digit { name_or None (codes "%31.2.3.4") ≡ Name (codes "1.2.3.4") }
+    ensures beyond_ascii { name_or None (0xC3 ∷ 0xA9 ∷ []) ≡ Name (0xC3 ∷ 0xA9 ∷ []) }
     ensures root { uri_read (Ok (record plain_url { path = codes "/" }))
         ≡ Ok (uri named 5683 [] []) }
     ensures no_host { uri_read (Ok (record plain_url { host = None })) ≡ Err Bad }

@@ -1,11 +1,7 @@
-//! The words of the command line, and the configuration.
+//! Local addresses, and the configuration.
 use coap_model::LimitValues;
-use coap_words::{
-    Config, Settings, WordsError, parse_map_option, parse_proxy_option, read_config,
-    read_local_address, read_words,
-};
+use coap_words::{Config, read_config, read_local_address};
 use std::alloc::{AllocError, Global};
-use std::process::Abort;
 use std::test::*;
 
 /// The file `examples/proxy.toml`, line by line.
@@ -21,8 +17,7 @@ version = 1
 # for clients that send it a Proxy-Uri or a Proxy-Scheme only if it has one.
 names = [\"proxy.test\", \"192.0.2.1\", \"[2001:db8::1]\"]
 
-# Limits. These are the defaults. Those of the cache, of duplicates, nstart and exchange_ms limit
-# nothing yet.
+# Limits. These are the defaults. nstart and exchange_ms limit nothing yet.
 [limits]
 # How many bytes the cache holds: 0 to 268435456.
 cache_bytes = 262144
@@ -98,85 +93,6 @@ fn the_example_is_read(rt: HostRuntime) -> Result<(), Fail> {
     Ok(())
 }
 
-/// Words, parted by spaces.
-fn words(alloc: Global, line: &str) -> Result<Vec<String>, AllocError> {
-    let mut words = Vec::new(alloc);
-    for word in line.split(' ') {
-        words.push(String::from_str(alloc, word)?)?;
-    }
-    Ok(words)
-}
-
-/// What stands in the help, for each option its meaning, its range and its default.
-const HELP: &str = "\
--A <ADDRESS>
-IPv4, or IPv6 with or without brackets [default: 0.0.0.0]
--p <PORT>
-1 to 65535 [default: 5683]
--P <,NAMES>
-[default: the file's]
---config <FILE>
-TOML
---map <PREFIX=URI>
-[default: none]
---replay
-[default: a socket]
---id <N>
-0 to 65535 [default: 1 in a replay, else drawn]
---salt <N>
-0 to 9223372036854775807 [default: 0 in a replay, else drawn]
---turns <N>
-1 to 9223372036854775807 [default: the greatest]
-Example: coap-proxyd -A 127.0.0.1 -p 5683 --map /t=coap://127.0.0.1:5690/temp";
-
-/// The help, if it is told with status 0.
-fn help(alloc: Global) -> Result<Option<String>, AllocError> {
-    let words = words(alloc, "--help")?;
-    match read_words(alloc, words.as_slice()) {
-        Err(WordsError::Usage { status: 0, text }) => Ok(Some(text)),
-        _ => Ok(None),
-    }
-}
-
-#[test]
-fn the_help_names_all(rt: HostRuntime) -> Result<(), Fail> {
-    let help = help(rt.alloc())?.ok_or("the help")?;
-    for line in HELP.lines() {
-        assert!(rt; help.as_str().contains(line), "{line}");
-    }
-    Ok(())
-}
-
-/// Words with each option once.
-const ALL: &str =
-    "-A ::1 -p 5684 -P ,Proxy.test,b --config proxy.toml --map /t=coap://h/?a=b --replay --id 7 --salt 8 --turns 9";
-
-/// The numbers of settings, and the flag.
-fn numbers(settings: &Settings) -> (Option<u16>, bool, Option<u16>, Option<u64>, Option<u64>) {
-    (
-        settings.port,
-        settings.replay,
-        settings.first_id,
-        settings.salt,
-        settings.turns,
-    )
-}
-
-/// What the texts of settings say, line by line.
-fn texts(alloc: Global, settings: &Settings) -> Result<String, Fail> {
-    let mut out = String::new(alloc);
-    let address = settings.address.as_ref().ok_or("an address")?;
-    write!(out, "{:?}\n", read_local_address(alloc, address.as_str())?)?;
-    let names = settings.names.as_ref().ok_or("names")?;
-    for name in parse_proxy_option(alloc, names.as_str())?.names {
-        write!(out, "{name}\n")?;
-    }
-    let map = settings.map.as_ref().ok_or("a map")?;
-    let (prefix, origin) = parse_map_option(alloc, map.as_str())?;
-    write!(out, "{prefix} {origin}\n")?;
-    Ok(out)
-}
-
 /// Texts and the local addresses that they are, the empty text last.
 const ADDRESSES: &str = "\
 127.0.0.1 > V4([127, 0, 0, 1])
@@ -205,18 +121,5 @@ fn local_addresses_are_read(rt: HostRuntime) -> Result<(), Fail> {
         let address = address(rt.alloc(), text)?;
         assert_eq!(rt; address.as_str(), said, "{text}");
     }
-    Ok(())
-}
-
-#[test]
-fn all_options_are_read(rt: HostRuntime) -> Result<(), Fail> {
-    let words = words(rt.alloc(), ALL)?;
-    let settings = read_words(rt.alloc(), words.as_slice())?;
-    assert!(rt; numbers(&settings) == (Some(5684), true, Some(7), Some(8), Some(9)));
-    let texts = texts(rt.alloc(), &settings)?;
-    assert_eq!(rt;
-        texts.as_str(),
-        "V6([0, 0, 0, 0, 0, 0, 0, 0, 0, 0, 0, 0, 0, 0, 0, 1])\nproxy.test\nb\n/t coap://h/?a=b\n"
-    );
     Ok(())
 }

@@ -1,8 +1,10 @@
 //! The program: a proxy over a socket, or a replay of recorded events.
 #![tactic(auto)]
 
+use coap_lru::LruStore;
 use coap_proxyd::{Fault, Plan, read_plan, read_wanted, serve_events, serve_port};
 use coap_udp::UdpPort;
+use std::hash::RandomState;
 use std::io::ErrorKind;
 use std::process::ExitCode;
 use std::random::RandomSource;
@@ -58,12 +60,22 @@ fn draw(rt: &HostRuntime) -> Result<(u16, u64), Fault> {
     }
 }
 
+/// What the cache of the program is: a recency map, whose hashes strangers can't foresee.
+type Cache = LruStore<RandomState>;
+
+/// What it is made of.
+fn seed(rt: &HostRuntime) -> Result<RandomState, Fault> {
+    RandomState::new(rt).map_err(|error| fault_of(&error, Fault::Socket))
+}
+
 /// Serves a socket.
 fn serve_socket(rt: &HostRuntime, plan: Plan) -> Result<(), Fault> {
     let (first_id, salt) = draw(rt)?;
     let longest = plan.limits.values().datagram as usize;
     match UdpPort::bind(rt, rt.alloc(), plan.local, longest) {
-        Ok(mut port) => serve_port(rt.alloc(), plan, first_id, salt, &mut port),
+        Ok(mut port) => {
+            serve_port::<_, Cache>(rt.alloc(), seed(rt)?, plan, first_id, salt, &mut port)
+        }
         Err(error) => Err(fault_of(&error, Fault::Socket)),
     }
 }
@@ -72,7 +84,13 @@ fn serve_socket(rt: &HostRuntime, plan: Plan) -> Result<(), Fault> {
 fn run(rt: &HostRuntime) -> Result<(), Fault> {
     let plan = plan(rt)?;
     if plan.replay {
-        return serve_events(rt.alloc(), plan, rt.reader(), &mut io::writer(rt));
+        return serve_events::<_, _, Cache>(
+            rt.alloc(),
+            seed(rt)?,
+            plan,
+            rt.reader(),
+            &mut io::writer(rt),
+        );
     }
     serve_socket(rt, plan)
 }

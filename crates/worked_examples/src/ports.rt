@@ -1,6 +1,7 @@
 //! The program over a port in memory, from its words to how it ends.
 ghost use Rattle.std.specs.Prelude.{◌≡◌, IfOk};
 
+use coap_cache::ListStore;
 use coap_message::{OutOfMemory, Seq};
 use coap_port::{MemoryPort, Scripted};
 use coap_proxyd::{Fault, Plan, read_plan, read_wanted, serve_port};
@@ -61,7 +62,7 @@ fn port(alloc: Global, refused: Option<usize>) -> Result<MemoryPort, OutOfMemory
 fn done(alloc: Global, turns: &str, refused: Option<usize>) -> Result<(usize, String), Fail> {
     let mut port = port(alloc, refused)?;
     let ended = match plan(alloc, turns) {
-        Ok(plan) => serve_port(alloc, plan, 9, 9, &mut port),
+        Ok(plan) => serve_port::<_, ListStore>(alloc, (), plan, 9, 9, &mut port),
         Err(fault) => Err(fault),
     };
     let text = match ended {

@@ -1,5 +1,6 @@
 //! Replays of an input that comes in pieces, of readers and writers that fail or are interrupted, and on a core that
 //! goes on.
+use coap_cache::ListStore;
 use coap_core::{Core, LimitValues, Limits};
 use coap_message::OutOfMemory;
 use coap_replay::{ReplayError, replay};
@@ -29,10 +30,10 @@ fn first_lines(alloc: Global) -> Result<String, AllocError> {
 }
 
 /// A core of the default limits with the fixed route.
-fn usual_core(alloc: Global) -> Result<Core, Fail> {
+fn usual_core(alloc: Global) -> Result<Core<ListStore>, Fail> {
     let limits = Limits::new(LimitValues::default())?;
     let routes = Routes::fixed(alloc)?;
-    Ok(Core::new(alloc, limits, routes, 1, 0)?)
+    Ok(Core::new(alloc, (), limits, routes, 1, 0)?)
 }
 
 // ---- a core that goes on
@@ -41,13 +42,13 @@ fn usual_core(alloc: Global) -> Result<Core, Fail> {
 fn check_on(
     rt: &impl Abort,
     alloc: Global,
-    core: &mut Core,
+    core: &mut Core<ListStore>,
     text: &[u8],
     expected: (Result<u64, ReplayError>, &str),
 ) {
     let mut written = Vec::new(alloc);
     let mut reader = text;
-    let result = replay(alloc, &mut reader, &mut written, core);
+    let result = replay(alloc, &mut reader, &mut written, core, u64::MAX);
     assert_eq!(rt;
         (result, written.as_slice()),
         (expected.0, expected.1.as_bytes())
@@ -118,7 +119,7 @@ fn replay_anew(
     writer: &mut impl Write,
 ) -> Result<(Result<u64, ReplayError>, u64), Fail> {
     let mut core = usual_core(alloc)?;
-    let result = replay(alloc, reader, writer, &mut core);
+    let result = replay(alloc, reader, writer, &mut core, u64::MAX);
     Ok((result, core.events()))
 }
 

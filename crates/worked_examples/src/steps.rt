@@ -1,4 +1,5 @@
 //! A core that is called by hand: what it answers, what it sends, and what it tells of itself.
+use coap_cache::ListStore;
 use coap_core::{Core, Counts, Event, LimitValues, Limits, Outcome, Report, Storing};
 use coap_message::{Datagram, OutOfMemory};
 use coap_routes::Routes;
@@ -20,7 +21,7 @@ struct Seen {
 /// A core under way, and the datagram that it writes to.
 #[derive(Drop)]
 struct Run {
-    core: Core,
+    core: Core<ListStore>,
     out: Datagram,
 }
 
@@ -28,7 +29,7 @@ impl Run {
     /// A core of the default limits with the fixed route.
     fn new(alloc: Global, limits: Limits) -> Result<Run, OutOfMemory> {
         let routes = Routes::fixed(alloc)?;
-        let core = Core::new(alloc, limits, routes, 1, 0)?;
+        let core = Core::new(alloc, (), limits, routes, 1, 0)?;
         let out = Datagram::new(alloc, core.datagram())?;
         Ok(Run { core, out })
     }
@@ -58,7 +59,8 @@ impl Run {
     }
 }
 
-/// What a core tells after so many events, with as many exchanges as clients that wait.
+/// What a core tells after so many events, of which the first brought the one request: it is remembered, and as many
+/// exchanges are under way as clients wait.
 fn told(events: u64, last: u64, next_due: Option<u64>, under_way: u64) -> Seen {
     Seen {
         next_due,
@@ -68,7 +70,7 @@ fn told(events: u64, last: u64, next_due: Option<u64>, under_way: u64) -> Seen {
             cached_bytes: 0,
             entries: 0,
             con_records: 0,
-            non_records: 0,
+            non_records: events.min(1),
             exchanges: under_way,
             waiters: under_way,
         },
@@ -96,7 +98,11 @@ fn insist(
 
 /// A core, made again where there was no memory for it.
 fn insist_on_new(alloc: Global) -> Result<Run, Fail> {
-    let limits = Limits::new(LimitValues::default())?;
+    // Nothing is stored, so that no want of memory is met but by the whole event.
+    let limits = Limits::new(LimitValues {
+        cache_bytes: 0,
+        ..LimitValues::default()
+    })?;
     match Run::new(alloc, limits) {
         Ok(run) => Ok(run),
         Err(OutOfMemory) => Ok(Run::new(alloc, limits)?),
@@ -139,7 +145,7 @@ fn check_first_answer(rt: &impl Abort, run: &mut Run) -> Result<(), OutOfMemory>
     check_step(rt, run, 20, Event::Tick, expected)?;
 
     let bytes = b"\x68\x45\x00\x01\x00\x00\x00\x00\x00\x00\x00\x01\xD1\x01\x0A\xFF21";
-    let storing = Storing::NotStored;
+    let storing = Storing::TooLarge;
     let expected = (
         Outcome::Answered { storing },
         b"".as_slice(),

@@ -1,7 +1,7 @@
 //! The worked runs. Each file `NAME.events` of the current folder is one: comments that say what it shows and name the
 //! program's words, with the lines of a configuration or none, or else the routes and limits of its own, then events.
-//! They are replayed in order of name. What is written stands after a line with the run's name; where the program would
-//! stop before it is done, a line says with which status and text.
+//! They are replayed in order of name, over both stores, which are to write the same. What is written stands after a
+//! line with the run's name; where the program would stop before it is done, a line says with which status and text.
 //!
 //! The runs stand in `data`, and what all of them must write in `stdout`. To add one, add its file and its lines, and
 //! compare: `cd data && ../out/worked_runs | diff - ../stdout`.
@@ -11,13 +11,41 @@ mod files;
 mod run;
 mod setting;
 
+use coap_cache::{ListStore, Store};
+use coap_lru::LruStore;
+use std::hash::RandomState;
+use std::io::Write;
 use std::{fs, io};
 
-/// Plays the run of this name, whose file stands in the current folder.
+/// What is written at a run, over a store that is made of this seed.
+fn written<S: Store + Drop>(
+    rt: &HostRuntime,
+    seed: S::Seed,
+    name: &str,
+    events: &[u8],
+) -> io::Result<Vec<u8>>
+where
+    S::Seed: Drop,
+{
+    let mut text = Vec::new(rt.alloc());
+    run::play::<_, S>(rt.alloc(), seed, name, events, &mut text)?;
+    Ok(text)
+}
+
+/// Plays the run of this name, whose file stands in the current folder, over a list and over a recency map. What is
+/// written over the latter is written too, if it differs.
 fn play(rt: &HostRuntime, name: &str) -> io::Result<()> {
     let file = files::file_of(rt.alloc(), name)?;
     let events = fs::read(rt, file.as_str())?;
-    run::play(rt.alloc(), name, &events, &mut io::writer(rt))
+    let listed = written::<ListStore>(rt, (), name, &events)?;
+    let mapped = written::<LruStore<RandomState>>(rt, RandomState::new(rt)?, name, &events)?;
+    let mut output = io::writer(rt);
+    output.write_all(&listed)?;
+    if mapped != listed {
+        output.write_all(b"over a recency map:\n")?;
+        output.write_all(&mapped)?;
+    }
+    Ok(())
 }
 
 fn main(rt: HostRuntime) -> io::Result<()> {

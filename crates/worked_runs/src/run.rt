@@ -2,6 +2,7 @@
 ghost use Rattle.std.specs.Prelude.{◌≡◌, ◌++◌, codes, IfSome};
 
 use crate::setting::{config_of, core_of};
+use coap_cache::Store;
 use coap_proxyd::{Fault, read_plan, read_wanted, serve_events};
 use coap_replay::replay;
 use std::alloc::{AllocError, Global};
@@ -27,41 +28,54 @@ fn words_in(alloc: Global, text: &str) -> Result<Vec<String>, AllocError> {
     Ok(words)
 }
 
-/// What the program makes of these words, of a configuration, if there is one, and of events.
-fn serve_words<W: Write>(
+/// What the program makes of these words, of a configuration, if there is one, and of events, over a store that is made
+/// of this seed.
+fn serve_words<W: Write, S: Store + Drop>(
     alloc: Global,
+    seed: S::Seed,
     words: &[String],
     config: Option<&[u8]>,
     events: &[u8],
     output: &mut W,
-) -> Result<(), Fault> {
+) -> Result<(), Fault>
+where
+    S::Seed: Drop,
+{
     let wanted = read_wanted(alloc, words)?;
     let plan = read_plan(alloc, wanted, config)?;
-    serve_events(alloc, plan, events, output)
+    serve_events::<_, _, S>(alloc, seed, plan, events, output)
 }
 
 /// What the program makes of the words and the configuration of a run, and of its events.
-fn serve_run<W: Write>(
+fn serve_run<W: Write, S: Store + Drop>(
     alloc: Global,
+    seed: S::Seed,
     words: &str,
     events: &[u8],
     output: &mut W,
-) -> io::Result<Result<(), Fault>> {
+) -> io::Result<Result<(), Fault>>
+where
+    S::Seed: Drop,
+{
     let words = words_in(alloc, words)?;
     let config = config_of(alloc, events)?;
     let config = config.as_ref().map(|text| text.as_bytes());
-    Ok(serve_words(alloc, &words, config, events, output))
+    Ok(serve_words::<_, S>(alloc, seed, &words, config, events, output))
 }
 
 /// What a core with the setting of a run makes of its events.
-fn replay_setting<W: Write>(
+fn replay_setting<W: Write, S: Store + Drop>(
     alloc: Global,
+    seed: S::Seed,
     events: &[u8],
     output: &mut W,
-) -> io::Result<Result<(), Fault>> {
-    let mut core = core_of(alloc, events)?;
+) -> io::Result<Result<(), Fault>>
+where
+    S::Seed: Drop,
+{
+    let mut core = core_of::<S>(alloc, seed, events)?;
     let mut reader = events;
-    match replay(alloc, &mut reader, output, &mut core) {
+    match replay(alloc, &mut reader, output, &mut core, u64::MAX) {
         Ok(_) => Ok(Ok(())),
         Err(error) => Ok(Err(Fault::from(error))),
     }
@@ -75,17 +89,21 @@ fn write_fault<W: Write>(output: &mut W, fault: Fault) -> io::Result<()> {
 
 /// Writes a line with the name of a run, what is written at its events, and the fault with which it stops, if there is
 /// one. A run with a line that begins with `# words:` is one of the program with these words, any other one of a core
-/// with the routes and limits that its lines name.
-pub(crate) fn play<W: Write>(
+/// with the routes and limits that its lines name; both over a store that is made of this seed.
+pub(crate) fn play<W: Write, S: Store + Drop>(
     alloc: Global,
+    seed: S::Seed,
     name: &str,
     events: &[u8],
     output: &mut W,
-) -> io::Result<()> {
+) -> io::Result<()>
+where
+    S::Seed: Drop,
+{
     writeln!(output, "== {name}")?;
     let done = match events.split(|byte| *byte == b'\n').find_map(after_mark) {
-        Some(words) => serve_run(alloc, words, events, output)?,
-        None => replay_setting(alloc, events, output)?,
+        Some(words) => serve_run::<_, S>(alloc, seed, words, events, output)?,
+        None => replay_setting::<_, S>(alloc, seed, events, output)?,
     };
     match done {
         Ok(()) => Ok(()),

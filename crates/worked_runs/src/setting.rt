@@ -1,6 +1,7 @@
 //! What a run is made with that has other routes or limits than the program's: lines of comments that begin with a mark.
 ghost use Rattle.std.specs.Prelude.{◌≡◌};
 
+use coap_cache::Store;
 use coap_core::{Core, LimitValues, Limits};
 use coap_routes::Routes;
 use std::alloc::Global;
@@ -99,11 +100,18 @@ fn limits_of(alloc: Global, events: &[u8]) -> io::Result<Limits> {
     }
 }
 
-/// The core of a run, with the first message id 1 and the salt 0.
-pub(crate) fn core_of(alloc: Global, events: &[u8]) -> io::Result<Core> {
+/// The core of a run, whose store is made of this seed, with the first message id 1 and the salt 0.
+pub(crate) fn core_of<S: Store + Drop>(
+    alloc: Global,
+    seed: S::Seed,
+    events: &[u8],
+) -> io::Result<Core<S>>
+where
+    S::Seed: Drop,
+{
     let limits = limits_of(alloc, events)?;
     let routes = routes_of(alloc, events)?;
-    match Core::new(alloc, limits, routes, 1, 0) {
+    match Core::new(alloc, seed, limits, routes, 1, 0) {
         Ok(core) => Ok(core),
         Err(_) => Err(io::Error::from(ErrorKind::OutOfMemory)),
     }

@@ -7,7 +7,6 @@ use Rattle.coap_message.specs.Options.{AreOptions}
 use Rattle.coap_message.specs.Spelling.{options_spelling}
 use Rattle.coap_option.specs.Selection.{sent_on}
 use Rattle.coap_model.specs.Forms.{merged, target_options}
-use Rattle.coap_core.specs.Forms.{seen}
 use Rattle.coap_core.proofs.Forms.{full-first, written-both, error-as, hosts-short, part-1, part-2, part-3, part-4, of-all}
 use Rattle.coap_core.proofs.form.put_form_options.Goals.{After-iter-options}
 use Rattle.coap_core.proofs.form.put_form_options.Goals as goal
@@ -22,31 +21,31 @@ in-order c = rw c.iter-options.ensures.list c.iter-options.ensures.in_order
 
 -- the parts
 abbrev one : After-iter-options → List Opt
-one c = part-1 (seen c.args.target.now) c.iter-options.result
+one c = part-1 c.args.target.now c.iter-options.result
 
 abbrev two : After-iter-options → List Opt
-two c = part-2 (seen c.args.target.now) c.iter-options.result
+two c = part-2 c.args.target.now c.iter-options.result
 
 abbrev three : After-iter-options → List Opt
-three c = part-3 (seen c.args.target.now) c.iter-options.result
+three c = part-3 c.args.target.now c.iter-options.result
 
 abbrev four : After-iter-options → List Opt
-four c = part-4 (seen c.args.target.now) c.iter-options.result
+four c = part-4 c.args.target.now c.iter-options.result
 
 -- what is written of them is written of all options
 all : (c : After-iter-options) (new : Datagram) (r : Result (Unit {0}) Full) → Appends c.args.out.now new c.args.room (options_spelling 0 (one c ++ (two c ++ (three c ++ four c)))) r
-    → Appends c.args.out.now new c.args.room (options_spelling 0 (merged (target_options (seen c.args.target.now)) (sent_on c.args.request.now))) r
-all c new r a = of-all (seen c.args.target.now) c.iter-options.result c.args.request.now (same c) c.requires.target (in-order c) c.requires.screened c.requires.get c.args.out.now new c.args.room r a
+    → Appends c.args.out.now new c.args.room (options_spelling 0 (merged (target_options c.args.target.now) (sent_on c.args.request.now))) r
+all c new r a = of-all c.args.target.now c.iter-options.result c.args.request.now (same c) c.requires.target (in-order c) c.requires.screened c.requires.get c.args.out.now new c.args.room r a
 
 pub put_part-requires-clause-within : goal.put_part-requires-clause-within
-put_part-requires-clause-within c = rw c.host.ensures (hosts-short (seen c.args.target.now).host c.requires.target.host)
+put_part-requires-clause-within c = rw c.host_of.ensures (hosts-short c.args.target.now.host c.requires.target.host)
 
 pub returns-in_err-last : goal.returns-in_err-last
 returns-in_err-last c =
     let k = (goal.at.returns-in_err-last c).After-iter-options in
     let p = err_from_is_err_and c.from_residual.result c.from_residual.ensures.1 in
     let new = c.put_part.new.out in
-    rw p.1 (all k new (Err p.0) (full-first c.args.out.now new new c.args.room 0 (one k) (two k ++ (three k ++ four k)) c.in_err-last.field-0.0 p.0 (rw c.host.ensures at c.in_err-last.ensures.written)))
+    rw p.1 (all k new (Err p.0) (full-first c.args.out.now new new c.args.room 0 (one k) (two k ++ (three k ++ four k)) c.in_err-last.field-0.0 p.0 (rw c.host_of.ensures at c.in_err-last.ensures.written)))
 
 pub returns-in_err-last-2 : goal.returns-in_err-last-2
 returns-in_err-last-2 c =
@@ -56,8 +55,8 @@ returns-in_err-last-2 c =
     let new = c.put_part-2.new.out in
     let last = c.in_ok-last.last in
     rw p.1 (all k new (Err p.0)
-    (written-both c.args.out.now hosted new c.args.room 0 (one k) (two k ++ (three k ++ four k)) last (Err p.0) (rw c.host.ensures at c.in_ok-last.ensures.last) (rw c.host.ensures at c.in_ok-last.ensures.written)
-    (full-first hosted new new c.args.room last (two k) (three k ++ four k) c.in_err-last-2.field-0.0 p.0 (rw c.path.ensures at c.in_err-last-2.ensures.written))))
+    (written-both c.args.out.now hosted new c.args.room 0 (one k) (two k ++ (three k ++ four k)) last (Err p.0) (rw c.host_of.ensures at c.in_ok-last.ensures.last) (rw c.host_of.ensures at c.in_ok-last.ensures.written)
+    (full-first hosted new new c.args.room last (two k) (three k ++ four k) c.in_err-last-2.field-0.0 p.0 (rw c.iter.ensures.list at c.in_err-last-2.ensures.written))))
 
 pub returns-in_err-last-3 : goal.returns-in_err-last-3
 returns-in_err-last-3 c =
@@ -69,9 +68,9 @@ returns-in_err-last-3 c =
     let last = c.in_ok-last.last in
     let behind = c.in_ok-last-2.last in
     rw p.1 (all k new (Err p.0)
-    (written-both c.args.out.now hosted new c.args.room 0 (one k) (two k ++ (three k ++ four k)) last (Err p.0) (rw c.host.ensures at c.in_ok-last.ensures.last) (rw c.host.ensures at c.in_ok-last.ensures.written)
-    (written-both hosted pathed new c.args.room last (two k) (three k ++ four k) behind (Err p.0) (rw c.path.ensures at c.in_ok-last-2.ensures.last) (rw c.path.ensures at c.in_ok-last-2.ensures.written)
-    (full-first pathed new new c.args.room behind (three k) (four k) c.in_err-last-3.field-0.0 p.0 (rw c.query.ensures at c.in_err-last-3.ensures.written)))))
+    (written-both c.args.out.now hosted new c.args.room 0 (one k) (two k ++ (three k ++ four k)) last (Err p.0) (rw c.host_of.ensures at c.in_ok-last.ensures.last) (rw c.host_of.ensures at c.in_ok-last.ensures.written)
+    (written-both hosted pathed new c.args.room last (two k) (three k ++ four k) behind (Err p.0) (rw c.iter.ensures.list at c.in_ok-last-2.ensures.last) (rw c.iter.ensures.list at c.in_ok-last-2.ensures.written)
+    (full-first pathed new new c.args.room behind (three k) (four k) c.in_err-last-3.field-0.0 p.0 (rw c.iter-2.ensures.list at c.in_err-last-3.ensures.written)))))
 
 pub returns-in_err-put_others : goal.returns-in_err-put_others
 returns-in_err-put_others c =
@@ -85,9 +84,9 @@ returns-in_err-put_others c =
     let behind = c.in_ok-last-2.last in
     let at_end = c.in_ok-last-3.last in
     rw p.1 (all k new (Err p.0)
-    (written-both c.args.out.now hosted new c.args.room 0 (one k) (two k ++ (three k ++ four k)) last (Err p.0) (rw c.host.ensures at c.in_ok-last.ensures.last) (rw c.host.ensures at c.in_ok-last.ensures.written)
-    (written-both hosted pathed new c.args.room last (two k) (three k ++ four k) behind (Err p.0) (rw c.path.ensures at c.in_ok-last-2.ensures.last) (rw c.path.ensures at c.in_ok-last-2.ensures.written)
-    (written-both pathed queried new c.args.room behind (three k) (four k) at_end (Err p.0) (rw c.query.ensures at c.in_ok-last-3.ensures.last) (rw c.query.ensures at c.in_ok-last-3.ensures.written)
+    (written-both c.args.out.now hosted new c.args.room 0 (one k) (two k ++ (three k ++ four k)) last (Err p.0) (rw c.host_of.ensures at c.in_ok-last.ensures.last) (rw c.host_of.ensures at c.in_ok-last.ensures.written)
+    (written-both hosted pathed new c.args.room last (two k) (three k ++ four k) behind (Err p.0) (rw c.iter.ensures.list at c.in_ok-last-2.ensures.last) (rw c.iter.ensures.list at c.in_ok-last-2.ensures.written)
+    (written-both pathed queried new c.args.room behind (three k) (four k) at_end (Err p.0) (rw c.iter-2.ensures.list at c.in_ok-last-3.ensures.last) (rw c.iter-2.ensures.list at c.in_ok-last-3.ensures.written)
     (error-as queried new c.args.room (options_spelling at_end (four k)) c.in_err-put_others.field-0.0 p.0 c.in_err-put_others.ensures.written)))))
 
 pub returns : goal.returns
@@ -101,6 +100,6 @@ returns c =
     let behind = c.in_ok-last-2.last in
     let at_end = c.in_ok-last-3.last in
     all k new (Ok tt)
-    (written-both c.args.out.now hosted new c.args.room 0 (one k) (two k ++ (three k ++ four k)) last (Ok tt) (rw c.host.ensures at c.in_ok-last.ensures.last) (rw c.host.ensures at c.in_ok-last.ensures.written)
-    (written-both hosted pathed new c.args.room last (two k) (three k ++ four k) behind (Ok tt) (rw c.path.ensures at c.in_ok-last-2.ensures.last) (rw c.path.ensures at c.in_ok-last-2.ensures.written)
-    (written-both pathed queried new c.args.room behind (three k) (four k) at_end (Ok tt) (rw c.query.ensures at c.in_ok-last-3.ensures.last) (rw c.query.ensures at c.in_ok-last-3.ensures.written) c.in_ok-put_others.ensures.written)))
+    (written-both c.args.out.now hosted new c.args.room 0 (one k) (two k ++ (three k ++ four k)) last (Ok tt) (rw c.host_of.ensures at c.in_ok-last.ensures.last) (rw c.host_of.ensures at c.in_ok-last.ensures.written)
+    (written-both hosted pathed new c.args.room last (two k) (three k ++ four k) behind (Ok tt) (rw c.iter.ensures.list at c.in_ok-last-2.ensures.last) (rw c.iter.ensures.list at c.in_ok-last-2.ensures.written)
+    (written-both pathed queried new c.args.room behind (three k) (four k) at_end (Ok tt) (rw c.iter-2.ensures.list at c.in_ok-last-3.ensures.last) (rw c.iter-2.ensures.list at c.in_ok-last-3.ensures.written) c.in_ok-put_others.ensures.written)))

@@ -1,5 +1,5 @@
-use Rattle.coap_model.proofs.Acting.{next-is, no-next}
+use Rattle.coap_model.proofs.Acting.{next-is, no-next, one-next}
 use Rattle.coap_model.proofs.laws.next_due_is_least.Goals as goal
 
 pub returns : goal.returns
-returns c = record { next = λ w history k. next-is w k.deeds k.bears; none = λ w history k. no-next w k.deeds k.bears }
+returns c = record { next = λ w history k. next-is w k.deeds k.bears; none = λ w history k. no-next w k.deeds k.bears; one = one-next }

@@ -1,14 +1,14 @@
 use Rattle.std.proofs.Common.{◌+◌, Ok, Err, arith}
 use Rattle.std.proofs.lemmas.Result.{err_from_is_err_and}
 use Rattle.coap_replay.specs.declared.replays.Asked.TheVariants.{Skip, Do}
-use Rattle.coap_replay.proofs.Replaying.{at-start, by-clock, may-by-clock, as-asked, as-may, ends-refused, ends-unread, ends-turn, goes-on, goes-further}
-use Rattle.coap_replay.proofs.replays.replay.Goals.{in-Skip, in-Do+in_ok-do_turn-in-Do}
+use Rattle.coap_replay.proofs.Replaying.{at-start, by-clock, may-by-clock, as-asked, as-may, ends-refused, ends-enough, ends-unread, ends-turn, goes-on, goes-further}
+use Rattle.coap_replay.proofs.replays.replay.Goals.{in-Skip, in-Do+in_ok-do_turn-in-Do+else-count-turns}
 use Rattle.coap_replay.proofs.replays.replay.Goals as goal
 
 pub loop-read-init : goal.loop-read-init
 loop-read-init g c = record {
   at = at-start _ _ _;
-  few = omega arith;
+  few = omega (arith, c.if-turns-eq0.false);
   room = rw (c.in-Ok-Ok-Ok.ensures'', c.datagram-2.ensures.exact) (omega arith);
   line = c.in-Ok-Ok-Ok.ensures.capacity;
   text = omega (arith, c.in-Ok-Ok-Ok.ensures', c.datagram.ensures.exact);
@@ -21,7 +21,7 @@ returns-in_err-next_asked g c =
     let p = err_from_is_err_and c.from_residual.result c.from_residual.ensures.1 in
     let asks = by-clock (c.loop-read.read + 1) v _ (g.R.Read.remaining c.next_asked.new.reader) (Err e.field-0.0) c.last.result c.events.result c.last.ensures.exact c.events.ensures.exact e.ensures.asked in
     let may = may-by-clock v (Err e.field-0.0) c.last.result c.events.result c.last.ensures.exact c.events.ensures.exact e.ensures.may in
-    record { replayed = rw (p.1, p.2) (ends-refused _ _ _ _ (g.R.Read.remaining c.next_asked.new.reader) _ _ _ _ c.loop-read.invariant.at e.field-0.0 asks may) }
+    record { replayed = rw (p.1, p.2) (ends-refused _ _ _ _ (g.R.Read.remaining c.next_asked.new.reader) _ _ _ _ _ c.loop-read.invariant.at c.loop-read.invariant.few e.field-0.0 asks may) }
 
 pub returns-in_err-do_turn-in-Do : goal.returns-in_err-do_turn-in-Do
 returns-in_err-do_turn-in-Do g c =
@@ -30,7 +30,16 @@ returns-in_err-do_turn-in-Do g c =
     let p = err_from_is_err_and c.from_residual-in_err-do_turn-in-Do.result c.from_residual-in_err-do_turn-in-Do.ensures.1 in
     let asks = as-asked (c.loop-read.read + 1) v.last v.events _ _ a.field-0 (Do c.in-Do.turn) c.in-Do.is (by-clock (c.loop-read.read + 1) v _ _ (Ok a.field-0) c.last.result c.events.result c.last.ensures.exact c.events.ensures.exact a.ensures.asked) in
     let may = as-may v.last v.events a.field-0 (Do c.in-Do.turn) c.in-Do.is (may-by-clock v (Ok a.field-0) c.last.result c.events.result c.last.ensures.exact c.events.ensures.exact a.ensures.may) in
-    record { replayed = rw (p.1, p.2) (ends-turn _ _ _ _ _ _ _ _ _ c.loop-read.invariant.at c.in-Do.turn asks may _ _ c.in_err-do_turn-in-Do.field-0.0 c.in_err-do_turn-in-Do.ensures.does) }
+    record { replayed = rw (p.1, p.2) (ends-turn _ _ _ _ _ _ _ _ _ _ c.loop-read.invariant.at c.loop-read.invariant.few c.in-Do.turn asks may _ _ c.in_err-do_turn-in-Do.field-0.0 c.in_err-do_turn-in-Do.ensures.does) }
+
+pub returns-then-count-turns : goal.returns-then-count-turns
+returns-then-count-turns g c =
+    let v = c.loop-read.core in
+    let a = c.in_ok-next_asked in
+    let asks = as-asked (c.loop-read.read + 1) v.last v.events _ _ a.field-0 (Do c.in-Do.turn) c.in-Do.is (by-clock (c.loop-read.read + 1) v _ _ (Ok a.field-0) c.last.result c.events.result c.last.ensures.exact c.events.ensures.exact a.ensures.asked) in
+    let may = as-may v.last v.events a.field-0 (Do c.in-Do.turn) c.in-Do.is (may-by-clock v (Ok a.field-0) c.last.result c.events.result c.last.ensures.exact c.events.ensures.exact a.ensures.may) in
+    let does = c.in_ok-do_turn-in-Do.ensures.does in
+    record { replayed = ends-enough _ _ _ _ _ _ _ _ _ _ c.loop-read.invariant.at c.loop-read.invariant.few c.in-Do.turn asks may does.0 _ _ does.1 does.2 c.if-count-turns.true }
 
 pub loop-read-preserved : goal.loop-read-preserved
 loop-read-preserved g c =
@@ -40,13 +49,13 @@ loop-read-preserved g c =
     elim c.match-branch-2.branch [
       | in-Skip w ↦
           let asks = as-asked (c.loop-read.read + 1) v.last v.events _ _ a.field-0 Skip w.in-Skip.is (by-clock (c.loop-read.read + 1) v _ _ (Ok a.field-0) c.last.result c.events.result c.last.ensures.exact c.events.ensures.exact a.ensures.asked) in
-          rw (w.core-is, w.writer-is, w.count-is, w.out-is, w.text-is) (record { at = goes-on _ _ _ _ _ _ _ _ _ i.at asks; few = omega (arith, i.few); room = i.room; line = omega (arith, i.line, c.next_asked.ensures.room); text = i.text })
-      | in-Do+in_ok-do_turn-in-Do w ↦
+          rw (w.core-is, w.writer-is, w.count-is, w.out-is, w.text-is) (record { at = goes-on _ _ _ _ _ _ _ _ _ _ i.at i.few asks; few = i.few; room = i.room; line = omega (arith, i.line, c.next_asked.ensures.room); text = i.text })
+      | in-Do+in_ok-do_turn-in-Do+else-count-turns w ↦
           let asks = as-asked (c.loop-read.read + 1) v.last v.events _ _ a.field-0 (Do w.in-Do.turn) w.in-Do.is (by-clock (c.loop-read.read + 1) v _ _ (Ok a.field-0) c.last.result c.events.result c.last.ensures.exact c.events.ensures.exact a.ensures.asked) in
           let may = as-may v.last v.events a.field-0 (Do w.in-Do.turn) w.in-Do.is (may-by-clock v (Ok a.field-0) c.last.result c.events.result c.last.ensures.exact c.events.ensures.exact a.ensures.may) in
           let does = w.in_ok-do_turn-in-Do.ensures.does in
-          rw (w.core-is, w.writer-is, w.count-is, w.out-is, w.text-is) (record { at = goes-further _ _ _ _ _ _ _ _ _ i.at w.in-Do.turn asks may _ _ does.0 does.1; few = omega (arith, i.few); room = rw (w.do_turn.ensures.setting, w.do_turn.ensures.kept) i.room; line = omega (arith, i.line, c.next_asked.ensures.room); text = rw w.do_turn.ensures.setting (omega (arith, i.text, w.do_turn.ensures.text)) })
+          rw (w.core-is, w.writer-is, w.count-is, w.out-is, w.text-is) (record { at = goes-further _ _ _ _ _ _ _ _ _ _ i.at i.few w.in-Do.turn asks may does.0 _ _ does.1 does.2; few = omega (arith, i.few, w.if-count-turns.false); room = rw (w.do_turn.ensures.setting, w.do_turn.ensures.kept) i.room; line = omega (arith, i.line, c.next_asked.ensures.room); text = rw w.do_turn.ensures.setting (omega (arith, i.text, w.do_turn.ensures.text)) })
     ]
 
 pub returns : goal.returns
-returns g c = record { replayed = ends-unread _ _ _ _ (g.R.Read.remaining c.loop-read.reader) _ _ _ _ c.loop-read.invariant.at }
+returns g c = record { replayed = ends-unread _ _ _ _ (g.R.Read.remaining c.loop-read.reader) _ _ _ _ _ c.loop-read.invariant.at c.loop-read.invariant.few }

@@ -5,41 +5,42 @@ use Rattle.coap_exchange.specs.declared.exchange.Exchange.{Exchange}
 use Rattle.coap_exchange.specs.Table.{Numbered, item_at}
 use Rattle.coap_model.specs.Messages.{token_of}
 use Rattle.coap_core.proofs.Tokens.{nobody-awaits, awaits-none, awaits-one, sent-with}
+use Rattle.coap_core.proofs.world.World.awaiting.Given.{Over}
 use Rattle.coap_core.proofs.world.World.awaiting.Goals.{After-get}
 use Rattle.coap_core.proofs.world.World.awaiting.Goals as goal
 
 pub returns-in_err-number-clause-exact : goal.returns-in_err-number-clause-exact
-returns-in_err-number-clause-exact c =
+returns-in_err-number-clause-exact g c =
     let m = c.args.response.now in
     let short : length m.token ≢ 8 = rw (← c.response.view_is, ← c.as_slice.ensures.bytes) c.in_err-number.ensures.missing in
     rw (← c.self.view_is) (c.from_residual.ensures ∙ ap (option_map {T = Numbered Exchange} (λ x. x.0)) (sym (nobody-awaits c.self.inside.salt c.args.source m c.self.inside.exchanges.items short)))
 
 -- the response has the token of the exchange of that number
-token : (c : After-get) → token_of c.self.inside.salt c.in_ok-number.number ≡ c.args.response.now.token
-token c = rw (← c.response.view_is, ← c.as_slice.ensures.bytes) c.in_ok-number.ensures.found
+token : (g : Over) (c : After-get g) → token_of c.self.inside.salt c.in_ok-number.number ≡ c.args.response.now.token
+token g c = rw (← c.response.view_is, ← c.as_slice.ensures.bytes) c.in_ok-number.ensures.found
 
-few : (c : After-get) → c.self.inside.exchanges.admitted < 2 ^ 64
-few c = let o = rw (← c.self.view_is) at c.requires.opened in omega (arith, o)
+few : (g : Over) (c : After-get g) → c.self.inside.exchanges.admitted < 2 ^ 64
+few g c = let o = rw (← c.self.view_is) at c.requires.opened in omega (arith, o)
 
 pub returns-in_err-exchange-clause-exact : goal.returns-in_err-exchange-clause-exact
-returns-in_err-exchange-clause-exact c =
+returns-in_err-exchange-clause-exact g c =
     let m = c.args.response.now in
-    let got = (goal.at.returns-in_err-exchange-clause-exact c).After-get in
-    rw (← c.self.view_is) (c.from_residual-in_err-exchange.ensures ∙ sym (awaits-none c.self.inside.salt c.args.source m c.in_ok-number.number c.self.inside.exchanges c.in_ok-number.ensures.small (token got) c.get.ensures.sound (few got) (sym c.in_err-exchange.ensures.exact)))
+    let got = (goal.at.returns-in_err-exchange-clause-exact g c).After-get in
+    rw (← c.self.view_is) (c.from_residual-in_err-exchange.ensures ∙ sym (awaits-none c.self.inside.salt c.args.source m c.in_ok-number.number c.self.inside.exchanges c.in_ok-number.ensures.small (token g got) c.get.ensures.sound (few g got) (sym c.in_err-exchange.ensures.exact)))
 
 pub returns-then-awaits-clause-exact : goal.returns-then-awaits-clause-exact
-returns-then-awaits-clause-exact c =
+returns-then-awaits-clause-exact g c =
     let m = c.args.response.now in
-    let got = (goal.at.returns-then-awaits-clause-exact c).After-get in
-    rw (← c.self.view_is) (sym (awaits-one c.self.inside.salt c.args.source m c.in_ok-number.number c.self.inside.exchanges c.in_ok-number.ensures.small (token got) c.get.ensures.sound (few got) c.in_ok-exchange.exchange.now (sym c.in_ok-exchange.ensures.exact) true (rw (← c.response.view_is) c.if-awaits.ensures)))
+    let got = (goal.at.returns-then-awaits-clause-exact g c).After-get in
+    rw (← c.self.view_is) (sym (awaits-one c.self.inside.salt c.args.source m c.in_ok-number.number c.self.inside.exchanges c.in_ok-number.ensures.small (token g got) c.get.ensures.sound (few g got) c.in_ok-exchange.exchange.now (sym c.in_ok-exchange.ensures.exact) true (rw (← c.response.view_is) c.if-awaits.ensures)))
 
 pub returns-else-awaits-clause-exact : goal.returns-else-awaits-clause-exact
-returns-else-awaits-clause-exact c =
+returns-else-awaits-clause-exact g c =
     let m = c.args.response.now in
-    let got = (goal.at.returns-else-awaits-clause-exact c).After-get in
-    rw (← c.self.view_is) (sym (awaits-one c.self.inside.salt c.args.source m c.in_ok-number.number c.self.inside.exchanges c.in_ok-number.ensures.small (token got) c.get.ensures.sound (few got) c.in_ok-exchange.exchange.now (sym c.in_ok-exchange.ensures.exact) false (rw (← c.response.view_is) c.if-awaits.ensures)))
+    let got = (goal.at.returns-else-awaits-clause-exact g c).After-get in
+    rw (← c.self.view_is) (sym (awaits-one c.self.inside.salt c.args.source m c.in_ok-number.number c.self.inside.exchanges c.in_ok-number.ensures.small (token g got) c.get.ensures.sound (few g got) c.in_ok-exchange.exchange.now (sym c.in_ok-exchange.ensures.exact) false (rw (← c.response.view_is) c.if-awaits.ensures)))
 
 pub returns-then-awaits-clause-sent : goal.returns-then-awaits-clause-sent
-returns-then-awaits-clause-sent c =
+returns-then-awaits-clause-sent g c =
     let found : item_at c.in_ok-number.number c.args.self.now.exchanges ≡ Some c.in_ok-exchange.exchange.now = rw (← c.self.view_is) (sym c.in_ok-exchange.ensures.exact) in
     rw found (sent-with c.args.response.now.id c.in_ok-exchange.exchange.now.state (same_endpoint c.in_ok-exchange.exchange.now.key.target.at c.args.source) (sym (rw (← c.response.view_is) c.if-awaits.ensures)))

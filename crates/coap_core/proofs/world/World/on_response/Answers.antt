@@ -1,18 +1,30 @@
-use Rattle.std.proofs.Common.{◌≡◌, true, false, OnErr, refl}
-use Rattle.std.specs.Prelude.{IfOk}
+use Rattle.std.proofs.Common.{◌≡◌, true, OnErr}
+use Rattle.std.specs.Prelude.{IfSome}
+use Rattle.std.proofs.lemmas.Result.{IfOk-weaker}
 use Rattle.coap_option.proofs.Picking.{on_err}
+use Rattle.coap_model.specs.declared.report.Report.{Report}
+use Rattle.coap_model.specs.History.{grown_of}
 use Rattle.coap_model.specs.Memory.{takes_memory}
-use Rattle.coap_model.specs.Responses.{awaiting}
+use Rattle.coap_model.specs.Responses.{on_response}
+use Rattle.coap_model.specs.World.{Step}
 use Rattle.coap_core.specs.Steps.{Does}
-use Rattle.coap_core.proofs.Tokens.{answered}
+use Rattle.coap_core.specs.Storing.{answering_at}
+use Rattle.coap_core.proofs.Tokens.{answered, answered-at}
+use Rattle.coap_core.proofs.Puts.{answer-takes}
 use Rattle.coap_core.proofs.world.World.on_response.Goals as goal
 
 pub returns-in-Some-clause-exact : goal.returns-in-Some-clause-exact
-returns-in-Some-clause-exact c =
+returns-in-Some-clause-exact g c =
+    let w = c.args.self.now in
     let m = c.args.response.now in
-    answered c.args.self.now c.args.now m (awaiting c.args.self.now c.args.source m) c.in-Some.number (λ s. IfOk c.answer.result (λ report. Does s report c.args.out.now c.answer.new.out c.answer.new.self)) c.in-Some.ensures.exact c.answer.ensures.exact
+    let left : Step → Report → Type 0 = λ s report. Does s report c.args.out.now c.answer.new.out c.answer.new.self in
+    IfOk-weaker c.answer.result
+    (λ report. IfSome (answering_at w c.args.now (grown_of report.outcome) m c.in-Some.number) (λ s. left s report))
+    (λ report. left (on_response w c.args.now (grown_of report.outcome) c.args.source m) report)
+    (λ report does. answered-at w c.args.now (grown_of report.outcome) c.args.source m c.in-Some.number (λ s. left s report) c.requires.can.exchanges c.in-Some.ensures.exact does)
+    c.answer.ensures.exact
 
 pub returns-in-Some-clause-memory : goal.returns-in-Some-clause-memory
-returns-in-Some-clause-memory c =
-    let m = c.args.response.now in
-    answered c.args.self.now c.args.now m (awaiting c.args.self.now c.args.source m) c.in-Some.number (λ s. OnErr c.answer.result (takes_memory false s.report.outcome ≡ true)) c.in-Some.ensures.exact (λ x. on_err c.answer.result refl)
+returns-in-Some-clause-memory g c =
+    answered c.args.self.now c.args.now true c.args.source c.args.response.now c.in-Some.number (λ s. OnErr c.answer.result (takes_memory s.report.outcome ≡ true)) c.requires.can.exchanges c.in-Some.ensures.exact
+    (λ x found. on_err c.answer.result (answer-takes c.args.self.now c.args.now true c.args.response.now (c.in-Some.number, x)))

@@ -8,7 +8,7 @@ use Rattle.coap_core.proofs.Keeping.{id-for-queued}
 use Rattle.coap_core.proofs.world.World.send.Goals as goal
 
 pub next-id-requires : goal.next-id-requires
-next-id-requires c =
+next-id-requires g c =
     let x = c.in-Some.exchange.now in
     let found : item_at c.args.number c.args.self.now.exchanges ≡ Some x = rw (← c.self.view_is) (sym c.in-Some.ensures.exact) in
     let queued : is_queued x.state ≡ true = rw found at c.requires.queued in
@@ -16,7 +16,7 @@ next-id-requires c =
     rw (← c.self.view_is) at less
 
 pub put_with_id-requires : goal.put_with_id-requires
-put_with_id-requires c =
+put_with_id-requires g c =
     let x = c.in-Some.exchange.now in
     let found : item_at c.args.number c.args.self.now.exchanges ≡ Some x = rw (← c.self.view_is) (sym c.in-Some.ensures.exact) in
     let fits : length (with_id (next_id c.args.self.now) x.form) ≤ c.args.out.now.room = rw found at c.requires.fits in

@@ -1,0 +1,55 @@
+-- What is remembered, as the program asks for it.
+use Rattle.std.proofs.Common.{◌≡◌, ℕ, ◌≤◌, Bool, true, false, List, length, Option, Some, None, refl, sym, arith}
+use Rattle.std.specs.Prelude.{◌==◌, nat_lt, not, is_some}
+use Rattle.std.proofs.lemmas.Bool.{eqb-true, lt-ltb, ltb-true}
+use Rattle.coap_message.specs.declared.kind.Kind.{Kind}
+use Rattle.coap_message.specs.declared.kind.Kind.TheVariants.{Con, Non, Ack, Rst}
+use Rattle.coap_dedup.specs.Lists.{AreUpTo}
+use Rattle.coap_dedup.specs.Records.{Records, AreRecords, living_at}
+use Rattle.coap_dedup.proofs.Kept.{room-there}
+use Rattle.coap_message.specs.Datagram.{Datagram, holding}
+use Rattle.coap_message.specs.Message.{Message}
+use Rattle.coap_target.specs.declared.endpoint.Endpoint.{Endpoint}
+use Rattle.coap_model.specs.World.{World, records_of, has_record_room}
+use Rattle.coap_model.specs.Requests.{known_of, remembers, on_new, on_request}
+use Rattle.coap_target.proofs.Lists.{All-weaken}
+use Rattle.coap_core.specs.Steps.{CanGoOn}
+
+-- they are records
+pub are-records : (w : World) (kind : Kind) → CanGoOn w → AreRecords (records_of kind w)
+are-records w Con can = can.con_records
+are-records w Non can = can.non_records
+are-records w Ack can = can.non_records
+are-records w Rst can = can.non_records
+
+-- none came later than a moment that doesn't go back
+pub are-until : (w : World) (kind : Kind) (now : ℕ) → CanGoOn w → w.last ≤ now → AreUpTo now (records_of kind w).items
+are-until w Con now can onward = All-weaken (λ r. r.at ≤ w.last) (λ r. r.at ≤ now) w.con_records.items (λ r le. omega (arith, le, onward)) can.con_until
+are-until w Non now can onward = All-weaken (λ r. r.at ≤ w.last) (λ r. r.at ≤ now) w.non_records.items (λ r le. omega (arith, le, onward)) can.non_until
+are-until w Ack now can onward = All-weaken (λ r. r.at ≤ w.last) (λ r. r.at ≤ now) w.non_records.items (λ r le. omega (arith, le, onward)) can.non_until
+are-until w Rst now can onward = All-weaken (λ r. r.at ≤ w.last) (λ r. r.at ≤ now) w.non_records.items (λ r le. omega (arith, le, onward)) can.non_until
+
+-- there is room where they aren't full
+pub room-is : (now : ℕ) (t : Records) → AreRecords t → not (length (living_at now t) == t.limit) ≡ nat_lt (length (living_at now t)) t.limit
+room-is now t are = go (length (living_at now t) == t.limit) refl
+  where
+    go : (b : Bool) → (length (living_at now t) == t.limit) ≡ b → not b ≡ nat_lt (length (living_at now t)) t.limit
+    go true full = less (nat_lt (length (living_at now t)) t.limit) refl
+      where
+        less : (c : Bool) → nat_lt (length (living_at now t)) t.limit ≡ c → false ≡ nat_lt (length (living_at now t)) t.limit
+        less true e = absurd (let lt = ltb-true _ _ e in let same = eqb-true (length (living_at now t)) t.limit full in omega (arith, lt, same))
+        less false e = sym e
+    go false free = sym (lt-ltb _ _ (room-there now t are free))
+
+-- what isn't there is none
+pub none-some : {A : Type 0} (o : Option A) → is_some o ≡ false → o ≡ None
+none-some None e = refl
+none-some (Some a) e = absurd cc
+
+-- a request that isn't known is new
+pub new-is : (w : World) (now : ℕ) (client : Endpoint) (m : Message) → known_of w now client m ≡ None → has_record_room w now m.kind ≡ true → on_request w now client m ≡ remembers now client m (on_new w now client m)
+new-is w now client m unknown room = rw (unknown, room) refl
+
+-- what is held hangs on the room, and not on what was held
+pub held-same : (old other : Datagram) (bytes : List ℕ) → old.room ≡ other.room → holding old bytes ≡ holding other bytes
+held-same old other bytes room = λ i. record { room = room i; bytes = bytes }

@@ -1,0 +1,177 @@
+//! Requests that came before, and what goes out at once to those that are new (RFC 7252, 4.2, 4.3
+//! and 4.5).
+ghost use Rattle.std.specs.Prelude.{◌≡◌, ◌≤◌, true, length, Some, is_some, IfOk, IfSome, OnOk, OnErr};
+ghost use Rattle.coap_message.specs.declared.message.Head.{Head};
+ghost use Rattle.coap_model.specs.Messages.{reply_kind, reply_id};
+ghost use Rattle.coap_model.specs.World.{next_id, records_of, has_record_room, can_reply};
+ghost use Rattle.coap_model.specs.Requests.{known_of, replied, with_record};
+ghost use Rattle.coap_core.specs.Steps.{CanGoOn, CanRemember, IsSaid, repetition_of};
+
+use crate::world::World;
+use coap_cache::Store;
+use coap_dedup::{Records, Seen};
+use coap_message::{Code, Datagram, Head, Kind, MessageRef, OutOfMemory, Seq};
+use coap_model::{Outcome, Report};
+use coap_target::Endpoint;
+
+/// In which type of message a reply goes out at once to a request of this type.
+pub(crate) fn reply_kind(kind: Kind) -> Kind
+    ensures { result ≡ reply_kind kind }
+{
+    match kind {
+        Kind::Con => Kind::Ack,
+        Kind::Non | Kind::Ack | Kind::Rst => Kind::Non,
+    }
+}
+
+impl<S: Store + Drop> World<S> {
+    /// What is remembered of the requests that came in messages of this type.
+    fn records(&self, kind: Kind) -> &Records
+        ensures { result.now ≡ records_of kind self.now }
+    {
+        match kind {
+            Kind::Con => &self.con_records,
+            Kind::Non | Kind::Ack | Kind::Rst => &self.non_records,
+        }
+    }
+
+    /// Whether one more request of this type can be remembered.
+    pub(crate) fn has_record_room(&self, now: u64, kind: Kind) -> bool
+        requires { CanGoOn self.now }
+        ensures { result ≡ has_record_room self.now now kind }
+    {
+        let records = self.records(kind);
+        !records.is_full(now)
+    }
+
+    /// What a duplicate is told, if this is one: `out` holds it then, and else what it held.
+    pub(crate) fn repeat(
+        &self,
+        now: u64,
+        client: Endpoint,
+        request: &MessageRef<'_>,
+        out: &mut Datagram,
+    ) -> Option<Report>
+        requires fits { IfSome (repetition_of self.now now client request.now) (λ step.
+            length step.bytes ≤ out.old.room) }
+        ensures found { is_some result ≡ is_some (known_of self.now now client request.now) }
+        ensures said { IfSome result (λ report.
+            IfSome (repetition_of self.now now client request.now) (λ step.
+            IsSaid step report out.old out.new)) }
+        ensures kept { out.new.room ≡ out.old.room }
+    {
+        let Seen::Again(reply) = self.records(request.kind).seen(client, request.id, now) else {
+            return None;
+        };
+        out.clear();
+        let send = match reply {
+            Some(bytes) => {
+                out.put(bytes);
+                Some(client)
+            }
+            None => None,
+        };
+        Some(Report {
+            send,
+            outcome: Outcome::Again,
+        })
+    }
+
+    /// Whether a reply can go out at once to a request of this type: an acknowledgement needs no id.
+    pub(crate) fn can_reply(&self, kind: Kind) -> bool
+        requires { CanGoOn self.now }
+        ensures { result ≡ can_reply self.now kind }
+    {
+        kind == Kind::Con || self.has_ids(1)
+    }
+
+    /// The id of a reply that goes out at once.
+    pub(crate) fn reply_id(&self, request: &MessageRef<'_>) -> u16
+        requires can { CanGoOn self.now }
+        requires ids { can_reply self.now request.now.kind ≡ true }
+        ensures { result ≡ reply_id request.now (next_id self.now) }
+    {
+        match request.kind {
+            Kind::Con => request.id,
+            Kind::Non | Kind::Ack | Kind::Rst => {
+                let mut ids = self.ids;
+                ids.next()
+            }
+        }
+    }
+
+    /// The head of a reply of the proxy's own that goes out at once.
+    pub(crate) fn reply_head(&self, request: &MessageRef<'_>, code: Code) -> Head
+        requires can { CanGoOn self.now }
+        requires ids { can_reply self.now request.now.kind ≡ true }
+        ensures { result
+            ≡ record {
+              kind = reply_kind request.now.kind;
+              code = code;
+              id = reply_id request.now (next_id self.now);
+            } }
+    {
+        Head {
+            kind: reply_kind(request.kind),
+            code,
+            id: self.reply_id(request),
+        }
+    }
+
+    /// Remembers a request that is new, and this as what goes out at once to it.
+    pub(crate) fn remember(
+        &mut self,
+        now: u64,
+        client: Endpoint,
+        request: &MessageRef<'_>,
+        sent: &[u8],
+    ) -> Result<(), OutOfMemory>
+        requires { CanRemember now client request.now self.old }
+        ensures ok { OnOk result (self.new ≡ with_record now client request.now sent.now self.old) }
+        ensures err { OnErr result (self.new ≡ self.old) }
+    {
+        let kept = match request.kind {
+            Kind::Con => {
+                let reply = Seq::from_slice(self.alloc, sent)?;
+                self.con_records.keep(client, request.id, now, Some(reply))
+            }
+            Kind::Non | Kind::Ack | Kind::Rst => {
+                self.non_records.keep(client, request.id, now, None)
+            }
+        };
+        match kept {
+            Ok(()) => Ok(()),
+            Err(_) => Err(OutOfMemory),
+        }
+    }
+
+    /// What `out` holds goes out at once in reply to a request that is new, which is remembered.
+    pub(crate) fn reply(
+        &mut self,
+        now: u64,
+        client: Endpoint,
+        request: &MessageRef<'_>,
+        outcome: Outcome,
+        out: &Datagram,
+    ) -> Result<Report, OutOfMemory>
+        requires can { CanGoOn self.old }
+        requires new { CanRemember now client request.now self.old }
+        requires ids { can_reply self.old request.now.kind ≡ true }
+        ensures report { IfOk result (λ report.
+            report ≡ record { send = Some client; outcome = outcome }) }
+        ensures done { OnOk result
+            (self.new
+            ≡ with_record now client request.now out.now.bytes (replied self.old now request.now)) }
+        ensures err { OnErr result (self.new ≡ self.old) }
+    {
+        self.remember(now, client, request, out.bytes())?;
+        if request.kind != Kind::Con {
+            self.ids.next();
+        }
+        self.pass(now);
+        Ok(Report {
+            send: Some(client),
+            outcome,
+        })
+    }
+}

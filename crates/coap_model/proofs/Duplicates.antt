@@ -1,0 +1,169 @@
+-- What is remembered, by places: each record was left at a place, and what is left at a place is found as long as it lives.
+use Rattle.std.proofs.Common.{◌≡◌, inl, inr, refl, ⊎_elim, ℕ, ◌+◌, ◌<◌, Bool, true, false, List, [], ◌∷◌, ◌++◌, Option, Some, None, sym, ap, ◌∙◌, subst}
+use Rattle.std.specs.Prelude.{filter, if◌then◌else◌}
+use Rattle.std.specs.List.{AllByRecursion}
+use Rattle.std.proofs.lemmas.Bool.{ltb-true, lt-ltb}
+use Rattle.coap_target.proofs.Lists.{All-append, All-weaken}
+use Rattle.coap_message.specs.declared.kind.Kind.{Kind}
+use Rattle.coap_message.specs.declared.kind.Kind.TheVariants.{Con, Non, Ack, Rst}
+use Rattle.coap_message.specs.declared.message.Head.{Head}
+use Rattle.coap_message.specs.Message.{Message}
+use Rattle.coap_message.specs.Reading.{head_at}
+use Rattle.coap_target.specs.declared.endpoint.Endpoint.{Endpoint}
+use Rattle.coap_dedup.specs.declared.record.Record.{Record}
+use Rattle.coap_dedup.specs.Lists.{is_living, is_of, record_of}
+use Rattle.coap_dedup.proofs.Apart.{is_of-key}
+use Rattle.coap_dedup.proofs.Orders.{same_key-itself}
+use Rattle.coap_model.specs.Events.{Event, arrival, tick}
+use Rattle.coap_model.specs.Messages.{brings_requests, told_again}
+use Rattle.coap_model.specs.History.{Entry, Deed, Place, IsPlaceOf, Somewhere}
+use Rattle.coap_model.specs.Remembered.{goes_with, is_remembered, kept_of, kept_at, kept_by, kept_in, remembered_at, remembered_for}
+use Rattle.coap_model.specs.Duplicates.{Repeats, IsRememberedAt}
+use Rattle.coap_model.proofs.Lists.{find-holds, none-found, All-filter}
+
+-- ---- each record was left at a place
+
+-- where it was left
+record WasLeft (kind : Kind) (history : List Deed) (r : Record) : Type 0 where
+  pub place : Place
+  pub there : IsPlaceOf history place
+  pub bytes : List ℕ
+  pub former : Head
+  pub came : place.deed.entry.event ≡ arrival r.from bytes
+  pub head : head_at bytes ≡ Some former
+  pub goes : goes_with kind former.kind ≡ true
+  pub id : former.id ≡ r.id
+  pub at : r.at ≡ place.deed.entry.now
+  pub reply : r.reply ≡ told_again former.kind place.deed.entry.bytes
+  pub remembered : is_remembered place.deed.entry.report.outcome ≡ true
+
+-- what an entry leaves was left there
+left-by : (kind : Kind) (past : List Deed) (d : Deed) → AllByRecursion (WasLeft kind (d ∷ past)) (kept_by kind d.entry)
+left-by kind past d = go (is_remembered d.entry.report.outcome) refl
+  where
+    now : ℕ
+    now = d.entry.now
+
+    headed : is_remembered d.entry.report.outcome ≡ true → (source : Endpoint) (bytes : List ℕ) → d.entry.event ≡ arrival source bytes → (h : Option Head) → head_at bytes ≡ h → AllByRecursion (WasLeft kind (d ∷ past)) (kept_of kind d.entry.now d.entry.bytes source h)
+    headed kept source bytes came None is = tt
+    headed kept source bytes came (Some former) is = test (goes_with kind former.kind) refl
+      where
+        made : Record
+        made = record { from = source; id = former.id; at = d.entry.now; reply = told_again former.kind d.entry.bytes }
+
+        test : (b : Bool) → goes_with kind former.kind ≡ b → AllByRecursion (WasLeft kind (d ∷ past)) (if b then record { from = source; id = former.id; at = d.entry.now; reply = told_again former.kind d.entry.bytes } ∷ [] else [])
+        test true goes = (record { place = record { before = past; deed = d }; there = inl refl; bytes = bytes; former = former; came = came; head = is; goes = goes; id = refl; at = refl; reply = refl; remembered = kept }, tt)
+        test false goes = tt
+
+    brought : is_remembered d.entry.report.outcome ≡ true → (event : Event) → d.entry.event ≡ event → AllByRecursion (WasLeft kind (d ∷ past)) (kept_at kind d.entry.now d.entry.bytes event)
+    brought kept (arrival source bytes) came = headed kept source bytes came (head_at bytes) refl
+    brought kept tick came = tt
+
+    go : (b : Bool) → is_remembered d.entry.report.outcome ≡ b → AllByRecursion (WasLeft kind (d ∷ past)) (if b then kept_at kind d.entry.now d.entry.bytes d.entry.event else [])
+    go true kept = brought kept d.entry.event refl
+    go false kept = tt
+
+-- so was all that is left
+all-left : (kind : Kind) (history : List Deed) → AllByRecursion (WasLeft kind history) (kept_in kind history)
+all-left kind [] = tt
+all-left kind (d ∷ past) =
+    All-append (WasLeft kind (d ∷ past)) (kept_in kind past) (kept_by kind d.entry)
+    (All-weaken (WasLeft kind past) (WasLeft kind (d ∷ past)) (kept_in kind past)
+    (λ r l. record { place = l.place; there = inr l.there; bytes = l.bytes; former = l.former; came = l.came; head = l.head; goes = l.goes; id = l.id; at = l.at; reply = l.reply; remembered = l.remembered })
+    (all-left kind past))
+    (left-by kind past d)
+
+-- types that go together are one
+goes-same : (k l : Kind) → goes_with k l ≡ true → l ≡ k
+goes-same Con Con e = refl
+goes-same Con Non e = absurd cc
+goes-same Con Ack e = absurd cc
+goes-same Con Rst e = absurd cc
+goes-same Non Con e = absurd cc
+goes-same Non Non e = refl
+goes-same Non Ack e = absurd cc
+goes-same Non Rst e = absurd cc
+goes-same Ack l e = absurd cc
+goes-same Rst l e = absurd cc
+
+-- what is known of a request is what was left of it at a place
+pub known-place : (past : List Deed) (now : ℕ) (client : Endpoint) (request : Message) (known : Record) → record_of client request.id (remembered_at request.kind now past) ≡ Some known → Somewhere (IsRememberedAt now client request known) past
+known-place past now client request known found =
+    let kind = request.kind in
+    let lifetime = remembered_for kind in
+    let living = All-filter (WasLeft kind past) (is_living lifetime now) (kept_in kind past) (all-left kind past) in
+    let h = find-holds (λ r. WasLeft kind past r × (is_living lifetime now r ≡ true)) (is_of client request.id) (remembered_at kind now past) known living found in
+    let l = h.0.0 in
+    let key = is_of-key client request.id known h.1 in
+    let same = goes-same kind l.former.kind l.goes in
+    record {
+      place = l.place;
+      is_there = l.there;
+      holds = record {
+        repeats = record {
+          bytes = l.bytes;
+          former = l.former;
+          came = l.came ∙ ap (λ (e : Endpoint). arrival e l.bytes) key.0;
+          head = l.head;
+          kind = same;
+          id = l.id ∙ key.1;
+          remembered = l.remembered;
+          alive = subst (λ (n : ℕ). now < n + lifetime) l.at (ltb-true _ _ h.0.1);
+        };
+        reply = l.reply ∙ ap (λ (k : Kind). told_again k l.place.deed.entry.bytes) same;
+      };
+    }
+
+-- ---- what is left at a place is found
+
+-- what holds of all of two lists holds of all of each
+both-parts : {X : Type 0} (P : X → Type 0) (xs ys : List X) → AllByRecursion P (xs ++ ys) → AllByRecursion P xs × AllByRecursion P ys
+both-parts P [] ys all = (tt, all)
+both-parts P (x ∷ xs) ys all = let rest = both-parts P xs ys all.1 in ((all.0, rest.0), rest.1)
+
+-- what holds of all that pass a test holds of each where it passes
+unfilter : {X : Type 0} (P : X → Type 0) (test : X → Bool) (xs : List X) → AllByRecursion P (filter test xs) → AllByRecursion (λ x. test x ≡ true → P x) xs
+unfilter P test [] all = tt
+unfilter P test (x ∷ xs) all = go (test x) refl all (unfilter P test xs)
+  where
+    go : (b : Bool) → test x ≡ b → AllByRecursion P (if b then x ∷ filter test xs else filter test xs) → (AllByRecursion P (filter test xs) → AllByRecursion (λ y. test y ≡ true → P y) xs) → (test x ≡ true → P x) × AllByRecursion (λ y. test y ≡ true → P y) xs
+    go true e rest more = ((λ f. rest.0), more rest.1)
+    go false e rest more = ((λ f. absurd (let g = sym f ∙ e in cc)), more rest)
+
+-- a type goes with itself
+goes-itself : (k : Kind) → brings_requests k ≡ true → goes_with k k ≡ true
+goes-itself Con e = refl
+goes-itself Non e = refl
+goes-itself Ack e = absurd cc
+goes-itself Rst e = absurd cc
+
+-- what an entry leaves of a request that it brought
+left-is : (kind : Kind) (e : Entry) (client : Endpoint) (bytes : List ℕ) (former : Head) → is_remembered e.report.outcome ≡ true → e.event ≡ arrival client bytes → head_at bytes ≡ Some former → goes_with kind former.kind ≡ true → kept_by kind e ≡ record { from = client; id = former.id; at = e.now; reply = told_again former.kind e.bytes } ∷ []
+left-is kind e client bytes former kept came head goes = rw (kept, came, head, goes) refl
+
+-- so a request that repeats one is known
+pub place-known : (past : List Deed) (now : ℕ) (client : Endpoint) (request : Message) (p : Place) → brings_requests request.kind ≡ true → IsPlaceOf past p → Repeats now client request p → record_of client request.id (remembered_at request.kind now past) ≡ None → ⊥
+place-known past now client request p brings at r none = go past at (unfilter (λ x. is_of client request.id x ≡ false) (is_living lifetime now) (kept_in kind past) (none-found (is_of client request.id) (remembered_at kind now past) none))
+  where
+    kind : Kind
+    kind = request.kind
+
+    lifetime : ℕ
+    lifetime = remembered_for request.kind
+
+    go : (history : List Deed) → IsPlaceOf history p → AllByRecursion (λ x. is_living (remembered_for request.kind) now x ≡ true → is_of client request.id x ≡ false) (kept_in request.kind history) → ⊥
+    go [] there all = there
+    go (d ∷ before) there all =
+        let parts = both-parts (λ x. is_living (remembered_for request.kind) now x ≡ true → is_of client request.id x ≡ false) (kept_in request.kind before) (kept_by request.kind d.entry) all in
+        ⊎_elim
+        (λ (same : record { before = before; deed = d } ≡ p).
+        let e = p.deed.entry in
+        let made : Record = record { from = client; id = r.former.id; at = e.now; reply = told_again r.former.kind e.bytes } in
+        let goes : goes_with request.kind r.former.kind ≡ true = subst (λ (k : Kind). goes_with request.kind k ≡ true) (sym r.kind) (goes-itself request.kind brings) in
+        let left : kept_by request.kind d.entry ≡ made ∷ [] = ap (λ (q : Place). kept_by request.kind q.deed.entry) same ∙ left-is request.kind e client r.bytes r.former r.remembered r.came r.head goes in
+        let one = subst (λ (rs : List Record). AllByRecursion (λ x. is_living (remembered_for request.kind) now x ≡ true → is_of client request.id x ≡ false) rs) left parts.1 in
+        let other = one.0 (lt-ltb now (e.now + remembered_for request.kind) r.alive) in
+        let itself : is_of client request.id made ≡ true = subst (λ (n : ℕ). is_of client n made ≡ true) r.id (same_key-itself (record { from = client; id = r.former.id })) in
+        absurd (let f = sym itself ∙ other in cc))
+        (λ (earlier : IsPlaceOf before p). go before earlier parts.0)
+        there

@@ -1,0 +1,74 @@
+-- Replies that go out at once: they are messages, short, and have the id that is due.
+use Rattle.std.proofs.Common.{◌≡◌, ℕ, ◌+◌, ◌≤◌, Bool, true, false, List, [], length, refl, subst, arith}
+use Rattle.std.specs.Prelude.{◌||◌, if◌then◌else◌}
+use Rattle.std.proofs.lemmas.Bool.{leb-true, lt-ltb}
+use Rattle.coap_message.specs.declared.kind.Kind.{Kind}
+use Rattle.coap_message.specs.declared.kind.Kind.TheVariants.{Con, Non, Ack, Rst}
+use Rattle.coap_message.specs.declared.code.Code.{Code}
+use Rattle.coap_message.specs.Message.{Message}
+use Rattle.coap_message.specs.Spelling.{IsMessage, spelling, more_length}
+use Rattle.coap_message.specs.Uint.{uint_spelling}
+use Rattle.coap_message.proofs.Spellings.{spelling-length}
+use Rattle.coap_model.specs.Messages.{is_con, is_non, brings_requests, own_reply, busy_reply, at_once, reply_id}
+use Rattle.coap_model.specs.World.{World, reserved, has_ids, can_reply, ids_to_reply}
+use Rattle.coap_model.proofs.Spelled.{length-uint_spelling}
+
+-- what is a message is one that goes out at once
+pub at_once-is : (m reply : Message) → IsMessage reply → IsMessage (at_once m reply)
+at_once-is m reply is = record { token = is.token; options = is.options; bare = record { token = is.bare.token; options = is.bare.options; payload = is.bare.payload } }
+
+-- what tests as Non-confirmable is so
+pub non_is : (k : Kind) → is_non k ≡ true → k ≡ Non
+non_is Con e = absurd cc
+non_is Non e = refl
+non_is Ack e = absurd cc
+non_is Rst e = absurd cc
+
+-- ---- lengths
+
+-- a reply is as long whichever way it goes out
+pub at_once-long : (m reply : Message) (most : ℕ) → length (spelling reply) ≤ most → length (spelling (at_once m reply)) ≤ most
+at_once-long m reply most le = omega (arith, spelling-length (at_once m reply), spelling-length reply, le)
+
+-- a reply of the proxy's own is short
+pub own-short : (m : Message) (code : Code) (id : ℕ) (token : List ℕ) → length token ≤ 8 → length (spelling (at_once m (own_reply code [] id token))) ≤ 128
+own-short m code id token short = omega (arith, spelling-length (at_once m (own_reply code [] id token)))
+
+-- so is one that says when to try again
+pub busy-short : (m : Message) (seconds id : ℕ) (token : List ℕ) → length token ≤ 8 → length (spelling (at_once m (busy_reply seconds id token))) ≤ 128
+busy-short m seconds id token short =
+    let value = length-uint_spelling seconds in
+    let more : more_length (length (uint_spelling seconds)) ≡ 0 = more-none_eight (length (uint_spelling seconds)) value in
+    omega (arith, spelling-length (at_once m (busy_reply seconds id token)), more, value)
+  where
+    more-none_eight : (n : ℕ) → n ≤ 8 → more_length n ≡ 0
+    more-none_eight n le = rw (lt-ltb n 13 (omega arith)) refl
+
+-- ---- ids
+
+-- a reply that takes an id has the next one
+pub reply-due : (m : Message) (next : ℕ) → ids_to_reply m.kind ≡ 1 → reply_id m next ≡ next
+reply-due m next = go (is_con m.kind)
+  where
+    go : (b : Bool) → ◌≡◌ {A = ℕ} (if b then 0 else 1) 1 → (if b then m.id else next) ≡ next
+    go true e = absurd (omega (arith, e))
+    go false e = refl
+
+-- an id that is free may be taken
+pub free-reply : (w : World) (kind : Kind) → w.given + reserved w ≤ 32768 → can_reply w kind ≡ true → w.given + ids_to_reply kind + reserved w ≤ 32768
+free-reply w kind within free = go (is_con kind) free
+  where
+    go : (b : Bool) → (b || has_ids 1 w) ≡ true → w.given + (if b then 0 else 1) + reserved w ≤ 32768
+    go true e = omega (arith, within)
+    go false e = let le = leb-true (w.given + reserved w + 1) 32768 e in omega (arith, le)
+
+-- a Non-confirmable request takes one
+pub free-one : (w : World) (kind : Kind) → can_reply w kind ≡ true → kind ≡ Non → has_ids 1 w ≡ true
+free-one w kind free is = subst (λ (k : Kind). (is_con k || has_ids 1 w) ≡ true) is free
+
+-- where none may go out, none is free, and the request is Non-confirmable
+pub free-none : (w : World) (kind : Kind) → brings_requests kind ≡ true → can_reply w kind ≡ false → (kind ≡ Non) × (has_ids 1 w ≡ false)
+free-none w Con e free = absurd cc
+free-none w Non e free = (refl, free)
+free-none w Ack e free = absurd cc
+free-none w Rst e free = absurd cc

@@ -1,0 +1,145 @@
+-- The requests that are remembered are those of the history, as it goes on.
+use Rattle.std.proofs.Common.{◌≡◌, ℕ, ◌<◌, ◌≤◌, true, false, List, [], ◌∷◌, ◌++◌, length, Some, None, refl, sym, ap, ◌∙◌, subst, arith}
+use Rattle.std.specs.Prelude.{if◌then◌else◌}
+use Rattle.std.proofs.lemmas.Bool.{and_parts, ltb-true}
+use Rattle.std.proofs.lemmas.List.{append-nil}
+use Rattle.std.proofs.lemmas.List.Elements.{filter-append}
+use Rattle.coap_target.proofs.Lists.{All-append, All-weaken}
+use Rattle.coap_message.specs.declared.kind.Kind.{Kind}
+use Rattle.coap_message.specs.declared.kind.Kind.TheVariants.{Con, Non, Ack, Rst}
+use Rattle.coap_message.specs.declared.message.Head.{Head}
+use Rattle.coap_message.specs.Codes.{is_request}
+use Rattle.coap_message.specs.Message.{Message}
+use Rattle.coap_message.specs.Reading.{head_at}
+use Rattle.coap_target.specs.declared.endpoint.Endpoint.{Endpoint}
+use Rattle.coap_dedup.specs.declared.record.Record.{Record}
+use Rattle.coap_dedup.specs.Lists.{is_living, living, record_of, AreUpTo, reply_bytes}
+use Rattle.coap_dedup.specs.Records.{Records, living_at, with_kept}
+use Rattle.coap_dedup.proofs.Kept.{AreRecords-kept}
+use Rattle.coap_dedup.proofs.Passing.{living-kept, AreUpTo-kept}
+use Rattle.coap_model.specs.Setting.{Setting}
+use Rattle.coap_model.specs.Events.{arrival}
+use Rattle.coap_model.specs.Messages.{is_con, brings_requests, told_again}
+use Rattle.coap_model.specs.Remembered.{is_remembered, kept_by, kept_in, kept_of, most_remembered, remembered_at, remembered_for}
+use Rattle.coap_model.specs.World.{World, Step, records_of}
+use Rattle.coap_model.specs.Requests.{record_made}
+use Rattle.coap_model.specs.History.{Act, Deed, last_of}
+use Rattle.coap_model.specs.Justified.{IsNew}
+use Rattle.coap_model.specs.Runs.{entry_of}
+use Rattle.coap_model.specs.Carries.{AreRemembered, Bears}
+use Rattle.coap_model.proofs.Places.{doing}
+use Rattle.coap_model.proofs.Rules.{Asked, IsFirst, head_of_read}
+use Rattle.coap_model.proofs.Lists.{All-filter}
+
+-- what is remembered after an entry that leaves nothing is what was before
+pub remembered-on : {setting : Setting} {history : List Deed} {kind : Kind} {t : Records} (e : Deed) → last_of history ≤ e.entry.now → kept_by kind e.entry ≡ [] → AreRemembered setting history kind t → AreRemembered setting (e ∷ history) kind t
+remembered-on {history = history} {kind = kind} {t = t} e onward none s =
+    record {
+      same = λ n later. s.same n (omega (arith, onward, later)) ∙ ap (living (remembered_for kind) n) (sym (ap (λ (rs : List Record). kept_in kind history ++ rs) none ∙ append-nil (kept_in kind history)));
+      limit = s.limit;
+      lifetime = s.lifetime;
+      are = s.are;
+      until = All-weaken (λ r. r.at ≤ last_of history) (λ r. r.at ≤ e.entry.now) t.items (λ r le. omega (arith, le, onward)) s.until;
+      short = s.short;
+    }
+
+-- and after one that leaves a request that was not known it is that and this
+pub remembered-more : {setting : Setting} {history : List Deed} {kind : Kind} {t : Records} (e : Deed) (r : Record) → last_of history ≤ e.entry.now → r.at ≡ e.entry.now → kept_by kind e.entry ≡ r ∷ [] → record_of r.from r.id (living_at e.entry.now t) ≡ None → length (living_at e.entry.now t) < t.limit
+    → ((most : ℕ) → 128 ≤ most → setting.limits.datagram ≤ most → reply_bytes r ≤ most) → AreRemembered setting history kind t → AreRemembered setting (e ∷ history) kind (with_kept r t)
+remembered-more {setting = setting} {history = history} {kind = kind} {t = t} e r onward at one unknown room short s =
+    record {
+      same = λ n later. living-kept r t n (omega (arith, at, later)) ∙ both n later;
+      limit = s.limit;
+      lifetime = s.lifetime;
+      are = AreRecords-kept r t s.are (subst (λ (n : ℕ). record_of r.from r.id (living_at n t) ≡ None) (sym at) unknown) until (subst (λ (n : ℕ). length (living_at n t) < t.limit) (sym at) room);
+      until = subst (λ (n : ℕ). AreUpTo n (with_kept r t).items) at (AreUpTo-kept r t until);
+      short = λ most wide long.
+          All-append (λ q. reply_bytes q ≤ most) (living t.lifetime r.at t.items) (r ∷ [])
+          (All-weaken (λ q. (reply_bytes q ≤ most) × (is_living t.lifetime r.at q ≡ true)) (λ q. reply_bytes q ≤ most) (living t.lifetime r.at t.items) (λ q h. h.0) (All-filter (λ q. reply_bytes q ≤ most) (is_living t.lifetime r.at) t.items (s.short most wide long)))
+          (short most wide long, tt);
+    }
+  where
+    until : AreUpTo r.at t.items
+    until = All-weaken (λ q. q.at ≤ last_of history) (λ q. q.at ≤ r.at) t.items (λ q le. omega (arith, le, onward, at)) s.until
+
+    both : (n : ℕ) → e.entry.now ≤ n → living_at n t ++ living t.lifetime n (r ∷ []) ≡ remembered_at kind n (e ∷ history)
+    both n later =
+        (λ i. s.same n (omega (arith, onward, later)) i ++ living (s.lifetime i) n (r ∷ []))
+        ∙ sym (filter-append (is_living (remembered_for kind) n) (kept_in kind history) (r ∷ []))
+        ∙ ap (λ (rs : List Record). living (remembered_for kind) n (kept_in kind history ++ rs)) (sym one)
+
+-- an entry with another outcome leaves nothing
+pub leaves-nothing : (kind : Kind) (e : Deed) → is_remembered e.entry.report.outcome ≡ false → kept_by kind e.entry ≡ []
+leaves-nothing kind e none = rw none refl
+
+-- ---- a request that is new
+
+-- a request is Confirmable or Non-confirmable
+pub request-kind : {w : World} {bytes : List ℕ} {m : Message} → Asked w bytes m → brings_requests m.kind ≡ true
+request-kind {m = m} asked = (and_parts (brings_requests m.kind) (is_request m.code) asked.request).0
+
+module _ (w : World) (history : List Deed) (c : Bears history w) (now : ℕ) (client : Endpoint) (bytes : List ℕ) (m : Message) (onward : w.last ≤ now) where
+  since : last_of history ≤ now
+  since = let h = c.clock.last in omega (arith, h, onward)
+
+  -- what is known of a request is what the history remembers
+  pub known-is : (k : Kind) → brings_requests k ≡ true → living_at now (records_of k w) ≡ remembered_at k now history
+  known-is Con e = c.con_records.same now since
+  known-is Non e = c.non_records.same now since
+  known-is Ack e = absurd cc
+  known-is Rst e = absurd cc
+
+  pub limit-is : (k : Kind) → brings_requests k ≡ true → (records_of k w).limit ≡ most_remembered k w.setting.limits
+  limit-is Con e = c.con_records.limit
+  limit-is Non e = c.non_records.limit
+  limit-is Ack e = absurd cc
+  limit-is Rst e = absurd cc
+
+  -- it isn't remembered, and there is room
+  pub first-new : IsFirst w now client bytes m → IsNew w.setting history now client m
+  first-new first =
+      let kind = request-kind first.asked in
+      let same = known-is m.kind kind in
+      let limit = limit-is m.kind kind in
+      let less = ltb-true _ _ first.room in
+      record {
+        unknown = ap (record_of client m.id) (sym same) ∙ first.unknown;
+        room = omega (arith, ap length same, limit, less);
+      }
+
+  -- so it is remembered from here on
+  pub first-remembered : (draw : ℕ) (act : Act) (s : Step) → IsFirst w now client bytes m → is_remembered s.report.outcome ≡ true → ((most : ℕ) → 128 ≤ most → w.setting.limits.datagram ≤ most → length s.bytes ≤ most)
+      → AreRemembered w.setting (doing act (entry_of now draw (arrival client bytes) s) ∷ history) Con (if is_con m.kind then with_kept (record_made now client m s.bytes) w.con_records else w.con_records)
+      × AreRemembered w.setting (doing act (entry_of now draw (arrival client bytes) s) ∷ history) Non (if is_con m.kind then w.non_records else with_kept (record_made now client m s.bytes) w.non_records)
+  first-remembered draw act s first kept short = go m.kind refl
+    where
+      e : Deed
+      e = doing act (entry_of now draw (arrival client bytes) s)
+
+      made : Kind → Record
+      made k = record { from = client; id = m.id; at = now; reply = told_again k s.bytes }
+
+      head : Kind → Head
+      head k = record { kind = k; code = m.code; id = m.id }
+
+      leaves : (kind k : Kind) → m.kind ≡ k → kept_by kind e.entry ≡ kept_of kind now s.bytes client (Some (head k))
+      leaves kind k is =
+          let read : head_at bytes ≡ Some (head k) = head_of_read w bytes m first.fits first.asked.read ∙ ap (λ (l : Kind). Some (head l)) is in
+          rw (kept, read) refl
+
+      unknown : (k : Kind) → m.kind ≡ k → record_of client m.id (living_at now (records_of k w)) ≡ None
+      unknown k is = subst (λ (l : Kind). record_of client m.id (living_at now (records_of l w)) ≡ None) is first.unknown
+
+      room : (k : Kind) → m.kind ≡ k → length (living_at now (records_of k w)) < (records_of k w).limit
+      room k is = subst (λ (l : Kind). length (living_at now (records_of l w)) < (records_of l w).limit) is (ltb-true _ _ first.room)
+
+      none : {A : Type 0} (k : Kind) → m.kind ≡ k → brings_requests k ≡ false → A
+      none k is no_request = absurd (let f = sym (request-kind first.asked) ∙ ap brings_requests is ∙ no_request in cc)
+
+      go : (k : Kind) → m.kind ≡ k
+          → AreRemembered w.setting (e ∷ history) Con (if is_con k then with_kept (made k) w.con_records else w.con_records)
+          × AreRemembered w.setting (e ∷ history) Non (if is_con k then w.non_records else with_kept (made k) w.non_records)
+      go Con is = (remembered-more e (made Con) since refl (leaves Con Con is) (unknown Con is) (room Con is) short c.con_records, remembered-on e since (leaves Non Con is) c.non_records)
+      go Non is = (remembered-on e since (leaves Con Non is) c.con_records, remembered-more e (made Non) since refl (leaves Non Non is) (unknown Non is) (room Non is) (λ most wide long. omega arith) c.non_records)
+      go Ack is = none Ack is refl
+      go Rst is = none Rst is refl

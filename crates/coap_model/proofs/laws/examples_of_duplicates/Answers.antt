@@ -1,0 +1,17 @@
+use Rattle.std.proofs.Common.{refl}
+use Rattle.coap_message.specs.Reading.{read_message, body_at, options_within, option_at, extended}
+use Rattle.coap_message.specs.Spelling.{spelling, option_spelling}
+use Rattle.coap_message.specs.Uint.{uint_spelling}
+use Rattle.coap_routes.specs.Request.{request_target}
+use Rattle.coap_routes.specs.Routes.{mapped_target}
+use Rattle.coap_model.specs.Messages.{token_of}
+use Rattle.coap_model.specs.Forms.{target_options}
+use Rattle.coap_model.specs.Verdicts.{verdict_of, form_fits}
+use Rattle.coap_model.specs.Answers.{answer_of}
+use Rattle.coap_model.specs.Ticks.{with_id}
+use Rattle.coap_model.specs.Step.{message_in}
+use Rattle.coap_model.proofs.laws.examples_of_duplicates.Goals as goal
+
+pub returns : goal.returns
+unfolding read_message body_at options_within option_at extended spelling option_spelling uint_spelling mapped_target request_target token_of target_options verdict_of form_fits answer_of with_id message_in
+returns c = record { non_again = refl; non_anew = refl; con_again = refl; con_anew = refl; of_one_id = refl; no_room = refl; not_asked_yet = refl; hit = refl; no_id = refl; held = refl; held_of_none = refl; counted = refl }

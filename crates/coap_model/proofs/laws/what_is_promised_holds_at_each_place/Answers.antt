@@ -1,0 +1,21 @@
+use Rattle.std.proofs.Common.{refl}
+use Rattle.coap_model.proofs.Places.{justified-at}
+use Rattle.coap_model.proofs.Promising.{id-at, in-order-at}
+use Rattle.coap_model.proofs.laws.what_is_promised_holds_at_each_place.Goals as goal
+
+pub returns : goal.returns
+returns c =
+    record {
+      justified = λ history w p place there. justified-at w.setting p.deeds place place.deed.entry.report.outcome p.justified there refl;
+      in_order = λ history w p place earlier. in-order-at p.deeds place earlier p.in_order;
+      id = λ history w p place. id-at w.setting.first_id p.deeds place p.sequence;
+      once = λ history w p. p.ids;
+      told = λ history w p. p.told;
+      exchanges = λ history w p. p.exchanges;
+      waiters = λ history w p. p.waiters;
+      entries = λ history w p. p.entries;
+      cached_bytes = λ history w p. p.cached_bytes;
+      con_records = λ history w p. p.con_records;
+      non_records = λ history w p. p.non_records;
+      held = λ history w p. p.bytes;
+    }

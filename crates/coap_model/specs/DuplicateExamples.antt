@@ -1,0 +1,71 @@
+-- Duplicates, computed on the definitions: how long a request is remembered, what is told again,
+-- and what is done with Confirmable requests (RFC 7252, 4.2, 4.3, 4.5 and 4.8.2).
+use Rattle.std.specs.Prelude.{ℕ, List, [], ◌∷◌, ◌++◌}
+use Rattle.coap_message.specs.declared.code.TheConstants.Code.{NOT_FOUND}
+use Rattle.coap_model.specs.declared.report.Outcome.TheVariants.{Again, NoRecordRoom, Refused, Hit, Overloaded}
+use Rattle.coap_model.specs.Limits.{default_limits}
+use Rattle.coap_model.specs.World.{World}
+use Rattle.coap_model.specs.Runs.{Turn}
+use Rattle.coap_model.specs.Examples.{Sent, client, from, nothing, to, first_answer, first_answer_sent}
+use Rattle.coap_model.specs.LimitExamples.{proxy_of, get_u, not_found}
+
+-- a Confirmable GET of the path `u`, which has no map, with this id, and its 4.04
+abbrev pub con_u : ℕ → List ℕ
+con_u id = 0x40 ∷ 1 ∷ 0 ∷ id ∷ 0xB1 ∷ 0x75 ∷ []
+
+abbrev pub con_not_found : ℕ → List ℕ
+con_not_found id = 0x60 ∷ 0x84 ∷ 0 ∷ id ∷ []
+
+-- a datagram that comes at 0 and at another moment
+abbrev pub twice_until : ℕ → List ℕ → List Turn
+twice_until later bytes = from 0 (client 1) bytes ∷ from later (client 1) bytes ∷ []
+
+-- what a client is refused first, and then
+abbrev pub refused_with : List ℕ → Sent → List Sent
+refused_with reply then = to (Refused NOT_FOUND) (client 1) reply ∷ then ∷ []
+
+-- the same request, Confirmable and Non-confirmable, and from another port: three requests
+abbrev pub of_one_id : List Turn
+of_one_id = from 0 (client 1) (con_u 7) ∷ from 0 (client 1) (get_u 7) ∷ from 0 (client 2) (get_u 7)
+    ∷ from 0 (client 2) (con_u 7) ∷ []
+
+abbrev pub of_one_id_sent : List Sent
+of_one_id_sent =
+    to (Refused NOT_FOUND) (client 1) (con_not_found 7)
+    ∷ to (Refused NOT_FOUND) (client 1) (not_found 0 1)
+    ∷ to (Refused NOT_FOUND) (client 2) (not_found 0 2)
+    ∷ to (Refused NOT_FOUND) (client 2) (con_not_found 7) ∷ []
+
+-- room to remember one Confirmable request: the second meets silence until the first is forgotten
+abbrev pub one_record : World
+one_record = proxy_of (record default_limits { con_records = 1 })
+
+abbrev pub two_clients : List Turn
+two_clients =
+    from 0 (client 1) (con_u 1) ∷ from 0 (client 2) (con_u 2) ∷ from 246999 (client 1) (con_u 1)
+    ∷ from 246999 (client 2) (con_u 2) ∷ from 247000 (client 2) (con_u 2) ∷ []
+
+abbrev pub two_clients_sent : List Sent
+two_clients_sent =
+    to (Refused NOT_FOUND) (client 1) (con_not_found 1) ∷ nothing NoRecordRoom
+    ∷ to Again (client 1) (con_not_found 1) ∷ nothing NoRecordRoom
+    ∷ to (Refused NOT_FOUND) (client 2) (con_not_found 2) ∷ []
+
+-- a Confirmable request that would open an exchange is told to try again after five seconds
+abbrev pub con_asks : List Turn
+con_asks = from 0 (client 1) (0x40 ∷ 1 ∷ 0 ∷ 10 ∷ 0xB1 ∷ 0x74 ∷ []) ∷ []
+
+abbrev pub con_asks_sent : List Sent
+con_asks_sent = to Overloaded (client 1) (0x60 ∷ 0xA3 ∷ 0 ∷ 10 ∷ 0xD1 ∷ 1 ∷ 5 ∷ []) ∷ []
+
+-- One whose answer is stored is answered in its acknowledgement; its duplicate gets the same bytes,
+-- a second later still.
+abbrev pub con_hit : List ℕ
+con_hit = 0x60 ∷ 0x45 ∷ 0 ∷ 11 ∷ 0xD1 ∷ 1 ∷ 9 ∷ 0xFF ∷ 0x32 ∷ 0x31 ∷ []
+
+abbrev pub con_hits : List Turn
+con_hits = first_answer ++ from 1000 (client 2) (0x40 ∷ 1 ∷ 0 ∷ 11 ∷ 0xB1 ∷ 0x74 ∷ [])
+    ∷ from 2000 (client 2) (0x40 ∷ 1 ∷ 0 ∷ 11 ∷ 0xB1 ∷ 0x74 ∷ []) ∷ []
+
+abbrev pub con_hits_sent : List Sent
+con_hits_sent = first_answer_sent ++ to Hit (client 2) con_hit ∷ to Again (client 2) con_hit ∷ []

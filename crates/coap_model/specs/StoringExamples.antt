@@ -1,0 +1,26 @@
+-- Answers for which there is memory in the store, or not, computed on the definitions.
+use Rattle.std.specs.Prelude.{Bool, List, [], ◌∷◌, ◌++◌}
+use Rattle.coap_model.specs.declared.report.Outcome.TheVariants.{Delivered}
+use Rattle.coap_model.specs.Events.{arrival}
+use Rattle.coap_model.specs.World.{Step}
+use Rattle.coap_model.specs.Step.{step_of}
+use Rattle.coap_model.specs.Examples.{Sent, origin, client, from, tick_at, to, proxy, get_t, content, content_for_client, first_answer}
+use Rattle.coap_model.specs.LimitExamples.{got}
+use Rattle.coap_model.specs.FormExamples.{after}
+
+-- the answer to the first request, where there is memory for one entry more, or not
+abbrev pub answer_with : Bool → Step
+answer_with grown =
+    step_of (after proxy (from 0 (client 1) (get_t []) ∷ tick_at 0 ∷ [])) 0 0 grown
+    (arrival origin content)
+
+-- an answer to the request of another client later, in place of the one that is stored
+abbrev pub answer_in_place : Bool → Step
+answer_in_place grown =
+    step_of
+    (after proxy (first_answer ++ from 10001 (client 2) (get_t []) ∷ tick_at 10001 ∷ [])) 10001 0
+    grown (arrival origin (got 3 2))
+
+-- the client gets it nonetheless
+abbrev pub still_delivered : List Sent
+still_delivered = to Delivered (client 1) (content_for_client 10) ∷ []

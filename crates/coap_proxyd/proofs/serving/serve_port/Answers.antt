@@ -1,0 +1,31 @@
+use Rattle.std.proofs.Common.{◌≡◌, ◌+◌, ℕ, Bool, List, Result, inr, Err, refl, subst}
+use Rattle.std.proofs.lemmas.Result.{err_from_is_err_and}
+use Rattle.coap_target.specs.declared.endpoint.Endpoint.{Endpoint}
+use Rattle.coap_model.specs.Runs.{Turn}
+use Rattle.coap_model.specs.World.{World, new_world}
+use Rattle.coap_port.specs.Driven.{Ends}
+use Rattle.coap_port.specs.declared.error.DriveError.{DriveError}
+use Rattle.coap_port.specs.declared.stats.Stats.{Stats}
+use Rattle.coap_proxyd.specs.Planning.{setting_of}
+use Rattle.coap_proxyd.specs.Serving.{IsServedOver, driven_as}
+use Rattle.coap_proxyd.proofs.serving.serve_port.Goals as goal
+
+-- what a core was driven to is what the program does, where the core is the new one
+driven : {P : Type 0} (gives : ℕ → P → ℕ → Turn → P → Type 0) (takes : P → Endpoint → List ℕ → Bool → P → Type 0) (clock failures : P → ℕ) (turns asked : ℕ) (proxy core after : World) (p q : P) (r : Result Stats DriveError)
+    → core ≡ proxy → turns ≡ asked → Ends (gives (core.setting.limits.datagram + 1)) takes clock failures turns core p after q r
+    → IsServedOver (gives (proxy.setting.limits.datagram + 1)) takes clock failures asked proxy p q (driven_as r)
+driven gives takes clock failures turns asked proxy core after p q r new same ends =
+    inr (
+      after,
+      r,
+      subst (λ (w : World). Ends (gives (w.setting.limits.datagram + 1)) takes clock failures asked w p after q r) new
+          (subst (λ (n : ℕ). Ends (gives (core.setting.limits.datagram + 1)) takes clock failures n core p after q r) same ends),
+      refl,
+    )
+
+pub returns-in_err-drive : goal.returns-in_err-drive
+returns-in_err-drive g c =
+    let p = err_from_is_err_and c.from_residual.result c.from_residual.ensures.1 in
+    rw (p.1, p.2)
+    (driven g.P.Port.gives g.P.Port.takes g.P.Port.clock g.P.Port.failures _ _ (new_world (setting_of c.args.plan c.args.first_id c.args.salt)) c.in-Ok.core _ c.args.port.now c.drive.new.port (Err c.in_err-drive.field-0.0)
+    c.in-Ok.ensures c.turns_of-turns.ensures c.in_err-drive.ensures)
