@@ -2,11 +2,11 @@
 -- and what is done with Confirmable requests (RFC 7252, 4.2, 4.3, 4.5 and 4.8.2).
 use Rattle.std.specs.Prelude.{ℕ, List, [], ◌∷◌, ◌++◌}
 use Rattle.coap_message.specs.declared.code.TheConstants.Code.{NOT_FOUND}
-use Rattle.coap_model.specs.declared.report.Outcome.TheVariants.{Again, NoRecordRoom, Refused, Hit, Overloaded}
+use Rattle.coap_model.specs.declared.report.Outcome.TheVariants.{Again, NoRecordRoom, Refused, Hit, Opened, Overloaded}
 use Rattle.coap_model.specs.Limits.{default_limits}
 use Rattle.coap_model.specs.World.{World}
 use Rattle.coap_model.specs.Runs.{Turn}
-use Rattle.coap_model.specs.Examples.{Sent, client, from, nothing, to, first_answer, first_answer_sent}
+use Rattle.coap_model.specs.Examples.{Sent, client, from, nothing, to, get_t, first_answer, first_answer_sent}
 use Rattle.coap_model.specs.LimitExamples.{proxy_of, get_u, not_found}
 
 -- a Confirmable GET of the path `u`, which has no map, with this id, and its 4.04
@@ -69,3 +69,39 @@ con_hits = first_answer ++ from 1000 (client 2) (0x40 ∷ 1 ∷ 0 ∷ 11 ∷ 0xB
 
 abbrev pub con_hits_sent : List Sent
 con_hits_sent = first_answer_sent ++ to Hit (client 2) con_hit ∷ to Again (client 2) con_hit ∷ []
+
+-- ---- each outcome of a request that is remembered, until the last moment and from then on
+
+-- a request that is opened, delivered and stale by then
+abbrev pub opened_until : ℕ → List Turn
+opened_until later = first_answer ++ from later (client 1) (get_t []) ∷ []
+
+-- one that is answered from the cache a second after the answer came
+abbrev pub hit_until : ℕ → List ℕ → List Turn
+hit_until later request =
+    first_answer ++ from 1000 (client 2) request ∷ from later (client 2) request ∷ []
+
+abbrev pub hit_sent : List ℕ → Sent → List Sent
+hit_sent reply then = first_answer_sent ++ to Hit (client 2) reply ∷ then ∷ []
+
+-- a Confirmable GET of the path `t` with the id 11, and its 5.03
+abbrev pub con_t : List ℕ
+con_t = 0x40 ∷ 1 ∷ 0 ∷ 11 ∷ 0xB1 ∷ 0x74 ∷ []
+
+abbrev pub con_busy : List ℕ
+con_busy = 0x60 ∷ 0xA3 ∷ 0 ∷ 11 ∷ 0xD1 ∷ 1 ∷ 5 ∷ []
+
+-- what a Non-confirmable hit is shown, and its 5.03 with an id where there is room for one exchange
+abbrev pub non_hit : List ℕ
+non_hit = 0x50 ∷ 0x45 ∷ 0 ∷ 3 ∷ 0xD1 ∷ 1 ∷ 9 ∷ 0xFF ∷ 0x32 ∷ 0x31 ∷ []
+
+abbrev pub non_busy : ℕ → List ℕ
+non_busy id = 0x50 ∷ 0xA3 ∷ 0 ∷ id ∷ 0xD1 ∷ 1 ∷ 5 ∷ []
+
+-- one that is told to come later, while another client's exchange is under way
+abbrev pub busy_until : ℕ → List Turn
+busy_until later =
+    from 0 (client 1) (get_t []) ∷ from 0 (client 2) (get_t []) ∷ from later (client 2) (get_t []) ∷ []
+
+abbrev pub busy_sent : Sent → List Sent
+busy_sent then = nothing Opened ∷ to Overloaded (client 2) (non_busy 1) ∷ then ∷ []

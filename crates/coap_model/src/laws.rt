@@ -1,5 +1,5 @@
 //! Laws of the step: public functions that do nothing, whose contracts are the laws.
-ghost use Rattle.std.specs.Prelude.{◌≡◌, ◌≢◌, ℕ, ◌+◌, ◌-◌, ◌*◌, ◌%◌, ◌<◌, ◌≤◌, Bool, true, List, [], ◌∷◌, filter, length, map, Some, None, false};
+ghost use Rattle.std.specs.Prelude.{◌≡◌, ◌≢◌, ℕ, ◌+◌, ◌-◌, ◌*◌, ◌%◌, ◌<◌, ◌≤◌, Bool, true, List, [], ◌∷◌, ◌++◌, filter, length, map, Some, None, false};
 ghost use Rattle.coap_message.specs.declared.kind.Kind.TheVariants.{Con, Non};
 ghost use Rattle.coap_message.specs.declared.message.Head.{Head};
 ghost use Rattle.coap_message.specs.Message.{Message};
@@ -42,11 +42,11 @@ ghost use Rattle.coap_model.specs.Forged.{asked, delivery, right, at_an_arrival}
 ghost use Rattle.coap_model.specs.Carries.{Carries};
 ghost use Rattle.coap_model.specs.Promised.{IdsDiffer, Promised};
 ghost use Rattle.coap_model.specs.Runs.{Taken, turns_of, AreTurns, new_run, run_of, entry_of, answer_at};
-ghost use Rattle.coap_model.specs.Examples.{nothing, to, origin, from, tick_at, client, content_for_client, play, proxy, small_proxy, narrow_proxy, first_answer, first_answer_sent, late_answer, late_answer_sent, error, error_sent, fault, fault_sent, changed, changed_sent, valid, replaced_sent, block_in_response, long_max_age, impostor, impostor_sent, refusals, refusals_sent, long_paths, long_paths_sent, long_segments, long_segments_sent, payload_in_get, payload_in_get_sent, full, full_sent, unprocessed_messages, unprocessed_messages_sent, too_long, too_long_sent, payload_of, payload_of_109_sent, spent_proxy, last_id, last_id_sent, wrapping_proxy, wrapping, wrapping_sent};
+ghost use Rattle.coap_model.specs.Examples.{nothing, to, get_t, origin, from, tick_at, client, content_for_client, play, proxy, small_proxy, narrow_proxy, first_answer, first_answer_sent, late_answer, late_answer_sent, error, error_sent, fault, fault_sent, changed, changed_sent, valid, replaced_sent, block_in_response, long_max_age, impostor, impostor_sent, refusals, refusals_sent, long_paths, long_paths_sent, long_segments, long_segments_sent, payload_in_get, payload_in_get_sent, full, full_sent, unprocessed_messages, unprocessed_messages_sent, too_long, too_long_sent, payload_of, payload_of_109_sent, spent_proxy, last_id, last_id_sent, wrapping_proxy, wrapping, wrapping_sent};
 ghost use Rattle.coap_model.specs.ReplyExamples.{asks_at, with_token, tokens, tokens_sent, two_faults, two_faults_sent, of_class_3, of_class_3_sent, changed_with_age, changed_with_age_sent, two_ages, greatest_age, greatest_age_sent, shorter_age, shorter_age_sent, ten_seconds_after, one_left, none_left, of_one_moment, of_one_moment_sent, request_first, request_first_sent, client_first, client_first_sent};
 ghost use Rattle.coap_model.specs.FormExamples.{after, named, named_form, target_in};
 ghost use Rattle.coap_model.specs.OptionExamples.{others, form_with_others, key_in, key_of_others, form_with_tag, key_of_temp, get_with_others, get_with_tags, with_tag, held_sent, other_tag_sent, accepted, accepted_sent, observed, observed_sent, with_unknown, safe_sent, beside_a_tag, beside_a_tag_sent, forward_proxy, refused_targets, refused_targets_sent, long_without_map, long_without_map_sent, to_sensor, to_sensor_sent};
-ghost use Rattle.coap_model.specs.DuplicateExamples.{con_u, con_not_found, twice_until, refused_with, of_one_id, of_one_id_sent, one_record, two_clients, two_clients_sent, con_asks, con_asks_sent, con_hits, con_hits_sent};
+ghost use Rattle.coap_model.specs.DuplicateExamples.{con_u, con_not_found, twice_until, refused_with, of_one_id, of_one_id_sent, one_record, two_clients, two_clients_sent, con_asks, con_asks_sent, con_hit, con_hits, con_hits_sent, opened_until, hit_until, hit_sent, con_t, con_busy, non_hit, non_busy, busy_until, busy_sent};
 ghost use Rattle.coap_model.specs.Held.{target_bytes, held, most_held};
 ghost use Rattle.coap_model.specs.LimitExamples.{get_u, not_found, got, one_exchange, one_waiter, until_served, until_served_sent, retries_after, two_requests, second_is_told, narrow, long_datagrams, long_datagrams_sent, later_proxy, counted_on, counted_on_sent, after_ids, last_refusal, last_refusal_sent, kept_ids, kept_ids_sent};
 
@@ -170,6 +170,23 @@ pub fn examples_of_duplicates()
     ensures no_room { play one_record two_clients ≡ two_clients_sent }
     ensures not_asked_yet { play proxy con_asks ≡ con_asks_sent }
     ensures hit { play proxy con_hits ≡ con_hits_sent }
+    ensures opened_again { play proxy (opened_until 144999) ≡ first_answer_sent ++ nothing Again ∷ [] }
+    ensures opened_anew { play proxy (opened_until 145000) ≡ first_answer_sent ++ nothing Opened ∷ [] }
+    ensures hit_again { play proxy (hit_until 145999 (get_t [])) ≡ hit_sent non_hit (nothing Again) }
+    ensures hit_anew { play proxy (hit_until 146000 (get_t [])) ≡ hit_sent non_hit (nothing Opened) }
+    ensures con_hit_again { play proxy (hit_until 247999 con_t)
+        ≡ hit_sent con_hit (to Again (client 2) con_hit) }
+    ensures con_hit_anew { play proxy (hit_until 248000 con_t)
+        ≡ hit_sent con_hit (to Overloaded (client 2) con_busy) }
+    ensures busy_again { play one_exchange (busy_until 144999) ≡ busy_sent (nothing Again) }
+    ensures busy_anew { play one_exchange (busy_until 145000)
+        ≡ busy_sent (to Overloaded (client 2) (non_busy 2)) }
+    ensures con_busy_again { play proxy (twice_until 246999 con_t)
+        ≡ to Overloaded (client 1) con_busy ∷ to Again (client 1) con_busy ∷ [] }
+    ensures con_busy_anew { play proxy (twice_until 247000 con_t)
+        ≡ to Overloaded (client 1) con_busy ∷ to Overloaded (client 1) con_busy ∷ [] }
+    ensures silent_again { play (after_ids 32768) (twice_until 144999 (get_u 7)) ≡ nothing NoId ∷ nothing Again ∷ [] }
+    ensures silent_anew { play (after_ids 32768) (twice_until 145000 (get_u 7)) ≡ nothing NoId ∷ nothing NoId ∷ [] }
     ensures no_id { play (after_ids 32768) (from 0 (client 1) (con_u 1) ∷ from 0 (client 1) (get_u 1) ∷ [])
         ≡ refused_with (con_not_found 1) (nothing NoId) }
     ensures held { held (after proxy (twice_until 300000 (con_u 1))) ≡ 4 }
