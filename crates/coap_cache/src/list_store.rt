@@ -44,12 +44,8 @@ impl Store for ListStore {
         })
     }
 
-    fn hit(&mut self, key: &CacheKey, now: u64) -> bool {
-        let usable = self.peek(key).is_some_and(|stored| stored.is_usable(now));
-        if usable {
-            use_entry(&mut self.entries, key);
-        }
-        usable
+    fn touch(&mut self, key: &CacheKey) {
+        use_entry(&mut self.entries, key);
     }
 
     fn peek(&self, key: &CacheKey) -> Option<&Stored> {

@@ -134,7 +134,10 @@ fn put_told(
 }
 
 /// Writes a 2.03 with a tag and a Max-Age.
-#[tactic(auto, unfolding(coap_message::specs::Spelling::spelling, coap_message::specs::Uint::uint_spelling))]
+#[tactic(
+    auto,
+    unfolding(coap_message::specs::Spelling::spelling, coap_message::specs::Uint::uint_spelling)
+)]
 fn put_valid(
     head: Head,
     token: &Token,
@@ -172,8 +175,9 @@ fn put_max_age(out: &mut Datagram, room: usize, before: u16, seconds: u64) -> Re
     put_option(out, room, before, numbers::MAX_AGE, without_zeros(&bytes))
 }
 
-/// Writes a response with one Max-Age of so many seconds, if it is at most `room` bytes: as a message of this head and
-/// token, whose options and payload are those of the response. It takes no memory.
+/// Writes a response with one Max-Age of so many seconds, if it is at most `room` bytes: as a
+/// message of this head and token, whose options and payload are those of the response. It takes no
+/// memory.
 ///
 /// # Errors
 /// `Full`, exactly where it is longer than `room` bytes. Then a part of it may have been written.

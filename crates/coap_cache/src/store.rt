@@ -55,6 +55,19 @@ pub trait Store {
         ensures moved { IsTrue result
             → entries self.new ≡ used entry_key key.now (entries self.old) }
         ensures unmoved { IsFalse result → entries self.new ≡ entries self.old }
+        ensures limited { limits self.new ≡ limits self.old }
+    {
+        let usable = self.peek(key).is_some_and(|stored| stored.is_usable(now));
+        if usable {
+            self.touch(key);
+        }
+        usable
+    }
+
+    /// What is stored for the key, if anything is, is the most recently used from here on. It takes
+    /// no memory.
+    fn touch(&mut self, key: &CacheKey)
+        ensures moved { entries self.new ≡ used entry_key key.now (entries self.old) }
         ensures limited { limits self.new ≡ limits self.old };
 
     /// What is stored for the key. It takes no memory.

@@ -13,6 +13,9 @@ use Rattle.coap_exchange.specs.Due.{Item, sending, serving, due_as, answer_in}
 use Rattle.coap_model.specs.declared.report.Report.{Report}
 use Rattle.coap_model.specs.Verdicts as verdicts
 use Rattle.coap_routes.specs.Routes.{AreRoutes}
+use Rattle.coap_option.specs.Selection.{tags_of}
+use Rattle.coap_cache.specs.declared.key.CacheKey.{CacheKey}
+use Rattle.coap_core.specs.declared.request_target.Asked.{Asked}
 use Rattle.coap_model.specs.Events.{Event}
 use Rattle.coap_model.specs.History.{Entry}
 use Rattle.coap_model.specs.Carries.{Carries}
@@ -83,10 +86,15 @@ IsSentAt number exchanges = IfSome (item_at number exchanges) (λ x. is_sent x.s
 
 -- ---- values of the program as the model sees them
 
--- a verdict is this one of the model
-abbrev pub verdict_seen : Verdict → verdicts.Verdict
-verdict_seen (RefusedWith code) = verdicts.refused_with code
-verdict_seen (MayAsk key) = verdicts.may_ask key
+-- a verdict about a request for this key is this one of the model
+abbrev pub verdict_seen : Verdict → CacheKey → verdicts.Verdict
+verdict_seen (RefusedWith code) key = verdicts.refused_with code
+verdict_seen MayAsk key = verdicts.may_ask key
+
+-- a request may be asked for: this is what it asks for
+pub record IsAsked (w : World) (m : Message) (asked : Asked) : Type 0 where
+  pub key : verdicts.verdict_of w.setting.routes m ≡ verdicts.may_ask asked.key
+  pub tags : asked.tags ≡ tags_of m
 
 -- an item by its moment and its number
 abbrev pub item_as : Item → DueItem

@@ -122,7 +122,8 @@ fn put_values<'a, P: Segments<'a>>(
     requires within { AllByRecursion IsShort (P.left values) }
     ensures written { Appends out.old out.new room
         (options_spelling before (map (option_of number) (P.left values))) (unit_of result) }
-    ensures last { IfOk result (λ last. last ≡ last_number before (map (option_of number) (P.left values))) }
+    ensures last { IfOk result (λ last.
+        last ≡ last_number before (map (option_of number) (P.left values))) }
     ensures below { IfOk result (λ last. last ≤ number) }
 {
     let mut values = values;

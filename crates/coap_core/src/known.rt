@@ -77,7 +77,8 @@ impl<S: Store + Drop> World<S> {
         })
     }
 
-    /// Whether a reply can go out at once to a request of this type: an acknowledgement needs no id.
+    /// Whether a reply can go out at once to a request of this type: an acknowledgement needs no
+    /// id.
     pub(crate) fn can_reply(&self, kind: Kind) -> bool
         requires { CanGoOn self.now }
         ensures { result ≡ can_reply self.now kind }

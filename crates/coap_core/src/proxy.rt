@@ -48,7 +48,8 @@ impl<S: Store> Model for Core<S> {
     ghost view = { λ c. c.world };
 
     // It carries some history.
-    ghost invariant = { λ c. AreLimits c.world.setting.limits × ((history : List Entry) × Carries history c.world) };
+    ghost invariant = { λ c.
+        AreLimits c.world.setting.limits × ((history : List Entry) × Carries history c.world) };
 }
 
 impl<S: Store + Drop> Core<S> {
@@ -68,7 +69,8 @@ impl<S: Store + Drop> Core<S> {
         salt: u64,
     ) -> Result<Core<S>, OutOfMemory>
         // It is made of exactly what it was handed, and carries no history.
-        ensures exact { IfOk result (λ core. core ≡ new_world (setting_of limits routes first_id salt)) }
+        ensures exact { IfOk result (λ core.
+            core ≡ new_world (setting_of limits routes first_id salt)) }
         ensures carries { IfOk result (λ core. Carries [] core) }
     {
         new_proxies_carry_nothing();
@@ -85,8 +87,8 @@ impl<S: Store + Drop> Core<S> {
     /// has room for `datagram()` bytes; fewer than 2^63 steps were done.
     ///
     /// # Errors
-    /// Want of memory, which changes nothing. It is answered only where a request that is new was to
-    /// be remembered, or an answer to be kept.
+    /// Want of memory, which changes nothing. It is answered only where a request that is new was
+    /// to be remembered, or an answer to be kept.
     pub fn step(
         &mut self,
         now: u64,
@@ -110,11 +112,13 @@ impl<S: Store + Drop> Core<S> {
 
         // A core that carries a history carries it with the entry of the step in front.
         ensures carries { IfOk result (λ report.
-            CarriesOn self.old (entry_told now draw (seen event.entry) report out.new.bytes) self.new) }
+            CarriesOn self.old (entry_told now draw (seen event.entry) report out.new.bytes)
+            self.new) }
 
         // So it promises of this step what it promised of those before.
         ensures promised { IfOk result (λ report.
-            PromisesOn self.old (entry_told now draw (seen event.entry) report out.new.bytes) self.new) }
+            PromisesOn self.old (entry_told now draw (seen event.entry) report out.new.bytes)
+            self.new) }
 
         // It is as it was made, within its limits, and within the bound on bytes.
         ensures setting { self.new.setting ≡ self.old.setting }
@@ -140,7 +144,8 @@ impl<S: Store + Drop> Core<S> {
             (takes_memory (step_of self.old now draw true (seen event.entry)).report.outcome
             ≡ true) }
         ensures ticks { seen event.entry ≡ tick → IsOk result }
-        ensures unread { IsUnread self.old.setting.limits.datagram (seen event.entry) → IsOk result }
+        ensures unread { IsUnread self.old.setting.limits.datagram (seen event.entry)
+            → IsOk result }
     {
         steps_are_carried();
         what_is_carried_is_promised();

@@ -1,13 +1,15 @@
-//! The target of a request, before anything of it is kept, and the values that say its parts.
-ghost use Rattle.std.specs.Prelude.{◌≡◌, IfOk};
+//! What a request asks for: its target, before anything of it is kept, its key, and the values that
+//! say a target's parts.
+ghost use Rattle.std.specs.Prelude.{◌≡◌, OnOk};
+ghost use Rattle.coap_option.specs.Selection.{tags_of};
 ghost use Rattle.coap_model.specs.Forms.{request_key};
 ghost use Rattle.coap_core.specs.Forms.{host_values, seen, values_left};
 
 use coap_cache::CacheKey;
-use coap_message::{MessageRef, OutOfMemory, PieceRefs};
-use coap_option::key_options;
+use coap_message::{MessageRef, OptionList, OutOfMemory, PieceRefs, Pieces};
+use coap_option::{key_options_into, tags_into};
 use coap_routes::{MappedTarget, Segments};
-use coap_target::Target;
+use coap_target::{Endpoint, Ip, Target};
 use std::alloc::Global;
 
 /// The target of a request.
@@ -19,21 +21,50 @@ pub(crate) enum RequestTarget<'m, 'a> {
     Named(Target),
 }
 
-impl RequestTarget<'_, '_> {
-    /// The cache key of a request for it.
-    pub(crate) fn to_key(
-        self,
-        alloc: Global,
-        request: &MessageRef<'_>,
-    ) -> Result<CacheKey, OutOfMemory>
-        ensures { IfOk result (λ key. key ≡ request_key (seen self.entry) request.now) }
-    {
-        let target = match self {
-            RequestTarget::Mapped(target) => target.to_target(alloc)?,
-            RequestTarget::Named(target) => target,
+/// What a request asks for: a response for this key, to a client that holds those with these tags.
+/// It is read of one request after the other, each time in the room that the last one took.
+#[derive(Drop)]
+pub(crate) struct Asked {
+    pub(crate) key: CacheKey,
+    pub(crate) tags: Pieces,
+}
+
+impl Asked {
+    /// Room for what is asked for, which takes no memory yet.
+    pub(crate) fn new(alloc: Global) -> Asked {
+        let nowhere = Endpoint {
+            ip: Ip::V4([0; 4]),
+            port: 0,
         };
-        let options = key_options(alloc, request)?;
-        Ok(CacheKey { target, options })
+        let target = Target {
+            host: None,
+            at: nowhere,
+            path: Pieces::new(alloc),
+            query: Pieces::new(alloc),
+        };
+        let options = OptionList::new(alloc);
+        Asked {
+            key: CacheKey { target, options },
+            tags: Pieces::new(alloc),
+        }
+    }
+
+    /// Reads what a request for a target asks for.
+    pub(crate) fn read(
+        &mut self,
+        alloc: Global,
+        target: RequestTarget<'_, '_>,
+        request: &MessageRef<'_>,
+    ) -> Result<(), OutOfMemory>
+        ensures key { OnOk result (self.new.key ≡ request_key (seen target.entry) request.now) }
+        ensures tags { OnOk result (self.new.tags ≡ tags_of request.now) }
+    {
+        match target {
+            RequestTarget::Mapped(target) => target.copy_to(alloc, &mut self.key.target)?,
+            RequestTarget::Named(target) => self.key.target = target,
+        }
+        key_options_into(&mut self.key.options, request)?;
+        tags_into(&mut self.tags, request)
     }
 }
 

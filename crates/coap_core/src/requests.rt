@@ -10,17 +10,19 @@ ghost use Rattle.coap_routes.specs.declared.error.TargetError.TheVariants as err
 ghost use Rattle.coap_routes.specs.Request.{request_target};
 ghost use Rattle.coap_model.specs.Memory.{takes_memory};
 ghost use Rattle.coap_model.specs.Forms.{forwarded};
-ghost use Rattle.coap_model.specs.Verdicts.{form_fits, may_ask, verdict_of};
+ghost use Rattle.coap_model.specs.Verdicts.{form_fits, verdict_of};
 ghost use Rattle.coap_cache.specs.Entries.{has_usable};
 ghost use Rattle.coap_message.specs.Datagram.{holding};
 ghost use Rattle.coap_model.specs.Requests.{lacks_id, refuses, overloads, opens, next_token, on_key, on_miss, remembers, on_new, forgets, on_request};
 ghost use Rattle.coap_model.specs.World.{can_reply};
 ghost use Rattle.coap_core.specs.Forms.{says_uri, seen};
-ghost use Rattle.coap_core.specs.Steps.{Does, CanGoOn, CanRemember, verdict_seen};
+ghost use Rattle.coap_core.specs.Steps.{Does, CanGoOn, CanRemember, IsAsked, verdict_seen};
+ghost use Rattle.coap_core.specs.declared.requests.Verdict.TheVariants as verdicts;
 
 use crate::form::put_forwarded;
 use crate::known::reply_kind;
-use crate::request_target::RequestTarget;
+use crate::request_target::{Asked, RequestTarget};
+use crate::responses::copied_key;
 use crate::token::token_of;
 use crate::world::{World, silent};
 use crate::writing::{put_message, put_stored, put_with_max_age};
@@ -28,7 +30,7 @@ use coap_cache::{CacheKey, Store};
 use coap_exchange::Waiter;
 use coap_message::{Code, Datagram, Kind, MessageRef, Options, OutOfMemory, Pieces, Seq};
 use coap_model::{Outcome, Report};
-use coap_option::{numbers, screen_request, tags};
+use coap_option::{numbers, screen_request};
 use coap_routes::TargetError;
 use coap_routes::laws::{requests_to_the_proxy_are_mapped, targets_fit_options};
 use coap_target::{Endpoint, Target};
@@ -38,8 +40,8 @@ use coap_target::{Endpoint, Target};
 pub(crate) enum Verdict {
     /// It is refused with this code.
     RefusedWith(Code),
-    /// It may be asked for, with this key.
-    MayAsk(CacheKey),
+    /// It may be asked for.
+    MayAsk,
 }
 
 /// Whether a request says its target by a URI (RFC 7252, 5.10.2).
@@ -116,19 +118,28 @@ impl<S: Store + Drop> World<S> {
         if !self.can_reply(request.kind) {
             return self.lack_id(now, client, request, out);
         }
-        match self.verdict_of(request)? {
+        let mut asked = self.take_room();
+        let done = match self.verdict_of(request, &mut asked)? {
             Verdict::RefusedWith(code) => self.refuse(now, client, request, code, out),
-            Verdict::MayAsk(key) => self.on_key(now, client, request, key, out),
-        }
+            Verdict::MayAsk => self.on_key(now, client, request, &asked, out),
+        };
+        self.room = asked;
+        done
     }
 
     /// What becomes of a request: the method, the options, the target; the first that is at fault
-    /// decides.
+    /// decides. If none is, `asked` is what it asks for.
     #[tactic(auto, unfolding(coap_model::specs::Verdicts::verdict_of))]
-    fn verdict_of(&self, request: &MessageRef<'_>) -> Result<Verdict, OutOfMemory>
+    fn verdict_of(
+        &self,
+        request: &MessageRef<'_>,
+        asked: &mut Asked,
+    ) -> Result<Verdict, OutOfMemory>
         requires { CanGoOn self.now }
         ensures exact { IfOk result (λ verdict.
-            verdict_of self.now.setting.routes request.now ≡ verdict_seen verdict) }
+            verdict_of self.now.setting.routes request.now ≡ verdict_seen verdict asked.new.key) }
+        ensures tags { IfOk result (λ verdict.
+            verdict ≡ verdicts.MayAsk → asked.new.tags ≡ tags_of request.now) }
     {
         if request.code != Code::GET {
             return Ok(Verdict::RefusedWith(Code::METHOD_NOT_ALLOWED));
@@ -137,7 +148,10 @@ impl<S: Store + Drop> World<S> {
             return Ok(Verdict::RefusedWith(Code::BAD_OPTION));
         }
         match self.target_of(request) {
-            Ok(target) => Ok(Verdict::MayAsk(target.to_key(self.alloc, request)?)),
+            Ok(target) => {
+                asked.read(self.alloc, target, request)?;
+                Ok(Verdict::MayAsk)
+            }
             Err(TargetError::BadUri) => Ok(Verdict::RefusedWith(Code::BAD_REQUEST)),
             Err(TargetError::NotProxied) => Ok(Verdict::RefusedWith(Code::PROXYING_NOT_SUPPORTED)),
             Err(TargetError::NotFound) => Ok(Verdict::RefusedWith(Code::NOT_FOUND)),
@@ -145,35 +159,37 @@ impl<S: Store + Drop> World<S> {
         }
     }
 
-    /// A request for a key: a response that is stored for it and usable answers it; else an exchange
-    /// is wanted.
+    /// A request for a key: a response that is stored for it and usable answers it; else an
+    /// exchange is wanted.
     fn on_key(
         &mut self,
         now: u64,
         client: Endpoint,
         request: &MessageRef<'_>,
-        key: CacheKey,
+        asked: &Asked,
         out: &mut Datagram,
     ) -> Result<Report, OutOfMemory>
         requires can { CanGoOn self.old }
         requires new { CanRemember now client request.now self.old }
         requires ids { can_reply self.old request.now.kind ≡ true }
-        requires askable { verdict_of self.old.setting.routes request.now ≡ may_ask key }
+        requires asked { IsAsked self.old request.now asked.now }
         requires room { self.old.setting.limits.datagram ≤ out.old.room }
-        requires fits { length (on_key self.old now client request.now key).bytes ≤ out.old.room }
+        requires fits { length (on_key self.old now client request.now asked.now.key).bytes
+            ≤ out.old.room }
         ensures exact { IfOk result (λ report.
-            Does (remembers now client request.now (on_key self.old now client request.now key))
+            Does
+            (remembers now client request.now
+            (on_key self.old now client request.now asked.now.key))
             report out.old out.new self.new) }
         ensures err { OnErr result (self.new ≡ self.old) }
         ensures kept { out.new.room ≡ out.old.room }
     {
-        let tags = tags(self.alloc, request)?;
-        if self.put_usable(now, client, request, &key, &tags, out) {
+        if self.put_usable(now, client, request, asked, out) {
             let report = self.reply(now, client, request, Outcome::Hit, out)?;
-            self.store.hit(&key, now);
+            self.store.touch(&asked.key);
             return Ok(report);
         }
-        self.on_miss(now, client, request, key, tags, out)
+        self.on_miss(now, client, request, asked, out)
     }
 
     /// Whether a response is stored for the key that is usable. Then `out` holds what the client is
@@ -183,25 +199,25 @@ impl<S: Store + Drop> World<S> {
         now: u64,
         client: Endpoint,
         request: &MessageRef<'_>,
-        key: &CacheKey,
-        tags: &Pieces,
+        asked: &Asked,
         out: &mut Datagram,
     ) -> bool
         requires can { CanGoOn self.now }
         requires ids { can_reply self.now request.now.kind ≡ true }
-        requires tags { tags.now ≡ tags_of request.now }
-        requires fits { length (on_key self.now now client request.now key.now).bytes
+        requires tags { asked.now.tags ≡ tags_of request.now }
+        requires fits { length (on_key self.now now client request.now asked.now.key).bytes
             ≤ out.old.room }
-        ensures usable { result ≡ has_usable key.now now self.now.store }
+        ensures usable { result ≡ has_usable asked.now.key now self.now.store }
         ensures shown { result ≡ true
-            → out.new ≡ holding out.old (on_key self.now now client request.now key.now).bytes }
+            → out.new
+            ≡ holding out.old (on_key self.now now client request.now asked.now.key).bytes }
         ensures kept { out.new.room ≡ out.old.room }
     {
-        match self.store.peek(key) {
+        match self.store.peek(&asked.key) {
             Some(stored) if stored.is_usable(now) => {
                 let id = self.reply_id(request);
                 let kind = reply_kind(request.kind);
-                put_stored(out, now, stored, kind, id, &request.token, tags);
+                put_stored(out, now, stored, kind, id, &request.token, &asked.tags);
                 true
             }
             _ => false,
@@ -209,36 +225,40 @@ impl<S: Store + Drop> World<S> {
     }
 
     /// An exchange is wanted for a key: the length of what is sent on decides, then the room. A
-    /// Confirmable request isn't asked for yet.
+    /// Confirmable request isn't asked for yet. What a request asks for is copied where it is opened
+    /// alone, in no more room than it needs.
     fn on_miss(
         &mut self,
         now: u64,
         client: Endpoint,
         request: &MessageRef<'_>,
-        key: CacheKey,
-        tags: Pieces,
+        asked: &Asked,
         out: &mut Datagram,
     ) -> Result<Report, OutOfMemory>
         requires can { CanGoOn self.old }
         requires new { CanRemember now client request.now self.old }
         requires ids { can_reply self.old request.now.kind ≡ true }
-        requires askable { verdict_of self.old.setting.routes request.now ≡ may_ask key }
-        requires tags { tags ≡ tags_of request.now }
+        requires asked { IsAsked self.old request.now asked.now }
         requires room { self.old.setting.limits.datagram ≤ out.old.room }
-        requires fits { length (on_miss self.old now client request.now key).bytes ≤ out.old.room }
+        requires fits { length (on_miss self.old now client request.now asked.now.key).bytes
+            ≤ out.old.room }
         ensures exact { IfOk result (λ report.
-            Does (remembers now client request.now (on_miss self.old now client request.now key))
+            Does
+            (remembers now client request.now
+            (on_miss self.old now client request.now asked.now.key))
             report out.old out.new self.new) }
         ensures err { OnErr result (self.new ≡ self.old) }
         ensures kept { out.new.room ≡ out.old.room }
     {
-        if !self.fits(request, &key.target, out) {
+        if !self.fits(request, &asked.key.target, out) {
             let code = Code::REQUEST_ENTITY_TOO_LARGE;
             return self.refuse(now, client, request, code, out);
         }
         if request.kind != Kind::Non || !self.has_room() {
             return self.overload(now, client, request, out);
         }
+        let key = copied_key(&asked.key)?;
+        let tags = asked.tags.clone()?;
         self.open(now, client, request, key, tags, out)
     }
 
@@ -250,10 +270,12 @@ impl<S: Store + Drop> World<S> {
     ) -> Result<RequestTarget<'m, 'a>, TargetError>
         requires can { CanGoOn self.now }
         requires screened { first_refused Side.Request request.now.options ≡ None }
-        ensures ok { IfOk result (λ t. request_target self.now.setting.routes request.now ≡ Ok (seen t)) }
+        ensures ok { IfOk result (λ t.
+            request_target self.now.setting.routes request.now ≡ Ok (seen t)) }
         ensures sound { IfOk result (λ t. IsTarget (seen t)) }
         ensures err { IfErr result (λ error.
-            (error ≡ errors.OutOfMemory) ⊎ (request_target self.now.setting.routes request.now ≡ Err error)) }
+            (error ≡ errors.OutOfMemory)
+            ⊎ (request_target self.now.setting.routes request.now ≡ Err error)) }
     {
         targets_fit_options();
         requests_to_the_proxy_are_mapped();

@@ -29,7 +29,8 @@ fn has_id(id: u16, state: &ExchangeState) -> bool
 
 /// Whether an exchange of the right token awaits a response of this endpoint with this id.
 fn awaits(exchange: &Exchange, source: Endpoint, id: u16) -> bool
-    ensures { result ≡ (has_id id exchange.now.state && same_endpoint exchange.now.key.target.at source) }
+    ensures { result
+        ≡ (has_id id exchange.now.state && same_endpoint exchange.now.key.target.at source) }
 {
     has_id(id, &exchange.state) && exchange.key.target.at.is(&source)
 }
@@ -52,7 +53,7 @@ fn copied_target(target: &Target) -> Result<Target, OutOfMemory>
 }
 
 /// The same key once more.
-fn copied_key(key: &CacheKey) -> Result<CacheKey, OutOfMemory>
+pub(crate) fn copied_key(key: &CacheKey) -> Result<CacheKey, OutOfMemory>
     ensures { IfOk result (λ copy. copy ≡ key.now) }
 {
     Ok(CacheKey {
@@ -121,8 +122,8 @@ impl<S: Store + Drop> World<S> {
         requires sent { IsSentAt number self.old.exchanges }
         requires room { self.old.setting.limits.datagram ≤ out.old.room }
         ensures exact { IfOk result (λ report.
-            IfSome (answering_at self.old now (grown_of report.outcome) response.now number) (λ step.
-            Does step report out.old out.new self.new)) }
+            IfSome (answering_at self.old now (grown_of report.outcome) response.now number)
+            (λ step. Does step report out.old out.new self.new)) }
         ensures err { OnErr result (self.new ≡ self.old) }
         ensures kept { out.new.room ≡ out.old.room }
     {

@@ -39,7 +39,8 @@ impl<S: Store + Drop> World<S> {
             (takes_memory (step_of self.old now 0 true (seen event.entry)).report.outcome
             ≡ true) }
         ensures ticks { seen event.entry ≡ tick → IsOk result }
-        ensures unread { IsUnread self.old.setting.limits.datagram (seen event.entry) → IsOk result }
+        ensures unread { IsUnread self.old.setting.limits.datagram (seen event.entry)
+            → IsOk result }
     {
         let done = match event {
             Event::Datagram { from, bytes } => self.on_datagram(now, from, bytes, out),
@@ -61,7 +62,8 @@ impl<S: Store + Drop> World<S> {
         requires can { CanGoOn self.old }
         requires onward { self.old.last ≤ now }
         requires room { self.old.setting.limits.datagram ≤ out.old.room }
-        requires fits { length (on_datagram self.old now true source bytes.now).bytes ≤ out.old.room }
+        requires fits { length (on_datagram self.old now true source bytes.now).bytes
+            ≤ out.old.room }
         ensures exact { IfOk result (λ report.
             Does (on_datagram self.old now (grown_of report.outcome) source bytes.now) report
             out.old out.new self.new) }
@@ -70,7 +72,8 @@ impl<S: Store + Drop> World<S> {
         ensures memory { OnErr result
             (takes_memory (on_datagram self.old now true source bytes.now).report.outcome
             ≡ true) }
-        ensures unread { message_in self.old.setting.limits.datagram bytes.now ≡ None → IsOk result }
+        ensures unread { message_in self.old.setting.limits.datagram bytes.now ≡ None
+            → IsOk result }
     {
         if let Some(message) = self.message_in(bytes) {
             return self.on_message(now, source, &message, out);
@@ -103,7 +106,8 @@ impl<S: Store + Drop> World<S> {
         requires can { CanGoOn self.old }
         requires onward { self.old.last ≤ now }
         requires room { self.old.setting.limits.datagram ≤ out.old.room }
-        requires fits { length (on_message self.old now true source message.now).bytes ≤ out.old.room }
+        requires fits { length (on_message self.old now true source message.now).bytes
+            ≤ out.old.room }
         ensures exact { IfOk result (λ report.
             Does (on_message self.old now (grown_of report.outcome) source message.now) report
             out.old out.new self.new) }

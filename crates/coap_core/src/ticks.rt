@@ -67,8 +67,10 @@ impl<S: Store + Drop> World<S> {
     fn send(&mut self, now: u64, number: u64, out: &mut Datagram) -> Report
         requires can { CanGoOn self.old }
         requires there { IsSome (sending_at self.old now number) }
-        requires queued { IfSome (item_at number self.old.exchanges) (λ x. is_queued x.state ≡ true) }
-        requires fits { IfSome (sending_at self.old now number) (λ step. length step.bytes ≤ out.old.room) }
+        requires queued { IfSome (item_at number self.old.exchanges) (λ x.
+            is_queued x.state ≡ true) }
+        requires fits { IfSome (sending_at self.old now number) (λ step.
+            length step.bytes ≤ out.old.room) }
         ensures { IfSome (sending_at self.old now number) (λ step.
             Does step result out.old out.new self.new) }
     {
@@ -91,7 +93,8 @@ impl<S: Store + Drop> World<S> {
     fn deliver(&mut self, now: u64, number: u64, out: &mut Datagram) -> Report
         requires can { CanGoOn self.old }
         requires there { IsSome (delivery_at self.old now number) }
-        requires fits { IfSome (delivery_at self.old now number) (λ step. length step.bytes ≤ out.old.room) }
+        requires fits { IfSome (delivery_at self.old now number) (λ step.
+            length step.bytes ≤ out.old.room) }
         ensures { IfSome (delivery_at self.old now number) (λ step.
             Does step result out.old out.new self.new) }
     {

@@ -5,6 +5,7 @@ ghost use Rattle.coap_model.specs.Setting.{setting_of};
 ghost use Rattle.coap_model.specs.World.{next_id, later, reserved, has_ids, has_room, new_world, counts};
 ghost use Rattle.coap_core.specs.Steps.{CanGoOn};
 
+use crate::request_target::Asked;
 use coap_cache::Store;
 use coap_dedup::{EXCHANGE_LIFETIME, NON_LIFETIME, Records};
 use coap_exchange::{Exchanges, Ids, Table, Waiter};
@@ -13,6 +14,7 @@ use coap_model::{Counts, Limits, Outcome, Report};
 use coap_routes::Routes;
 use std::alloc::Global;
 use std::marker::Model;
+use std::mem;
 
 /// What a proxy was made with, and what it holds. A contract sees the world of the model.
 #[derive(Drop)]
@@ -24,6 +26,8 @@ pub(crate) struct World<S: Store> {
     pub(crate) exchanges: Exchanges,
     pub(crate) waiters: Table<Waiter>,
     pub(crate) store: S,
+    /// Room for what the next request asks for.
+    pub(crate) room: Asked,
     pub(crate) con_records: Records,
     pub(crate) non_records: Records,
     pub(crate) ids: Ids,
@@ -70,7 +74,8 @@ impl<S: Store + Drop> World<S> {
         first_id: u16,
         salt: u64,
     ) -> Result<World<S>, OutOfMemory>
-        ensures exact { IfOk result (λ world. world ≡ new_world (setting_of limits routes first_id salt)) }
+        ensures exact { IfOk result (λ world.
+            world ≡ new_world (setting_of limits routes first_id salt)) }
         ensures limits { AreLimits limits }
     {
         let (bytes, entries) = (limits.values().cache_bytes, limits.values().cache_entries);
@@ -91,12 +96,20 @@ impl<S: Store + Drop> World<S> {
             exchanges,
             waiters,
             store,
+            room: Asked::new(alloc),
             con_records,
             non_records,
             ids: Ids::new(first_id),
             last: 0,
             events: 0,
         })
+    }
+
+    /// The room for what a request asks for, until it is given back.
+    pub(crate) fn take_room(&mut self) -> Asked
+        ensures { self.new ≡ self.old }
+    {
+        mem::replace(&mut self.room, Asked::new(self.alloc))
     }
 
     /// The clock, one event on.

@@ -27,8 +27,10 @@ pub(crate) fn put_message(
     options: &Options<'_>,
     payload: &[u8],
 )
-    requires fits { length (spelling (message_of head token.now options.now payload.now)) ≤ out.old.room }
-    ensures { out.new ≡ holding out.old (spelling (message_of head token.now options.now payload.now)) }
+    requires fits { length (spelling (message_of head token.now options.now payload.now))
+        ≤ out.old.room }
+    ensures { out.new
+        ≡ holding out.old (spelling (message_of head token.now options.now payload.now)) }
 {
     let room = out.room();
     if try_message(out, room, head, token, options, payload).is_err() {
@@ -62,8 +64,9 @@ pub(crate) fn put_with_max_age(
     seconds: u64,
     payload: &[u8],
 )
-    requires fits { length (spelling (message_of head token.now (max_age_option seconds ∷ []) payload.now)) ≤
-        out.old.room }
+    requires fits { length
+        (spelling (message_of head token.now (max_age_option seconds ∷ []) payload.now))
+        ≤ out.old.room }
     ensures { out.new
         ≡ holding out.old
         (spelling (message_of head token.now (max_age_option seconds ∷ []) payload.now)) }
@@ -74,7 +77,10 @@ pub(crate) fn put_with_max_age(
     }
 }
 
-#[tactic(auto, unfolding(coap_message::specs::Spelling::spelling, coap_message::specs::Uint::uint_spelling))]
+#[tactic(
+    auto,
+    unfolding(coap_message::specs::Spelling::spelling, coap_message::specs::Uint::uint_spelling)
+)]
 fn try_with_max_age(
     out: &mut Datagram,
     room: usize,
@@ -124,7 +130,8 @@ pub(crate) fn put_stored(
     token: &Token,
     tags: &Pieces,
 )
-    requires fits { length (spelling (shown_as kind now (stored_answer stored.now) id token.now tags.now))
+    requires fits { length
+        (spelling (shown_as kind now (stored_answer stored.now) id token.now tags.now))
         ≤ out.old.room }
     ensures { out.new
         ≡ holding out.old

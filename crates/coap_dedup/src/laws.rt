@@ -6,8 +6,8 @@ ghost use Rattle.coap_dedup.specs.declared.record.Record.{Record};
 ghost use Rattle.coap_dedup.specs.Lists.{AreApart, AreInOrder, AreUpTo, bytes_of, is_living, is_of, living, record_of, reply_bytes};
 ghost use Rattle.coap_dedup.specs.Records.{AreRecords, Records, living_at, no_records, with_kept};
 
-/// What is kept is found until its lifetime ends, and what was found before is found still. Each record
-/// is what is found for its message, and no other is.
+/// What is kept is found until its lifetime ends, and what was found before is found still. Each
+/// record is what is found for its message, and no other is.
 pub fn what_is_kept_is_found()
     ensures kept { (r : Record) (t : Records) (now : ℕ)
         → record_of r.from r.id (living_at r.at t) ≡ None
@@ -66,7 +66,8 @@ pub fn records_stay_so()
     ensures few { (t : Records) (now : ℕ) → AreRecords t → length (living_at now t) ≤ t.limit }
 {}
 
-/// How many bytes are held: those of one reply more at most, and within the limit times the longest.
+/// How many bytes are held: those of one reply more at most, and within the limit times the
+/// longest.
 pub fn bytes_are_bounded()
     ensures kept { (r : Record) (t : Records)
         → bytes_of (with_kept r t).items ≤ bytes_of t.items + reply_bytes r }

@@ -19,11 +19,11 @@ use std::alloc::Global;
 use std::collections::BTreeMap;
 use std::marker::Model;
 
-/// Records of the messages of one kind, in order of keeping. A contract sees them as a list, with the
-/// most that are held and their lifetime. Moments are in milliseconds and don't go back.
+/// Records of the messages of one kind, in order of keeping. A contract sees them as a list, with
+/// the most that are held and their lifetime. Moments are in milliseconds and don't go back.
 ///
-/// A look-up and a `keep` cost what a look-up in the index does, whatever keys strangers choose; beside
-/// that each record is let go once.
+/// A look-up and a `keep` cost what a look-up in the index does, whatever keys strangers choose;
+/// beside that each record is let go once.
 #[derive(Drop)]
 pub struct Records {
     /// The records, in as many places as the limit.
@@ -93,7 +93,8 @@ impl Records {
     /// reply to it, if one is (RFC 7252, 4.5). Records that no longer live are let go.
     ///
     /// # Errors
-    /// 1. `Full` where as many records live as there may be. 2. `OutOfMemory`. Nothing is changed then.
+    /// 1. `Full` where as many records live as there may be. 2. `OutOfMemory`. Nothing is changed
+    /// then.
     pub fn keep(
         &mut self,
         from: Endpoint,
@@ -190,8 +191,8 @@ fn next_number(ring: &HeapCircularBuffer<Record>, index: &BTreeMap<Key, u64>) ->
     }
 }
 
-/// Lets the records go that don't live any more when the new one is kept, whose number the index has
-/// already.
+/// Lets the records go that don't live any more when the new one is kept, whose number the index
+/// has already.
 fn release_dead(
     ring: &mut HeapCircularBuffer<Record>,
     index: &mut BTreeMap<Key, u64>,

@@ -5,6 +5,7 @@
 pub enum Seen<'a> {
     /// It is a new one.
     New,
-    /// It was seen, and this reply was kept, if there was one: the datagram that is to be sent again.
+    /// It was seen, and this reply was kept, if there was one: the datagram that is to be sent
+    /// again.
     Again(Option<&'a [u8]>),
 }

@@ -12,7 +12,8 @@ pub struct Due {
 }
 
 impl Due {
-    /// What is due first, of this and of what was found before; at one moment what was found before.
+    /// What is due first, of this and of what was found before; at one moment what was found
+    /// before.
     pub(crate) fn or_earlier(self, found: Option<Due>) -> Due
         ensures exact { Some result ≡ earlier_due found (Some self) }
     {

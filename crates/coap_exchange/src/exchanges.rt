@@ -90,7 +90,8 @@ impl Exchanges {
     /// Opens an exchange after the others: its request waits for its turn. Answers its number.
     ///
     /// # Errors
-    /// 1. `Full` where the table holds as many as it may. 2. `OutOfMemory`. Nothing is changed then.
+    /// 1. `Full` where the table holds as many as it may. 2. `OutOfMemory`. Nothing is changed
+    /// then.
     pub fn admit(&mut self, key: CacheKey, form: Seq<u8>, now: u64) -> Result<u64, AdmitError>
         requires { self.old.admitted < 2 ^ 64 - 1 }
         ensures number { IfOk result (λ number. number ≡ self.old.admitted + 1) }
@@ -116,8 +117,8 @@ impl Exchanges {
         Ok(number)
     }
 
-    /// Undoes an `admit` that was the last change: takes out the exchange of the last number that was
-    /// given, if it is there, and gives that number back.
+    /// Undoes an `admit` that was the last change: takes out the exchange of the last number that
+    /// was given, if it is there, and gives that number back.
     pub fn withdraw(&mut self)
         ensures exact { self.new ≡ withdrawn self.old }
         ensures undone { (before : Table Exchange) (item : Exchange)
@@ -155,8 +156,8 @@ impl Exchanges {
         self.move_to(number, ExchangeState::Done(answer));
     }
 
-    /// What is due first: of requests that wait for their turn the one that was opened first, of those
-    /// opened at one moment the one of the least number.
+    /// What is due first: of requests that wait for their turn the one that was opened first, of
+    /// those opened at one moment the one of the least number.
     pub fn due(&self) -> Option<Due>
         ensures exact { result ≡ option_map due_as (least (exchange_items self.now.items)) }
     {

@@ -1,4 +1,5 @@
-//! What is under way: exchanges with origins, and the clients that wait for them (RFC 7252, 4 and 5.2).
+//! What is under way: exchanges with origins, and the clients that wait for them (RFC 7252, 4 and
+//! 5.2).
 #![tactic(auto)]
 
 mod due;

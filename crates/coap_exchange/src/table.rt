@@ -21,8 +21,8 @@ pub enum AdmitError {
     OutOfMemory,
 }
 
-/// Items under numbers, in order of number. Numbers count from 1, and one is given again only where it was
-/// given back. Room for all items is made at the start.
+/// Items under numbers, in order of number. Numbers count from 1, and one is given again only where
+/// it was given back. Room for all items is made at the start.
 #[derive(Drop)]
 pub struct Table<T> {
     pub(crate) items: IndexMap<u64, T>,
@@ -35,7 +35,8 @@ impl<T> Model for Table<T> {
 
     ghost Value = { Table T };
 
-    ghost view = { λ t. record { items = t.items.entries; limit = t.limit; admitted = t.admitted } };
+    ghost view = { λ t.
+        record { items = t.items.entries; limit = t.limit; admitted = t.admitted } };
 
     ghost invariant = { λ t.
         IsTable (record { items = t.items.entries; limit = t.limit; admitted = t.admitted }) };
@@ -85,7 +86,8 @@ impl<T: Drop> Table<T> {
     /// Takes an item in, after the others, and answers its number.
     ///
     /// # Errors
-    /// 1. `Full` where the table holds as many items as it may. 2. `OutOfMemory`. Nothing is changed then.
+    /// 1. `Full` where the table holds as many items as it may. 2. `OutOfMemory`. Nothing is
+    /// changed then.
     pub fn admit(&mut self, item: T) -> Result<u64, AdmitError>
         requires { self.old.admitted < 2 ^ 64 - 1 }
         ensures number { IfOk result (λ number. number ≡ self.old.admitted + 1) }
@@ -117,8 +119,8 @@ impl<T: Drop> Table<T> {
         self.items.shift_remove(&number);
     }
 
-    /// Undoes an `admit` that was the last change: takes out the item of the last number that was given,
-    /// if it is there, and gives that number back.
+    /// Undoes an `admit` that was the last change: takes out the item of the last number that was
+    /// given, if it is there, and gives that number back.
     pub fn withdraw(&mut self)
         ensures exact { self.new ≡ withdrawn self.old }
         ensures undone { (before : Table T) (item : T)

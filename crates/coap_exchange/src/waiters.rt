@@ -9,8 +9,8 @@ use crate::table::Table;
 use crate::waiter::Waiter;
 
 impl Table<Waiter> {
-    /// What is due first: of waiters whose exchange has its answer the one whose answer came first, of
-    /// those of one moment the one of the least number.
+    /// What is due first: of waiters whose exchange has its answer the one whose answer came first,
+    /// of those of one moment the one of the least number.
     pub fn due(&self, exchanges: &Exchanges) -> Option<Due>
         ensures exact { result
             ≡ option_map due_as (least (waiter_items exchanges.now.items self.now.items)) }

@@ -50,12 +50,13 @@ pub fn inputs_have_one_list_of_lines()
         → lines ≡ lines_of input }
 {}
 
-/// The turns of an input follow each other: no moment is below the one before it, and none above 2^62; draws
-/// are at most 1,000, and datagrams are bytes.
+/// The turns of an input follow each other: no moment is below the one before it, and none above
+/// 2^62; draws are at most 1,000, and datagrams are bytes.
 pub fn turns_follow_each_other()
     ensures follow { (input : List ℕ) → AreTurns 0 (script_of input).turns }
     ensures within { (input : List ℕ)
-        → AllByRecursion (λ turn. (turn.now ≤ 2 ^ 62) × (turn.draw ≤ 1000)) (script_of input).turns }
+        → AllByRecursion (λ turn. (turn.now ≤ 2 ^ 62) × (turn.draw ≤ 1000))
+        (script_of input).turns }
 {}
 
 /// What is written of a datagram and of an endpoint is read again.

@@ -57,12 +57,8 @@ impl<H: BuildHasher + Copy> Store for LruStore<H> {
         })
     }
 
-    fn hit(&mut self, key: &CacheKey, now: u64) -> bool {
-        let usable = self.peek(key).is_some_and(|stored| stored.is_usable(now));
-        if usable {
-            self.recent.promote(key);
-        }
-        usable
+    fn touch(&mut self, key: &CacheKey) {
+        self.recent.promote(key);
     }
 
     fn peek(&self, key: &CacheKey) -> Option<&Stored> {

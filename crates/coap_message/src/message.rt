@@ -11,7 +11,8 @@ use crate::token::Token;
 use std::alloc::Global;
 use std::marker::Model;
 
-/// A message. An Empty one, of code 0.00, has neither token nor options nor payload (RFC 7252, 4.1).
+/// A message. An Empty one, of code 0.00, has neither token nor options nor payload (RFC 7252,
+/// 4.1).
 #[derive(Clone, Debug, Drop, PartialEq, Eq, Hash)]
 pub struct Message {
     pub kind: Kind,
@@ -44,7 +45,8 @@ pub struct Head {
     pub id: u16,
 }
 
-/// A message whose options and payload are lent, as they stand in a datagram. A contract sees the message.
+/// A message whose options and payload are lent, as they stand in a datagram. A contract sees the
+/// message.
 #[derive(Drop)]
 pub struct MessageRef<'a> {
     pub kind: Kind,
@@ -68,7 +70,8 @@ impl<'a> Model for MessageRef<'a> {
 }
 
 impl<'a> MessageRef<'a> {
-    /// A copy of the message. Its options and its payload take a block of memory each, of just their bytes.
+    /// A copy of the message. Its options and its payload take a block of memory each, of just
+    /// their bytes.
     pub fn to_message(&self, alloc: Global) -> Result<Message, OutOfMemory>
         ensures { IfOk result (λ m. m ≡ self.now) }
     {

@@ -71,6 +71,14 @@ impl OptionList {
         self.bytes.len()
     }
 
+    /// Lets go of all options, and keeps their room.
+    pub fn clear(&mut self)
+        ensures { self.new ≡ [] }
+    {
+        self.bytes.clear();
+        self.last = 0;
+    }
+
     /// Gives back the room beyond what is held, where the allocator takes it.
     pub fn shrink_to_fit(&mut self)
         ensures { self.new ≡ self.old }
@@ -108,8 +116,8 @@ fn add_more(bytes: &mut Seq<u8>, n: usize) -> Result<(), OutOfMemory>
     }
 }
 
-/// Adds an option after one of the number `before`. Where there is no memory, a part of it may have been
-/// added.
+/// Adds an option after one of the number `before`. Where there is no memory, a part of it may have
+/// been added.
 fn add_option(
     bytes: &mut Seq<u8>,
     before: u16,

@@ -116,8 +116,8 @@ impl Pieces {
         self.iter().count()
     }
 
-    /// How many bytes a piece takes: its own, and its length, which takes a byte for each 255 in it and one
-    /// more.
+    /// How many bytes a piece takes: its own, and its length, which takes a byte for each 255 in it
+    /// and one more.
     pub fn size_of(piece: &[u8]) -> usize
         ensures { length piece.now < 2 ^ 62 → result ≡ length (pieces_spelling (piece.now ∷ [])) }
     {
@@ -130,6 +130,13 @@ impl Pieces {
         ensures { result ≡ length (pieces_spelling self.now) }
     {
         self.bytes.len()
+    }
+
+    /// Lets go of all pieces, and keeps their room.
+    pub fn clear(&mut self)
+        ensures { self.new ≡ [] }
+    {
+        self.bytes.clear();
     }
 
     /// Gives back the room beyond what is held, where the allocator takes it.

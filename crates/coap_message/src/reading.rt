@@ -117,12 +117,12 @@ fn read_content(code: Code, token_length: usize, bytes: &[u8]) -> Option<BodyRef
 }
 
 impl<'a> MessageRef<'a> {
-    /// The message that the bytes spell (RFC 7252, 3), all of the bytes. Its options and its payload are lent as
-    /// they stand there, so that it takes no memory.
+    /// The message that the bytes spell (RFC 7252, 3), all of the bytes. Its options and its
+    /// payload are lent as they stand there, so that it takes no memory.
     ///
     /// # Errors
-    /// 1. `Short`: fewer than four bytes. 2. `Version`: a version other than 1. 3. `Format`: no message is spelled
-    /// so.
+    /// 1. `Short`: fewer than four bytes. 2. `Version`: a version other than 1. 3. `Format`: no
+    /// message is spelled so.
     pub fn read(bytes: &'a [u8]) -> Result<MessageRef<'a>, ReadError>
         // What is read is spelled so, and what is spelled so is read.
         ensures spelled { (m : Message) → (result ≡ Ok m) ↔ Spells bytes.now m }

@@ -87,6 +87,13 @@ impl<T: Drop> Seq<T> {
         self.items.truncate(count);
     }
 
+    /// Lets go of all items, and keeps their room.
+    pub fn clear(&mut self)
+        ensures { self.new ≡ [] }
+    {
+        self.items.clear();
+    }
+
     /// Gives back the room beyond the items, where the allocator takes it.
     pub fn shrink_to_fit(&mut self)
         ensures { self.new ≡ self.old }

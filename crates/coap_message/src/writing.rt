@@ -49,8 +49,9 @@ fn put_more(out: &mut Datagram, room: usize, n: usize) -> Result<(), Full>
     }
 }
 
-/// Adds an option after one of the number `before` (RFC 7252, 3.1), 0 for the first, if at most `room`
-/// bytes are held then. It takes no memory. Where it is `Full`, a part of the option may have been added.
+/// Adds an option after one of the number `before` (RFC 7252, 3.1), 0 for the first, if at most
+/// `room` bytes are held then. It takes no memory. Where it is `Full`, a part of the option may
+/// have been added.
 pub fn put_option(
     out: &mut Datagram,
     room: usize,
@@ -72,8 +73,8 @@ pub fn put_option(
     append(out, room, value)
 }
 
-/// Adds the options of a message, all of them, if at most `room` bytes are held then. It takes no memory.
-/// Where it is `Full`, none of them was added.
+/// Adds the options of a message, all of them, if at most `room` bytes are held then. It takes no
+/// memory. Where it is `Full`, none of them was added.
 pub fn put_options(out: &mut Datagram, room: usize, options: &Options<'_>) -> Result<(), Full>
     requires { room ≤ out.old.room }
     ensures { Appends out.old out.new room (options_spelling 0 options.now) result }
@@ -81,8 +82,8 @@ pub fn put_options(out: &mut Datagram, room: usize, options: &Options<'_>) -> Re
     append(out, room, options.bytes())
 }
 
-/// Adds a payload after its marker, if there is a payload and at most `room` bytes are held then. It
-/// takes no memory. Where it is `Full`, the marker may have been added.
+/// Adds a payload after its marker, if there is a payload and at most `room` bytes are held then.
+/// It takes no memory. Where it is `Full`, the marker may have been added.
 pub fn put_payload(out: &mut Datagram, room: usize, payload: &[u8]) -> Result<(), Full>
     requires { room ≤ out.old.room }
     ensures { Appends out.old out.new room (payload_spelling payload.now) result }
@@ -104,8 +105,8 @@ fn header_of(head: Head, token_length: usize) -> [u8; 4]
     [first, head.code.0, high, low]
 }
 
-/// Begins a message: clears the datagram, and writes the header and the token (RFC 7252, 3), if they are
-/// at most `room` bytes. Options and a payload are added after them. It takes no memory.
+/// Begins a message: clears the datagram, and writes the header and the token (RFC 7252, 3), if
+/// they are at most `room` bytes. Options and a payload are added after them. It takes no memory.
 pub fn put_head(out: &mut Datagram, room: usize, head: Head, token: &Token) -> Result<(), Full>
     requires { room ≤ out.old.room }
     ensures written { Appends (holding out.old []) out.new room (head_spelling head token.now)

@@ -13,6 +13,7 @@ pub mod Room
 pub mod OwnReplies
 pub mod Remembering
 pub mod Duplicates
+mod Repeats
 pub mod Quiet
 pub mod Awaiting
 pub mod Acting

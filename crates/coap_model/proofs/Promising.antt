@@ -88,7 +88,7 @@ living-few {t = t} now s = let within = s.are.within in let limit = s.limit in o
 -- ---- moments
 
 -- what was done comes no later than the newest of it
-not-later : (history : List Deed) (p : Place) → IsInOrder history → IsPlaceOf history p → p.deed.entry.now ≤ last_of history
+pub not-later : (history : List Deed) (p : Place) → IsInOrder history → IsPlaceOf history p → p.deed.entry.now ≤ last_of history
 not-later [] p o at = absurd at
 not-later (d ∷ past) p o at =
     ⊎_elim

@@ -32,8 +32,8 @@ ghost use Rattle.coap_message.specs.declared.code.TheConstants.Code.{NOT_FOUND};
 ghost use Rattle.coap_model.specs.Memory.{takes_memory};
 ghost use Rattle.coap_model.specs.Step.{step_of};
 ghost use Rattle.coap_model.specs.Ticks.{next_due};
-ghost use Rattle.coap_model.specs.History.{Entry, Act, no_item, serves, takes, grown_of, gives_id, ids_in, Deed, Place, IsPlaceOf, Somewhere, Gives, HasRoom};
-ghost use Rattle.coap_model.specs.Messages.{brings_requests, eight_zeros};
+ghost use Rattle.coap_model.specs.History.{Entry, Act, no_item, serves, takes, grown_of, gives_id, ids_in, Deed, Place, IsPlaceOf, Somewhere, Gives, HasRoom, last_of, IsInOrder};
+ghost use Rattle.coap_model.specs.Messages.{brings_requests, eight_zeros, told_again};
 ghost use Rattle.coap_model.specs.Duplicates.{IsRememberedAt, Repeats};
 ghost use Rattle.coap_model.specs.Due.{IsDueAt, IsNextDue};
 ghost use Rattle.coap_model.specs.Justified.{IsRequestOf, IsNew, IsUnprocessable, verdict_on, fits_on, IsMiss, HaveOneMemory, IsAwaited, IsActing, IsDelivery, JustifiedBy, AllJustified, IsOwed, MayFollow, AreOfOneTurn, IsForwarding};
@@ -80,7 +80,8 @@ pub fn examples_at_limits()
     ensures one_exchange { play one_exchange until_served ≡ until_served_sent }
     ensures one_waiter { play one_waiter until_served ≡ until_served_sent }
     ensures at_once { play (retries_after 0) two_requests ≡ second_is_told (0xD0 ∷ 1 ∷ []) }
-    ensures in_an_hour { play (retries_after 3600) two_requests ≡ second_is_told (0xD2 ∷ 1 ∷ 0x0E ∷ 0x10 ∷ []) }
+    ensures in_an_hour { play (retries_after 3600) two_requests
+        ≡ second_is_told (0xD2 ∷ 1 ∷ 0x0E ∷ 0x10 ∷ []) }
     ensures long_datagrams { play narrow long_datagrams ≡ long_datagrams_sent }
     ensures counted_on { play later_proxy counted_on ≡ counted_on_sent }
     ensures last_refusal { play (after_ids 32767) last_refusal ≡ last_refusal_sent }
@@ -115,7 +116,9 @@ pub fn examples_of_forms_and_tables()
     ensures held_with_token { held (after proxy (from 0 (client 1) (with_token 0x74) ∷ [])) ≡ 24 }
     ensures held_with_host { target_bytes named ≡ 11 }
     ensures held_with_accept { held (after proxy accepted) ≡ 27 }
-    ensures held_when_answered { held (after proxy (asks_at 0 1 ∷ tick_at 0 ∷ from 0 origin (got 1 1) ∷ [])) ≡ 100 }
+    ensures held_when_answered { held
+        (after proxy (asks_at 0 1 ∷ tick_at 0 ∷ from 0 origin (got 1 1) ∷ []))
+        ≡ 100 }
     ensures bound { most_held default_limits ≡ 16998400 }
     ensures counted { counts (after proxy (asks_at 0 1 ∷ asks_at 0 2 ∷ []))
         ≡ record {
@@ -159,7 +162,8 @@ pub fn examples_of_options()
 /// what is told again, which requests are one, where there is no room to remember one, what is held
 /// and counted, and that an acknowledgement needs no message id.
 pub fn examples_of_duplicates()
-    ensures non_again { play proxy (twice_until 144999 (get_u 7)) ≡ refused_with (not_found 0 1) (nothing Again) }
+    ensures non_again { play proxy (twice_until 144999 (get_u 7))
+        ≡ refused_with (not_found 0 1) (nothing Again) }
     ensures non_anew { play proxy (twice_until 145000 (get_u 7))
         ≡ refused_with (not_found 0 1) (to (Refused NOT_FOUND) (client 1) (not_found 0 2)) }
     ensures con_again { play proxy (twice_until 246999 (con_u 1))
@@ -170,10 +174,14 @@ pub fn examples_of_duplicates()
     ensures no_room { play one_record two_clients ≡ two_clients_sent }
     ensures not_asked_yet { play proxy con_asks ≡ con_asks_sent }
     ensures hit { play proxy con_hits ≡ con_hits_sent }
-    ensures opened_again { play proxy (opened_until 144999) ≡ first_answer_sent ++ nothing Again ∷ [] }
-    ensures opened_anew { play proxy (opened_until 145000) ≡ first_answer_sent ++ nothing Opened ∷ [] }
-    ensures hit_again { play proxy (hit_until 145999 (get_t [])) ≡ hit_sent non_hit (nothing Again) }
-    ensures hit_anew { play proxy (hit_until 146000 (get_t [])) ≡ hit_sent non_hit (nothing Opened) }
+    ensures opened_again { play proxy (opened_until 144999)
+        ≡ first_answer_sent ++ nothing Again ∷ [] }
+    ensures opened_anew { play proxy (opened_until 145000)
+        ≡ first_answer_sent ++ nothing Opened ∷ [] }
+    ensures hit_again { play proxy (hit_until 145999 (get_t []))
+        ≡ hit_sent non_hit (nothing Again) }
+    ensures hit_anew { play proxy (hit_until 146000 (get_t []))
+        ≡ hit_sent non_hit (nothing Opened) }
     ensures con_hit_again { play proxy (hit_until 247999 con_t)
         ≡ hit_sent con_hit (to Again (client 2) con_hit) }
     ensures con_hit_anew { play proxy (hit_until 248000 con_t)
@@ -185,9 +193,12 @@ pub fn examples_of_duplicates()
         ≡ to Overloaded (client 1) con_busy ∷ to Again (client 1) con_busy ∷ [] }
     ensures con_busy_anew { play proxy (twice_until 247000 con_t)
         ≡ to Overloaded (client 1) con_busy ∷ to Overloaded (client 1) con_busy ∷ [] }
-    ensures silent_again { play (after_ids 32768) (twice_until 144999 (get_u 7)) ≡ nothing NoId ∷ nothing Again ∷ [] }
-    ensures silent_anew { play (after_ids 32768) (twice_until 145000 (get_u 7)) ≡ nothing NoId ∷ nothing NoId ∷ [] }
-    ensures no_id { play (after_ids 32768) (from 0 (client 1) (con_u 1) ∷ from 0 (client 1) (get_u 1) ∷ [])
+    ensures silent_again { play (after_ids 32768) (twice_until 144999 (get_u 7))
+        ≡ nothing NoId ∷ nothing Again ∷ [] }
+    ensures silent_anew { play (after_ids 32768) (twice_until 145000 (get_u 7))
+        ≡ nothing NoId ∷ nothing NoId ∷ [] }
+    ensures no_id { play (after_ids 32768)
+        (from 0 (client 1) (con_u 1) ∷ from 0 (client 1) (get_u 1) ∷ [])
         ≡ refused_with (con_not_found 1) (nothing NoId) }
     ensures held { held (after proxy (twice_until 300000 (con_u 1))) ≡ 4 }
     ensures held_of_none { held (after proxy (from 0 (client 1) (get_u 7) ∷ [])) ≡ 0 }
@@ -206,7 +217,8 @@ pub fn examples_of_duplicates()
 /// Each request that is sent on has the cache key of the client's request for which it is sent,
 /// read off the bytes that were sent.
 pub fn requests_keep_their_key()
-    ensures { (setting : Setting) (past : List Deed) (d : Deed) (f : IsForwarding setting past d) (m : Message)
+    ensures { (setting : Setting) (past : List Deed) (d : Deed)
+        (f : IsForwarding setting past d) (m : Message)
         → AreRoutes setting.routes
         → AllJustified setting past
         → Spells d.entry.bytes m
@@ -247,7 +259,8 @@ pub fn ticks_are_idle_where_nothing_is_due()
 
 /// Deliveries that are right but for one thing are not justified.
 pub fn forged_deliveries_are_refused()
-    ensures for_nobody { ¬ IsDelivery forged.setting forged.past (delivery (client 1) (content_for_client 7) no_item) }
+    ensures for_nobody { ¬ IsDelivery forged.setting forged.past
+        (delivery (client 1) (content_for_client 7) no_item) }
     ensures for_another { ¬ IsDelivery forged.setting forged.past
         (delivery (client 1) (content_for_client 7) (serves 2)) }
     ensures again { ¬ IsDelivery forged.setting (right ∷ forged.past) right }
@@ -266,7 +279,8 @@ pub fn forged_deliveries_are_refused()
 /// Each step of a proxy that carries a history leaves a proxy that carries the history with the
 /// step's entry in front, where moments don't go back and datagrams are bytes.
 pub fn steps_are_carried()
-    ensures carried { (w : World) (history : List Entry) (now draw : ℕ) (grown : Bool) (event : Event)
+    ensures carried { (w : World) (history : List Entry) (now draw : ℕ) (grown : Bool)
+        (event : Event)
         → Carries history w
         → w.last ≤ now
         → IsEvent event
@@ -276,7 +290,9 @@ pub fn steps_are_carried()
 
 /// A proxy that has done nothing carries the empty history.
 pub fn new_proxies_carry_nothing()
-    ensures carried { (setting : Setting) → AreRoutes setting.routes → Carries [] (new_world setting) }
+    ensures carried { (setting : Setting)
+        → AreRoutes setting.routes
+        → Carries [] (new_world setting) }
 {}
 
 /// No step changes the limits, the routes, the first message id and the salt, where datagrams are
@@ -298,8 +314,8 @@ pub fn memory_is_told()
 {}
 
 /// What a proxy carries it promises: each entry is justified by the entries before it, each waiter
-/// is served at most once, message ids count up and none comes back, and exchanges, waiters, what is
-/// remembered, what is stored and the bytes held are within their limits.
+/// is served at most once, message ids count up and none comes back, and exchanges, waiters, what
+/// is remembered, what is stored and the bytes held are within their limits.
 pub fn what_is_carried_is_promised()
     ensures promised { (history : List Entry) (w : World) → Carries history w → Promised history w }
 {}
@@ -362,7 +378,8 @@ pub fn what_is_owed_is_given()
     ensures owed { (setting : Setting) (past : List Deed) (d : Deed)
         → JustifiedBy d.entry.report.outcome setting past d
         → IsOwed setting past d }
-    ensures opened { (setting : Setting) (past : List Deed) (d : Deed) (client : Endpoint) (request : Message)
+    ensures opened { (setting : Setting) (past : List Deed) (d : Deed) (client : Endpoint)
+        (request : Message)
         (key : CacheKey)
         → JustifiedBy d.entry.report.outcome setting past d
         → IsRequestOf setting client request d.entry.event
@@ -377,7 +394,8 @@ pub fn what_is_owed_is_given()
         → JustifiedBy d.entry.report.outcome setting past d
         → IsAwaited setting past exchange d.entry.event
         → takes d.entry.report.outcome ≡ true }
-    ensures rejected { (setting : Setting) (past : List Deed) (d : Deed) (source : Endpoint) (bytes : List ℕ)
+    ensures rejected { (setting : Setting) (past : List Deed) (d : Deed) (source : Endpoint)
+        (bytes : List ℕ)
         (head : Head)
         → JustifiedBy d.entry.report.outcome setting past d
         → d.entry.event ≡ arrival source bytes
@@ -393,10 +411,13 @@ pub fn what_is_owed_is_given()
         → IsActing setting past d }
 {}
 
-/// A request is known where it repeats one, by the places of the history, and what is known of it is
-/// what was sent at once there: so a duplicate is told what its request was told, or nothing.
+/// A request is known where it repeats one, by the places of the history, and what is known of it
+/// is what was sent at once there: so a duplicate is told what its request was told, or nothing. It
+/// repeats one place alone, whichever is looked at; and where it is Confirmable, what was sent
+/// there went to its client.
 pub fn duplicates_repeat_a_place()
-    ensures known { (past : List Deed) (now : ℕ) (client : Endpoint) (request : Message) (known : Record)
+    ensures known { (past : List Deed) (now : ℕ) (client : Endpoint) (request : Message)
+        (known : Record)
         → record_of client request.id (remembered_at request.kind now past) ≡ Some known
         → Somewhere (IsRememberedAt now client request known) past }
     ensures each { (past : List Deed) (now : ℕ) (client : Endpoint) (request : Message) (p : Place)
@@ -404,6 +425,32 @@ pub fn duplicates_repeat_a_place()
         → IsPlaceOf past p
         → Repeats now client request p
         → record_of client request.id (remembered_at request.kind now past) ≢ None }
+    ensures one { (setting : Setting) (past : List Deed) (now : ℕ) (client : Endpoint)
+        (request : Message) (p q : Place)
+        → AllJustified setting past
+        → IsInOrder past
+        → last_of past ≤ now
+        → IsPlaceOf past p
+        → IsPlaceOf past q
+        → Repeats now client request p
+        → Repeats now client request q
+        → p ≡ q }
+    ensures told { (setting : Setting) (past : List Deed) (now : ℕ) (client : Endpoint)
+        (request : Message) (p : Place) (known : Record)
+        → AllJustified setting past
+        → IsInOrder past
+        → last_of past ≤ now
+        → IsPlaceOf past p
+        → Repeats now client request p
+        → record_of client request.id (remembered_at request.kind now past) ≡ Some known
+        → known.reply ≡ told_again request.kind p.deed.entry.bytes }
+    ensures sent { (setting : Setting) (past : List Deed) (now : ℕ) (client : Endpoint)
+        (request : Message) (p : Place)
+        → AllJustified setting past
+        → IsPlaceOf past p
+        → Repeats now client request p
+        → request.kind ≡ Con
+        → p.deed.entry.report.send ≡ Some client }
 {}
 
 /// The histories allow one answer: two deeds that may follow the same deeds, of one event at one

@@ -1,5 +1,5 @@
-//! What a proxy makes of CoAP options: their classes, which of them it recognises, which messages it
-//! refuses for their options, and which options it sends on (RFC 7252, 5.4, 5.6, 5.7 and 5.10).
+//! What a proxy makes of CoAP options: their classes, which of them it recognises, which messages
+//! it refuses for their options, and which options it sends on (RFC 7252, 5.4, 5.6, 5.7 and 5.10).
 #![tactic(auto)]
 
 mod classes;
@@ -14,5 +14,7 @@ mod table;
 pub use classes::{is_critical, is_no_cache_key, is_unsafe};
 pub use recognition::recognised;
 pub use screening::{BadOption, screen_request, screen_response};
-pub use selection::{forward_options, key_options, max_age, tags};
+pub use selection::{
+    forward_options, key_options, key_options_into, max_age, tags, tags_into,
+};
 pub use side::Side;

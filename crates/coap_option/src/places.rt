@@ -1,6 +1,6 @@
-//! One pass over the options of a message, each in its place: with how many of its number stand before
-//! it.
-ghost use Rattle.std.specs.Prelude.{◌≡◌, ◌≢◌, ◌==◌, ◌+◌, ◌-◌, ◌^◌, ◌<◌, if◌then◌else◌, filter, find, map, [], IfOk, OnErr};
+//! One pass over the options of a message, each in its place: with how many of its number stand
+//! before it.
+ghost use Rattle.std.specs.Prelude.{◌≡◌, ◌≢◌, ◌==◌, ◌+◌, ◌-◌, ◌^◌, ◌<◌, if◌then◌else◌, filter, find, map, [], IfOk, OnOk, OnErr};
 ghost use Rattle.std.specs.Option.{option_map};
 ghost use Rattle.coap_message.specs.OptRef.{seen};
 ghost use Rattle.coap_message.specs.Options.{AreOptions};
@@ -20,11 +20,12 @@ pub(crate) trait Test {
 
     /// Whether it holds of an option after so many of its number.
     fn holds_of(&self, option: OptRef<'_>, before: usize) -> bool
-        ensures { result ≡ holds self.now (record { option = seen option.entry; before = before }) };
+        ensures { result
+            ≡ holds self.now (record { option = seen option.entry; before = before }) };
 }
 
-/// How many options of the last number were passed. Options come in order of number, so those of one
-/// number are neighbours (RFC 7252, 3.1).
+/// How many options of the last number were passed. Options come in order of number, so those of
+/// one number are neighbours (RFC 7252, 3.1).
 #[derive(Clone, Copy)]
 struct Run {
     number: u16,
@@ -120,6 +121,22 @@ pub(crate) fn first<'a, T: Test>(options: &Options<'a>, test: &T) -> Option<OptR
     picked.next()
 }
 
+/// Puts the options for which the test holds, in order, in place of those of a list.
+pub(crate) fn select_into<T: Test>(
+    list: &mut OptionList,
+    options: &Options<'_>,
+    test: &T,
+) -> Result<(), OutOfMemory>
+    ensures ok { OnOk result (list.new ≡ selected (T.holds test.now) options.now) }
+    ensures err { OnErr result (selected (T.holds test.now) options.now ≢ []) }
+{
+    list.clear();
+    for option in Picked::of(options, test) {
+        list.push(option.number, option.value)?;
+    }
+    Ok(())
+}
+
 /// The options for which the test holds, in order, in no more room than they need.
 pub(crate) fn select<T: Test>(
     alloc: Global,
@@ -130,28 +147,25 @@ pub(crate) fn select<T: Test>(
     ensures err { OnErr result (selected (T.holds test.now) options.now ≢ []) }
 {
     let mut list = OptionList::new(alloc);
-    for option in Picked::of(options, test) {
-        list.push(option.number, option.value)?;
-    }
+    select_into(&mut list, options, test)?;
     list.shrink_to_fit();
     Ok(list)
 }
 
-/// The values of the options for which the test holds, in order, in no more room than they need.
-pub(crate) fn values<T: Test>(
-    alloc: Global,
+/// Puts the values of the options for which the test holds, in order, in place of those of a list.
+pub(crate) fn values_into<T: Test>(
+    list: &mut Pieces,
     options: &Options<'_>,
     test: &T,
-) -> Result<Pieces, OutOfMemory>
-    ensures ok { IfOk result (λ list.
-        list ≡ map (λ p. p.option.value) (filter (T.holds test.now) (places options.now))) }
+) -> Result<(), OutOfMemory>
+    ensures ok { OnOk result
+        (list.new ≡ map (λ p. p.option.value) (filter (T.holds test.now) (places options.now))) }
     ensures err { OnErr result
         (map (λ p. p.option.value) (filter (T.holds test.now) (places options.now)) ≢ []) }
 {
-    let mut list = Pieces::new(alloc);
+    list.clear();
     for option in Picked::of(options, test) {
         list.push(option.value)?;
     }
-    list.shrink_to_fit();
-    Ok(list)
+    Ok(())
 }

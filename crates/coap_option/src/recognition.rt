@@ -8,9 +8,9 @@ use crate::side::Side;
 use crate::table::Row;
 use coap_message::OptRef;
 
-/// Whether an option is recognised: it is defined for this side, its value's length, in bytes, is in
-/// the range of its definition (RFC 7252, 5.4.3), and it is repeatable on this side or the first of
-/// its number (RFC 7252, 5.4.5). `before` is how many options of its number stand earlier in the
+/// Whether an option is recognised: it is defined for this side, its value's length, in bytes, is
+/// in the range of its definition (RFC 7252, 5.4.3), and it is repeatable on this side or the first
+/// of its number (RFC 7252, 5.4.5). `before` is how many options of its number stand earlier in the
 /// message.
 pub fn recognised(side: Side, number: u16, length: usize, before: usize) -> bool
     ensures { result ≡ is_recognised side number length before }

@@ -28,8 +28,8 @@ impl Test for Refused {
     }
 }
 
-/// Refuses a request for its first option that is unsafe and not recognised (RFC 7252, 5.7.1: a proxy
-/// answers it with 4.02).
+/// Refuses a request for its first option that is unsafe and not recognised (RFC 7252, 5.7.1: a
+/// proxy answers it with 4.02).
 pub fn screen_request(message: &MessageRef<'_>) -> Result<(), BadOption>
     ensures ok { OnOk result (first_refused Side.Request message.now.options ≡ None) }
     ensures err { IfErr result (λ bad.
@@ -38,8 +38,8 @@ pub fn screen_request(message: &MessageRef<'_>) -> Result<(), BadOption>
     screen(Side::Request, message)
 }
 
-/// Refuses a response for its first option that is unsafe and not recognised (RFC 7252, 5.7.1: a proxy
-/// answers 5.02 in its place).
+/// Refuses a response for its first option that is unsafe and not recognised (RFC 7252, 5.7.1: a
+/// proxy answers 5.02 in its place).
 pub fn screen_response(message: &MessageRef<'_>) -> Result<(), BadOption>
     ensures ok { OnOk result (first_refused Side.Response message.now.options ≡ None) }
     ensures err { IfErr result (λ bad.

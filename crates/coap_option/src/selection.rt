@@ -1,11 +1,11 @@
 //! Which options of a message are sent on, are part of the cache key, or say how it is cached
 //! (RFC 7252, 5.4.2, 5.6, 5.7 and 5.10).
-ghost use Rattle.std.specs.Prelude.{◌≡◌, ◌≢◌, [], IfOk, OnErr, not};
+ghost use Rattle.std.specs.Prelude.{◌≡◌, ◌≢◌, [], IfOk, OnOk, OnErr, not};
 ghost use Rattle.coap_option.specs.Selection.{is_key, is_of, key_of, max_age_of, sent_on, stays, tags_of};
 
 use crate::classes::is_no_cache_key;
 use crate::numbers;
-use crate::places::{Test, first, select, values};
+use crate::places::{Test, first, select, select_into, values_into};
 use crate::recognition::option_recognised;
 use crate::side::Side;
 use coap_message::{Code, MessageRef, OptRef, OptionList, OutOfMemory, Pieces, uint};
@@ -66,8 +66,9 @@ impl Test for OfNumber {
 }
 
 /// The options of a request that are sent on, in order: all but the recognised ones of Uri-Host,
-/// Observe, Uri-Port, Uri-Path, Max-Age, Uri-Query, Proxy-Uri and Proxy-Scheme, and in a GET all but
-/// the recognised ETags, too. An `Err` is for want of memory; where no option is sent on, none is taken.
+/// Observe, Uri-Port, Uri-Path, Max-Age, Uri-Query, Proxy-Uri and Proxy-Scheme, and in a GET all
+/// but the recognised ETags, too. An `Err` is for want of memory; where no option is sent on, none
+/// is taken.
 pub fn forward_options(alloc: Global, message: &MessageRef<'_>) -> Result<OptionList, OutOfMemory>
     ensures ok { IfOk result (λ list. list ≡ sent_on message.now) }
     ensures err { OnErr result (sent_on message.now ≢ []) }
@@ -85,18 +86,39 @@ pub fn key_options(alloc: Global, message: &MessageRef<'_>) -> Result<OptionList
     select(alloc, &message.options, &InKey(message.code))
 }
 
+/// Puts the options of a request that are part of its cache key in place of those of a list, whose
+/// room is used again. An `Err` is for want of memory: then the list holds some of them.
+pub fn key_options_into(list: &mut OptionList, message: &MessageRef<'_>) -> Result<(), OutOfMemory>
+    ensures ok { OnOk result (list.new ≡ key_of message.now) }
+    ensures err { OnErr result (key_of message.now ≢ []) }
+{
+    select_into(list, &message.options, &InKey(message.code))
+}
+
 /// The values of the recognised ETags, in order: of a request any number, of a response the first
-/// alone, and that only if its length is in range (RFC 7252, 5.10.6). An `Err` is for want of memory;
-/// without a recognised ETag, none is taken.
+/// alone, and that only if its length is in range (RFC 7252, 5.10.6). An `Err` is for want of
+/// memory; without a recognised ETag, none is taken.
 pub fn tags(alloc: Global, message: &MessageRef<'_>) -> Result<Pieces, OutOfMemory>
     ensures ok { IfOk result (λ tags. tags ≡ tags_of message.now) }
+    ensures err { OnErr result (tags_of message.now ≢ []) }
+{
+    let mut list = Pieces::new(alloc);
+    tags_into(&mut list, message)?;
+    list.shrink_to_fit();
+    Ok(list)
+}
+
+/// Puts the values of the recognised ETags in place of those of a list, whose room is used again.
+/// An `Err` is for want of memory: then the list holds some of them.
+pub fn tags_into(list: &mut Pieces, message: &MessageRef<'_>) -> Result<(), OutOfMemory>
+    ensures ok { OnOk result (list.new ≡ tags_of message.now) }
     ensures err { OnErr result (tags_of message.now ≢ []) }
 {
     let tag = OfNumber {
         side: Side::of(message.code),
         number: numbers::ETAG,
     };
-    values(alloc, &message.options, &tag)
+    values_into(list, &message.options, &tag)
 }
 
 /// The recognised Max-Age of a response, in seconds: 60 where it has none (RFC 7252, 5.10.5).

@@ -13,6 +13,3 @@ pub use error::{DriveError, PortFault};
 pub use memory::{Handed, MemoryPort, Scripted};
 pub use port::{Port, Turn};
 pub use stats::Stats;
-
-#[cfg(test)]
-mod tests;

@@ -35,8 +35,8 @@ pub struct Plan {
     pub turns: Option<u64>,
 }
 
-/// What the program is to do, by what its words ask for and the bytes of the configuration, if there
-/// is one.
+/// What the program is to do, by what its words ask for and the bytes of the configuration, if
+/// there is one.
 ///
 /// # Errors
 /// `Config` for the first fault in the configuration, then `MapOption`.

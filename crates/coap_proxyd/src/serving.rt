@@ -22,9 +22,9 @@ fn turns_of(plan: &Plan) -> u64
     plan.turns.unwrap_or(MOST_TURNS).min(MOST_TURNS)
 }
 
-/// Does the events of an input by a new core, whose store is made of this seed, for as many turns as
-/// the plan says, or else as many as there may be, and writes the datagrams that are sent. Message
-/// ids begin with 1 and the salt is 0, where the plan says nothing else.
+/// Does the events of an input by a new core, whose store is made of this seed, for as many turns
+/// as the plan says, or else as many as there may be, and writes the datagrams that are sent.
+/// Message ids begin with 1 and the salt is 0, where the plan says nothing else.
 ///
 /// # Errors
 /// `OutOfMemory` where the core finds no memory, and nothing is written then. Else the fault of the
@@ -36,8 +36,8 @@ pub fn serve_events<R: Read + Drop, W: Write, S: Store + Drop>(
     input: R,
     output: &mut W,
 ) -> Result<(), Fault>
-    ensures { spec.IsServed (spec.turns_of plan) (new_world (setting_of plan 1 0)) (R.remaining input)
-        (W.contents output.old) (W.contents output.new) result }
+    ensures { spec.IsServed (spec.turns_of plan) (new_world (setting_of plan 1 0))
+        (R.remaining input) (W.contents output.old) (W.contents output.new) result }
 {
     let turns = turns_of(&plan);
     let (Ok(mut core), Ok(mut reader)) = (
@@ -65,8 +65,8 @@ pub fn serve_port<P: Port, S: Store + Drop>(
     port: &mut P,
 ) -> Result<(), Fault>
     requires failures { P.failures port.old < 2 ^ 63 }
-    ensures { spec.IsServedOver (P.gives (plan.limits.datagram + 1)) P.takes P.clock P.failures (spec.turns_of plan)
-        (new_world (setting_of plan first_id salt)) port.old port.new result }
+    ensures { spec.IsServedOver (P.gives (plan.limits.datagram + 1)) P.takes P.clock P.failures
+        (spec.turns_of plan) (new_world (setting_of plan first_id salt)) port.old port.new result }
 {
     let turns = turns_of(&plan);
     let Ok(mut core) = core_of::<S>(alloc, seed, plan, first_id, salt) else {

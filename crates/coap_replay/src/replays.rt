@@ -33,7 +33,8 @@ pub(crate) enum Asked {
     Do(Turn),
 }
 
-/// Reads the line of this number, and the turn that it says after the moment `last` and so many events.
+/// Reads the line of this number, and the turn that it says after the moment `last` and so many
+/// events.
 fn next_asked<R: BufRead>(
     alloc: Global,
     reader: &mut R,
@@ -83,8 +84,8 @@ fn event_of(input: &Input) -> Event<'_>
     }
 }
 
-/// Puts the line of the datagram that was sent in place of what a buffer holds, if one was sent. There is room for
-/// it.
+/// Puts the line of the datagram that was sent in place of what a buffer holds, if one was sent.
+/// There is room for it.
 fn line_for(text: &mut Vec<u8>, now: u64, report: Report, out: &Datagram)
     requires { longest_line (length out.now.bytes) ≤ vec_capacity text.old }
     ensures line { text.new.items ≡ line_for now report.send out.now.bytes }
@@ -96,8 +97,8 @@ fn line_for(text: &mut Vec<u8>, now: u64, report: Report, out: &Datagram)
     }
 }
 
-/// Does a turn, and writes the line of what it sends, for which there is room. Where memory is missing, nothing was
-/// done.
+/// Does a turn, and writes the line of what it sends, for which there is room. Where memory is
+/// missing, nothing was done.
 fn do_turn<W: Write, S: Store + Drop>(
     writer: &mut W,
     core: &mut Core<S>,
@@ -125,16 +126,17 @@ fn do_turn<W: Write, S: Store + Drop>(
     Ok(())
 }
 
-/// Does the events of an input, one after the other, and writes the lines of what is sent: those that
-/// the core sends at each event, and nothing else. Answers how many events were done. After so many
-/// turns it ends, and reads nothing behind the line of the last: a bad line there isn't seen.
+/// Does the events of an input, one after the other, and writes the lines of what is sent: those
+/// that the core sends at each event, and nothing else. Answers how many events were done. After so
+/// many turns it ends, and reads nothing behind the line of the last: a bad line there isn't seen.
 ///
 /// Room for a line that is read and for one that is written is made before the first event.
 ///
 /// # Errors
-/// The number of the first bad line; of the line whose event found no memory, or 1 where there was none before
-/// the first line; `Read` and `Write` where the reader or the writer failed. What the lines before say was done, and
-/// their lines were written; the event of the line was not done, but for `Write`.
+/// The number of the first bad line; of the line whose event found no memory, or 1 where there was
+/// none before the first line; `Read` and `Write` where the reader or the writer failed. What the
+/// lines before say was done, and their lines were written; the event of the line was not done, but
+/// for `Write`.
 pub fn replay<R: BufRead, W: Write, S: Store + Drop>(
     alloc: Global,
     reader: &mut R,

@@ -12,8 +12,8 @@ pub enum TargetError {
     /// Its Proxy-Uri is no URI that can be carried, or its Uri-Port is 0 (4.00, RFC 7252, 5.9.2.1).
     #[error("a bad URI")]
     BadUri,
-    /// The proxy doesn't serve that host or scheme, or has no own name and serves none (5.05, RFC 7252,
-    /// 5.10.2).
+    /// The proxy doesn't serve that host or scheme, or has no own name and serves none (5.05, RFC
+    /// 7252, 5.10.2).
     #[error("not proxied")]
     NotProxied,
     /// It is one to the proxy itself, and no map has its path (4.04).
@@ -32,8 +32,8 @@ impl From<OutOfMemory> for TargetError {
     }
 }
 
-/// Why texts are no routes: of `Unreadable` and `TooMany` the first that applies. Want of memory may be
-/// answered in place of either.
+/// Why texts are no routes: of `Unreadable` and `TooMany` the first that applies. Want of memory
+/// may be answered in place of either.
 #[derive(Clone, Copy, Debug, PartialEq, Eq, Error)]
 pub enum RouteError {
     /// A name, host, address, prefix or origin can't be read, or a host stands twice.

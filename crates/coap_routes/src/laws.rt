@@ -24,8 +24,8 @@ pub fn the_longest_prefix_wins()
         → AllByRecursion (λ m. begins m.prefix path ≡ false) maps }
 {}
 
-/// The target of a request that passed screening has a host, segments and parts of a query of at most
-/// 255 bytes each, as they fit options (RFC 7252, 5.10).
+/// The target of a request that passed screening has a host, segments and parts of a query of at
+/// most 255 bytes each, as they fit options (RFC 7252, 5.10).
 pub fn targets_fit_options()
     ensures { (routes : Routes) (m : Message) (t : Target)
         → AreRoutes routes

@@ -2,8 +2,8 @@
 use coap_message::{Pieces, Seq};
 use coap_target::{Ip, Target};
 
-/// Where paths lead that begin with the prefix: to the origin, with what is left of the path after the
-/// origin's own.
+/// Where paths lead that begin with the prefix: to the origin, with what is left of the path after
+/// the origin's own.
 #[derive(Clone, Debug, Drop, PartialEq, Eq, Hash)]
 pub struct Map {
     pub prefix: Pieces,

@@ -1,5 +1,5 @@
 //! The target of a request (RFC 7252, 5.7.2, 5.7.3, 5.10.1 and 5.10.2).
-ghost use Rattle.std.specs.Prelude.{◌≡◌, ◌++◌, None, IfOk, option_map};
+ghost use Rattle.std.specs.Prelude.{◌≡◌, None, IfOk, OnOk, option_map};
 ghost use Rattle.std.specs.Option.{option_copied};
 ghost use Rattle.coap_option.specs.declared.side.Side.{Side};
 ghost use Rattle.coap_option.specs.Screening.{first_refused};
@@ -15,7 +15,7 @@ use crate::map::{KnownHost, Map};
 use crate::mapped::MappedTarget;
 use crate::options::Values;
 use crate::routes::{Routes, map_of};
-use crate::segment::{Segments, copies, joined, skip};
+use crate::segment::{Segments, append, copies, joined, skip};
 use coap_message::{MessageRef, OutOfMemory, Seq, uint};
 use coap_option::numbers;
 use coap_target::{Endpoint, Ip, Target};
@@ -40,28 +40,20 @@ fn copy_of(alloc: Global, host: &Option<Seq<u8>>) -> Result<Option<Seq<u8>>, Out
     }
 }
 
-/// A resource of an origin: its own path with these segments after it, and this query.
-fn resource<'a, P: Segments<'a>>(
+/// Puts a copy of a host in place of another.
+fn copy_host(
     alloc: Global,
-    origin: &Target,
-    rest: P,
-    query: P,
-) -> Result<Target, OutOfMemory>
-    ensures { IfOk result (λ target.
-        target
-        ≡ record {
-          host = origin.now.host;
-          at = origin.now.at;
-          path = origin.now.path ++ P.left rest;
-          query = P.left query;
-        }) }
+    host: &Option<Seq<u8>>,
+    copy: &mut Option<Seq<u8>>,
+) -> Result<(), OutOfMemory>
+    ensures { OnOk result (copy.new ≡ host.now) }
 {
-    Ok(Target {
-        host: copy_of(alloc, &origin.host)?,
-        at: origin.at,
-        path: joined(alloc, &origin.path, rest)?,
-        query: copies(alloc, query)?,
-    })
+    if let (Some(name), Some(copy)) = (host, &mut *copy) {
+        copy.clear();
+        return copy.append(name.as_slice());
+    }
+    *copy = copy_of(alloc, host)?;
+    Ok(())
 }
 
 /// The origin's path followed by what stands after the map's prefix, and the query.
@@ -73,17 +65,30 @@ fn mapped<'a, P: Segments<'a>>(
 ) -> Result<Target, OutOfMemory>
     ensures { IfOk result (λ target. target ≡ mapped (P.left path) (P.left query) map.now) }
 {
+    let origin = &map.origin;
     let mut rest = path;
     skip(&mut rest, map.prefix.len());
-    resource(alloc, &map.origin, rest, query)
+    Ok(Target {
+        host: copy_of(alloc, &origin.host)?,
+        at: origin.at,
+        path: joined(alloc, &origin.path, rest)?,
+        query: copies(alloc, query)?,
+    })
 }
 
 impl MappedTarget<'_, '_> {
-    /// A copy of the target, in no more room than it needs.
-    pub fn to_target(&self, alloc: Global) -> Result<Target, OutOfMemory>
-        ensures { IfOk result (λ target. target ≡ seen self.now) }
+    /// Puts a copy in place of a target, whose room is used again. An `Err` is for want of memory:
+    /// then the target holds parts of both.
+    pub fn copy_to(&self, alloc: Global, target: &mut Target) -> Result<(), OutOfMemory>
+        ensures { OnOk result (target.new ≡ seen self.now) }
     {
-        resource(alloc, self.origin, self.rest.again(), self.query.again())
+        copy_host(alloc, &self.origin.host, &mut target.host)?;
+        target.at = self.origin.at;
+        target.path.clear();
+        append(&mut target.path, self.origin.path.iter())?;
+        append(&mut target.path, self.rest.again())?;
+        target.query.clear();
+        append(&mut target.query, self.query.again())
     }
 }
 
@@ -155,8 +160,8 @@ fn is_coap(scheme: &[u8]) -> bool
 }
 
 impl Routes {
-    /// What a request to the proxy itself is mapped to, if one of the maps has its path (RFC 7252, 5.7.3).
-    /// Nothing is copied, so that it takes no memory.
+    /// What a request to the proxy itself is mapped to, if one of the maps has its path (RFC 7252,
+    /// 5.7.3). Nothing is copied, so that it takes no memory.
     #[tactic(auto, unfolding(crate::specs::Routes::mapped_target))]
     pub fn mapped<'m, 'a>(&'m self, request: &MessageRef<'a>) -> Option<MappedTarget<'m, 'a>>
         ensures exact { option_map seen result ≡ mapped_target self.now request.now }
@@ -231,7 +236,8 @@ impl Routes {
         scheme: &[u8],
     ) -> Result<Target, TargetError>
         requires { first_refused Side.Request request.now.options ≡ None }
-        ensures { Answers errors.OutOfMemory result (spec.by_scheme self.now request.now scheme.now) }
+        ensures { Answers errors.OutOfMemory result
+            (spec.by_scheme self.now request.now scheme.now) }
     {
         if !is_coap(scheme) {
             return Err(TargetError::NotProxied);
@@ -252,13 +258,13 @@ impl Routes {
         self.resolved(alloc, uri)
     }
 
-    /// The target of a request that passed screening (RFC 7252, 5.7.2 and 5.7.3): by its Proxy-Uri, else
-    /// by its Proxy-Scheme and its Uri options, else by the maps. A host that is an own name makes it a
-    /// request to the proxy itself, which is mapped too.
+    /// The target of a request that passed screening (RFC 7252, 5.7.2 and 5.7.3): by its Proxy-Uri,
+    /// else by its Proxy-Scheme and its Uri options, else by the maps. A host that is an own name
+    /// makes it a request to the proxy itself, which is mapped too.
     ///
-    /// `BadUri` where the Proxy-Uri is no URI that can be carried, or the Uri-Port is 0; `NotProxied`
-    /// where there are no own names, or the scheme or the host is not served; `NotFound` where no map
-    /// has the path of a request to the proxy itself.
+    /// `BadUri` where the Proxy-Uri is no URI that can be carried, or the Uri-Port is 0;
+    /// `NotProxied` where there are no own names, or the scheme or the host is not served;
+    /// `NotFound` where no map has the path of a request to the proxy itself.
     #[tactic(auto, unfolding(crate::specs::Request::request_target))]
     pub fn target_of(&self, alloc: Global, request: &MessageRef<'_>) -> Result<Target, TargetError>
         requires { first_refused Side.Request request.now.options ≡ None }

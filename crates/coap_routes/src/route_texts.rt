@@ -68,8 +68,8 @@ fn are_name_bytes(bytes: &[u8]) -> bool
     bytes.iter().all(|byte| is_name_byte(*byte))
 }
 
-/// Whether a text may be a name: not empty, at most 255 bytes, each a visible ASCII character other than
-/// a comma.
+/// Whether a text may be a name: not empty, at most 255 bytes, each a visible ASCII character other
+/// than a comma.
 pub fn is_name(text: &[u8]) -> bool
     ensures { result ≡ spec.is_name text.now }
 {
@@ -153,8 +153,8 @@ fn read_prefix(alloc: Global, text: &String) -> Result<Pieces, RouteError>
     Ok(path_parts(alloc, text.as_bytes())?)
 }
 
-/// The target that an origin's text says: a URI without a query, whose host is an address or one of the
-/// hosts.
+/// The target that an origin's text says: a URI without a query, whose host is an address or one of
+/// the hosts.
 fn read_origin(alloc: Global, hosts: &[KnownHost], text: &String) -> Result<Target, RouteError>
     ensures { Answers errors.OutOfMemory result
         (ok_or (spec.origin_at hosts.now (uri_of (string_bytes text.now))) errors.Unreadable) }
@@ -257,17 +257,19 @@ fn are_few(names: &[String], hosts: &[(String, String)], maps: &[(String, String
 }
 
 impl Routes {
-    /// The routes that texts of a configuration say: own names; hosts, each a name and an address; maps,
-    /// each a prefix and an origin.
+    /// The routes that texts of a configuration say: own names; hosts, each a name and an address;
+    /// maps, each a prefix and an origin.
     ///
-    /// Names of either kind have at least one byte and at most 255, all of them visible ASCII characters
-    /// other than a comma, and are compared in lower case. A text that reads as an address is that
-    /// address among the own names, and no name for a host. A prefix begins with a slash and has neither
-    /// `?` nor `#`. An origin is a URI without a query, whose host is an address or one of the hosts.
+    /// Names of either kind have at least one byte and at most 255, all of them visible ASCII
+    /// characters other than a comma, and are compared in lower case. A text that reads as an
+    /// address is that address among the own names, and no name for a host. A prefix begins with a
+    /// slash and has neither `?` nor `#`. An origin is a URI without a query, whose host is an
+    /// address or one of the hosts.
     ///
     /// # Errors
-    /// `Unreadable` where a text is none of these, or a host stands twice; else `TooMany` for a list with
-    /// more names (64), hosts (256) or maps (64) than fit. Want of memory may come in place of either.
+    /// `Unreadable` where a text is none of these, or a host stands twice; else `TooMany` for a
+    /// list with more names (64), hosts (256) or maps (64) than fit. Want of memory may come in
+    /// place of either.
     #[tactic(auto, unfolding(crate::specs::RouteTexts::routes_of))]
     pub fn new(
         alloc: Global,

@@ -1,5 +1,5 @@
-//! Routes: the own names of a proxy, the hosts that it knows, and the origins that its paths are mapped
-//! to (RFC 7252, 5.7.2 and 5.7.3).
+//! Routes: the own names of a proxy, the hosts that it knows, and the origins that its paths are
+//! mapped to (RFC 7252, 5.7.2 and 5.7.3).
 ghost use Rattle.std.specs.Prelude.{◌≡◌, IfOk};
 ghost use Rattle.std.specs.Option.{option_copied};
 ghost use Rattle.coap_routes.specs.Routes as spec;
@@ -13,8 +13,8 @@ use std::alloc::Global;
 use std::marker::Model;
 
 /// The routes of a proxy: its own names, the addresses of hosts, and its maps, each in the order in
-/// which it was handed in. A contract sees the three lists. The origins of the maps are targets: host,
-/// segments and parts of the query have at most 255 bytes each.
+/// which it was handed in. A contract sees the three lists. The origins of the maps are targets:
+/// host, segments and parts of the query have at most 255 bytes each.
 #[derive(Debug, Drop)]
 pub struct Routes {
     pub(crate) names: Seq<HostPart>,
@@ -75,7 +75,8 @@ impl Routes {
     }
 }
 
-/// The map of a path: among those whose prefix begins it the one with the longest, then the earliest.
+/// The map of a path: among those whose prefix begins it the one with the longest, then the
+/// earliest.
 pub(crate) fn map_of<'m, 'a, P: Segments<'a>>(maps: &'m [Map], path: &P) -> Option<&'m Map>
     ensures { option_copied result ≡ spec.map_of maps.entry.now (P.left path.now) }
 {

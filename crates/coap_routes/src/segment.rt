@@ -74,7 +74,7 @@ pub(crate) fn skip<'a, P: Segments<'a>>(path: &mut P, count: usize)
 }
 
 /// Adds copies of segments at the end.
-fn append<'a, P: Segments<'a>>(list: &mut Pieces, segments: P) -> Result<(), OutOfMemory>
+pub(crate) fn append<'a, P: Segments<'a>>(list: &mut Pieces, segments: P) -> Result<(), OutOfMemory>
     ensures { OnOk result (list.new ≡ list.old ++ P.left segments) }
 {
     let mut segments = segments;

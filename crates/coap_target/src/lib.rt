@@ -1,4 +1,5 @@
-//! Endpoints, and targets: the resources of origins that requests are for (RFC 7252, 1.2 and 5.7.2).
+//! Endpoints, and targets: the resources of origins that requests are for (RFC 7252, 1.2 and
+//! 5.7.2).
 #![tactic(auto)]
 
 mod endpoint;

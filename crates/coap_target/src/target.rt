@@ -5,8 +5,8 @@ ghost use Rattle.coap_target.specs.Equality.{same_target};
 use crate::endpoint::Endpoint;
 use coap_message::{Pieces, Seq};
 
-/// A resource of an origin: the host by which it is asked for, none for an address; the endpoint; the
-/// segments of its path and the parts of its query, decoded.
+/// A resource of an origin: the host by which it is asked for, none for an address; the endpoint;
+/// the segments of its path and the parts of its query, decoded.
 #[derive(Clone, Debug, Drop, PartialEq, Eq, Hash)]
 pub struct Target {
     pub host: Option<Seq<u8>>,

@@ -29,8 +29,8 @@ pub(crate) fn read_url(alloc: Global, text: &str) -> Result<Url, UriError>
     }
 }
 
-/// The bytes of the IPv4 address that a text is in dotted-decimal form, each number written in one way
-/// (RFC 3986, 3.2.2).
+/// The bytes of the IPv4 address that a text is in dotted-decimal form, each number written in one
+/// way (RFC 3986, 3.2.2).
 pub fn read_ipv4(text: &[u8]) -> Option<[u8; 4]>
     ensures { result ≡ ipv4_of text.now }
 {
@@ -113,8 +113,8 @@ pub fn read_address(alloc: Global, text: &[u8]) -> Result<Option<Ip>, OutOfMemor
     }
 }
 
-/// The address that a text is: IPv4 in dotted-decimal form, each number written in one way, or IPv6 in
-/// brackets (RFC 3986, 3.2.2). Any other text is `Bad`; `Scheme` never comes.
+/// The address that a text is: IPv4 in dotted-decimal form, each number written in one way, or IPv6
+/// in brackets (RFC 3986, 3.2.2). Any other text is `Bad`; `Scheme` never comes.
 pub fn read_ip(alloc: Global, text: &str) -> Result<Ip, UriError>
     ensures { Answers errors.OutOfMemory result (ok_or (ip_of text.now) errors.Bad) }
 {

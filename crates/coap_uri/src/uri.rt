@@ -37,8 +37,8 @@ impl HostPart {
     }
 }
 
-/// The parts of a `coap` URI, decoded. A name of a host is in ASCII lower case but for what its escapes
-/// stood for.
+/// The parts of a `coap` URI, decoded. A name of a host is in ASCII lower case but for what its
+/// escapes stood for.
 #[derive(Clone, Debug, Drop, PartialEq, Eq, Hash)]
 pub struct UriParts {
     pub host: HostPart,
@@ -69,8 +69,8 @@ impl UriParts {
 
 /// The parts of the URI that a text is (RFC 7252, 6.4): what the `url` crate reads in it, decoded.
 ///
-/// `Bad` is what it refuses, and a URI without host, with a user name, a password or a fragment (RFC
-/// 7252, 6.1), with port 0, or with a part of more than 255 bytes. A URI of another scheme is
+/// `Bad` is what it refuses, and a URI without host, with a user name, a password or a fragment
+/// (RFC 7252, 6.1), with port 0, or with a part of more than 255 bytes. A URI of another scheme is
 /// `Scheme`, whatever its other parts are.
 #[tactic(auto, unfolding(crate::specs::Uri::uri_of))]
 pub fn split_uri(alloc: Global, text: &str) -> Result<UriParts, UriError>

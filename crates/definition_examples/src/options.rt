@@ -119,9 +119,10 @@ pub fn selected()
     ensures long_max_age { max_age_of (content (zeros 14 5 ∷ [])) ≡ 60 }
 {}
 
-/// Of some GETs, the options that are sent on, those that are part of the key, and the tags: one with
-/// an ETag, an empty Accept and an empty Size1; one with two ETags, a path, two parts of a query and
-/// an Accept; and one with two options that aren't recognised, the second a NoCacheKey one.
+/// Of some GETs, the options that are sent on, those that are part of the key, and the tags: one
+/// with an ETag, an empty Accept and an empty Size1; one with two ETags, a path, two parts of a
+/// query and an Accept; and one with two options that aren't recognised, the second a NoCacheKey
+/// one.
 pub fn asked()
     ensures sent_of_tagged { sent_on (get tagged) ≡ zeros 17 0 ∷ zeros 60 0 ∷ [] }
     ensures key_of_tagged { key_of (get tagged) ≡ zeros 17 0 ∷ [] }

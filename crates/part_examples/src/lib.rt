@@ -1,6 +1,6 @@
-//! Tests of the parts, each by itself, with ample memory: datagrams, options, routes, stores, records,
-//! tables, addresses and a configuration, as they were worked out by hand. What a worked run shows has
-//! no test here.
+//! Tests of the parts, each by itself, with ample memory: datagrams, options, routes, stores,
+//! records, tables, addresses and a configuration, as they were worked out by hand. What a worked
+//! run shows has no test here.
 #![tactic(auto)]
 
 #[cfg(test)]

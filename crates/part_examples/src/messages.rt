@@ -1,4 +1,5 @@
-//! Every datagram of the worked examples, and some long ones, are read, and written back to the same bytes.
+//! Every datagram of the worked examples, and some long ones, are read, and written back to the
+//! same bytes.
 use coap_message::{Datagram, Message, MessageRef, decode, encode_into};
 use std::alloc::{AllocError, Global};
 use std::process::Abort;
@@ -134,7 +135,8 @@ const DATAGRAMS: &str = "\
 /// Nothing, to be filled up: `{NONE:0>6}` is six times `0`.
 const NONE: &str = "";
 
-/// The datagrams, and longer ones: of 700 empty options, and of one option whose value has 269 or 65,804 bytes.
+/// The datagrams, and longer ones: of 700 empty options, and of one option whose value has 269 or
+/// 65,804 bytes.
 fn datagrams(alloc: Global) -> Result<String, AllocError> {
     let longest = 2 * 65_804;
     format!(in alloc;

@@ -62,8 +62,8 @@ fn put<S: Store>(
     Ok(store.put(key(alloc, path, accept)?, stored(alloc, payload)?))
 }
 
-/// Three responses of 70, 80 and 90 bytes, of which the first is used, in a store of 250 bytes: the first grows to 150,
-/// and the last stays beside it.
+/// Three responses of 70, 80 and 90 bytes, of which the first is used, in a store of 250 bytes: the
+/// first grows to 150, and the last stays beside it.
 fn grown<S: Store>(alloc: Global, store: &mut S) -> Result<(Put, bool, u64, usize), OutOfMemory> {
     put(alloc, store, b'a', 0, &[1; 2])?;
     put(alloc, store, b'b', 0, &[1; 12])?;

@@ -1,12 +1,15 @@
-//! The program over a port in memory, from its words to how it ends.
+//! A core over a port in memory, and the program over one, from its words to how it ends.
 ghost use Rattle.std.specs.Prelude.{◌≡◌, IfOk};
 
 use coap_cache::ListStore;
+use coap_core::{Core, LimitValues, Limits};
 use coap_message::{OutOfMemory, Seq};
-use coap_port::{MemoryPort, Scripted};
+use coap_port::{DriveError, Handed, MemoryPort, Port, Scripted, Stats, drive};
 use coap_proxyd::{Fault, Plan, read_plan, read_wanted, serve_port};
+use coap_routes::Routes;
 use coap_target::{Endpoint, Ip};
 use std::alloc::{AllocError, Global};
+use std::process::Abort;
 use std::test::*;
 
 /// A map of `t`, a first message id and a salt.
@@ -18,6 +21,11 @@ const GET: [u8; 6] = [0x50, 0x01, 0x00, 0x07, 0xB1, 0x74];
 const ANSWER: [u8; 18] = [
     0x68, 0x45, 0x00, 0x01, 0, 0, 0, 0, 0, 0, 0, 0x01, 0xD1, 0x01, 0x0A, 0xFF, 0x32, 0x31,
 ];
+
+/// What the origin is sent for the one, and the client is given for the other.
+const SENT_ON: &str = "5690 480100010000000000000001B474656D70\n";
+
+const DELIVERED: &str = "40001 50450002D1010AFF3231\n";
 
 /// What the program is to do by its words, with so many turns.
 fn plan(alloc: Global, turns: &str) -> Result<Plan, Fault> {
@@ -57,6 +65,68 @@ fn port(alloc: Global, refused: Option<usize>) -> Result<MemoryPort, OutOfMemory
     port.add(arrival(alloc, 7, 5690, &ANSWER)?)?;
     Ok(port)
 }
+
+// ---- a core
+
+/// What was done in so many turns, where the port took so many datagrams, and didn't take others.
+fn stats(turns: u64, sent: u64, send_faults: u64) -> Stats {
+    Stats {
+        turns,
+        sent,
+        send_faults,
+        lost: 0,
+    }
+}
+
+/// Drives a new core of the default limits, which maps `t` to the origin, for so many turns.
+fn drive_anew(
+    rt: &impl Abort,
+    alloc: Global,
+    port: &mut MemoryPort,
+    turns: u64,
+) -> Result<Result<Stats, DriveError>, Fail> {
+    let limits = Limits::new(LimitValues::default())?;
+    let mut core: Core<ListStore> = Core::new(alloc, (), limits, Routes::fixed(alloc)?, 1, 0)?;
+    assert!(rt; turns < 1_000 && core.events() < 1_000);
+    assert!(rt; core.last() <= port.last() && port.failures() < 1_000);
+    Ok(drive(alloc, &mut core, port, turns))
+}
+
+/// What was handed over, a line each.
+fn shown(alloc: Global, handed: &[Handed]) -> Result<String, AllocError> {
+    let mut out = String::new(alloc);
+    for datagram in handed {
+        write!(out, "{} ", datagram.to.port)?;
+        for byte in datagram.bytes.as_slice() {
+            write!(out, "{byte:02X}")?;
+        }
+        out.push_str("\n")?;
+    }
+    Ok(out)
+}
+
+#[test]
+fn a_core_is_driven_over_a_port(rt: HostRuntime) -> Result<(), Fail> {
+    let alloc = rt.alloc();
+    let both = format!(in alloc; "{SENT_ON}{DELIVERED}")?;
+    for (turns, refused, expected, handed) in [
+        (4, None, Ok(stats(4, 2, 0)), both.as_str()),
+        // the port fails at the fifth, as it has nothing more to give
+        (5, None, Err(DriveError::Port { stats: stats(4, 2, 0) }), both.as_str()),
+        // a datagram that isn't taken is counted
+        (4, Some(0), Ok(stats(4, 1, 1)), DELIVERED),
+        (4, Some(1), Ok(stats(4, 1, 1)), SENT_ON),
+    ] {
+        let mut port = port(alloc, refused)?;
+        let done = drive_anew(&rt, alloc, &mut port, turns)?;
+        assert!(rt; done == expected);
+        let written = shown(alloc, port.handed())?;
+        assert_eq!(rt; written.as_str(), handed);
+    }
+    Ok(())
+}
+
+// ---- the program
 
 /// How many datagrams are handed over, and how the program ends, with so many turns.
 fn done(alloc: Global, turns: &str, refused: Option<usize>) -> Result<(usize, String), Fail> {

@@ -1,5 +1,5 @@
-//! Replays of an input that comes in pieces, of readers and writers that fail or are interrupted, and on a core that
-//! goes on.
+//! Replays of an input that comes in pieces, of readers and writers that fail or are interrupted,
+//! and on a core that goes on.
 use coap_cache::ListStore;
 use coap_core::{Core, LimitValues, Limits};
 use coap_message::OutOfMemory;
@@ -11,7 +11,8 @@ use std::io::{BufRead, ErrorKind, Read, Write};
 use std::process::Abort;
 use std::test::*;
 
-/// The first worked run: a request, a tick that sends it on, the response, and a tick that delivers it.
+/// The first worked run: a request, a tick that sends it on, the response, and a tick that delivers
+/// it.
 const FIRST_RUN: &str = "\
 0 0 127.0.0.1:40001 50010007B174
 0 0 tick
@@ -112,7 +113,8 @@ impl<'a> BufRead for Pieces<'a> {
     }
 }
 
-/// Replays what a reader lends on a new core, and answers the result and how many events the core did.
+/// Replays what a reader lends on a new core, and answers the result and how many events the core
+/// did.
 fn replay_anew(
     alloc: Global,
     reader: &mut impl BufRead,
@@ -211,8 +213,8 @@ impl Write for Small {
     }
 }
 
-/// Replays the first run into a writer with so much room, and checks the result, how many events the core
-/// did, and that the writer holds these bytes.
+/// Replays the first run into a writer with so much room, and checks the result, how many events
+/// the core did, and that the writer holds these bytes.
 fn check_writer(
     rt: &impl Abort,
     alloc: Global,

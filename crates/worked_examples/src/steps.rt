@@ -59,8 +59,8 @@ impl Run {
     }
 }
 
-/// What a core tells after so many events, of which the first brought the one request: it is remembered, and as many
-/// exchanges are under way as clients wait.
+/// What a core tells after so many events, of which the first brought the one request: it is
+/// remembered, and as many exchanges are under way as clients wait.
 fn told(events: u64, last: u64, next_due: Option<u64>, under_way: u64) -> Seen {
     Seen {
         next_due,
@@ -109,8 +109,8 @@ fn insist_on_new(alloc: Global) -> Result<Run, Fail> {
     }
 }
 
-/// A step, taken again where there was no memory for it: what it answers, what it sends, and what the core tells
-/// after it.
+/// A step, taken again where there was no memory for it: what it answers, what it sends, and what
+/// the core tells after it.
 fn check_step(
     rt: &impl Abort,
     run: &mut Run,

@@ -1,10 +1,11 @@
-//! The worked runs. Each file `NAME.events` of the current folder is one: comments that say what it shows and name the
-//! program's words, with the lines of a configuration or none, or else the routes and limits of its own, then events.
-//! They are replayed in order of name, over both stores, which are to write the same. What is written stands after a
-//! line with the run's name; where the program would stop before it is done, a line says with which status and text.
+//! The worked runs. Each file `NAME.events` of the current folder is one: comments that say what it
+//! shows and name the program's words, with the lines of a configuration or none, or else the
+//! routes and limits of its own, then events. They are replayed in order of name, over both stores,
+//! which are to write the same. What is written stands after a line with the run's name; where the
+//! program would stop before it is done, a line says with which status and text.
 //!
-//! The runs stand in `data`, and what all of them must write in `stdout`. To add one, add its file and its lines, and
-//! compare: `cd data && ../out/worked_runs | diff - ../stdout`.
+//! The runs stand in `data`, and what all of them must write in `stdout`. To add one, add its file
+//! and its lines, and compare: `cd data && ../out/worked_runs | diff - ../stdout`.
 #![tactic(auto)]
 
 mod files;
@@ -32,8 +33,8 @@ where
     Ok(text)
 }
 
-/// Plays the run of this name, whose file stands in the current folder, over a list and over a recency map. What is
-/// written over the latter is written too, if it differs.
+/// Plays the run of this name, whose file stands in the current folder, over a list and over a
+/// recency map. What is written over the latter is written too, if it differs.
 fn play(rt: &HostRuntime, name: &str) -> io::Result<()> {
     let file = files::file_of(rt.alloc(), name)?;
     let events = fs::read(rt, file.as_str())?;

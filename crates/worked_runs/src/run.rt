@@ -28,8 +28,8 @@ fn words_in(alloc: Global, text: &str) -> Result<Vec<String>, AllocError> {
     Ok(words)
 }
 
-/// What the program makes of these words, of a configuration, if there is one, and of events, over a store that is made
-/// of this seed.
+/// What the program makes of these words, of a configuration, if there is one, and of events, over
+/// a store that is made of this seed.
 fn serve_words<W: Write, S: Store + Drop>(
     alloc: Global,
     seed: S::Seed,
@@ -87,9 +87,10 @@ fn write_fault<W: Write>(output: &mut W, fault: Fault) -> io::Result<()> {
     writeln!(output, "status {status}: {fault}")
 }
 
-/// Writes a line with the name of a run, what is written at its events, and the fault with which it stops, if there is
-/// one. A run with a line that begins with `# words:` is one of the program with these words, any other one of a core
-/// with the routes and limits that its lines name; both over a store that is made of this seed.
+/// Writes a line with the name of a run, what is written at its events, and the fault with which it
+/// stops, if there is one. A run with a line that begins with `# words:` is one of the program with
+/// these words, any other one of a core with the routes and limits that its lines name; both over a
+/// store that is made of this seed.
 pub(crate) fn play<W: Write, S: Store + Drop>(
     alloc: Global,
     seed: S::Seed,

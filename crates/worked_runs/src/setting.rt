@@ -1,4 +1,5 @@
-//! What a run is made with that has other routes or limits than the program's: lines of comments that begin with a mark.
+//! What a run is made with that has other routes or limits than the program's: lines of comments
+//! that begin with a mark.
 ghost use Rattle.std.specs.Prelude.{◌≡◌};
 
 use coap_cache::Store;

@@ -30,7 +30,8 @@ fn is_hex(text: &[u8]) -> bool
     text.len() >= 2 && text.len() % 2 == 0 && are_hex_digits(text)
 }
 
-/// The bytes that a text writes: an even number of hexadecimal digits, at least two, or a hyphen for none.
+/// The bytes that a text writes: an even number of hexadecimal digits, at least two, or a hyphen
+/// for none.
 pub(crate) fn read_bytes(alloc: Global, text: &[u8]) -> Result<Seq<u8>, LineError>
     ensures { Finds (λ bytes. bytes) (bytes_read text.now) result }
 {

@@ -50,8 +50,8 @@ fn line_part(bytes: &[u8]) -> (usize, bool)
     }
 }
 
-/// Reads up to the line feed, which it takes and doesn't keep, to one byte more than a line may have, or to
-/// the end.
+/// Reads up to the line feed, which it takes and doesn't keep, to one byte more than a line may
+/// have, or to the end.
 fn read_piece<R: BufRead>(reader: &mut R, line: &mut Vec<u8>) -> io::Result<Piece>
     requires { 16385 ≤ vec_capacity line.old }
     ensures within { vec_len line.new ≤ 16385 }
@@ -89,12 +89,12 @@ fn read_piece<R: BufRead>(reader: &mut R, line: &mut Vec<u8>) -> io::Result<Piec
     Err(io::Error::from(ErrorKind::Other))
 }
 
-/// Reads the next line of an input, without its line feed, which the last line may lack. The buffer has room for
-/// 16,385 bytes, and never holds more, so that this takes no memory.
+/// Reads the next line of an input, without its line feed, which the last line may lack. The buffer
+/// has room for 16,385 bytes, and never holds more, so that this takes no memory.
 ///
 /// # Errors
-/// What the reader answers, an interrupted read too. A part of the line may have been taken then, never its line
-/// feed; it is lost.
+/// What the reader answers, an interrupted read too. A part of the line may have been taken then,
+/// never its line feed; it is lost.
 pub fn next_line<R: BufRead>(reader: &mut R, line: &mut Vec<u8>) -> io::Result<Next>
     requires { 16385 ≤ vec_capacity line.old }
     ensures within { vec_len line.new ≤ 16385 }

@@ -46,7 +46,8 @@ fn are_few_digits(text: &[u8]) -> bool
     text.len() <= 4 && are_digits(text)
 }
 
-/// The number of a group of an IPv6 address, which has one to four hexadecimal digits in either case.
+/// The number of a group of an IPv6 address, which has one to four hexadecimal digits in either
+/// case.
 pub(crate) fn read_group(text: &[u8]) -> Option<u16>
     ensures { result ≡ group_of text.now }
 {

@@ -65,14 +65,18 @@ fn read_input(alloc: Global, text: &[u8]) -> Result<Input, LineError>
     read_arrival(alloc, text)
 }
 
-/// The turn that a line says after the moment `last`: `MOMENT DRAW FROM HEX` or `MOMENT DRAW tick`, its
-/// fields parted by one space, without a line end. The moment is in milliseconds, at least `last` and at
-/// most 2^62, the draw at most 1,000.
+/// The turn that a line says after the moment `last`: `MOMENT DRAW FROM HEX` or `MOMENT DRAW tick`,
+/// its fields parted by one space, without a line end. The moment is in milliseconds, at least
+/// `last` and at most 2^62, the draw at most 1,000.
 ///
 /// # Errors
-/// `Bad` where the line says none, and only there. `OutOfMemory` where it says one whose datagram found no
-/// memory; a tick takes none.
-#[tactic(auto, using(crate::proofs::Ticking::tick_of_event), unfolding(crate::specs::Turns::turn_of))]
+/// `Bad` where the line says none, and only there. `OutOfMemory` where it says one whose datagram
+/// found no memory; a tick takes none.
+#[tactic(
+    auto,
+    using(crate::proofs::Ticking::tick_of_event),
+    unfolding(crate::specs::Turns::turn_of)
+)]
 pub fn read_turn(alloc: Global, line: &[u8], last: u64) -> Result<Turn, LineError>
     ensures read { Finds turn_seen (turn_of last line.now) result }
     ensures ticks { IfSome (turn_of last line.now) (λ turn. turn.event ≡ tick → IsOk result) }

@@ -20,8 +20,9 @@ pub fn line_buffer(alloc: Global, datagram: usize) -> Result<Vec<u8>, OutOfMemor
     Ok(Vec::with_capacity(alloc, room)?)
 }
 
-/// Adds the line of a datagram that is sent at `now`, in milliseconds: `MOMENT TO HEX` and a line feed, TO
-/// with groups in lower case without leading zeros, HEX in upper case, or `-` for no bytes.
+/// Adds the line of a datagram that is sent at `now`, in milliseconds: `MOMENT TO HEX` and a line
+/// feed, TO with groups in lower case without leading zeros, HEX in upper case, or `-` for no
+/// bytes.
 ///
 /// The buffer has room for it, as one of `line_buffer`, so that this takes no memory.
 #[tactic(auto, unfolding(crate::specs::Lines::line_of))]

@@ -42,7 +42,8 @@ fn put_three(out: &mut Vec<u8>, number: u16)
     );
 }
 
-/// Adds the number of a group of an IPv6 address in hexadecimal digits, in lower case without leading zeros.
+/// Adds the number of a group of an IPv6 address in hexadecimal digits, in lower case without
+/// leading zeros.
 pub(crate) fn put_group(out: &mut Vec<u8>, group: u16)
     requires { HasRoom out.old 4 }
     ensures { Adds out.old out.new (digits 16 false group) 4 }

@@ -9,8 +9,8 @@ use std::io::{ErrorKind, Write};
 /// Writes all bytes.
 ///
 /// # Errors
-/// What the writer answers, or `WriteZero` where it takes nothing. A front of the bytes was written then. An
-/// interrupted write is tried again, and never answered.
+/// What the writer answers, or `WriteZero` where it takes nothing. A front of the bytes was written
+/// then. An interrupted write is tried again, and never answered.
 pub fn write_bytes<W: Write>(writer: &mut W, bytes: &[u8]) -> io::Result<()>
     ensures all { OnOk result (Appends (W.contents writer.old) (W.contents writer.new) bytes.now) }
     ensures retried { IfErr result (λ e. error_kind e ≢ ErrorKind.Interrupted) }

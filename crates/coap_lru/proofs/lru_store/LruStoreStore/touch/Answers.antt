@@ -4,7 +4,7 @@ use Rattle.coap_lru.specs.Indexing.{AreThoseOf}
 use Rattle.coap_cache.specs.Lists.{used}
 use Rattle.coap_lru.proofs.Kept.{AreThoseOf-used, length-used}
 use Rattle.coap_lru.proofs.Recency.{moved}
-use Rattle.coap_lru.proofs.lru_store.LruStoreStore.hit.Goals as goal
+use Rattle.coap_lru.proofs.lru_store.LruStoreStore.touch.Goals as goal
 
 pub invariant_of-self : goal.invariant_of-self
 invariant_of-self g c =
@@ -20,5 +20,5 @@ invariant_of-self g c =
       small = s.small;
     }
 
-pub returns-then-usable-clause-moved : goal.returns-then-usable-clause-moved
-returns-then-usable-clause-moved g c = λ usable. ap (λ m. m.entries) c.promote.ensures.entries ∙ moved c.args.key.now c.args.self.now.recent.entries c.args.self.now.are_those.distinct
+pub returns-clause-moved : goal.returns-clause-moved
+returns-clause-moved g c = ap (λ m. m.entries) c.promote.ensures.entries ∙ moved c.args.key.now c.args.self.now.recent.entries c.args.self.now.are_those.distinct
