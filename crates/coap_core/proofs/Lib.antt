@@ -1,3 +1,4 @@
+pub mod Asking
 pub mod Carried
 pub mod DueFirst
 pub mod Forms

@@ -1,5 +1,8 @@
 //! What a proxy was made with, and its tables.
 ghost use Rattle.std.specs.Prelude.{◌≡◌, ◌+◌, ◌<◌, ◌^◌, None, IfOk};
+ghost use Rattle.coap_dedup.specs.declared.record.TheConstants.{EXCHANGE_LIFETIME, NON_LIFETIME};
+ghost use Rattle.coap_dedup.specs.Records.{no_records};
+ghost use Rattle.coap_exchange.specs.Table.{empty_table};
 ghost use Rattle.coap_model.specs.Limits.{AreLimits};
 ghost use Rattle.coap_model.specs.Setting.{setting_of};
 ghost use Rattle.coap_model.specs.World.{next_id, later, reserved, has_ids, has_room, new_world, counts};
@@ -80,14 +83,8 @@ impl<S: Store + Drop> World<S> {
     {
         let (bytes, entries) = (limits.values().cache_bytes, limits.values().cache_entries);
         let store = S::with_limits(alloc, seed, bytes, entries as usize)?;
-        let exchanges = Exchanges::new(alloc, limits.values().exchanges as usize)?;
-        let waiters = Table::new(alloc, limits.values().waiters as usize)?;
-        let con_records = Records::new(
-            alloc,
-            limits.values().con_records as usize,
-            EXCHANGE_LIFETIME,
-        )?;
-        let non_records = Records::new(alloc, limits.values().non_records as usize, NON_LIFETIME)?;
+        let (con_records, non_records) = new_records(alloc, &limits)?;
+        let (exchanges, waiters) = new_tables(alloc, &limits)?;
         Ok(World {
             alloc,
             limits,
@@ -171,6 +168,27 @@ impl<S: Store + Drop> World<S> {
             waiters: self.waiters.len() as u64,
         }
     }
+}
+
+/// Empty tables of exchanges and of waiters, with room for as many as the limits say.
+fn new_tables(alloc: Global, limits: &Limits) -> Result<(Exchanges, Table<Waiter>), OutOfMemory>
+    ensures exchanges { IfOk result (λ made. made.0 ≡ empty_table limits.now.exchanges) }
+    ensures waiters { IfOk result (λ made. made.1 ≡ empty_table limits.now.waiters) }
+{
+    let exchanges = Exchanges::new(alloc, limits.values().exchanges as usize)?;
+    let waiters = Table::new(alloc, limits.values().waiters as usize)?;
+    Ok((exchanges, waiters))
+}
+
+/// No records, with places for as many as the limits say.
+fn new_records(alloc: Global, limits: &Limits) -> Result<(Records, Records), OutOfMemory>
+    ensures con { IfOk result (λ made. made.0 ≡ no_records limits.now.con_records EXCHANGE_LIFETIME) }
+    ensures non { IfOk result (λ made. made.1 ≡ no_records limits.now.non_records NON_LIFETIME) }
+{
+    let (con, non) = (limits.values().con_records, limits.values().non_records);
+    let con_records = Records::new(alloc, con as usize, EXCHANGE_LIFETIME)?;
+    let non_records = Records::new(alloc, non as usize, NON_LIFETIME)?;
+    Ok((con_records, non_records))
 }
 
 /// Nothing is sent.

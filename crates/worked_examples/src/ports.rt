@@ -22,10 +22,15 @@ const ANSWER: [u8; 18] = [
     0x68, 0x45, 0x00, 0x01, 0, 0, 0, 0, 0, 0, 0, 0x01, 0xD1, 0x01, 0x0A, 0xFF, 0x32, 0x31,
 ];
 
-/// What the origin is sent for the one, and the client is given for the other.
+/// What the origin is sent for the one, what the client is given for the other, and both.
 const SENT_ON: &str = "5690 480100010000000000000001B474656D70\n";
 
 const DELIVERED: &str = "40001 50450002D1010AFF3231\n";
+
+const BOTH: &str = "\
+5690 480100010000000000000001B474656D70
+40001 50450002D1010AFF3231
+";
 
 /// What the program is to do by its words, with so many turns.
 fn plan(alloc: Global, turns: &str) -> Result<Plan, Fault> {
@@ -105,23 +110,34 @@ fn shown(alloc: Global, handed: &[Handed]) -> Result<String, AllocError> {
     Ok(out)
 }
 
+/// Drives a core over a port that refuses a datagram or none, and checks what was done in so many
+/// turns, and what was handed over.
+fn check_driven(
+    rt: &impl Abort,
+    alloc: Global,
+    (turns, refused): (u64, Option<usize>),
+    expected: (Result<Stats, DriveError>, &str),
+) -> Result<(), Fail> {
+    let mut port = port(alloc, refused)?;
+    let done = drive_anew(rt, alloc, &mut port, turns)?;
+    assert!(rt; done == expected.0);
+    let written = shown(alloc, port.handed())?;
+    assert_eq!(rt; written.as_str(), expected.1);
+    Ok(())
+}
+
 #[test]
 fn a_core_is_driven_over_a_port(rt: HostRuntime) -> Result<(), Fail> {
     let alloc = rt.alloc();
-    let both = format!(in alloc; "{SENT_ON}{DELIVERED}")?;
-    for (turns, refused, expected, handed) in [
-        (4, None, Ok(stats(4, 2, 0)), both.as_str()),
+    for (turns, refused, expected) in [
+        (4, None, (Ok(stats(4, 2, 0)), BOTH)),
         // the port fails at the fifth, as it has nothing more to give
-        (5, None, Err(DriveError::Port { stats: stats(4, 2, 0) }), both.as_str()),
+        (5, None, (Err(DriveError::Port { stats: stats(4, 2, 0) }), BOTH)),
         // a datagram that isn't taken is counted
-        (4, Some(0), Ok(stats(4, 1, 1)), DELIVERED),
-        (4, Some(1), Ok(stats(4, 1, 1)), SENT_ON),
+        (4, Some(0), (Ok(stats(4, 1, 1)), DELIVERED)),
+        (4, Some(1), (Ok(stats(4, 1, 1)), SENT_ON)),
     ] {
-        let mut port = port(alloc, refused)?;
-        let done = drive_anew(&rt, alloc, &mut port, turns)?;
-        assert!(rt; done == expected);
-        let written = shown(alloc, port.handed())?;
-        assert_eq!(rt; written.as_str(), handed);
+        check_driven(&rt, alloc, (turns, refused), expected)?;
     }
     Ok(())
 }

@@ -1,4 +1,10 @@
+use Rattle.std.proofs.Common.{◌≡◌, true, false, sym, ap, rules}
+use Rattle.coap_message.specs.declared.code.TheConstants.Code.{REQUEST_ENTITY_TOO_LARGE}
+use Rattle.coap_model.specs.Verdicts.{form_fits}
+use Rattle.coap_model.specs.World.{Step, has_room}
+use Rattle.coap_model.specs.Requests.{can_open, refuses, overloads, opens, remembers, on_miss}
 use Rattle.coap_model.proofs.Verdicts.{askable}
+use Rattle.coap_core.proofs.Asking.{does-as, fits-as, too-long, turned-away, opened}
 use Rattle.coap_core.proofs.world.World.on_miss.Goals as goal
 
 pub fits-requires-clause-get : goal.fits-requires-clause-get
@@ -9,3 +15,31 @@ fits-requires-clause-screened g c = (askable c.args.self.now.setting.routes c.ar
 
 pub fits-requires-clause-target : goal.fits-requires-clause-target
 fits-requires-clause-target g c = (askable c.args.self.now.setting.routes c.args.request.now c.requires.can.routes c.args.asked.now.key c.requires.asked.key).sound
+
+pub refuse-requires-clause-fits : goal.refuse-requires-clause-fits
+refuse-requires-clause-fits g c =
+    let w = c.args.self.now in
+    let m = c.args.request.now in
+    let refused : Step = refuses w c.args.now c.args.client m REQUEST_ENTITY_TOO_LARGE in
+    let missed : Step = on_miss w c.args.now c.args.client m c.args.asked.now.key in
+    let long : missed ≡ refused = too-long w c.args.now c.args.client m c.args.asked.now.key c.requires.ids (sym c.if-not-fits.ensures.exact) in
+    fits-as refused missed c.args.out.now.room c.fits.new.out.room long c.fits.ensures.kept c.requires.fits
+
+pub returns-then-not-fits-clause-exact : goal.returns-then-not-fits-clause-exact
+returns-then-not-fits-clause-exact g c =
+    let w = c.args.self.now in
+    let m = c.args.request.now in
+    let refused : Step = refuses w c.args.now c.args.client m REQUEST_ENTITY_TOO_LARGE in
+    let missed : Step = on_miss w c.args.now c.args.client m c.args.asked.now.key in
+    let long : missed ≡ refused = too-long w c.args.now c.args.client m c.args.asked.now.key c.requires.ids (sym c.if-not-fits.ensures.exact) in
+    does-as (remembers c.args.now c.args.client m refused) (remembers c.args.now c.args.client m missed) c.refuse.result c.args.out.now c.fits.new.out c.refuse.new.out c.refuse.new.self (ap (remembers c.args.now c.args.client m) long) c.fits.ensures.kept c.refuse.ensures.exact
+
+pub overload-requires-clause-fits : goal.overload-requires-clause-fits
+overload-requires-clause-fits g c =
+    let w = c.args.self.now in
+    let m = c.args.request.now in
+    let busy : Step = overloads w c.args.now c.args.client m in
+    let missed : Step = on_miss w c.args.now c.args.client m c.args.asked.now.key in
+    let closed : can_open w m.kind ≡ false = rw (← c.request.view_is) (search rules) in
+    let away : missed ≡ busy = turned-away w c.args.now c.args.client m c.args.asked.now.key c.requires.ids (sym c.if-not-fits.ensures.exact) closed in
+    fits-as busy missed c.args.out.now.room c.fits.new.out.room away c.fits.ensures.kept c.requires.fits

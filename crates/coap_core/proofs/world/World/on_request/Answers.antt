@@ -1,11 +1,16 @@
-use Rattle.std.proofs.Common.{◌≡◌, ◌∙◌, true, None, sym, subst}
-use Rattle.std.specs.Prelude.{IfOk}
-use Rattle.std.proofs.lemmas.Result.{IfOk-weaker}
+use Rattle.std.proofs.Common.{◌≡◌, true, None, sym, ap}
+use Rattle.std.specs.Prelude.{OnErr}
+use Rattle.coap_option.proofs.Picking.{on_err}
 use Rattle.coap_model.specs.World.{Step, has_record_room}
-use Rattle.coap_model.specs.Requests.{known_of, remembers, on_new}
-use Rattle.coap_core.specs.Steps.{Does}
-use Rattle.coap_core.proofs.Records.{none-some, new-is, held-same}
+use Rattle.coap_model.specs.Requests.{known_of, remembers, on_new, on_request}
+use Rattle.coap_core.proofs.Records.{none-some, new-is}
+use Rattle.coap_core.proofs.Asking.{does-as, fits-as, new-takes, repetition-fits, repetition-does}
+use Rattle.coap_core.proofs.world.World.on_request.Given.{Over}
+use Rattle.coap_core.proofs.world.World.on_request.Goals.{After-has_record_room}
 use Rattle.coap_core.proofs.world.World.on_request.Goals as goal
+
+pub repeat-requires : goal.repeat-requires
+repeat-requires g c = record { fits = repetition-fits c.args.self.now c.args.now c.args.client c.args.request.now c.args.out.now.room c.requires.fits }
 
 pub returns-clause-exact : goal.returns-clause-exact
 returns-clause-exact g c =
@@ -15,9 +20,24 @@ returns-clause-exact g c =
     let m = c.args.request.now in
     let unknown : known_of w now client m ≡ None = none-some (known_of w now client m) (sym c.in_default.ensures.found) in
     let room : has_record_room w now m.kind ≡ true = rw (← c.request.view_is) (sym c.if-not-has_record_room.ensures) in
-    let s : Step = remembers now client m (on_new w now client m) in
-    subst (λ (t : Step). IfOk c.on_new.result (λ report. Does t report c.args.out.now c.on_new.new.out c.on_new.new.self)) (sym (new-is w now client m unknown room))
-    (IfOk-weaker c.on_new.result
-    (λ report. Does s report c.repeat.new.out c.on_new.new.out c.on_new.new.self)
-    (λ report. Does s report c.args.out.now c.on_new.new.out c.on_new.new.self)
-    (λ report d. (d.0, d.1 ∙ held-same c.repeat.new.out c.args.out.now s.bytes c.repeat.ensures.kept, d.2)) c.on_new.ensures.exact)
+    does-as (remembers now client m (on_new w now client m)) (on_request w now client m) c.on_new.result c.args.out.now c.repeat.new.out c.on_new.new.out c.on_new.new.self (new-is w now client m unknown room) c.repeat.ensures.kept c.on_new.ensures.exact
+
+pub on_new-requires-clause-fits : goal.on_new-requires-clause-fits
+on_new-requires-clause-fits g c =
+    let w = c.args.self.now in
+    let now = c.args.now in
+    let client = c.args.client in
+    let m = c.args.request.now in
+    let unknown : known_of w now client m ≡ None = none-some (known_of w now client m) (sym c.in_default.ensures.found) in
+    let room : has_record_room w now m.kind ≡ true = rw (← c.request.view_is) (sym c.if-not-has_record_room.ensures) in
+    fits-as (remembers now client m (on_new w now client m)) (on_request w now client m) c.args.out.now.room c.repeat.new.out.room (new-is w now client m unknown room) c.repeat.ensures.kept c.requires.fits
+
+pub returns-clause-memory : goal.returns-clause-memory
+returns-clause-memory g c =
+    let w = c.args.self.now in
+    let now = c.args.now in
+    let client = c.args.client in
+    let m = c.args.request.now in
+    let unknown : known_of w now client m ≡ None = none-some (known_of w now client m) (sym c.in_default.ensures.found) in
+    let room : has_record_room w now m.kind ≡ true = rw (← c.request.view_is) (sym c.if-not-has_record_room.ensures) in
+    rw (new-is w now client m unknown room) (on_err c.on_new.result (new-takes w now client m))

@@ -1,0 +1,163 @@
+-- What becomes of a request, told apart as the program does: each branch is a step of the model.
+use Rattle.std.proofs.Common.{◌≡◌, ℕ, ◌+◌, ◌<◌, ◌≤◌, Bool, true, false, cond, leb, List, length, Option, Some, None, Result, refl, sym, ap, ◌∙◌, subst, arith}
+use Rattle.std.specs.Prelude.{◌&&◌, ◌||◌, IfOk, IfSome, is_some, option_map}
+use Rattle.std.specs.Option.{option_map_or}
+use Rattle.std.proofs.lemmas.Bool.{leb-false, lt-leb}
+use Rattle.std.proofs.lemmas.Result.{IfOk-weaker}
+use Rattle.coap_message.specs.declared.code.Code.{Code}
+use Rattle.coap_message.specs.declared.code.TheConstants.Code.{REQUEST_ENTITY_TOO_LARGE}
+use Rattle.coap_message.specs.declared.error.OutOfMemory.{OutOfMemory}
+use Rattle.coap_message.specs.declared.kind.Kind.{Kind}
+use Rattle.coap_message.specs.declared.kind.Kind.TheVariants.{Con, Non, Ack, Rst}
+use Rattle.coap_message.specs.Datagram.{Datagram}
+use Rattle.coap_message.specs.Message.{Message}
+use Rattle.coap_target.specs.declared.endpoint.Endpoint.{Endpoint}
+use Rattle.coap_cache.specs.declared.key.CacheKey.{CacheKey}
+use Rattle.coap_cache.specs.Entries.{Entry, entry_key, has_usable}
+use Rattle.coap_cache.specs.Freshness.{is_usable}
+use Rattle.coap_cache.specs.Lists.{of_key}
+use Rattle.coap_dedup.specs.declared.record.Record.{Record}
+use Rattle.coap_model.specs.declared.report.Report.{Report}
+use Rattle.coap_model.specs.Memory.{takes_memory}
+use Rattle.coap_model.specs.Verdicts.{Verdict, refused_with, may_ask, verdict_of, form_fits}
+use Rattle.coap_model.specs.World.{World, Step, later, reserved, has_ids, can_reply}
+use Rattle.coap_model.specs.Requests.{known_of, lacks_id, refuses, overloads, opens, turns_down, turns_away, hits, can_open, on_miss, on_entry, on_key, on_verdict, on_new, repeats, on_known, on_request}
+use Rattle.coap_core.specs.Steps.{Does, IsSaid, repetition_of}
+use Rattle.coap_core.proofs.Records.{held-same}
+
+-- what is done in a step is done in one that is equal, where the datagram was written to before
+pub does-as : (s t : Step) (r : Result Report OutOfMemory) (old mid new : Datagram) (v : World) → t ≡ s → mid.room ≡ old.room → IfOk r (λ report. Does s report mid new v) → IfOk r (λ report. Does t report old new v)
+does-as s t r old mid new v same room does =
+    subst (λ (x : Step). IfOk r (λ report. Does x report old new v)) (sym same)
+    (IfOk-weaker r (λ report. Does s report mid new v) (λ report. Does s report old new v) (λ report d. (d.0, d.1 ∙ held-same mid old s.bytes room, d.2)) does)
+
+-- what is sent in a step fits where what is sent in an equal one does
+pub fits-as : (s t : Step) (room other : ℕ) → t ≡ s → other ≡ room → length t.bytes ≤ room → length s.bytes ≤ other
+fits-as s t room other same rooms fits = subst (λ (n : ℕ). length s.bytes ≤ n) (sym rooms) (subst (λ (x : Step). length x.bytes ≤ room) same fits)
+
+module _ (w : World) (now : ℕ) (client : Endpoint) (m : Message) where
+  -- ---- duplicates
+
+  -- a duplicate is told what its request was told: that fits
+  pub repetition-fits : (room : ℕ) → length (on_request w now client m).bytes ≤ room → IfSome (repetition_of w now client m) (λ s. length s.bytes ≤ room)
+  repetition-fits room fits = go (known_of w now client m) fits
+    where
+      go : (o : Option Record) → length (on_known w now client m o).bytes ≤ room → IfSome (option_map (λ known. repeats w now client known.reply) o) (λ s. length s.bytes ≤ room)
+      go None f = tt
+      go (Some known) f = f
+
+  -- it is the whole step
+  pub repetition-does : (report : Report) (old new : Datagram) → is_some (known_of w now client m) ≡ true → IfSome (repetition_of w now client m) (λ s. IsSaid s report old new) → Does (on_request w now client m) report old new (later w now)
+  repetition-does report old new known said = go (known_of w now client m) known said
+    where
+      after : (reply : Option (List ℕ)) → later w now ≡ (repeats w now client reply).world
+      after None = refl
+      after (Some bytes) = refl
+
+      go : (o : Option Record) → is_some o ≡ true → IfSome (option_map (λ k. repeats w now client k.reply) o) (λ s. IsSaid s report old new) → Does (on_known w now client m o) report old new (later w now)
+      go None e d = absurd cc
+      go (Some k) e d = (d.0, d.1, after k.reply)
+
+  -- ---- memory
+
+  abbrev Takes : Step → Type 0
+  Takes s = takes_memory s.report.outcome ≡ true
+
+  either-takes : (b : Bool) (s t : Step) → Takes s → Takes t → Takes (cond b s t)
+  either-takes true s t p q = p
+  either-takes false s t p q = q
+
+  down-takes : (code : Code) → Takes (turns_down w now client m code)
+  down-takes code = either-takes (can_reply w m.kind) (refuses w now client m code) (lacks_id w now) refl refl
+
+  miss-takes : (key : CacheKey) → Takes (on_miss w now client m key)
+  miss-takes key =
+      either-takes (form_fits w.setting.limits.datagram key.target m) (cond (can_open w m.kind) (opens w now client m key) (turns_away w now client m)) (turns_down w now client m REQUEST_ENTITY_TOO_LARGE)
+      (either-takes (can_open w m.kind) (opens w now client m key) (turns_away w now client m) refl (either-takes (can_reply w m.kind) (overloads w now client m) (lacks_id w now) refl refl))
+      (down-takes REQUEST_ENTITY_TOO_LARGE)
+
+  entry-takes : (key : CacheKey) (o : Option Entry) → Takes (on_entry w now client m key o)
+  entry-takes key None = miss-takes key
+  entry-takes key (Some entry) =
+      either-takes (is_usable now entry.1) (cond (can_reply w m.kind) (hits w now client m key entry.1) (lacks_id w now)) (on_miss w now client m key)
+      (either-takes (can_reply w m.kind) (hits w now client m key entry.1) (lacks_id w now) refl refl)
+      (miss-takes key)
+
+  verdict-takes : (v : Verdict) → Takes (on_verdict w now client m v)
+  verdict-takes (refused_with code) = down-takes code
+  verdict-takes (may_ask key) = entry-takes key (of_key entry_key key w.store)
+
+  -- whatever becomes of a request that is new takes memory
+  pub new-takes : takes_memory (on_new w now client m).report.outcome ≡ true
+  new-takes = verdict-takes (verdict_of w.setting.routes m)
+
+  -- ---- requests for a key
+
+  module _ (key : CacheKey) where
+    -- the form is too long
+    pub too-long : can_reply w m.kind ≡ true → form_fits w.setting.limits.datagram key.target m ≡ false → on_miss w now client m key ≡ refuses w now client m REQUEST_ENTITY_TOO_LARGE
+    too-long reply fits = rw (fits, reply) refl
+
+    -- there is no room, or it is one that isn't asked for yet
+    pub turned-away : can_reply w m.kind ≡ true → form_fits w.setting.limits.datagram key.target m ≡ true → can_open w m.kind ≡ false → on_miss w now client m key ≡ overloads w now client m
+    turned-away reply fits closed = rw (fits, closed, reply) refl
+
+    -- it is asked for
+    pub opened : form_fits w.setting.limits.datagram key.target m ≡ true → can_open w m.kind ≡ true → on_miss w now client m key ≡ opens w now client m key
+    opened fits free = rw (fits, free) refl
+
+    -- what is stored for it, if anything is, can't be shown
+    pub missed : has_usable key now w.store ≡ false → on_key w now client m key ≡ on_miss w now client m key
+    missed none = go (of_key entry_key key w.store) none
+      where
+        go : (o : Option Entry) → option_map_or (λ entry. is_usable now entry.1) o false ≡ false → on_entry w now client m key o ≡ on_miss w now client m key
+        go None e = refl
+        go (Some entry) e = rw e refl
+
+    -- the verdict is that it may be asked for
+    pub asked : verdict_of w.setting.routes m ≡ may_ask key → on_new w now client m ≡ on_key w now client m key
+    asked verdict = ap (on_verdict w now client m) verdict
+
+  -- ---- requests that are new
+
+  -- it is refused
+  pub refused : (code : Code) → can_reply w m.kind ≡ true → verdict_of w.setting.routes m ≡ refused_with code → on_new w now client m ≡ refuses w now client m code
+  refused code reply verdict = rw (verdict, reply) refl
+
+  -- where no id is free for a reply none is for an exchange
+  shut : can_reply w m.kind ≡ false → can_open w m.kind ≡ false
+  shut none = go m.kind none
+    where
+      few : leb (w.given + reserved w + 1) 32768 ≡ false → leb (w.given + reserved w + 2) 32768 ≡ false
+      few e = let more = leb-false _ _ e in lt-leb _ _ (omega (arith, more))
+
+      last : (a b c : Bool) → c ≡ false → (a && (b && c)) ≡ false
+      last true true c e = e
+      last true false c e = refl
+      last false b c e = refl
+
+      go : (kind : Kind) → can_reply w kind ≡ false → can_open w kind ≡ false
+      go Con e = absurd cc
+      go Non e = last _ _ (has_ids 2 w) (few e)
+      go Ack e = refl
+      go Rst e = refl
+
+  -- so nothing is said, whatever the verdict
+  pub lacking : can_reply w m.kind ≡ false → on_new w now client m ≡ lacks_id w now
+  lacking none = of (verdict_of w.setting.routes m)
+    where
+      miss : (key : CacheKey) (b : Bool) → form_fits w.setting.limits.datagram key.target m ≡ b → on_miss w now client m key ≡ lacks_id w now
+      miss key true e = rw (e, shut none, none) refl
+      miss key false e = rw (e, none) refl
+
+      entry : (key : CacheKey) (o : Option Entry) → on_entry w now client m key o ≡ lacks_id w now
+      entry key None = miss key (form_fits w.setting.limits.datagram key.target m) refl
+      entry key (Some stored) = usable (is_usable now stored.1) refl
+        where
+          usable : (b : Bool) → is_usable now stored.1 ≡ b → on_entry w now client m key (Some stored) ≡ lacks_id w now
+          usable true e = rw (e, none) refl
+          usable false e = rw e (miss key (form_fits w.setting.limits.datagram key.target m) refl)
+
+      of : (v : Verdict) → on_verdict w now client m v ≡ lacks_id w now
+      of (refused_with code) = rw none refl
+      of (may_ask key) = entry key (of_key entry_key key w.store)

@@ -1,0 +1,24 @@
+use Rattle.std.proofs.Common.{◌≡◌, sym, ap}
+use Rattle.coap_model.specs.World.{Step}
+use Rattle.coap_model.specs.Requests.{remembers, on_miss, on_key}
+use Rattle.coap_core.proofs.Asking.{does-as, fits-as, missed}
+use Rattle.coap_core.proofs.world.World.on_key.Goals as goal
+
+pub put_usable-requires-clause-fits : goal.put_usable-requires-clause-fits
+put_usable-requires-clause-fits g c = c.requires.fits
+
+pub on_miss-requires-clause-fits : goal.on_miss-requires-clause-fits
+on_miss-requires-clause-fits g c =
+    let m = c.args.request.now in
+    let whole : Step = on_key c.args.self.now c.args.now c.args.client m c.args.asked.now.key in
+    let part : Step = on_miss c.args.self.now c.args.now c.args.client m c.args.asked.now.key in
+    let none : whole ≡ part = missed c.args.self.now c.args.now c.args.client m c.args.asked.now.key (sym c.if-put_usable.ensures.usable) in
+    fits-as part whole c.args.out.now.room c.put_usable.new.out.room none c.put_usable.ensures.kept c.requires.fits
+
+pub returns-clause-exact : goal.returns-clause-exact
+returns-clause-exact g c =
+    let m = c.args.request.now in
+    let whole : Step = on_key c.args.self.now c.args.now c.args.client m c.args.asked.now.key in
+    let part : Step = on_miss c.args.self.now c.args.now c.args.client m c.args.asked.now.key in
+    let none : whole ≡ part = missed c.args.self.now c.args.now c.args.client m c.args.asked.now.key (sym c.if-put_usable.ensures.usable) in
+    does-as (remembers c.args.now c.args.client m part) (remembers c.args.now c.args.client m whole) c.on_miss.result c.args.out.now c.put_usable.new.out c.on_miss.new.out c.on_miss.new.self (ap (remembers c.args.now c.args.client m) none) c.put_usable.ensures.kept c.on_miss.ensures.exact
