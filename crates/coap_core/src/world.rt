@@ -182,8 +182,10 @@ fn new_tables(alloc: Global, limits: &Limits) -> Result<(Exchanges, Table<Waiter
 
 /// No records, with places for as many as the limits say.
 fn new_records(alloc: Global, limits: &Limits) -> Result<(Records, Records), OutOfMemory>
-    ensures con { IfOk result (λ made. made.0 ≡ no_records limits.now.con_records EXCHANGE_LIFETIME) }
-    ensures non { IfOk result (λ made. made.1 ≡ no_records limits.now.non_records NON_LIFETIME) }
+    ensures con { IfOk result (λ made.
+        made.0 ≡ no_records limits.now.con_records EXCHANGE_LIFETIME) }
+    ensures non { IfOk result (λ made.
+        made.1 ≡ no_records limits.now.non_records NON_LIFETIME) }
 {
     let (con, non) = (limits.values().con_records, limits.values().non_records);
     let con_records = Records::new(alloc, con as usize, EXCHANGE_LIFETIME)?;
