@@ -134,10 +134,7 @@ fn put_told(
 }
 
 /// Writes a 2.03 with a tag and a Max-Age.
-#[tactic(
-    auto,
-    unfolding(coap_message::specs::Spelling::spelling, coap_message::specs::Uint::uint_spelling)
-)]
+#[tactic(auto, unfolding(coap_message::specs::Spelling::spelling, coap_message::specs::Uint::uint_spelling))]
 fn put_valid(
     head: Head,
     token: &Token,

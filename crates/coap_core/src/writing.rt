@@ -77,10 +77,7 @@ pub(crate) fn put_with_max_age(
     }
 }
 
-#[tactic(
-    auto,
-    unfolding(coap_message::specs::Spelling::spelling, coap_message::specs::Uint::uint_spelling)
-)]
+#[tactic(auto, unfolding(coap_message::specs::Spelling::spelling, coap_message::specs::Uint::uint_spelling))]
 fn try_with_max_age(
     out: &mut Datagram,
     room: usize,

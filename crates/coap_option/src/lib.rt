@@ -14,7 +14,5 @@ mod table;
 pub use classes::{is_critical, is_no_cache_key, is_unsafe};
 pub use recognition::recognised;
 pub use screening::{BadOption, screen_request, screen_response};
-pub use selection::{
-    forward_options, key_options, key_options_into, max_age, tags, tags_into,
-};
+pub use selection::{forward_options, key_options, key_options_into, max_age, tags, tags_into};
 pub use side::Side;

@@ -83,6 +83,11 @@ fn stats(turns: u64, sent: u64, send_faults: u64) -> Stats {
     }
 }
 
+/// The port failed when this was done.
+fn failed(stats: Stats) -> Result<Stats, DriveError> {
+    Err(DriveError::Port { stats })
+}
+
 /// Drives a new core of the default limits, which maps `t` to the origin, for so many turns.
 fn drive_anew(
     rt: &impl Abort,
@@ -132,7 +137,7 @@ fn a_core_is_driven_over_a_port(rt: HostRuntime) -> Result<(), Fail> {
     for (turns, refused, expected) in [
         (4, None, (Ok(stats(4, 2, 0)), BOTH)),
         // the port fails at the fifth, as it has nothing more to give
-        (5, None, (Err(DriveError::Port { stats: stats(4, 2, 0) }), BOTH)),
+        (5, None, (failed(stats(4, 2, 0)), BOTH)),
         // a datagram that isn't taken is counted
         (4, Some(0), (Ok(stats(4, 1, 1)), DELIVERED)),
         (4, Some(1), (Ok(stats(4, 1, 1)), SENT_ON)),

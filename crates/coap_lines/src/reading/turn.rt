@@ -72,11 +72,7 @@ fn read_input(alloc: Global, text: &[u8]) -> Result<Input, LineError>
 /// # Errors
 /// `Bad` where the line says none, and only there. `OutOfMemory` where it says one whose datagram
 /// found no memory; a tick takes none.
-#[tactic(
-    auto,
-    using(crate::proofs::Ticking::tick_of_event),
-    unfolding(crate::specs::Turns::turn_of)
-)]
+#[tactic(auto, using(crate::proofs::Ticking::tick_of_event), unfolding(crate::specs::Turns::turn_of))]
 pub fn read_turn(alloc: Global, line: &[u8], last: u64) -> Result<Turn, LineError>
     ensures read { Finds turn_seen (turn_of last line.now) result }
     ensures ticks { IfSome (turn_of last line.now) (λ turn. turn.event ≡ tick → IsOk result) }
