@@ -1,7 +1,7 @@
 -- Words about options and targets, computed: the form that is sent on, the keys read off it and off
 -- the client's request, what is shown to clients with tags, and what is refused for which reason.
 -- The bytes are those of RFC 7252 (3, 3.1, 5.10), written out.
-use Rattle.std.specs.Prelude.{ℕ, ◌-◌, List, [], ◌∷◌, ◌++◌, codes, replicate, Option, None, option_map}
+use Rattle.std.specs.Prelude.{ℕ, ◌-◌, List, [], ◌∷◌, ◌++◌, codes, replicate, Option, Some, None, option_map}
 use Rattle.std.specs.Result.{result_ok}
 use Rattle.coap_message.specs.declared.code.TheConstants.Code.{BAD_REQUEST, BAD_OPTION, NOT_FOUND, PROXYING_NOT_SUPPORTED}
 use Rattle.coap_message.specs.declared.kind.Kind.TheVariants.{Non}
@@ -77,6 +77,25 @@ get_with_others =
     )
     []
 
+-- a form of two Uri-Hosts, `h` and `i`, and of a Uri-Path and a Uri-Query of 256 bytes, which are too
+-- long: they are of the target all the same, and not of what stands beside it
+abbrev pub odd_form : List ℕ
+odd_form =
+    0x48 ∷ 1 ∷ 0 ∷ 7 ∷ 0 ∷ 0 ∷ 0 ∷ 0 ∷ 0 ∷ 0 ∷ 0 ∷ 0 ∷ 0x31 ∷ 0x68 ∷ 0x01 ∷ 0x69 ∷ 0x8D ∷ 243
+    ∷ (replicate 256 0x61 ++ (0x4D ∷ 243 ∷ replicate 256 0x62))
+
+abbrev pub odd_key : CacheKey
+odd_key =
+    record {
+      target = record {
+        host = Some (0x68 ∷ []);
+        at = origin;
+        path = replicate 256 0x61 ∷ [];
+        query = replicate 256 0x62 ∷ [];
+      };
+      options = [];
+    }
+
 -- ---- clients with tags
 
 -- a GET of the path `t` with the ETags CD and AB
@@ -118,6 +137,14 @@ observed =
 
 abbrev pub observed_sent : List Sent
 observed_sent = delivered_once (0x50 ∷ 0x44 ∷ 0 ∷ 2 ∷ 0xFF ∷ 0x32 ∷ [])
+
+-- a payload of 109 bytes beside an Observe: without that it fits datagrams of 128 bytes
+abbrev pub long_observed : List Turn
+long_observed = answered_by 0 (answer 0x68 0x45 1 1 (0x61 ∷ 3 ∷ 0xFF ∷ replicate 109 0x39))
+
+-- an Observe has at most three bytes (RFC 7641, 2): a longer one isn't understood
+abbrev pub odd_observe : List Turn
+odd_observe = answered_by 0 (answer 0x68 0x44 1 1 (0x64 ∷ 0 ∷ 0 ∷ 0 ∷ 3 ∷ []))
 
 -- option 64 is safe to forward, 66 isn't: neither is recognised
 abbrev pub with_unknown : ℕ → List Turn

@@ -2,7 +2,7 @@
 -- no law would catch a fault that both have: a client's token, two faults in one request, what a
 -- response gives at some age, and what is due first. The bytes are those of RFC 7252 (3, 3.1,
 -- 5.10), written out.
-use Rattle.std.specs.Prelude.{ℕ, List, [], ◌∷◌}
+use Rattle.std.specs.Prelude.{ℕ, List, [], ◌∷◌, replicate}
 use Rattle.coap_message.specs.declared.code.TheConstants.Code.{METHOD_NOT_ALLOWED, BAD_OPTION, NOT_FOUND}
 use Rattle.coap_model.specs.declared.report.Outcome.TheVariants.{Refused, Opened, Overloaded, Answered, SentRequest, Delivered}
 use Rattle.coap_model.specs.declared.report.Storing.TheVariants.{Kept, NotStored}
@@ -66,6 +66,17 @@ changed_with_age_sent = delivered_once (0x50 ∷ 0x44 ∷ 0 ∷ 2 ∷ 0xD1 ∷ 1
 -- a second Max-Age isn't understood
 abbrev pub two_ages : List Turn
 two_ages = answered_by 0 (answer 0x68 0x45 1 1 (0xD1 ∷ 1 ∷ 10 ∷ 1 ∷ 10 ∷ []))
+
+-- a payload of 109 bytes beside a Max-Age of one byte: with one of four in its place it has 128 bytes
+abbrev pub beside_an_age : List Turn
+beside_an_age = answered_by 0 (answer 0x68 0x45 1 1 (0xD1 ∷ 1 ∷ 10 ∷ 0xFF ∷ replicate 109 0x39))
+
+abbrev pub beside_an_age_sent : List Sent
+beside_an_age_sent = delivered_as (0x50 ∷ 0x45 ∷ 0 ∷ 2 ∷ 0xD1 ∷ 1 ∷ 10 ∷ 0xFF ∷ replicate 109 0x39)
+
+-- a Uri-Path is of requests alone: in a response it isn't understood
+abbrev pub path_in_response : List Turn
+path_in_response = answered_by 0 (answer 0x68 0x44 1 1 (0xB1 ∷ 0x74 ∷ []))
 
 -- a Max-Age of four bytes, a millisecond after it came
 abbrev pub greatest_age : List Turn

@@ -43,9 +43,9 @@ ghost use Rattle.coap_model.specs.Carries.{Carries};
 ghost use Rattle.coap_model.specs.Promised.{IdsDiffer, Promised};
 ghost use Rattle.coap_model.specs.Runs.{Taken, turns_of, AreTurns, new_run, run_of, entry_of, answer_at};
 ghost use Rattle.coap_model.specs.Examples.{nothing, to, get_t, origin, from, tick_at, client, content_for_client, play, proxy, small_proxy, narrow_proxy, first_answer, first_answer_sent, late_answer, late_answer_sent, error, error_sent, fault, fault_sent, changed, changed_sent, valid, replaced_sent, block_in_response, long_max_age, impostor, impostor_sent, refusals, refusals_sent, long_paths, long_paths_sent, long_segments, long_segments_sent, payload_in_get, payload_in_get_sent, full, full_sent, unprocessed_messages, unprocessed_messages_sent, too_long, too_long_sent, payload_of, payload_of_109_sent, spent_proxy, last_id, last_id_sent, wrapping_proxy, wrapping, wrapping_sent};
-ghost use Rattle.coap_model.specs.ReplyExamples.{asks_at, with_token, tokens, tokens_sent, two_faults, two_faults_sent, of_class_3, of_class_3_sent, changed_with_age, changed_with_age_sent, two_ages, greatest_age, greatest_age_sent, shorter_age, shorter_age_sent, ten_seconds_after, one_left, none_left, of_one_moment, of_one_moment_sent, request_first, request_first_sent, client_first, client_first_sent};
+ghost use Rattle.coap_model.specs.ReplyExamples.{asks_at, with_token, tokens, tokens_sent, two_faults, two_faults_sent, of_class_3, of_class_3_sent, changed_with_age, changed_with_age_sent, two_ages, beside_an_age, beside_an_age_sent, path_in_response, greatest_age, greatest_age_sent, shorter_age, shorter_age_sent, ten_seconds_after, one_left, none_left, of_one_moment, of_one_moment_sent, request_first, request_first_sent, client_first, client_first_sent};
 ghost use Rattle.coap_model.specs.FormExamples.{after, named, named_form, target_in};
-ghost use Rattle.coap_model.specs.OptionExamples.{others, form_with_others, key_in, key_of_others, form_with_tag, key_of_temp, get_with_others, get_with_tags, with_tag, held_sent, other_tag_sent, accepted, accepted_sent, observed, observed_sent, with_unknown, safe_sent, beside_a_tag, beside_a_tag_sent, forward_proxy, refused_targets, refused_targets_sent, long_without_map, long_without_map_sent, to_sensor, to_sensor_sent};
+ghost use Rattle.coap_model.specs.OptionExamples.{others, form_with_others, key_in, key_of_others, odd_form, odd_key, form_with_tag, key_of_temp, get_with_others, get_with_tags, with_tag, held_sent, other_tag_sent, accepted, accepted_sent, observed, observed_sent, long_observed, odd_observe, with_unknown, safe_sent, beside_a_tag, beside_a_tag_sent, forward_proxy, refused_targets, refused_targets_sent, long_without_map, long_without_map_sent, to_sensor, to_sensor_sent};
 ghost use Rattle.coap_model.specs.DuplicateExamples.{con_u, con_not_found, twice_until, refused_with, of_one_id, of_one_id_sent, one_record, two_clients, two_clients_sent, con_asks, con_asks_sent, con_hit, con_hits, con_hits_sent, opened_until, hit_until, hit_sent, con_t, con_busy, non_hit, non_busy, busy_until, busy_sent};
 ghost use Rattle.coap_model.specs.Held.{target_bytes, held, most_held};
 ghost use Rattle.coap_model.specs.LimitExamples.{get_u, not_found, got, one_exchange, one_waiter, until_served, until_served_sent, retries_after, two_requests, second_is_told, narrow, long_datagrams, long_datagrams_sent, later_proxy, counted_on, counted_on_sent, after_ids, last_refusal, last_refusal_sent, kept_ids, kept_ids_sent};
@@ -97,6 +97,8 @@ pub fn examples_of_replies()
     ensures of_class_3 { play proxy of_class_3 ≡ of_class_3_sent }
     ensures changed_with_age { play proxy changed_with_age ≡ changed_with_age_sent }
     ensures two_ages { play proxy two_ages ≡ replaced_sent }
+    ensures beside_an_age { play narrow_proxy beside_an_age ≡ beside_an_age_sent }
+    ensures path_in_response { play proxy path_in_response ≡ replaced_sent }
     ensures greatest_age { play proxy greatest_age ≡ greatest_age_sent }
     ensures shorter_age { play proxy shorter_age ≡ shorter_age_sent }
     ensures last_second { play proxy (ten_seconds_after 9000) ≡ one_left }
@@ -142,6 +144,7 @@ pub fn examples_of_options()
     ensures form { spelling (forwarded eight_zeros named others 7) ≡ form_with_others }
     ensures read_back { key_in origin form_with_others ≡ Some key_of_others }
     ensures own_tag { key_in origin form_with_tag ≡ Some key_of_temp }
+    ensures odd_form { key_in origin odd_form ≡ Some odd_key }
     ensures of_client { request_key named get_with_others ≡ key_of_others }
     ensures sent_on { sent_on get_with_others ≡ others }
     ensures held { play proxy (with_tag 0xAB) ≡ held_sent }
@@ -149,6 +152,8 @@ pub fn examples_of_options()
     ensures held_bytes { held (after proxy (from 0 (client 1) get_with_tags ∷ [])) ≡ 26 }
     ensures accepted { play proxy accepted ≡ accepted_sent }
     ensures observed { play proxy observed ≡ observed_sent }
+    ensures long_observed { play narrow_proxy long_observed ≡ payload_of_109_sent }
+    ensures odd_observe { play proxy odd_observe ≡ replaced_sent }
     ensures safe { play proxy (with_unknown 64) ≡ safe_sent }
     ensures not_safe { play proxy (with_unknown 66) ≡ replaced_sent }
     ensures fits { play narrow_proxy (beside_a_tag 101) ≡ beside_a_tag_sent }
