@@ -43,4 +43,5 @@ pub mod Pairs
 pub mod Cached
 pub mod Stores
 pub mod Obtaining
+pub mod Once
 pub mod CacheExamples

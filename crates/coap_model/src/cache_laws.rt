@@ -14,11 +14,11 @@ ghost use Rattle.coap_model.specs.declared.report.Storing.TheVariants.{Kept, Too
 ghost use Rattle.coap_model.specs.Setting.{Setting};
 ghost use Rattle.coap_model.specs.Forms.{request_key};
 ghost use Rattle.coap_model.specs.History as told;
-ghost use Rattle.coap_model.specs.History.{Deed, Place, Brings, takes, Gets};
+ghost use Rattle.coap_model.specs.History.{Deed, Place, IsPlaceOf, Brings, takes, Gets};
 ghost use Rattle.coap_model.specs.Cached.{IsObtained, IsOfOrigin, Cached, cached_key, cached_size, cached_here, entry_of_cached, store_limits, leaves, IsCacheOf, StandsFirst, IsStored, IsStoreOf, WasObtained, IsEntryOf};
 ghost use Rattle.coap_model.specs.Limits.{AreLimits};
 ghost use Rattle.coap_model.specs.World.{World, counts};
-ghost use Rattle.coap_model.specs.Justified.{IsObtainedHere, size_here, JustifiedBy};
+ghost use Rattle.coap_model.specs.Justified.{IsHit, IsObtainedHere, size_here, JustifiedBy};
 ghost use Rattle.coap_model.specs.Carries.{Carries};
 ghost use Rattle.coap_model.specs.Examples.{play, proxy, tick_at};
 ghost use Rattle.coap_model.specs.StoringExamples.{answer_with, answer_in_place, still_delivered};
@@ -163,6 +163,20 @@ pub fn what_takes_a_place_is_kept()
         → IsCacheOf setting past cached
         → of_key cached_key here.key cached ≡ Some entry
         → d.entry.report.outcome ≡ Answered Kept }
+{}
+
+/// What is shown from the cache was received: for a key that is equal to the request's, at a place
+/// before, of a request that was sent on before that. So it is what its origin sent
+/// (`what_is_obtained_came_from_its_origin`).
+pub fn what_is_shown_was_received()
+    ensures asked { (setting : Setting) (past : List Deed) (d : Deed) (hit : IsHit setting past d)
+        → IsPlaceOf past hit.entry.asking }
+    ensures received { (setting : Setting) (past : List Deed) (d : Deed)
+        (hit : IsHit setting past d)
+        → IsPlaceOf past hit.entry.getting }
+    ensures equal_key { (setting : Setting) (past : List Deed) (d : Deed)
+        (hit : IsHit setting past d)
+        → IsObtained setting hit.key hit.entry.response hit.entry.asking hit.entry.getting }
 {}
 
 /// A history has at most one cache. Each entry of it was obtained in the history. It keeps within

@@ -32,7 +32,7 @@ ghost use Rattle.coap_message.specs.declared.code.TheConstants.Code.{NOT_FOUND};
 ghost use Rattle.coap_model.specs.Memory.{takes_memory};
 ghost use Rattle.coap_model.specs.Step.{step_of};
 ghost use Rattle.coap_model.specs.Ticks.{next_due};
-ghost use Rattle.coap_model.specs.History.{Entry, Act, no_item, serves, takes, grown_of, gives_id, ids_in, Deed, Place, IsPlaceOf, Somewhere, Gives, HasRoom, last_of, IsInOrder};
+ghost use Rattle.coap_model.specs.History.{Entry, Act, no_item, serves, takes, grown_of, gives_id, ids_in, Deed, Place, IsPlaceOf, Somewhere, Sends, Gets, Serves, Gives, HasRoom, last_of, IsInOrder};
 ghost use Rattle.coap_model.specs.Messages.{brings_requests, eight_zeros, told_again};
 ghost use Rattle.coap_model.specs.Duplicates.{IsRememberedAt, Repeats};
 ghost use Rattle.coap_model.specs.Due.{IsDueAt, IsNextDue};
@@ -371,6 +371,32 @@ pub fn what_is_promised_holds_at_each_place()
     ensures held { (history : List Entry) (w : World)
         → Promised history w
         → held w ≤ most_held w.setting.limits }
+{}
+
+/// In a justified history nothing is done twice: an exchange is sent on at one place, got at one
+/// place, and its client served at one place.
+pub fn nothing_is_done_twice()
+    ensures sent { (setting : Setting) (history : List Deed) (exchange : ℕ) (a b : Place)
+        → AllJustified setting history
+        → IsPlaceOf history a
+        → IsPlaceOf history b
+        → Sends setting.salt exchange a
+        → Sends setting.salt exchange b
+        → a ≡ b }
+    ensures got { (setting : Setting) (history : List Deed) (exchange : ℕ) (a b : Place)
+        → AllJustified setting history
+        → IsPlaceOf history a
+        → IsPlaceOf history b
+        → Gets setting exchange a
+        → Gets setting exchange b
+        → a ≡ b }
+    ensures served { (setting : Setting) (history : List Deed) (waiter : ℕ) (a b : Place)
+        → AllJustified setting history
+        → IsPlaceOf history a
+        → IsPlaceOf history b
+        → Serves waiter a
+        → Serves waiter b
+        → a ≡ b }
 {}
 
 /// What is owed is given, where an entry is justified by what was done before it: a request that is
