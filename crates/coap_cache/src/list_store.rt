@@ -13,7 +13,7 @@ use std::alloc::Global;
 
 /// A store that keeps its entries as a list, the most recently used first, and walks it for each
 /// call.
-#[derive(Debug, Drop)]
+#[derive(Debug)]
 pub struct ListStore {
     entries: Vec<(CacheKey, Stored)>,
     most_bytes: u64,
@@ -22,6 +22,16 @@ pub struct ListStore {
     ghost within_bytes: { total entry_size entries.items ≤ most_bytes },
     ghost within_entries: { length entries.items ≤ most_entries },
     ghost small: { most_bytes < 2 ^ 63 },
+}
+
+impl Drop for ListStore {
+    fn drop(self) {
+        let ListStore {
+            entries: _,
+            most_bytes: _,
+            most_entries: _,
+        } = self;
+    }
 }
 
 impl Store for ListStore {

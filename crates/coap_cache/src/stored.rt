@@ -5,7 +5,7 @@ use coap_message::Message;
 use coap_option::max_age;
 
 /// A response that is kept.
-#[derive(Clone, Debug, Drop, PartialEq, Eq)]
+#[derive(Clone, Debug, PartialEq, Eq)]
 pub struct Stored {
     /// The response. Its kind, its message id and its token are of no account.
     pub response: Message,
@@ -18,6 +18,18 @@ pub struct Stored {
     /// Its resource was changed since it was asked for, so that it answers no request (RFC 7252,
     /// 5.9.1).
     pub marked: bool,
+}
+
+impl Drop for Stored {
+    fn drop(self) {
+        let Stored {
+            response: _,
+            asked: _,
+            got_no: _,
+            got: _,
+            marked: _,
+        } = self;
+    }
 }
 
 impl Stored {

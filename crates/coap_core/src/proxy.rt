@@ -31,9 +31,14 @@ use std::marker::Model;
 
 /// The core of a proxy. A contract sees the world of the model: what the core was made with, and
 /// its tables.
-#[derive(Drop)]
 pub struct Core<S: Store> {
     world: World<S>,
+}
+
+impl<S: Store + Drop> Drop for Core<S> {
+    fn drop(self) {
+        let Core { world: _ } = self;
+    }
 }
 
 impl<S: Store> Model for Core<S> {

@@ -23,10 +23,15 @@ pub(crate) enum RequestTarget<'m, 'a> {
 
 /// What a request asks for: a response for this key, to a client that holds those with these tags.
 /// It is read of one request after the other, each time in the room that the last one took.
-#[derive(Drop)]
 pub(crate) struct Asked {
     pub(crate) key: CacheKey,
     pub(crate) tags: Pieces,
+}
+
+impl Drop for Asked {
+    fn drop(self) {
+        let Asked { key: _, tags: _ } = self;
+    }
 }
 
 impl Asked {

@@ -20,7 +20,6 @@ use std::marker::Model;
 use std::mem;
 
 /// What a proxy was made with, and what it holds. A contract sees the world of the model.
-#[derive(Drop)]
 pub(crate) struct World<S: Store> {
     pub(crate) alloc: Global,
     pub(crate) limits: Limits,
@@ -36,6 +35,26 @@ pub(crate) struct World<S: Store> {
     pub(crate) ids: Ids,
     pub(crate) last: u64,
     pub(crate) events: u64,
+}
+
+impl<S: Store + Drop> Drop for World<S> {
+    fn drop(self) {
+        let World {
+            alloc: _,
+            limits: _,
+            routes: _,
+            salt: _,
+            exchanges: _,
+            waiters: _,
+            store: _,
+            room: _,
+            con_records: _,
+            non_records: _,
+            ids: _,
+            last: _,
+            events: _,
+        } = self;
+    }
 }
 
 impl<S: Store> Model for World<S> {

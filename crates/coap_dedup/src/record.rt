@@ -17,7 +17,7 @@ pub const EXCHANGE_LIFETIME: u64 = 247_000;
 pub const NON_LIFETIME: u64 = 145_000;
 
 /// A message that was seen, and what was sent at once in reply to it.
-#[derive(Clone, Debug, Drop, PartialEq, Eq)]
+#[derive(Clone, Debug, PartialEq, Eq)]
 pub struct Record {
     /// Where the message came from.
     pub from: Endpoint,
@@ -27,6 +27,17 @@ pub struct Record {
     pub at: u64,
     /// The datagram that was sent in reply, if one was.
     pub reply: Option<Seq<u8>>,
+}
+
+impl Drop for Record {
+    fn drop(self) {
+        let Record {
+            from: _,
+            id: _,
+            at: _,
+            reply: _,
+        } = self;
+    }
 }
 
 impl Record {

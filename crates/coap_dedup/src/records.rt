@@ -24,7 +24,6 @@ use std::marker::Model;
 ///
 /// A look-up and a `keep` cost what a look-up in the index does, whatever keys strangers choose;
 /// beside that each record is let go once.
-#[derive(Drop)]
 pub struct Records {
     /// The records, in as many places as the limit.
     ring: HeapCircularBuffer<Record>,
@@ -33,6 +32,16 @@ pub struct Records {
     index: BTreeMap<Key, u64>,
     /// For how long each lives, in milliseconds.
     lifetime: u64,
+}
+
+impl Drop for Records {
+    fn drop(self) {
+        let Records {
+            ring: _,
+            index: _,
+            lifetime: _,
+        } = self;
+    }
 }
 
 impl Model for Records {

@@ -17,13 +17,23 @@ pub struct Sending {
 }
 
 /// The answer of an exchange.
-#[derive(Clone, Debug, Drop, PartialEq, Eq)]
+#[derive(Clone, Debug, PartialEq, Eq)]
 pub struct Answer {
     pub message: Message,
     /// The moment at which it came, in milliseconds.
     pub got: u64,
     /// Whether it is the proxy's own (5.02), in place of what the origin sent.
     pub own: bool,
+}
+
+impl Drop for Answer {
+    fn drop(self) {
+        let Answer {
+            message: _,
+            got: _,
+            own: _,
+        } = self;
+    }
 }
 
 /// How far an exchange has come.
@@ -65,7 +75,7 @@ impl ExchangeState {
 }
 
 /// A request on its way to an origin.
-#[derive(Clone, Debug, Drop, PartialEq, Eq)]
+#[derive(Clone, Debug, PartialEq, Eq)]
 pub struct Exchange {
     /// What its response answers: the target, and the options that take part in the cache key.
     pub key: CacheKey,
@@ -74,4 +84,15 @@ pub struct Exchange {
     /// The moment at which it was opened, in milliseconds.
     pub since: u64,
     pub state: ExchangeState,
+}
+
+impl Drop for Exchange {
+    fn drop(self) {
+        let Exchange {
+            key: _,
+            form: _,
+            since: _,
+            state: _,
+        } = self;
+    }
 }

@@ -19,11 +19,19 @@ use std::alloc::Global;
 use std::marker::Model;
 
 /// Exchanges in order of number. A contract sees the table.
-#[derive(Drop)]
 pub struct Exchanges {
     table: Table<Exchange>,
     /// How many are still to be sent.
     queued: usize,
+}
+
+impl Drop for Exchanges {
+    fn drop(self) {
+        let Exchanges {
+            table: _,
+            queued: _,
+        } = self;
+    }
 }
 
 impl Model for Exchanges {

@@ -23,11 +23,20 @@ pub enum AdmitError {
 
 /// Items under numbers, in order of number. Numbers count from 1, and one is given again only where
 /// it was given back. Room for all items is made at the start.
-#[derive(Drop)]
 pub struct Table<T> {
     pub(crate) items: IndexMap<u64, T>,
     limit: usize,
     admitted: u64,
+}
+
+impl<T: Drop> Drop for Table<T> {
+    fn drop(self) {
+        let Table {
+            items: _,
+            limit: _,
+            admitted: _,
+        } = self;
+    }
 }
 
 impl<T> Model for Table<T> {

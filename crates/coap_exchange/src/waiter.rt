@@ -8,7 +8,7 @@ use coap_target::Endpoint;
 ///            its exchange is done, a tick serves it
 /// waiting  ---------------------------------------->  closed
 /// ```
-#[derive(Clone, Debug, Drop, PartialEq, Eq)]
+#[derive(Clone, Debug, PartialEq, Eq)]
 pub struct Waiter {
     pub client: Endpoint,
     pub token: Token,
@@ -16,4 +16,15 @@ pub struct Waiter {
     pub tags: Pieces,
     /// The number of the exchange that it waits for.
     pub exchange: u64,
+}
+
+impl Drop for Waiter {
+    fn drop(self) {
+        let Waiter {
+            client: _,
+            token: _,
+            tags: _,
+            exchange: _,
+        } = self;
+    }
 }

@@ -21,7 +21,7 @@ use std::hash::BuildHasher;
 /// A store that finds an entry by the hash of its key, and the keys of a target by the hash of
 /// that. Strangers choose both, so that the hasher is to have keys drawn at random, as
 /// `RandomState` has.
-#[derive(Debug, Drop)]
+#[derive(Debug)]
 pub struct LruStore<H: BuildHasher> {
     recent: LruCache<CacheKey, Stored, H>,
     total: u64,
@@ -33,6 +33,18 @@ pub struct LruStore<H: BuildHasher> {
     ghost within_bytes: { total ≤ most_bytes },
     ghost within_entries: { length recent.entries ≤ most_entries },
     ghost small: { most_bytes < 2 ^ 63 },
+}
+
+impl<H: BuildHasher + Drop> Drop for LruStore<H> {
+    fn drop(self) {
+        let LruStore {
+            recent: _,
+            total: _,
+            index: _,
+            most_bytes: _,
+            most_entries: _,
+        } = self;
+    }
 }
 
 impl<H: BuildHasher + Copy> Store for LruStore<H> {

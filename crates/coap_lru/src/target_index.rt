@@ -17,12 +17,21 @@ use std::collections::{HashMap, HashSet};
 use std::hash::BuildHasher;
 
 /// Keys in groups, one for each target.
-#[derive(Debug, Drop)]
+#[derive(Debug)]
 pub(crate) struct TargetIndex<H: BuildHasher> {
     pub(crate) groups: HashMap<Target, HashSet<CacheKey, H>, H>,
     alloc: Global,
     ghost own: { AreOwn groups },
     ghost filled: { AreFilled groups },
+}
+
+impl<H: BuildHasher + Drop> Drop for TargetIndex<H> {
+    fn drop(self) {
+        let TargetIndex {
+            groups: _,
+            alloc: _,
+        } = self;
+    }
 }
 
 impl<H: BuildHasher + Copy> TargetIndex<H> {

@@ -13,7 +13,7 @@ use std::marker::Model;
 
 /// A message. An Empty one, of code 0.00, has neither token nor options nor payload (RFC 7252,
 /// 4.1).
-#[derive(Clone, Debug, Drop, PartialEq, Eq, Hash)]
+#[derive(Clone, Debug, PartialEq, Eq, Hash)]
 pub struct Message {
     pub kind: Kind,
     pub code: Code,
@@ -21,6 +21,19 @@ pub struct Message {
     pub token: Token,
     pub options: OptionList,
     pub payload: Seq<u8>,
+}
+
+impl Drop for Message {
+    fn drop(self) {
+        let Message {
+            kind: _,
+            code: _,
+            id: _,
+            token: _,
+            options: _,
+            payload: _,
+        } = self;
+    }
 }
 
 impl Model for Message {

@@ -38,10 +38,10 @@ pub fn drive<P: Port, S: Store + Drop>(
     let Some(room) = longest.checked_add(1) else {
         return Err(DriveError::OutOfMemory);
     };
-    let (Ok(mut input), Ok(mut output)) = (
-        Datagram::new(alloc, room),
-        Datagram::new(alloc, longest),
-    ) else {
+    let Ok(mut input) = Datagram::new(alloc, room) else {
+        return Err(DriveError::OutOfMemory);
+    };
+    let Ok(mut output) = Datagram::new(alloc, longest) else {
         return Err(DriveError::OutOfMemory);
     };
     let mut stats = Stats::default();

@@ -7,6 +7,7 @@ ghost use Rattle.coap_proxyd.specs.Serving as spec;
 use crate::fault::Fault;
 use crate::planning::{Plan, core_of};
 use coap_cache::Store;
+use coap_core::Core;
 use coap_port::{Port, drive};
 use coap_replay::replay;
 use std::alloc::Global;
@@ -40,13 +41,28 @@ pub fn serve_events<R: Read + Drop, W: Write, S: Store + Drop>(
         (R.remaining input) (W.contents output.old) (W.contents output.new) result }
 {
     let turns = turns_of(&plan);
-    let (Ok(mut core), Ok(mut reader)) = (
-        core_of::<S>(alloc, seed, plan, 1, 0),
-        BufReader::new(alloc, input),
-    ) else {
+    let Ok(mut core) = core_of::<S>(alloc, seed, plan, 1, 0) else {
         return Err(Fault::OutOfMemory);
     };
-    replay(alloc, &mut reader, output, &mut core, turns)?;
+    serve_on(alloc, &mut core, input, output, turns)
+}
+
+/// Does the events of an input by this core, for so many turns at most, and writes the datagrams
+/// that are sent.
+fn serve_on<R: Read + Drop, W: Write, S: Store + Drop>(
+    alloc: Global,
+    core: &mut Core<S>,
+    input: R,
+    output: &mut W,
+    turns: u64,
+) -> Result<(), Fault>
+    ensures { spec.IsServed turns core.old (R.remaining input)
+        (W.contents output.old) (W.contents output.new) result }
+{
+    let Ok(mut reader) = BufReader::new(alloc, input) else {
+        return Err(Fault::OutOfMemory);
+    };
+    replay(alloc, &mut reader, output, core, turns)?;
     Ok(())
 }
 

@@ -150,11 +150,13 @@ pub fn replay<R: BufRead, W: Write, S: Store + Drop>(
     if turns == 0 {
         return Ok(0);
     }
-    let (Ok(mut line), Ok(mut text), Ok(mut out)) = (
-        Vec::with_capacity(alloc, LONGEST + 1),
-        line_buffer(alloc, core.datagram()),
-        Datagram::new(alloc, core.datagram()),
-    ) else {
+    let Ok(mut line) = Vec::with_capacity(alloc, LONGEST + 1) else {
+        return Err(ReplayError::OutOfMemory { line: 1 });
+    };
+    let Ok(mut text) = line_buffer(alloc, core.datagram()) else {
+        return Err(ReplayError::OutOfMemory { line: 1 });
+    };
+    let Ok(mut out) = Datagram::new(alloc, core.datagram()) else {
         return Err(ReplayError::OutOfMemory { line: 1 });
     };
     let mut count = 0;

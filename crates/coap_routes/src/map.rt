@@ -4,15 +4,30 @@ use coap_target::{Ip, Target};
 
 /// Where paths lead that begin with the prefix: to the origin, with what is left of the path after
 /// the origin's own.
-#[derive(Clone, Debug, Drop, PartialEq, Eq, Hash)]
+#[derive(Clone, Debug, PartialEq, Eq, Hash)]
 pub struct Map {
     pub prefix: Pieces,
     pub origin: Target,
 }
 
+impl Drop for Map {
+    fn drop(self) {
+        let Map {
+            prefix: _,
+            origin: _,
+        } = self;
+    }
+}
+
 /// A host's name, in ASCII lower case, and its address.
-#[derive(Clone, Debug, Drop, PartialEq, Eq, Hash)]
+#[derive(Clone, Debug, PartialEq, Eq, Hash)]
 pub struct KnownHost {
     pub name: Seq<u8>,
     pub ip: Ip,
+}
+
+impl Drop for KnownHost {
+    fn drop(self) {
+        let KnownHost { name: _, ip: _ } = self;
+    }
 }

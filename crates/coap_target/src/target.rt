@@ -7,12 +7,23 @@ use coap_message::{Pieces, Seq};
 
 /// A resource of an origin: the host by which it is asked for, none for an address; the endpoint;
 /// the segments of its path and the parts of its query, decoded.
-#[derive(Clone, Debug, Drop, PartialEq, Eq, Hash)]
+#[derive(Clone, Debug, PartialEq, Eq, Hash)]
 pub struct Target {
     pub host: Option<Seq<u8>>,
     pub at: Endpoint,
     pub path: Pieces,
     pub query: Pieces,
+}
+
+impl Drop for Target {
+    fn drop(self) {
+        let Target {
+            host: _,
+            at: _,
+            path: _,
+            query: _,
+        } = self;
+    }
 }
 
 impl Target {

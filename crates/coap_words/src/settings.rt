@@ -6,7 +6,7 @@ use std::alloc::AllocError;
 use thiserror::Error;
 
 /// What each option says, where it is given.
-#[derive(Debug, Drop)]
+#[derive(Debug)]
 pub struct Settings {
     /// `-A`: the local address, as a text (`read_local_address`).
     pub address: Option<String>,
@@ -26,6 +26,22 @@ pub struct Settings {
     pub salt: Option<u64>,
     /// `--turns`: how many turns to do, from 1 and below 2^63.
     pub turns: Option<u64>,
+}
+
+impl Drop for Settings {
+    fn drop(self) {
+        let Settings {
+            address: _,
+            port: _,
+            names: _,
+            config: _,
+            map: _,
+            replay: _,
+            first_id: _,
+            salt: _,
+            turns: _,
+        } = self;
+    }
 }
 
 /// Why words were not read as settings.

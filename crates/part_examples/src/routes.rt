@@ -31,11 +31,13 @@ fn pairs(alloc: Global, text: &str, kind: &str) -> Result<Vec<(String, String)>,
 /// The routes that a text says, such as
 /// `own:proxy.test; host:a.test=192.0.2.7; map:/t=coap://a.test/x`.
 fn routes(alloc: Global, text: &str) -> Result<Routes, RouteError> {
-    let (Ok(names), Ok(hosts), Ok(maps)) = (
-        own_names(alloc, text),
-        pairs(alloc, text, "host:"),
-        pairs(alloc, text, "map:"),
-    ) else {
+    let Ok(names) = own_names(alloc, text) else {
+        return Err(RouteError::OutOfMemory);
+    };
+    let Ok(hosts) = pairs(alloc, text, "host:") else {
+        return Err(RouteError::OutOfMemory);
+    };
+    let Ok(maps) = pairs(alloc, text, "map:") else {
         return Err(RouteError::OutOfMemory);
     };
     Routes::new(alloc, names.as_slice(), hosts.as_slice(), maps.as_slice())

@@ -10,15 +10,15 @@ loop-done-init g c = record {
   within = rw c.default-stats.ensures (record { sent = omega arith; send_faults = omega arith; lost = omega arith });
   onward = c.requires.onward;
   events = omega arith;
-  input = rw c.in-Ok-Ok.ensures (omega (arith, c.in-Some.ensures, c.datagram-longest.ensures.exact));
-  room = rw (c.in-Ok-Ok.ensures', c.datagram-longest.ensures.exact) (omega arith);
+  input = rw c.in-Ok.ensures (omega (arith, c.in-Some.ensures, c.datagram-longest.ensures.exact));
+  room = rw (c.in-Ok-new.ensures, c.datagram-longest.ensures.exact) (omega arith);
   failures = refl;
 }
 
 pub loop-done-preserved : goal.loop-done-preserved
 loop-done-preserved g c =
     let i = c.loop-done.invariant in
-    let did = rw i.input at c.in-Ok.ensures.done in
+    let did = rw i.input at c.in-Ok-do_turn.ensures.done in
     let more : c.do_turn.new.stats.turns ≡ c.loop-done.stats.turns + 1 = ap (λ (s : Stats). s.turns) did.counted in
     record {
       at = one-more (g.P.Port.gives (c.args.core.now.setting.limits.datagram + 1)) g.P.Port.takes g.P.Port.clock g.P.Port.failures _ _ _ _ _ _ _ i.at _ _ _ _ did;

@@ -9,9 +9,9 @@ pub loop-read-init : goal.loop-read-init
 loop-read-init g c = record {
   at = at-start _ _ _;
   few = omega (arith, c.if-turns-eq0.false);
-  room = rw (c.in-Ok-Ok-Ok.ensures'', c.datagram-2.ensures.exact) (omega arith);
-  line = c.in-Ok-Ok-Ok.ensures.capacity;
-  text = omega (arith, c.in-Ok-Ok-Ok.ensures', c.datagram.ensures.exact);
+  room = rw (c.in-Ok-new.ensures, c.datagram-2.ensures.exact) (omega arith);
+  line = c.in-Ok.ensures.capacity;
+  text = omega (arith, c.in-Ok-line_buffer.ensures, c.datagram.ensures.exact);
 }
 
 pub returns-in_err-next_asked : goal.returns-in_err-next_asked

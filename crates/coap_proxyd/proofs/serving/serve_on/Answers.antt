@@ -1,0 +1,31 @@
+use Rattle.std.proofs.Common.{◌≡◌, ℕ, List, [], Option, Some, None, Result, inr, Ok, Err, refl, subst}
+use Rattle.std.proofs.lemmas.Result.{err_from_is_err_and}
+use Rattle.std.specs.Io.KnownBytes.{prepend_known}
+use Rattle.coap_replay.specs.Replays.{IsReplayed}
+use Rattle.coap_replay.specs.declared.error.ReplayError.{ReplayError}
+use Rattle.coap_model.specs.World.{World}
+use Rattle.coap_proxyd.specs.Serving.{IsServed, ended_as}
+use Rattle.coap_proxyd.proofs.serving.serve_on.Goals as goal
+
+-- a buffer that holds nothing leaves what is known of a reader
+none-prepended : (known : Option (List ℕ)) → prepend_known [] known ≡ known
+none-prepended None = refl
+none-prepended (Some bytes) = refl
+
+-- a replay of what a new buffer over a reader gives is one of what the reader gives
+served : (turns : ℕ) (proxy after : World) (input left old new : Option (List ℕ)) (replayed : Result ℕ ReplayError) → IsReplayed proxy after turns (prepend_known [] input) left old new replayed
+    → IsServed turns proxy input old new (ended_as replayed)
+served turns proxy after input left old new replayed is =
+    inr (after, left, replayed, subst (λ (known : Option (List ℕ)). IsReplayed proxy after turns known left old new replayed) (none-prepended input) is, refl)
+
+pub returns : goal.returns
+returns g c =
+    let reader = c.in-Ok.ensures in
+    served _ c.args.core.now _ (g.R.Read.remaining c.args.input) _ _ _ (Ok c.in_ok-replay.field-0) (rw (reader.capacity, reader.empty, reader.inner) at c.in_ok-replay.ensures.replayed)
+
+pub returns-in_err-replay : goal.returns-in_err-replay
+returns-in_err-replay g c =
+    let reader = c.in-Ok.ensures in
+    let p = err_from_is_err_and c.from_residual.result c.from_residual.ensures.1 in
+    let e = c.in_err-replay.field-0.0 in
+    rw (p.1, p.2) (served _ c.args.core.now _ (g.R.Read.remaining c.args.input) _ _ _ (Err e) (rw (reader.capacity, reader.empty, reader.inner) at c.in_err-replay.ensures.replayed))
