@@ -35,6 +35,7 @@ pub mod Arrivals
 pub mod Owing
 pub mod Telling
 pub mod BySize
+pub mod OwedThere
 pub mod OneStoring
 pub mod OneAnswer
 pub mod Asking

@@ -18,7 +18,7 @@ ghost use Rattle.coap_dedup.specs.declared.record.Record.{Record};
 ghost use Rattle.coap_dedup.specs.Lists.{record_of};
 ghost use Rattle.coap_model.specs.Remembered.{most_remembered, remembered_at};
 ghost use Rattle.coap_model.specs.Cached.{Cached, cached_key, IsCacheOf};
-ghost use Rattle.coap_model.specs.declared.report.Storing.TheVariants.{NoMemory, NotStored};
+ghost use Rattle.coap_model.specs.declared.report.Storing.TheVariants.{TooLarge, NoMemory, NotStored};
 ghost use Rattle.coap_option.specs.declared.side.Side.{Side};
 ghost use Rattle.coap_option.specs.Screening.{first_refused};
 ghost use Rattle.coap_option.specs.Selection.{max_age_of, sent_on};
@@ -36,7 +36,7 @@ ghost use Rattle.coap_model.specs.History.{Entry, Act, no_item, serves, takes, g
 ghost use Rattle.coap_model.specs.Messages.{brings_requests, eight_zeros, told_again};
 ghost use Rattle.coap_model.specs.Duplicates.{IsRememberedAt, Repeats};
 ghost use Rattle.coap_model.specs.Due.{IsDueAt, IsNextDue};
-ghost use Rattle.coap_model.specs.Justified.{IsRequestOf, IsNew, IsUnprocessable, verdict_on, fits_on, IsMiss, HaveOneMemory, IsAwaited, IsActing, IsDelivery, JustifiedBy, AllJustified, IsOwed, MayFollow, AreOfOneTurn, IsForwarding};
+ghost use Rattle.coap_model.specs.Justified.{IsRequestOf, IsNew, IsUnprocessable, verdict_on, fits_on, is_fresh_at, HasIdFor, IsMiss, IsObtainedHere, size_here, IsKeptIfGrown, HaveOneMemory, IsAwaited, IsActing, IsDelivery, JustifiedBy, AllJustified, IsOwed, MayFollow, AreOfOneTurn, IsForwarding};
 ghost use Rattle.coap_model.specs.Forged as forged;
 ghost use Rattle.coap_model.specs.Forged.{asked, delivery, right, at_an_arrival};
 ghost use Rattle.coap_model.specs.Carries.{Carries};
@@ -371,6 +371,57 @@ pub fn what_is_promised_holds_at_each_place()
     ensures held { (history : List Entry) (w : World)
         → Promised history w
         → held w ≤ most_held w.setting.limits }
+{}
+
+/// What is promised gives what is owed, place by place: a request that repeats a place before it is
+/// told again; one that doesn't meets silence where there is no room to remember it; a new one whose
+/// key has a fresh entry is answered from the cache; and an answer is stored by its size where it
+/// was obtained, memory aside, and not stored where it wasn't.
+pub fn what_is_owed_is_given_at_each_place()
+    ensures again { (history : List Entry) (w : World) (p : Promised history w)
+        (place former : Place) (client : Endpoint) (request : Message)
+        → IsPlaceOf p.deeds place
+        → IsRequestOf w.setting client request place.deed.entry.event
+        → IsPlaceOf place.before former
+        → Repeats place.deed.entry.now client request former
+        → place.deed.entry.report.outcome ≡ Again }
+    ensures no_room { (history : List Entry) (w : World) (p : Promised history w) (place : Place)
+        (client : Endpoint) (request : Message)
+        → IsPlaceOf p.deeds place
+        → IsRequestOf w.setting client request place.deed.entry.event
+        → record_of client request.id
+        (remembered_at request.kind place.deed.entry.now place.before) ≡ None
+        → most_remembered request.kind w.setting.limits
+        ≤ length (remembered_at request.kind place.deed.entry.now place.before)
+        → place.deed.entry.report.outcome ≡ NoRecordRoom }
+    ensures hit { (history : List Entry) (w : World) (p : Promised history w) (place : Place)
+        (client : Endpoint) (request : Message) (key : CacheKey) (cached : List Cached)
+        (entry : Cached)
+        → IsPlaceOf p.deeds place
+        → IsRequestOf w.setting client request place.deed.entry.event
+        → IsNew w.setting place.before place.deed.entry.now client request
+        → verdict_on w.setting request ≡ may_ask key
+        → IsCacheOf w.setting place.before cached
+        → of_key cached_key key cached ≡ Some entry
+        → is_fresh_at place.deed.entry.now entry ≡ true
+        → HasIdFor request place.before
+        → place.deed.entry.report.outcome ≡ Hit }
+    ensures kept { (history : List Entry) (w : World) (p : Promised history w) (place : Place)
+        (o : IsObtainedHere w.setting place.before place.deed)
+        → IsPlaceOf p.deeds place
+        → size_here o ≤ w.setting.limits.cache_bytes
+        → IsKeptIfGrown place.deed.entry.report.outcome }
+    ensures too_large { (history : List Entry) (w : World) (p : Promised history w) (place : Place)
+        (o : IsObtainedHere w.setting place.before place.deed)
+        → IsPlaceOf p.deeds place
+        → w.setting.limits.cache_bytes < size_here o
+        → place.deed.entry.report.outcome ≡ Answered TooLarge }
+    ensures not_stored { (history : List Entry) (w : World) (p : Promised history w)
+        (place : Place)
+        → IsPlaceOf p.deeds place
+        → takes place.deed.entry.report.outcome ≡ true
+        → ¬ IsObtainedHere w.setting place.before place.deed
+        → place.deed.entry.report.outcome ≡ Answered NotStored }
 {}
 
 /// In a justified history nothing is done twice: an exchange is sent on at one place, got at one
