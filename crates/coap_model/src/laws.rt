@@ -18,7 +18,7 @@ ghost use Rattle.coap_dedup.specs.declared.record.Record.{Record};
 ghost use Rattle.coap_dedup.specs.Lists.{record_of};
 ghost use Rattle.coap_model.specs.Remembered.{most_remembered, remembered_at};
 ghost use Rattle.coap_model.specs.Cached.{Cached, cached_key, IsCacheOf};
-ghost use Rattle.coap_model.specs.declared.report.Storing.TheVariants.{TooLarge, NoMemory, NotStored};
+ghost use Rattle.coap_model.specs.declared.report.Storing.TheVariants.{Kept, TooLarge, NoMemory, NotStored};
 ghost use Rattle.coap_option.specs.declared.side.Side.{Side};
 ghost use Rattle.coap_option.specs.Screening.{first_refused};
 ghost use Rattle.coap_option.specs.Selection.{max_age_of, sent_on};
@@ -36,7 +36,7 @@ ghost use Rattle.coap_model.specs.History.{Entry, Act, no_item, serves, takes, g
 ghost use Rattle.coap_model.specs.Messages.{brings_requests, eight_zeros, told_again};
 ghost use Rattle.coap_model.specs.Duplicates.{IsRememberedAt, Repeats};
 ghost use Rattle.coap_model.specs.Due.{IsDueAt, IsNextDue};
-ghost use Rattle.coap_model.specs.Justified.{IsRequestOf, IsNew, IsUnprocessable, verdict_on, fits_on, is_fresh_at, HasIdFor, IsMiss, IsObtainedHere, size_here, IsKeptIfGrown, HaveOneMemory, IsAwaited, IsActing, IsDelivery, JustifiedBy, AllJustified, IsOwed, MayFollow, AreOfOneTurn, IsForwarding};
+ghost use Rattle.coap_model.specs.Justified.{IsRequestOf, IsNew, IsUnprocessable, verdict_on, fits_on, is_fresh_at, HasIdFor, IsMiss, IsObtainedHere, size_here, HaveOneMemory, IsAwaited, IsActing, IsDelivery, JustifiedBy, AllJustified, IsOwed, MayFollow, AreOfOneTurn, IsForwarding};
 ghost use Rattle.coap_model.specs.Forged as forged;
 ghost use Rattle.coap_model.specs.Forged.{asked, delivery, right, at_an_arrival};
 ghost use Rattle.coap_model.specs.Carries.{Carries};
@@ -410,7 +410,8 @@ pub fn what_is_owed_is_given_at_each_place()
         (o : IsObtainedHere w.setting place.before place.deed)
         → IsPlaceOf p.deeds place
         → size_here o ≤ w.setting.limits.cache_bytes
-        → IsKeptIfGrown place.deed.entry.report.outcome }
+        → place.deed.entry.report.outcome ≢ Answered NoMemory
+        → place.deed.entry.report.outcome ≡ Answered Kept }
     ensures too_large { (history : List Entry) (w : World) (p : Promised history w) (place : Place)
         (o : IsObtainedHere w.setting place.before place.deed)
         → IsPlaceOf p.deeds place

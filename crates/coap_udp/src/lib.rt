@@ -7,6 +7,3 @@ mod port;
 mod waiting;
 
 pub use port::UdpPort;
-
-#[cfg(test)]
-mod tests;

@@ -1,3 +1,6 @@
+use Rattle.std.proofs.Common.{◌≡◌, ⊎_elim}
+use Rattle.coap_model.specs.declared.report.Outcome.TheVariants.{Answered}
+use Rattle.coap_model.specs.declared.report.Storing.TheVariants.{Kept, NoMemory}
 use Rattle.coap_model.proofs.OwedThere.{owed-at, again-there}
 use Rattle.coap_model.proofs.laws.what_is_owed_is_given_at_each_place.Goals as goal
 
@@ -7,7 +10,7 @@ returns c =
       again = λ history w p place former client request there. again-there w.setting place former client request (owed-at w.setting p.deeds place p.owed there);
       no_room = λ history w p place client request there. (owed-at w.setting p.deeds place p.owed there).no_room client request;
       hit = λ history w p place client request key cached entry there. (owed-at w.setting p.deeds place p.owed there).hit client request key cached entry;
-      kept = λ history w p place o there. (owed-at w.setting p.deeds place p.owed there).small o;
+      kept = λ history w p place o there small some. ⊎_elim (λ (kept : place.deed.entry.report.outcome ≡ Answered Kept). kept) (λ (none : place.deed.entry.report.outcome ≡ Answered NoMemory). absurd (some none)) ((owed-at w.setting p.deeds place p.owed there).small o small);
       too_large = λ history w p place o there. (owed-at w.setting p.deeds place p.owed there).large o;
       not_stored = λ history w p place there. (owed-at w.setting p.deeds place p.owed there).other;
     }

@@ -1,10 +1,10 @@
+//! A port over a socket.
 ghost use Rattle.std.specs.Prelude.{◌≡◌, ◌<◌, ◌^◌, OnOk};
 
-use crate::UdpPort;
-use crate::address::endpoint_of;
 use coap_message::Datagram;
 use coap_port::{Port, PortFault};
 use coap_target::{Endpoint, Ip};
+use coap_udp::UdpPort;
 use std::net::UdpSocket;
 use std::process::Abort;
 use std::test::*;
@@ -29,16 +29,18 @@ fn check<P: Port>(
     Ok(())
 }
 
+/// An endpoint of the loopback network.
+fn at(port: u16) -> Endpoint {
+    let ip = Ip::V4([127, 0, 0, 1]);
+    Endpoint { ip, port }
+}
+
 #[test]
 fn datagrams_come_and_go_over_a_socket(rt: HostRuntime) -> Result<(), Fail> {
-    let local = Endpoint {
-        ip: Ip::V4([127, 0, 0, 1]),
-        port: 0,
-    };
-    let mut port = UdpPort::bind(&rt, rt.alloc(), local, 4)?;
+    let mut port = UdpPort::bind(&rt, rt.alloc(), at(0), 4)?;
     let peer = UdpSocket::bind(&rt, "127.0.0.1:0")?;
     peer.set_read_timeout(Some(Duration::from_secs(5)))?;
-    let to = endpoint_of(peer.local_addr()?);
+    let to = at(peer.local_addr()?.port());
     assert!(rt; port.send(to, b"abc"));
     let mut bytes = [0; 8];
     let (count, from) = peer.recv_from(&mut bytes)?;

@@ -1,0 +1,8 @@
+//! Tests over ports: a core and the program over one in memory, which ends and refuses, and a port
+//! over a socket.
+#![tactic(auto)]
+
+#[cfg(test)]
+mod ports;
+#[cfg(test)]
+mod sockets;
