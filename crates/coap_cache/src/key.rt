@@ -1,7 +1,7 @@
 //! Cache keys (RFC 7252, 5.6).
-ghost use Rattle.std.specs.Prelude.{◌≡◌};
+ghost use Rattle.std.specs.Prelude.{◌≡◌, IfOk};
 
-use coap_message::OptionList;
+use coap_message::{OptionList, OutOfMemory};
 use coap_target::Target;
 
 /// What a request and one whose response was stored have in common where that response answers
@@ -29,5 +29,18 @@ impl CacheKey {
         ensures { result ≡ same_key self.now other.now }
     {
         self == other
+    }
+
+    /// The same key once more, in no more room than it needs.
+    ///
+    /// # Errors
+    /// Want of memory.
+    pub fn copied(&self) -> Result<CacheKey, OutOfMemory>
+        ensures { IfOk result (λ copy. copy ≡ self.now) }
+    {
+        Ok(CacheKey {
+            target: self.target.copied()?,
+            options: self.options.clone()?,
+        })
     }
 }

@@ -22,7 +22,6 @@ ghost use Rattle.coap_core.specs.declared.requests.Verdict.TheVariants as verdic
 use crate::form::put_forwarded;
 use crate::known::reply_kind;
 use crate::request_target::{Asked, RequestTarget};
-use crate::responses::copied_key;
 use crate::token::token_of;
 use crate::world::{World, silent};
 use crate::writing::{put_message, put_stored, put_with_max_age};
@@ -257,7 +256,7 @@ impl<S: Store + Drop> World<S> {
         if request.kind != Kind::Non || !self.has_room() {
             return self.overload(now, client, request, out);
         }
-        let key = copied_key(&asked.key)?;
+        let key = asked.key.copied()?;
         let tags = asked.tags.clone()?;
         self.open(now, client, request, key, tags, out)
     }

@@ -15,7 +15,7 @@ use coap_cache::{CacheKey, Put, Store, Stored};
 use coap_exchange::{Answer, Exchange, ExchangeState};
 use coap_message::{Datagram, Message, MessageRef, OutOfMemory};
 use coap_model::{Outcome, Report, Storing};
-use coap_target::{Endpoint, Target};
+use coap_target::Endpoint;
 
 /// Whether an exchange was sent with this id, and no answer has come.
 fn has_id(id: u16, state: &ExchangeState) -> bool
@@ -43,23 +43,6 @@ fn asked_of(state: &ExchangeState) -> u64
         ExchangeState::Sent(sending) => sending.asked,
         ExchangeState::Queued | ExchangeState::Done(_) => 0,
     }
-}
-
-/// The same target once more.
-fn copied_target(target: &Target) -> Result<Target, OutOfMemory>
-    ensures { IfOk result (λ copy. copy ≡ target.now) }
-{
-    Ok(target.clone()?)
-}
-
-/// The same key once more.
-pub(crate) fn copied_key(key: &CacheKey) -> Result<CacheKey, OutOfMemory>
-    ensures { IfOk result (λ copy. copy ≡ key.now) }
-{
-    Ok(CacheKey {
-        target: copied_target(&key.target)?,
-        options: key.options.clone()?,
-    })
 }
 
 /// The same message once more.
@@ -154,7 +137,7 @@ impl<S: Store + Drop> World<S> {
         let Some(exchange) = self.exchanges.get(number) else {
             return Ok(None);
         };
-        let key = copied_key(&exchange.key)?;
+        let key = exchange.key.copied()?;
         let stored = Stored {
             response: copied(&answer.message)?,
             asked: asked_of(&exchange.state),

@@ -1,5 +1,5 @@
 //! Which keys there are, by their targets.
-ghost use Rattle.std.specs.Prelude.{◌≡◌, ◌↔◌, ◌&&◌, ◌||◌, None, false, not, is_ok, IfOk, IsTrue, IsFalse};
+ghost use Rattle.std.specs.Prelude.{◌≡◌, ◌↔◌, ◌&&◌, ◌||◌, None, false, not, is_ok, IsTrue, IsFalse};
 ghost use Rattle.std.specs.Option.{option_copied};
 ghost use Rattle.std.specs.HashMap.{get};
 ghost use Rattle.std.specs.HashSet.{contains, hash_set_len};
@@ -58,7 +58,7 @@ impl<H: BuildHasher + Copy> TargetIndex<H> {
             → is_indexed self.new.groups k
             ≡ ((is_ok result && same_key key.now k) || is_indexed self.old.groups k) }
     {
-        let copy = copied_key(key)?;
+        let copy = key.copied()?;
         match self.groups.get_mut(&key.target) {
             Some(keys) => add(keys, copy),
             None => self.open(copy),
@@ -72,7 +72,7 @@ impl<H: BuildHasher + Copy> TargetIndex<H> {
             → is_indexed self.new.groups k
             ≡ ((is_ok result && same_key key k) || is_indexed self.old.groups k) }
     {
-        let target = copied_target(&key.target)?;
+        let target = key.target.copied()?;
         let mut keys = HashSet::with_hasher(self.alloc, *self.groups.hasher());
         add(&mut keys, key)?;
         self.groups.insert(target, keys)?;
@@ -131,21 +131,4 @@ fn delete<H: BuildHasher>(keys: &mut HashSet<CacheKey, H>, key: &CacheKey) -> bo
 {
     keys.remove(key);
     keys.is_empty()
-}
-
-/// The same key once more.
-fn copied_key(key: &CacheKey) -> Result<CacheKey, OutOfMemory>
-    ensures { IfOk result (λ copy. copy ≡ key.now) }
-{
-    Ok(CacheKey {
-        target: copied_target(&key.target)?,
-        options: key.options.clone()?,
-    })
-}
-
-/// The same target once more.
-fn copied_target(target: &Target) -> Result<Target, OutOfMemory>
-    ensures { IfOk result (λ copy. copy ≡ target.now) }
-{
-    Ok(target.clone()?)
 }

@@ -1,9 +1,9 @@
 //! Targets: the resource of an origin that a request is for (RFC 7252, 5.7.2).
-ghost use Rattle.std.specs.Prelude.{◌≡◌};
+ghost use Rattle.std.specs.Prelude.{◌≡◌, IfOk};
 ghost use Rattle.coap_target.specs.Equality.{same_target};
 
 use crate::endpoint::Endpoint;
-use coap_message::{Pieces, Seq};
+use coap_message::{OutOfMemory, Pieces, Seq};
 
 /// A resource of an origin: the host by which it is asked for, none for an address; the endpoint;
 /// the segments of its path and the parts of its query, decoded.
@@ -32,5 +32,15 @@ impl Target {
         ensures { result ≡ same_target self.now other.now }
     {
         self == other
+    }
+
+    /// The same target once more, in no more room than it needs.
+    ///
+    /// # Errors
+    /// Want of memory.
+    pub fn copied(&self) -> Result<Target, OutOfMemory>
+        ensures { IfOk result (λ copy. copy ≡ self.now) }
+    {
+        Ok(self.clone()?)
     }
 }
