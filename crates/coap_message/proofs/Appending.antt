@@ -1,9 +1,9 @@
 -- One write after another.
-use Rattle.std.proofs.Common.{◌≡◌, ℕ, ◌+◌, ◌-◌, ◌*◌, ◌<◌, ◌≤◌, List, ◌∷◌, ◌++◌, length, take, drop, get_or, Result, Ok, Err, refl, sym, ap, ◌∙◌, append_assoc, arith}
-use Rattle.std.proofs.lemmas.List.{length-append, length-take, append-nil, drop_more, drop_all, take-append-le}
+use Rattle.std.proofs.Common.{◌≡◌, ℕ, ◌+◌, ◌-◌, ◌*◌, ◌≤◌, List, ◌∷◌, ◌++◌, length, take, Result, Ok, Err, refl, sym, ap, ◌∙◌, append_assoc, arith}
+use Rattle.std.proofs.lemmas.List.{length-append, length-take, take-append-le}
 use Rattle.coap_message.specs.declared.error.Full.{Full}
 use Rattle.coap_message.specs.declared.options.Opt.{Opt}
-use Rattle.coap_message.specs.Spelling.{bits_of, more_of, option_spelling, options_spelling}
+use Rattle.coap_message.specs.Spelling.{bits_of, more_of, option_spelling}
 use Rattle.coap_message.specs.Datagram.{Datagram, holding, Appends}
 
 -- a beginning is one with more after it

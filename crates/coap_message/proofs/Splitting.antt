@@ -1,8 +1,8 @@
 -- The options in front of bytes, cut off.
-use Rattle.std.proofs.Common.{◌≡◌, ℕ, ◌-◌, ◌≤◌, true, false, List, [], ◌∷◌, ◌++◌, length, take, Option, Some, None, refl, sym, ap, subst, ◌∙◌, append_assoc, arith}
+use Rattle.std.proofs.Common.{◌≡◌, ℕ, ◌-◌, true, false, List, [], ◌++◌, length, take, Some, None, refl, sym, ap, subst, ◌∙◌, append_assoc, arith}
 use Rattle.std.proofs.lemmas.List.{length-append, take_at}
 use Rattle.coap_message.specs.declared.options.Opt.{Opt}
-use Rattle.coap_message.specs.SpelledOptions.{options_of, SpellOptions, SpellUpTo}
+use Rattle.coap_message.specs.SpelledOptions.{options_of, SpellUpTo}
 use Rattle.coap_message.specs.Reading.{option_at, begins_option, payload_at, options_at}
 use Rattle.coap_message.specs.Spelling.{option_spelling}
 use Rattle.coap_message.specs.Uint.{IsBytes}

@@ -1,5 +1,5 @@
 -- A request repeats one place at most: something is done that is remembered only where nothing of its request is.
-use Rattle.std.proofs.Common.{◌≡◌, ◌⊎◌, refl, ⊎_elim, ℕ, ◌+◌, ◌<◌, ◌≤◌, true, List, Option, Some, None, sym, ap, ◌∙◌, subst, arith}
+use Rattle.std.proofs.Common.{◌≡◌, ◌⊎◌, refl, ⊎_elim, ℕ, ◌+◌, ◌<◌, ◌≤◌, true, List, Some, None, sym, ap, ◌∙◌, subst, arith}
 use Rattle.std.specs.Prelude.{if◌then◌else◌}
 use Rattle.std.proofs.lemmas.Option.{same_Some}
 use Rattle.coap_message.specs.declared.kind.Kind.{Kind}

@@ -24,16 +24,18 @@ ghost use Rattle.coap_option.specs.Screening.{first_refused};
 ghost use Rattle.coap_option.specs.Selection.{max_age_of, sent_on};
 ghost use Rattle.coap_message.specs.Spelling.{Spells};
 ghost use Rattle.coap_model.specs.Forms.{forwarded, goes_on, key_sent, request_key};
-ghost use Rattle.coap_model.specs.Verdicts.{may_ask};
-ghost use Rattle.coap_model.specs.Answers.{left_of};
+ghost use Rattle.coap_model.specs.Verdicts.{may_ask, refusal_of};
+ghost use Rattle.coap_model.specs.Answers.{bad_gateway, greatest_max_age, left_of};
 ghost use Rattle.coap_model.specs.Events.{Event, arrival, tick, IsEvent};
 ghost use Rattle.coap_model.specs.World.{World, new_world, counts};
-ghost use Rattle.coap_message.specs.declared.code.TheConstants.Code.{NOT_FOUND};
+ghost use Rattle.coap_message.specs.declared.code.TheConstants.Code.{BAD_REQUEST, NOT_FOUND};
+ghost use Rattle.coap_message.specs.Uint.{uint_spelling};
+ghost use Rattle.coap_routes.specs.declared.error.TargetError.TheVariants.{OutOfMemory};
 ghost use Rattle.coap_model.specs.Memory.{takes_memory};
 ghost use Rattle.coap_model.specs.Step.{step_of};
-ghost use Rattle.coap_model.specs.Ticks.{next_due};
+ghost use Rattle.coap_model.specs.Ticks.{next_due, with_id};
 ghost use Rattle.coap_model.specs.History.{Entry, Act, no_item, serves, takes, grown_of, gives_id, ids_in, Deed, Place, IsPlaceOf, Somewhere, Sends, Gets, Serves, Gives, HasRoom, last_of, IsInOrder};
-ghost use Rattle.coap_model.specs.Messages.{brings_requests, eight_zeros, told_again};
+ghost use Rattle.coap_model.specs.Messages.{brings_requests, eight_zeros, own_reply, told_again};
 ghost use Rattle.coap_model.specs.Duplicates.{IsRememberedAt, Repeats};
 ghost use Rattle.coap_model.specs.Due.{IsDueAt, IsNextDue};
 ghost use Rattle.coap_model.specs.Justified.{IsRequestOf, IsNew, IsUnprocessable, verdict_on, fits_on, is_fresh_at, HasIdFor, IsMiss, IsObtainedHere, size_here, HaveOneMemory, IsAwaited, IsActing, IsDelivery, JustifiedBy, AllJustified, IsOwed, MayFollow, AreOfOneTurn, IsForwarding};
@@ -109,10 +111,17 @@ pub fn examples_of_replies()
     ensures client_first { play proxy client_first ≡ client_first_sent }
 {}
 
-/// The form of a target with a host and a query, and that target read back off it; what is held,
-/// counted and due after some turns; and which replies need no memory.
+/// The form of a target with a host and a query, and that target read back off it; replies of the
+/// proxy's own, and ids that are put in; what is held, counted and due after some turns; and which
+/// replies need no memory.
 pub fn examples_of_forms_and_tables()
     ensures form { spelling (forwarded eight_zeros named [] 7) ≡ named_form }
+    ensures own { spelling (own_reply NOT_FOUND [] 7 (0xAA ∷ [])) ≡ 0x51 ∷ 0x84 ∷ 0 ∷ 7 ∷ 0xAA ∷ [] }
+    ensures gateway { spelling bad_gateway ≡ 0x50 ∷ 0xA2 ∷ 0 ∷ 0 ∷ [] }
+    ensures greatest { uint_spelling greatest_max_age ≡ 0xFF ∷ 0xFF ∷ 0xFF ∷ 0xFF ∷ [] }
+    ensures short_of_two { with_id 0x0102 (9 ∷ 8 ∷ []) ≡ 9 ∷ 8 ∷ [] }
+    ensures short_of_three { with_id 0x0102 (9 ∷ 8 ∷ 7 ∷ []) ≡ 9 ∷ 8 ∷ 7 ∷ [] }
+    ensures for_want_of_memory { refusal_of OutOfMemory ≡ BAD_REQUEST }
     ensures read_back { target_in origin named_form ≡ Some named }
     ensures held_when_opened { held (after proxy (asks_at 0 1 ∷ [])) ≡ 22 }
     ensures held_with_token { held (after proxy (from 0 (client 1) (with_token 0x74) ∷ [])) ≡ 24 }

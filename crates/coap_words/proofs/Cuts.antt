@@ -1,6 +1,6 @@
 -- Texts that are cut at a character.
-use Rattle.std.proofs.Common.{◌≡◌, ◌==◌, ◌<◌, ℕ, Bool, true, false, List, [], ◌∷◌, length, Option, Some, None, Bor, MatchOption, option_map, position, refl, sym, ap, arith, ⊎_elim, ltb}
-use Rattle.std.specs.List.{after_first, before_first, position_or_len, slice_split}
+use Rattle.std.proofs.Common.{◌≡◌, ◌==◌, ◌<◌, ℕ, true, false, [], ◌∷◌, length, Option, Some, None, Bor, MatchOption, option_map, refl, sym, ap, arith, ⊎_elim, ltb}
+use Rattle.std.specs.List.{after_first, before_first, position_or_len}
 use Rattle.std.proofs.lemmas.Bool.{cases_Bool, le-ltb, lt-ltb, ltb-true}
 use Rattle.std.proofs.lemmas.List.Splits.{slice_split_first}
 use Rattle.std.proofs.lemmas.Option.{none-some}

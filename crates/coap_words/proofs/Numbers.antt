@@ -1,10 +1,8 @@
 -- Numbers that options say.
-use Rattle.std.proofs.Common.{◌≡◌, ◌≤◌, ◌<◌, ◌^◌, ◌&&◌, ℕ, Bool, true, false, List, Option, Some, None, Result, Ok, Err, arith, refl, subst, ⊎_elim, leb}
+use Rattle.std.proofs.Common.{◌≡◌, ◌≤◌, ◌&&◌, ℕ, true, false, List, Option, Some, None, Result, Ok, Err, arith, refl, ⊎_elim, leb}
 use Rattle.std.specs.Prelude.{IfSome}
-use Rattle.std.specs.Option.{SomeIff}
 use Rattle.std.specs.Str.Parse.{IsNumeral, ParsesUnsigned, digits_value, without_leading_plus}
 use Rattle.std.proofs.lemmas.Bool.{cases_Bool, and_parts, leb-true, le-leb}
-use Rattle.std.proofs.lemmas.Option.{none-some}
 use Rattle.clap.specs.Words.{ReadsOne, Text}
 use Rattle.coap_words.specs.Settings.{AreInRange, AreSettings, IsNumberOf, SaysNumber, narrowed}
 use Rattle.coap_words.specs.OptionTable.{greatest}

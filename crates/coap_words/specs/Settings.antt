@@ -1,5 +1,5 @@
 -- What the words of the command line say, by what `clap` finds in them.
-use Rattle.std.specs.Prelude.{◌≡◌, ◌⊎◌, ◌≤◌, ◌==◌, ◌&&◌, nat_le, if◌then◌else◌, ℕ, Bool, false, List, [], ◌∷◌, map, codes, bytes_eq, Option, Some, None, IfSome, option_map, Result, MatchResult, string_bytes}
+use Rattle.std.specs.Prelude.{◌≡◌, ◌⊎◌, ◌≤◌, ◌&&◌, nat_le, if◌then◌else◌, ℕ, Bool, false, List, [], codes, bytes_eq, Option, Some, None, IfSome, option_map, Result, MatchResult, string_bytes}
 use Rattle.std.specs.Option.{SomeIff, option_map_or}
 use Rattle.std.specs.Str.Parse.{IsNumeral, digits_value, without_leading_plus}
 use Rattle.clap.specs.Words.{IsAmong, Kinds, Row, Text, fault_of, first_of, matches_of, one_of}

@@ -1,6 +1,6 @@
-use Rattle.std.proofs.Common.{◌≡◌, ◌+◌, ◌*◌, ◌++◌, ◌∷◌, [], List, ℕ, OnOk, length, refl, ap, append_assoc, subst, ◌∙◌}
+use Rattle.std.proofs.Common.{◌≡◌, ◌+◌, ◌*◌, ◌++◌, ◌∷◌, List, ℕ, OnOk, length, refl, ap, append_assoc, subst, ◌∙◌}
 use Rattle.coap_message.specs.Options.{option_of}
-use Rattle.coap_message.specs.Spelling.{more_of, option_spelling}
+use Rattle.coap_message.specs.Spelling.{more_of}
 use Rattle.coap_message.proofs.Appending.{option_written}
 use Rattle.coap_message.proofs.option_list.add_option.Goals as goal
 

@@ -1,7 +1,7 @@
 use Rattle.std.proofs.Common.{◌++◌, sym, ap, ◌∙◌, Some, arith}
-use Rattle.coap_message.specs.SpelledOptions.{options_of, SpellUpTo}
+use Rattle.coap_message.specs.SpelledOptions.{options_of}
 use Rattle.coap_message.specs.Parsing.{parsed}
-use Rattle.coap_message.proofs.Counting.{behind, nothing_found, no_payload_found}
+use Rattle.coap_message.proofs.Counting.{nothing_found, no_payload_found}
 use Rattle.coap_message.proofs.ManyOptions.{option_shortens}
 use Rattle.coap_message.proofs.Splitting.{IsSplit-none, IsSplit-step, IsSplit-front, IsSplit-end}
 use Rattle.coap_message.proofs.options.split_options.Goals as goal

@@ -1,5 +1,4 @@
 use Rattle.std.proofs.Common.{arith}
-use Rattle.std.specs.Prelude.{◌↔◌}
 use Rattle.coap_message.specs.Reading.{read_message}
 use Rattle.coap_message.specs.declared.error.ReadError.TheVariants as unread
 use Rattle.coap_message.proofs.Refusals.{short_only, version_only, format_only, decodes_spelled, decodes_all, decodes_refused, decodes_memory}

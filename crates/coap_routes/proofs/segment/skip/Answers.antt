@@ -1,4 +1,3 @@
-use Rattle.std.proofs.Common.{arith}
 use Rattle.coap_routes.proofs.Dropping.{drop-next}
 use Rattle.coap_routes.proofs.segment.skip.Goals as goal
 

@@ -1,4 +1,3 @@
-use Rattle.std.proofs.Common.{List, ℕ, Result}
 use Rattle.std.specs.Str.Parse.{ParsesUnsigned, ExplainsUnsignedError, HasUnsignedDigitsIfOk}
 use Rattle.clap.specs.Words.{found_of, one_of, rows_of}
 use Rattle.clap.proofs.WalkLemmas.{one_text-rows}

@@ -1,11 +1,9 @@
-use Rattle.std.proofs.Common.{◌≡◌, true, None, sym, ap}
-use Rattle.std.specs.Prelude.{OnErr}
+use Rattle.std.proofs.Common.{◌≡◌, true, None, sym}
 use Rattle.coap_option.proofs.Picking.{on_err}
-use Rattle.coap_model.specs.World.{Step, has_record_room}
+use Rattle.coap_model.specs.World.{has_record_room}
 use Rattle.coap_model.specs.Requests.{known_of, remembers, on_new, on_request}
 use Rattle.coap_core.proofs.Records.{none-some, new-is}
-use Rattle.coap_core.proofs.Asking.{does-as, fits-as, new-takes, repetition-fits, repetition-does}
-use Rattle.coap_core.proofs.world.World.on_request.Given.{Over}
+use Rattle.coap_core.proofs.Asking.{does-as, fits-as, new-takes, repetition-fits}
 use Rattle.coap_core.proofs.world.World.on_request.Goals.{After-has_record_room}
 use Rattle.coap_core.proofs.world.World.on_request.Goals as goal
 

@@ -1,5 +1,4 @@
 use Rattle.std.proofs.Common.{arith, sym, ◌∙◌}
-use Rattle.std.specs.Prelude.{◌↔◌}
 use Rattle.coap_message.proofs.Refusals.{short_only, version_only, format_only}
 use Rattle.coap_message.proofs.WholeMessages.{read_is, read_again}
 use Rattle.coap_message.proofs.message.MessageRef.read.Goals as goal

@@ -1,7 +1,7 @@
-use Rattle.std.proofs.Common.{◌≡◌, ◌≤◌, ◌++◌, ◌∷◌, [], arith, subst, sym, ap, ◌∙◌}
+use Rattle.std.proofs.Common.{◌≤◌, ◌++◌, ◌∷◌, [], arith, ap, ◌∙◌}
 use Rattle.coap_message.specs.Options.{option_of}
-use Rattle.coap_message.specs.SpelledOptions.{SpellUpTo, options_of}
-use Rattle.coap_message.proofs.OptionSpellings.{Pushed, pushed}
+use Rattle.coap_message.specs.SpelledOptions.{options_of}
+use Rattle.coap_message.proofs.OptionSpellings.{pushed}
 use Rattle.coap_message.proofs.option_list.OptionList.push.Goals as goal
 use Rattle.coap_message.proofs.option_list.OptionList.push.Goals.{After-add_option}
 

@@ -1,4 +1,4 @@
-use Rattle.std.proofs.Common.{◌≡◌, ◌∷◌, [], ◌<◌, length, arith, sym, ap, ◌∙◌}
+use Rattle.std.proofs.Common.{◌≡◌, [], ◌<◌, length, arith, sym, ap, ◌∙◌}
 use Rattle.coap_message.specs.SpelledOptions.{options_of}
 use Rattle.coap_message.specs.Parsing.{parsed}
 use Rattle.coap_message.proofs.OptionSpellings.{next_none, next_some}

@@ -1,4 +1,4 @@
-use Rattle.std.proofs.Common.{◌≡◌, ◌==◌, ◌∙◌, sym, ap, length, eq-eqb}
+use Rattle.std.proofs.Common.{◌∙◌, sym, ap, length, eq-eqb}
 use Rattle.std.proofs.lemmas.Bool.{eqb-true}
 use Rattle.std.proofs.lemmas.List.{nil_from_length}
 use Rattle.coap_message.proofs.OptionSpellings.{no_bytes}

@@ -1,4 +1,4 @@
-use Rattle.std.proofs.Common.{◌≤◌, length, arith, ap}
+use Rattle.std.proofs.Common.{length, arith, ap}
 use Rattle.coap_message.proofs.OptionSpellings.{few_options}
 use Rattle.coap_message.proofs.options.Options.iter.Goals as goal
 

@@ -1,5 +1,5 @@
 use Rattle.std.proofs.Common.{◌≡◌, ◌∷◌, [], ◌<◌, length, take, drop, arith, sym, ap, ◌∙◌}
-use Rattle.coap_message.specs.Pieces.{pieces_of, SpellPieces}
+use Rattle.coap_message.specs.Pieces.{pieces_of}
 use Rattle.coap_message.proofs.PieceSpellings.{first_piece, no_piece, lengths_stand, lengths_fit}
 use Rattle.coap_message.proofs.pieces.PieceRefsIterator.next.Goals as goal
 

@@ -1,4 +1,4 @@
-use Rattle.std.proofs.Common.{◌≡◌, ◌++◌, ◌∷◌, [], ap, ◌∙◌}
+use Rattle.std.proofs.Common.{◌++◌, ◌∷◌, [], ap, ◌∙◌}
 use Rattle.coap_message.specs.Pieces.{pieces_of}
 use Rattle.coap_message.proofs.PieceSpellings.{pushed}
 use Rattle.coap_message.proofs.pieces.Pieces.push.Goals as goal
