@@ -2,6 +2,7 @@
 //! over a port, and how it ends.
 #![tactic(auto)]
 
+mod examples;
 mod fault;
 mod planning;
 mod serving;

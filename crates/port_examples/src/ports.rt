@@ -60,14 +60,18 @@ fn arrival(alloc: Global, now: u64, port: u16, bytes: &[u8]) -> Result<Scripted,
     })
 }
 
-/// A port that gives a request and its answer, and nothing more; it refuses the datagram that comes
-/// after so many others, if that is said.
-fn port(alloc: Global, refused: Option<usize>) -> Result<MemoryPort, OutOfMemory>
+/// A port that gives the first so many of a request and its answer, and nothing more; it refuses
+/// the datagram that comes after so many others, if that is said.
+fn port(alloc: Global, given: usize, refused: Option<usize>) -> Result<MemoryPort, OutOfMemory>
     ensures { IfOk result (λ port. port.failures ≡ 0) }
 {
     let mut port = MemoryPort::new(alloc, refused);
-    port.add(arrival(alloc, 5, 40001, &GET)?)?;
-    port.add(arrival(alloc, 7, 5690, &ANSWER)?)?;
+    if given > 0 {
+        port.add(arrival(alloc, 5, 40001, &GET)?)?;
+    }
+    if given > 1 {
+        port.add(arrival(alloc, 7, 5690, &ANSWER)?)?;
+    }
     Ok(port)
 }
 
@@ -115,15 +119,15 @@ fn shown(alloc: Global, handed: &[Handed]) -> Result<String, AllocError> {
     Ok(out)
 }
 
-/// Drives a core over a port that refuses a datagram or none, and checks what was done in so many
-/// turns, and what was handed over.
+/// Drives a core over a port that gives so many datagrams and refuses one or none, and checks what
+/// was done in so many turns, and what was handed over.
 fn check_driven(
     rt: &impl Abort,
     alloc: Global,
-    (turns, refused): (u64, Option<usize>),
+    (turns, given, refused): (u64, usize, Option<usize>),
     expected: (Result<Stats, DriveError>, &str),
 ) -> Result<(), Fail> {
-    let mut port = port(alloc, refused)?;
+    let mut port = port(alloc, given, refused)?;
     let done = drive_anew(rt, alloc, &mut port, turns)?;
     assert!(rt; done == expected.0);
     let written = shown(alloc, port.handed())?;
@@ -134,15 +138,17 @@ fn check_driven(
 #[test]
 fn a_core_is_driven_over_a_port(rt: HostRuntime) -> Result<(), Fail> {
     let alloc = rt.alloc();
-    for (turns, refused, expected) in [
-        (4, None, (Ok(stats(4, 2, 0)), BOTH)),
-        // the port fails at the fifth, as it has nothing more to give
-        (5, None, (failed(stats(4, 2, 0)), BOTH)),
+    for (turns, given, refused, expected) in [
+        (4, 2, None, (Ok(stats(4, 2, 0)), BOTH)),
+        // the port fails at the first turn, the third or the fifth, as it has nothing more to give
+        (5, 0, None, (failed(stats(0, 0, 0)), "")),
+        (5, 1, None, (failed(stats(2, 1, 0)), SENT_ON)),
+        (5, 2, None, (failed(stats(4, 2, 0)), BOTH)),
         // a datagram that isn't taken is counted
-        (4, Some(0), (Ok(stats(4, 1, 1)), DELIVERED)),
-        (4, Some(1), (Ok(stats(4, 1, 1)), SENT_ON)),
+        (4, 2, Some(0), (Ok(stats(4, 1, 1)), DELIVERED)),
+        (4, 2, Some(1), (Ok(stats(4, 1, 1)), SENT_ON)),
     ] {
-        check_driven(&rt, alloc, (turns, refused), expected)?;
+        check_driven(&rt, alloc, (turns, given, refused), expected)?;
     }
     Ok(())
 }
@@ -151,7 +157,7 @@ fn a_core_is_driven_over_a_port(rt: HostRuntime) -> Result<(), Fail> {
 
 /// How many datagrams are handed over, and how the program ends, with so many turns.
 fn done(alloc: Global, turns: &str, refused: Option<usize>) -> Result<(usize, String), Fail> {
-    let mut port = port(alloc, refused)?;
+    let mut port = port(alloc, 2, refused)?;
     let ended = match plan(alloc, turns) {
         Ok(plan) => serve_port::<_, ListStore>(alloc, (), plan, 9, 9, &mut port),
         Err(fault) => Err(fault),

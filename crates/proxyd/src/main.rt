@@ -95,8 +95,7 @@ fn run(rt: &HostRuntime) -> Result<(), Fault> {
     serve_socket(rt, plan)
 }
 
-/// Tells a fault on standard error, and the help and the version on standard output. Where that
-/// can't be written, the status says it too.
+/// Tells a fault on standard error, and the help and the version on standard output.
 fn tell(rt: &HostRuntime, fault: &Fault) -> io::Result<()> {
     match fault {
         Fault::Usage { status: 0, text } => print!(rt; "{text}"),
@@ -105,12 +104,20 @@ fn tell(rt: &HostRuntime, fault: &Fault) -> io::Result<()> {
     }
 }
 
+/// Tells a fault, and answers the exit status. Help or a version that can't be written is a fault
+/// too.
+fn ended(rt: &HostRuntime, fault: &Fault) -> u8 {
+    let told = tell(rt, fault);
+    if told.is_err() && fault.status() == 0 {
+        let _ = tell(rt, &Fault::File);
+        return Fault::File.status();
+    }
+    fault.status()
+}
+
 fn main(rt: HostRuntime) -> ExitCode {
     match run(&rt) {
         Ok(()) => ExitCode::SUCCESS,
-        Err(fault) => {
-            let _ = tell(&rt, &fault);
-            ExitCode::from(fault.status())
-        }
+        Err(fault) => ExitCode::from(ended(&rt, &fault)),
     }
 }
