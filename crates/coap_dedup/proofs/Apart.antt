@@ -37,7 +37,7 @@ record_of-none lifetime now from id (r ∷ rs) none = let parts = not-first from
     go true other rest = rw other rest
     go false other rest = rest
 
--- the first record is the one that is found, or it is found behind it
+-- the first record is the one that is found, or it is found after it
 first-or-rest : (from : Endpoint) (id : ℕ) (r : Record) (rs : List Record) (x : Record) → record_of from id (r ∷ rs) ≡ Some x → ((is_of from id r ≡ true) × (r ≡ x)) ⊎ ((is_of from id r ≡ false) × (record_of from id rs ≡ Some x))
 first-or-rest from id r rs x found = go (is_of from id r) found
   where

@@ -36,7 +36,7 @@ in_ring b lifetime = record { items = b.items; limit = b.capacity; lifetime = li
 -- A record is put into a ring of which those are left that live at its moment.
 module _ {A E : Type 0} (r : Result A E) (before left after : Buffer Record) (lifetime : ℕ) (x : Record) (is : left ≡ buffer (living lifetime x.at before.items) before.capacity) (iff : IsOk r ↔ (length left.items < left.capacity))
     (pushed : OnOk r (after ≡ buffer (left.items ++ x ∷ []) left.capacity)) (room : length (living lifetime x.at before.items) < before.capacity) where
-  -- it is put behind them
+  -- it is put after them
   pub ring-put : after ≡ buffer (left.items ++ x ∷ []) left.capacity
   ring-put = succeeds r (length left.items < left.capacity) (after ≡ buffer (left.items ++ x ∷ []) left.capacity) iff pushed (subst (λ (b : Buffer Record). length b.items < b.capacity) (sym is) room)
 

@@ -33,7 +33,7 @@ number_of-push n k (r ∷ rs) x = rw (number_of-push (n + 1) k rs x) (go (is_of 
 apart_from_none : (o : Option ℕ) (l : ℕ) → o ≡ Some l → o ≡ None → ⊥
 apart_from_none o l some none = cc
 
--- what has a number has a record, as far behind the first as its number is behind that of the first
+-- what has a number has a record, as far after the first as its number is after that of the first
 pub number_of-place : (n : ℕ) (k : Key) (rs : List Record) (m : ℕ) → AreApart rs → number_of n k rs ≡ Some m → (i : ℕ) × (i < length rs) × (m ≡ (n + i) % 2 ^ 64) × (slice_get rs i ≡ record_of k.from k.id rs)
 number_of-place n k [] m apart e = absurd cc
 number_of-place n k (r ∷ rs) m apart e = go (number_of (n + 1) k rs) refl (is_of k.from k.id r) refl e (number_of-place (n + 1) k rs m apart.1)

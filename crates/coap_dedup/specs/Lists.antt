@@ -15,7 +15,7 @@ is_living lifetime now r = lives lifetime r.at now
 abbrev pub living : ℕ → ℕ → List Record → List Record
 living lifetime now records = filter (is_living lifetime now) records
 
--- one record more, behind those that live at its moment; those that don't are let go
+-- one record more, after those that live at its moment; those that don't are let go
 abbrev pub kept_with : ℕ → Record → List Record → List Record
 kept_with lifetime r records = living lifetime r.at records ++ r ∷ []
 

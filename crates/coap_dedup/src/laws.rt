@@ -27,7 +27,7 @@ pub fn what_is_kept_is_found()
         → is_of from id r ≡ true }
 {}
 
-/// What lives from the moment of keeping on: all that lived, and behind it what is kept.
+/// What lives from the moment of keeping on: all that lived, and after it what is kept.
 pub fn nothing_that_lives_is_given_up()
     ensures { (r : Record) (t : Records) (now : ℕ)
         → r.at ≤ now

@@ -11,7 +11,7 @@ use Rattle.coap_cache.proofs.Cuts.{cut-fits}
 use Rattle.coap_cache.proofs.Keys.{same_key-itself}
 use Rattle.coap_lru.proofs.Recency.{same_key-flips}
 
--- the last one stands behind those before it
+-- the last one stands after those before it
 last_by : {X : Type 0} (n : ℕ) (xs : List X) (x : X) → length xs ≡ suc n → slice_get xs n ≡ Some x → xs ≡ take n xs ++ x ∷ []
 last_by n [] x len is = absurd (omega (arith, len))
 last_by zero (y ∷ []) x len is = let same : y ≡ x = cc in ap (λ z. z ∷ []) same

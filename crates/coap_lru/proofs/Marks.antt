@@ -56,7 +56,7 @@ map-unmarked test (e ∷ es) none =
     go true n rest = absurd cc
     go false n rest = ap (λ l. e ∷ l) rest
 
--- the entries behind one of the key have other keys
+-- the entries after one of the key have other keys
 others-unmarked : (k : CacheKey) (es : List Entry) → list_all (has_other_key entry_key k) es ≡ true → list_all (λ (e : Entry). not (same_key k e.0)) es ≡ true
 others-unmarked k [] all = refl
 others-unmarked k (e ∷ es) all =

@@ -44,7 +44,7 @@ module _ (k : CacheKey) where
       go true = refl
       go false = refl
 
-  -- what stands behind the entry of a key has other keys
+  -- what stands after the entry of a key has other keys
   rest-others : (e : Entry) (es : List Entry) → same_key e.0 k ≡ true → are_distinct entry_key (e ∷ es) ≡ true → others entry_key k es ≡ es
   rest-others e es is distinct =
       let parts = and_parts (list_all (has_other_key entry_key e.0) es) (are_distinct entry_key es) distinct in
@@ -152,7 +152,7 @@ module _ (k : CacheKey) (es : List Entry) where
   pub popped : lookup_entry (keys.ghosts.eq k) es ≡ of_key entry_key k es
   popped = ap (λ (eq : CacheKey → CacheKey → Bool). lookup_entry (eq k) es) key_eq ∙ lookup_entry-is k es
 
-  -- what is left behind a removal
+  -- what is left after a removal
   pub removed : are_distinct entry_key es ≡ true → remove_entry (keys.ghosts.eq k) es ≡ others entry_key k es
   removed distinct = ap (λ (eq : CacheKey → CacheKey → Bool). remove_entry (eq k) es) key_eq ∙ remove_entry-is k es distinct
 

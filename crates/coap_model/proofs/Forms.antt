@@ -177,7 +177,7 @@ AreOptions-merged low [] others are rest = rest
 AreOptions-merged low (o ∷ os) others are rest =
     AreOptions-put_in low o (merged os others) are.0 are.1 are.2 (AreOptions-merged low os others (AreOptions-weaken low o.number os are.0 are.3) rest)
 
--- values of one number, short enough, behind a lower number and before the others
+-- values of one number, short enough, after a lower number and before the others
 AreOptions-map : (low number : ℕ) (values : List (List ℕ)) (os : List Opt) → low ≤ number → number < 65536 → AllByRecursion IsShort values → AreOptions number os → AreOptions low (map (option_of number) values ++ os)
 AreOptions-map low number [] os le small short are = AreOptions-weaken low number os le are
 AreOptions-map low number (v ∷ values) os le small short are = (le, small, omega (arith, short.0), AreOptions-map number number values os (omega arith) small short.1 are)
@@ -217,7 +217,7 @@ with_id-forwarded id token t others = refl
 
 -- ---- the target, read off the request
 
--- an option more in front, where the values behind are the same
+-- an option more in front, where the values after it are the same
 values-cons : (number : ℕ) (o : Opt) (os rest : List Opt) → values_of number os ≡ values_of number rest → values_of number (o ∷ os) ≡ values_of number (o ∷ rest)
 values-cons number o os rest same = go (eqb o.number number)
   where

@@ -21,7 +21,7 @@ more-sum a b = go (ltb (a + b) 13) refl (ltb (a + b) 269) refl (ltb a 13) refl (
     go false e false f true g s false h true = omega arith
     go false e false f true g s false h false = omega arith
 
--- options behind a lower number take at most what one option takes more
+-- options after a lower number take at most what one option takes more
 pub lower-length : (low number : ℕ) (os : List Opt) → low ≤ number → AreOptions number os → options_length low os ≤ 1 + more_length (number - low) + options_length number os
 lower-length low number [] le are = omega arith
 lower-length low number (o ∷ os) le are =

@@ -37,7 +37,7 @@ use Rattle.coap_model.proofs.Spelled.{length-uint_spelling}
 
 -- ---- one Max-Age among options
 
--- options behind others
+-- options after others
 append-options : (low : ℕ) (xs ys : List Opt) → AreOptions low xs → AreOptions (last_number low xs) ys → AreOptions low (xs ++ ys)
 append-options low [] ys are rest = rest
 append-options low (x ∷ xs) ys are rest = (are.0, are.1, are.2, append-options x.number xs ys are.3 rest)
@@ -177,7 +177,7 @@ module _ where
 abbrev NoneRefused : List Opt → List Opt → Type 0
 NoneRefused passed os = option_map {T = PlacedOption} (λ q. q.option.number) (find (is_refused Response) (places_behind passed os)) ≡ None
 
--- behind a Max-Age there is no other
+-- after a Max-Age there is no other
 no-second : (passed os : List Opt) → 1 ≤ count_of 14 passed → NoneRefused passed os → of_number 14 os ≡ []
 no-second passed [] some none = refl
 no-second passed (o ∷ os) some none =
@@ -242,7 +242,7 @@ one-age m screened = keep (one-behind [] m.options refl (none (first_refused Res
 more-none : (n : ℕ) → n ≤ 12 → more_length n ≡ 0
 more-none n le = rw (lt-ltb n 13 (omega arith)) refl
 
--- options behind others take as many bytes as both
+-- options after others take as many bytes as both
 options_length-append : (low : ℕ) (xs ys : List Opt) → options_length low (xs ++ ys) ≡ options_length low xs + options_length (last_number low xs) ys
 options_length-append low [] ys = omega arith
 options_length-append low (x ∷ xs) ys = omega (arith, options_length-append x.number xs ys)

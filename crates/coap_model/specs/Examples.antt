@@ -281,7 +281,7 @@ last_id_sent =
     to Overloaded (client 1) (0x50 ∷ 0xA3 ∷ 0x80 ∷ 0 ∷ 0xD1 ∷ 1 ∷ 5 ∷ []) ∷ nothing NoId
     ∷ nothing NoId ∷ []
 
--- ids and tokens go on from 0 behind the greatest
+-- ids and tokens go on from 0 after the greatest
 abbrev pub wrapping_proxy : World
 wrapping_proxy =
     new_world (record {

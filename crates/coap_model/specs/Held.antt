@@ -1,5 +1,5 @@
 -- How many bytes a proxy holds, and the most that it holds by its limits. What is held counts as
--- many bytes as the values of the program keep of it.
+-- many bytes as the values of the program keep of it; what is stored counts as the store counts it.
 use Rattle.std.specs.Prelude.{ℕ, ◌+◌, ◌*◌, List, length, Option, Some, None}
 use Rattle.std.specs.List.{sum_by}
 use Rattle.coap_message.specs.Message.{Message}

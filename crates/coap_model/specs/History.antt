@@ -223,7 +223,7 @@ pub record Gives (id : ℕ) (e : Entry) : Type 0 where
   pub spells : Spells e.bytes message
   pub id_is : message.id ≡ id
 
--- ids count up from the first, and begin anew at 0 behind 65,535 (RFC 7252, 4.4)
+-- ids count up from the first, and begin anew at 0 after 65,535 (RFC 7252, 4.4)
 abbrev pub AreIds : ℕ → List Deed → Type 0
 AreIds first [] = Unit {0}
 AreIds first (d ∷ past) =

@@ -30,7 +30,7 @@ pub struct Handed {
 }
 
 /// A port in memory, for tests. It gives the turns of its script, one for each call with a wait,
-/// and fails behind the last; a call without a wait gets a tick at the last moment. A moment that
+/// and fails after the last; a call without a wait gets a tick at the last moment. A moment that
 /// goes back is the last one, and one beyond 2^62 is that; a draw above 1,000 is that. It keeps
 /// what it is handed, and can refuse one datagram.
 #[derive(Drop)]

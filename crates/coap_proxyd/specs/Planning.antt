@@ -37,7 +37,7 @@ abbrev pub with_names : Said → Option (List Text) → Said
 with_names said None = said
 with_names said (Some names) = record said { names = names }
 
--- one map more, behind its own
+-- one map more, after its own
 abbrev pub add_map : Said → Pair → Said
 add_map said m = record said { maps = said.maps ++ m ∷ [] }
 
@@ -75,7 +75,7 @@ planned wanted said routes = record {
 }
 
 -- The configuration is read first; the names of `-P` stand in place of its own, and the map of
--- `--map` behind its maps.
+-- `--map` after its maps.
 abbrev pub plan_of : Seen → Option Text → Result Plan Fault
 plan_of wanted file =
     after (config_said file) (λ config.

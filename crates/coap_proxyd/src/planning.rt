@@ -97,7 +97,7 @@ fn with_names(config: Config, names: Option<Vec<String>>) -> Config
     }
 }
 
-/// A configuration with one map more, if there is one, behind its own.
+/// A configuration with one map more, if there is one, after its own.
 fn with_map(alloc: Global, config: Config, map: &Option<String>) -> Result<Config, Fault>
     ensures { Says view.seen faults.OutOfMemory result
         (spec.with_map (view.seen config) (option_map string_bytes map.now)) }
@@ -109,7 +109,7 @@ fn with_map(alloc: Global, config: Config, map: &Option<String>) -> Result<Confi
     add_map(config, map)
 }
 
-/// A configuration with this map behind its own.
+/// A configuration with this map after its own.
 fn add_map(config: Config, map: (String, String)) -> Result<Config, Fault>
     ensures { Says view.seen faults.OutOfMemory result
         (Ok (spec.add_map (view.seen config) (pair_of map))) }

@@ -26,7 +26,7 @@ fn text_of(line: &[u8]) -> Option<&str> {
     str::from_utf8(line).ok()
 }
 
-/// What stands behind a mark, in each line that has it, in order.
+/// What stands after a mark, in each line that has it, in order.
 fn marked(alloc: Global, events: &[u8], mark: &str) -> io::Result<Vec<String>> {
     let mut found = Vec::new(alloc);
     for line in events.split(|byte| *byte == b'\n') {
