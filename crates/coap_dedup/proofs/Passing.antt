@@ -104,5 +104,6 @@ bytes-length : (most : ℕ) (rs : List Record) → AllByRecursion (λ r. reply_b
 bytes-length most [] all = omega arith
 bytes-length most (r ∷ rs) all = omega (arith, sum_by-cons reply_bytes r rs, all.0, bytes-length most rs all.1)
 
+-- records that are no more than their limit take at most so many bytes together
 pub bytes-bounded : (most : ℕ) (t : Records) → AreRecords t → AllByRecursion (λ r. reply_bytes r ≤ most) t.items → bytes_of t.items ≤ t.limit * most
 bytes-bounded most t are all = omega (arith, bytes-length most t.items all, mul-le-mul_right most are.within)

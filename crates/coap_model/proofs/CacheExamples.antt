@@ -58,6 +58,7 @@ second_sent = read_is (limited.asked 3 2) (get_for 3 2) (are-bytes (limited.aske
 first_unsent : Never (Sends 0 1) (opened ∷ [])
 first_unsent = (unsent 1 [] opened (λ e. cc), tt)
 
+-- the second one was never sent before it was
 second_unsent : Never (Sends 0 2) hit_past
 second_unsent = (unsent 2 kept_past hits (λ e. cc), (unsent 2 (asked ∷ opened ∷ []) (answered 5 1 1 (Answered Kept)) (λ e. cc), (other, (unsent 2 [] opened (λ e. cc), tt))))
   where
@@ -84,6 +85,7 @@ first_got : Spells (limited.got 1 1) (content_for 1 1)
 unfolding read_message body_at options_within option_at extended token_of
 first_got = read_is (limited.got 1 1) (content_for 1 1) (are-bytes (limited.got 1 1) refl) refl
 
+-- what comes for the second one is its answer
 second_got : Spells (limited.got 3 2) (content_for 3 2)
 unfolding read_message body_at options_within option_at extended token_of
 second_got = read_is (limited.got 3 2) (content_for 3 2) (are-bytes (limited.got 3 2) refl) refl

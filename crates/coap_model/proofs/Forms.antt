@@ -277,6 +277,7 @@ record IsReadBack (t : Target) (os : List Opt) : Type 0 where
   pub path : values_of 11 os ≡ t.path
   pub query : values_of 15 os ≡ t.query
 
+-- the options of a target say that target
 read-back : (t : Target) → IsReadBack t (target_options t)
 unfolding target_options
 read-back t = record { host = host t.host; path = path t.host; query = query t.host }

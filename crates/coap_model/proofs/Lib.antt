@@ -10,6 +10,7 @@ pub mod Tables
 pub mod Frames
 pub mod Splitting
 pub mod Room
+pub mod Counted
 pub mod OwnReplies
 pub mod Remembering
 pub mod Duplicates

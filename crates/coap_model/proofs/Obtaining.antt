@@ -49,6 +49,7 @@ record IsStorableAs (most now : ℕ) (m response : Message) : Type 0 where
   pub storable : is_storable (answer_of most now m) ≡ true
   pub response_is : response ≡ (answer_of most now m).message
 
+-- what is passed on and tells an age above 0 may be stored without Observe
 storable-as : (most now : ℕ) (m response : Message) → is_passed_on most m ≡ true → response ≡ without_observe m → tells_age response.code ≡ true → 0 < max_age_of response → IsStorableAs most now m response
 unfolding answer_of
 storable-as most now m response passed is code age = record { storable = rw passed both; response_is = rw passed is }

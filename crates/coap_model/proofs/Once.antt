@@ -19,14 +19,17 @@ served-first setting history v p all at s =
     let j : IsDelivery setting p.before p.deed = justified-at setting history p Delivered all at s.outcome in
     subst (λ (n : ℕ). Never (Serves n) p.before) (same_serves j.waiter v (sym j.act ∙ s.act)) j.first
 
+-- the request of an exchange is sent at one place
 pub sent-once : (setting : Setting) (history : List Deed) (x : ℕ) (a b : Place) → AllJustified setting history → IsPlaceOf history a → IsPlaceOf history b → Sends setting.salt x a → Sends setting.salt x b → a ≡ b
 sent-once setting history x a b all at_a at_b sends_a sends_b =
     first-once (Sends setting.salt x) history a b at_a at_b sends_a sends_b (sent-first setting history x a all at_a sends_a) (sent-first setting history x b all at_b sends_b)
 
+-- its answer is got at one place
 pub got-once : (setting : Setting) (history : List Deed) (x : ℕ) (a b : Place) → AllJustified setting history → IsPlaceOf history a → IsPlaceOf history b → Gets setting x a → Gets setting x b → a ≡ b
 got-once setting history x a b all at_a at_b gets_a gets_b =
     first-once (Gets setting x) history a b at_a at_b gets_a gets_b (got-first setting history x a all at_a gets_a) (got-first setting history x b all at_b gets_b)
 
+-- a waiter is served at one place
 pub served-once : (setting : Setting) (history : List Deed) (v : ℕ) (a b : Place) → AllJustified setting history → IsPlaceOf history a → IsPlaceOf history b → Serves v a → Serves v b → a ≡ b
 served-once setting history v a b all at_a at_b serves_a serves_b =
     first-once (Serves v) history a b at_a at_b serves_a serves_b (served-first setting history v a all at_a serves_a) (served-first setting history v b all at_b serves_b)

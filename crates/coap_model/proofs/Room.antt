@@ -10,11 +10,11 @@ use Rattle.coap_model.proofs.Tables.{length-paired}
 use Rattle.coap_model.proofs.Splitting.{one_false}
 
 -- as many clients wait as exchanges are under way
-waiters-length : (history : List Deed) (w : World) → Bears history w → length w.waiters ≡ under_way history
+pub waiters-length : (history : List Deed) (w : World) → Bears history w → length w.waiters ≡ under_way history
 waiters-length history w c = let p = length-paired w.exchanges w.waiters c.whole.paired in let u = c.whole.under_way in omega arith
 
 -- as many exchanges are held as are under way
-exchanges-length : (history : List Deed) (w : World) → Bears history w → length w.exchanges ≡ under_way history
+pub exchanges-length : (history : List Deed) (w : World) → Bears history w → length w.exchanges ≡ under_way history
 exchanges-length history w c = let u = c.whole.under_way in omega arith
 
 -- as many are queued as were opened and not sent

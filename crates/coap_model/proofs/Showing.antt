@@ -94,6 +94,7 @@ data IsShownAs (m : Message) : Option ℕ → Message → Type 0 where
   as_valid : (left : ℕ) (tag : List ℕ) → length tag ≤ 8 → IsShownAs m (Some left) (valid m left tag)
   as_aged : (left : ℕ) → IsShownAs m (Some left) (aged m left)
 
+-- what is shown is one of the three
 shown-as : (m : Message) (left : Option ℕ) (tags : List (List ℕ)) → IsShownAs m left (showing.shown m left tags)
 shown-as m None tags = as_stored None
 shown-as m (Some left) tags = tells (tells_age m.code)
@@ -117,6 +118,7 @@ record IsSound (m : Message) : Type 0 where
   pub code : m.code.0 ≢ 0
   pub options : AreOptions 0 m.options
 
+-- each of them is as sound as the response
 case-sound : {left : Option ℕ} {n : Message} (m : Message) → IsSound m → IsShownAs m left n → IsSound n
 case-sound m is (as_stored left) = is
 case-sound m is (as_valid left tag short) =

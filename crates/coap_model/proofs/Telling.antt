@@ -47,6 +47,7 @@ awaited-told w now m (Some x) =
     (either (nat_le (entry_size (entry_made w now x a)) w.setting.limits.cache_bytes) (λ grown. keeps_if w now grown x a (of_key entry_key x.1.key w.store)) (λ grown. answers_so w now x a TooLarge (others entry_key x.1.key w.store)) (kept-told w now x a (of_key entry_key x.1.key w.store)) (λ grown. refl))
     (λ grown. refl)
 
+-- a datagram that was read tells it
 read-told : (w : World) (now : ℕ) (source : Endpoint) (h : Option Head) (o : Option Message) → IsTold (λ grown. on_read w now grown source h o)
 read-told w now source None o = λ grown. refl
 read-told w now source (Some head) None = λ grown. refl

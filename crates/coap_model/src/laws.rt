@@ -13,11 +13,11 @@ ghost use Rattle.coap_model.specs.Limits.{AreLimits, default_limits};
 ghost use Rattle.coap_model.specs.Setting.{Setting};
 ghost use Rattle.coap_model.specs.declared.report.Outcome.{Outcome};
 ghost use Rattle.coap_model.specs.declared.report.Outcome.TheVariants.{Rejected, Again, NoRecordRoom, Hit, Opened, Idle, Refused, Overloaded, NoId, Answered};
-ghost use Rattle.coap_cache.specs.Lists.{of_key};
+ghost use Rattle.coap_cache.specs.Lists.{of_key, total};
 ghost use Rattle.coap_dedup.specs.declared.record.Record.{Record};
 ghost use Rattle.coap_dedup.specs.Lists.{record_of};
 ghost use Rattle.coap_model.specs.Remembered.{most_remembered, remembered_at};
-ghost use Rattle.coap_model.specs.Cached.{Cached, cached_key, IsCacheOf};
+ghost use Rattle.coap_model.specs.Cached.{Cached, cached_key, cached_size, IsCacheOf};
 ghost use Rattle.coap_model.specs.declared.report.Storing.TheVariants.{Kept, TooLarge, NoMemory, NotStored};
 ghost use Rattle.coap_option.specs.declared.side.Side.{Side};
 ghost use Rattle.coap_option.specs.Screening.{first_refused};
@@ -34,14 +34,14 @@ ghost use Rattle.coap_routes.specs.declared.error.TargetError.TheVariants.{OutOf
 ghost use Rattle.coap_model.specs.Memory.{takes_memory};
 ghost use Rattle.coap_model.specs.Step.{step_of};
 ghost use Rattle.coap_model.specs.Ticks.{next_due, with_id};
-ghost use Rattle.coap_model.specs.History.{Entry, Act, no_item, serves, takes, grown_of, gives_id, ids_in, Deed, Place, IsPlaceOf, Somewhere, Sends, Gets, Serves, Gives, HasRoom, last_of, IsInOrder};
+ghost use Rattle.coap_model.specs.History.{Entry, Act, no_item, serves, takes, grown_of, gives_id, ids_in, under_way, Deed, Place, IsPlaceOf, Somewhere, Sends, Gets, Serves, Gives, HasRoom, last_of, IsInOrder};
 ghost use Rattle.coap_model.specs.Messages.{brings_requests, eight_zeros, own_reply, told_again};
 ghost use Rattle.coap_model.specs.Duplicates.{IsRememberedAt, Repeats};
 ghost use Rattle.coap_model.specs.Due.{IsDueAt, IsNextDue};
 ghost use Rattle.coap_model.specs.Justified.{IsRequestOf, IsNew, IsUnprocessable, verdict_on, fits_on, is_fresh_at, HasIdFor, IsMiss, IsObtainedHere, size_here, HaveOneMemory, IsAwaited, IsActing, IsDelivery, JustifiedBy, AllJustified, IsOwed, MayFollow, AreOfOneTurn, IsForwarding};
 ghost use Rattle.coap_model.specs.Forged as forged;
 ghost use Rattle.coap_model.specs.Forged.{asked, delivery, right, at_an_arrival};
-ghost use Rattle.coap_model.specs.Carries.{Carries};
+ghost use Rattle.coap_model.specs.Carries.{Bears, Carries};
 ghost use Rattle.coap_model.specs.Promised.{IdsDiffer, Promised};
 ghost use Rattle.coap_model.specs.Runs.{Taken, turns_of, AreTurns, new_run, run_of, entry_of, answer_at};
 ghost use Rattle.coap_model.specs.Examples.{nothing, to, get_t, origin, from, tick_at, client, content_for_client, play, proxy, small_proxy, narrow_proxy, first_answer, first_answer_sent, late_answer, late_answer_sent, error, error_sent, fault, fault_sent, changed, changed_sent, valid, replaced_sent, block_in_response, long_max_age, impostor, impostor_sent, refusals, refusals_sent, long_paths, long_paths_sent, long_segments, long_segments_sent, payload_in_get, payload_in_get_sent, full, full_sent, unprocessed_messages, unprocessed_messages_sent, too_long, too_long_sent, payload_of, payload_of_109_sent, spent_proxy, last_id, last_id_sent, wrapping_proxy, wrapping, wrapping_sent};
@@ -325,6 +325,32 @@ pub fn memory_is_told()
         → step_of w now draw (grown_of (step_of w now draw grown event).report.outcome) event
         ≡ step_of w now draw grown event }
     ensures wanting { (outcome : Outcome) → grown_of outcome ≡ false → outcome ≡ Answered NoMemory }
+{}
+
+/// What a proxy counts is what the deeds left of which its tables are made: as many exchanges and
+/// clients as were opened and not served, the entries and bytes of the cache of these deeds, and as
+/// many records as requests that are still remembered.
+pub fn counts_are_of_the_history()
+    ensures exchanges { (deeds : List Deed) (w : World)
+        → Bears deeds w
+        → (counts w).exchanges ≡ under_way deeds }
+    ensures waiters { (deeds : List Deed) (w : World)
+        → Bears deeds w
+        → (counts w).waiters ≡ under_way deeds }
+    ensures entries { (deeds : List Deed) (w : World) (cached : List Cached)
+        → Bears deeds w
+        → IsCacheOf w.setting deeds cached
+        → (counts w).entries ≡ length cached }
+    ensures cached_bytes { (deeds : List Deed) (w : World) (cached : List Cached)
+        → Bears deeds w
+        → IsCacheOf w.setting deeds cached
+        → (counts w).cached_bytes ≡ total cached_size cached }
+    ensures con_records { (deeds : List Deed) (w : World)
+        → Bears deeds w
+        → (counts w).con_records ≡ length (remembered_at Con w.last deeds) }
+    ensures non_records { (deeds : List Deed) (w : World)
+        → Bears deeds w
+        → (counts w).non_records ≡ length (remembered_at Non w.last deeds) }
 {}
 
 /// What a proxy carries it promises: each entry is justified by the entries before it, each waiter

@@ -23,6 +23,7 @@ pub arrival-is : (o : Option Endpoint) (bytes : List ℕ) → is_some o ≡ is_a
 arrival-is None bytes = refl
 arrival-is (Some e) bytes = refl
 
+-- what is mapped is there exactly where it was there before
 is_some-map : {A B : Type 0} (f : A → B) (o : Option A) → is_some (option_map f o) ≡ is_some o
 is_some-map f None = refl
 is_some-map f (Some x) = refl

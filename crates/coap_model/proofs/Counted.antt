@@ -1,0 +1,28 @@
+-- Counted: what a proxy counts of its store and of its records is what the history left.
+use Rattle.std.proofs.Common.{◌≡◌, ℕ, ◌≤◌, List, length, sym, ap, ◌∙◌, arith}
+use Rattle.coap_message.specs.declared.kind.Kind.{Kind}
+use Rattle.coap_dedup.specs.Records.{Records, living_at}
+use Rattle.coap_cache.specs.Entries.{entry_size}
+use Rattle.coap_cache.specs.Lists.{total}
+use Rattle.coap_model.specs.World.{World}
+use Rattle.coap_model.specs.History.{Deed}
+use Rattle.coap_model.specs.Remembered.{remembered_at}
+use Rattle.coap_model.specs.Cached.{Cached, cached_size, IsCacheOf, IsStored}
+use Rattle.coap_model.specs.Carries.{Bears, AreRemembered}
+use Rattle.coap_model.proofs.Cached.{cache-unique}
+use Rattle.coap_model.proofs.Stores.{store-total}
+use Rattle.coap_model.proofs.Pairs.{Pairs-length}
+
+-- the store has as many entries as the cache of the deeds
+pub store-entries : (deeds : List Deed) (w : World) (cached : List Cached) → Bears deeds w → IsCacheOf w.setting deeds cached → length w.store ≡ length cached
+store-entries deeds w cached c is =
+    Pairs-length IsStored w.store c.store.cached c.store.each ∙ ap length (cache-unique w.setting deeds c.store.cached cached c.store.is_cache is)
+
+-- and counts as many bytes
+pub store-bytes : (deeds : List Deed) (w : World) (cached : List Cached) → Bears deeds w → IsCacheOf w.setting deeds cached → total entry_size w.store ≡ total cached_size cached
+store-bytes deeds w cached c is =
+    store-total w.store c.store.cached c.store.each ∙ ap (total cached_size) (cache-unique w.setting deeds c.store.cached cached c.store.is_cache is)
+
+-- as many records live as requests are still remembered
+pub records-living : (deeds : List Deed) (w : World) (kind : Kind) (records : Records) → Bears deeds w → AreRemembered w.setting deeds kind records → length (living_at w.last records) ≡ length (remembered_at kind w.last deeds)
+records-living deeds w kind records c are = let last = c.clock.last in ap length (are.same w.last (omega arith))

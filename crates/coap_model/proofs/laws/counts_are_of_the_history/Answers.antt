@@ -1,0 +1,15 @@
+use Rattle.coap_message.specs.declared.kind.Kind.TheVariants.{Con, Non}
+use Rattle.coap_model.proofs.Room.{exchanges-length, waiters-length}
+use Rattle.coap_model.proofs.Counted.{store-entries, store-bytes, records-living}
+use Rattle.coap_model.proofs.laws.counts_are_of_the_history.Goals as goal
+
+pub returns : goal.returns
+returns c =
+    record {
+      exchanges = exchanges-length;
+      waiters = waiters-length;
+      entries = store-entries;
+      cached_bytes = store-bytes;
+      con_records = λ deeds w c. records-living deeds w Con w.con_records c c.con_records;
+      non_records = λ deeds w c. records-living deeds w Non w.non_records c c.non_records;
+    }
