@@ -101,7 +101,8 @@ non_busy id = 0x50 ∷ 0xA3 ∷ 0 ∷ id ∷ 0xD1 ∷ 1 ∷ 5 ∷ []
 -- one that is told to come later, while another client's exchange is under way
 abbrev pub busy_until : ℕ → List Turn
 busy_until later =
-    from 0 (client 1) (get_t []) ∷ from 0 (client 2) (get_t []) ∷ from later (client 2) (get_t []) ∷ []
+    from 0 (client 1) (get_t []) ∷ from 0 (client 2) (get_t [])
+    ∷ from later (client 2) (get_t []) ∷ []
 
 abbrev pub busy_sent : Sent → List Sent
 busy_sent then = nothing Opened ∷ to Overloaded (client 2) (non_busy 1) ∷ then ∷ []

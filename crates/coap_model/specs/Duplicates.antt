@@ -11,9 +11,9 @@ use Rattle.coap_model.specs.Messages.{is_con, told_again}
 use Rattle.coap_model.specs.History.{Place}
 use Rattle.coap_model.specs.Remembered.{is_remembered}
 
--- A request of this client repeats the one that came at a place: that one came from it with the same
--- id in a message of the same type, something was done with it that is remembered, and less than 247
--- or 145 seconds have passed.
+-- A request of this client repeats the one that came at a place: that one came from it with the
+-- same id in a message of the same type, something was done with it that is remembered, and less
+-- than 247 or 145 seconds have passed.
 pub record Repeats (now : ℕ) (client : Endpoint) (request : Message) (p : Place) : Type 0 where
   pub bytes : List ℕ
   pub former : Head

@@ -106,8 +106,8 @@ ids_given con _ = 0
 abbrev pub gives_id : Entry → ℕ
 gives_id e = ids_given (comes_con e.event) e.report.outcome
 
--- what an outcome tells of the one choice that is left to the memory: whether there was some for one
--- entry more of the store
+-- what an outcome tells of the one choice that is left to the memory: whether there was some for
+-- one entry more of the store
 abbrev pub grown_of : Outcome → Bool
 grown_of (Answered NoMemory) = false
 grown_of _ = true

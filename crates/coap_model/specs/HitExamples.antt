@@ -97,8 +97,8 @@ abbrev pub outgrown : List Turn
 outgrown = answered_by 0 (answer 0x68 0x45 1 1 (0xD1 ∷ 1 ∷ 10 ∷ 0xFF ∷ 0x32 ∷ []))
     ++ asks_again 10001 ++ tick_at 10001 ∷ from 10001 origin (got 3 2) ∷ []
 
--- a GET with this id of a path of two segments, `t` and another: what is sent on for it, with its own
--- id and the last byte of its token, its answer, and what the client is given for that
+-- a GET with this id of a path of two segments, `t` and another: what is sent on for it, with its
+-- own id and the last byte of its token, its answer, and what the client is given for that
 abbrev pub get_part : ℕ → ℕ → List ℕ
 get_part id segment = get_t_as id (1 ∷ segment ∷ [])
 

@@ -398,9 +398,9 @@ IsKeptIfGrown outcome = (outcome ≡ Answered Kept) ⊎ (outcome ≡ Answered No
 
 -- What is owed to duplicates and by the cache. What is known of a request is told again, and where
 -- there is no room to remember it, there is silence. A request that is new and may be asked for,
--- whose key has a fresh entry in the cache of what was done before, is answered from it, where it can
--- be replied to. An answer that was obtained is kept, memory aside, where it counts no more than may
--- be kept, and is too large where it counts more; any other answer isn't stored.
+-- whose key has a fresh entry in the cache of what was done before, is answered from it, where it
+-- can be replied to. An answer that was obtained is kept, memory aside, where it counts no more
+-- than may be kept, and is too large where it counts more; any other answer isn't stored.
 pub record IsOwed (setting : Setting) (past : List Deed) (d : Deed) : Type 0 where
   pub again :
       (client : Endpoint) (request : Message) (known : Record)

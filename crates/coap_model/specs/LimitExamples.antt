@@ -64,8 +64,10 @@ abbrev pub until_served : List Turn
 until_served =
     from 0 (client 1) (get_t []) ∷ from 0 (client 3) (get_t []) ∷ tick_at 1
     ∷ from 2 (client 3) (0x51 ∷ 1 ∷ 0 ∷ 2 ∷ 0xAA ∷ 0xB1 ∷ 0x74 ∷ [])
-    ∷ from 3 origin (got_stale 2 1) ∷ from 3 (client 3) (get_t_as 8 []) ∷ from 3 (client 3) (get_u 4)
-    ∷ tick_at 3 ∷ from 3 (client 3) (get_t_as 9 []) ∷ tick_at 4 ∷ from 5 origin (got_stale 7 2) ∷ tick_at 5 ∷ []
+    ∷ from 3 origin (got_stale 2 1) ∷ from 3 (client 3) (get_t_as 8 [])
+    ∷ from 3 (client 3) (get_u 4)
+    ∷ tick_at 3 ∷ from 3 (client 3) (get_t_as 9 []) ∷ tick_at 4
+    ∷ from 5 origin (got_stale 7 2) ∷ tick_at 5 ∷ []
 
 abbrev pub until_served_sent : List Sent
 until_served_sent =
@@ -73,7 +75,8 @@ until_served_sent =
     ∷ to SentRequest origin (asked 2 1)
     ∷ to Overloaded (client 3) (0x51 ∷ 0xA3 ∷ 0 ∷ 3 ∷ 0xAA ∷ 0xD1 ∷ 1 ∷ 5 ∷ [])
     ∷ nothing (Answered NotStored) ∷ to Overloaded (client 3) (busy 4 (0xD1 ∷ 1 ∷ 5 ∷ []))
-    ∷ to (Refused NOT_FOUND) (client 3) (not_found 0 5) ∷ to Delivered (client 1) (stale_for_client 6)
+    ∷ to (Refused NOT_FOUND) (client 3) (not_found 0 5)
+    ∷ to Delivered (client 1) (stale_for_client 6)
     ∷ nothing Opened ∷ to SentRequest origin (asked 7 2) ∷ nothing (Answered NotStored)
     ∷ to Delivered (client 3) (stale_for_client 8) ∷ []
 
@@ -131,7 +134,8 @@ counted_on_sent =
 abbrev pub after_ids : ℕ → World
 after_ids count = record proxy { given = count }
 
--- Where no id is free there is no reply to requests with this id of two clients, but a Reset has the id of what it rejects.
+-- Where no id is free there is no reply to requests with this id of two clients, but a Reset has
+-- the id of what it rejects.
 abbrev pub without_ids : ℕ → List Turn
 without_ids id =
     from 0 (client 1) (get_u id) ∷ from 0 (client 2) (get_t_as id [])

@@ -77,8 +77,8 @@ get_with_others =
     )
     []
 
--- a form of two Uri-Hosts, `h` and `i`, and of a Uri-Path and a Uri-Query of 256 bytes, which are too
--- long: they are of the target all the same, and not of what stands beside it
+-- a form of two Uri-Hosts, `h` and `i`, and of a Uri-Path and a Uri-Query of 256 bytes, which are
+-- too long: they are of the target all the same, and not of what stands beside it
 abbrev pub odd_form : List ℕ
 odd_form =
     0x48 ∷ 1 ∷ 0 ∷ 7 ∷ 0 ∷ 0 ∷ 0 ∷ 0 ∷ 0 ∷ 0 ∷ 0 ∷ 0 ∷ 0x31 ∷ 0x68 ∷ 0x01 ∷ 0x69 ∷ 0x8D ∷ 243

@@ -67,7 +67,8 @@ changed_with_age_sent = delivered_once (0x50 ∷ 0x44 ∷ 0 ∷ 2 ∷ 0xD1 ∷ 1
 abbrev pub two_ages : List Turn
 two_ages = answered_by 0 (answer 0x68 0x45 1 1 (0xD1 ∷ 1 ∷ 10 ∷ 1 ∷ 10 ∷ []))
 
--- a payload of 109 bytes beside a Max-Age of one byte: with one of four in its place it has 128 bytes
+-- a payload of 109 bytes beside a Max-Age of one byte: with one of four in its place it has 128
+-- bytes
 abbrev pub beside_an_age : List Turn
 beside_an_age = answered_by 0 (answer 0x68 0x45 1 1 (0xD1 ∷ 1 ∷ 10 ∷ 0xFF ∷ replicate 109 0x39))
 
@@ -121,7 +122,8 @@ of_one_moment_sent =
 -- request comes first
 abbrev pub request_first : List Turn
 request_first =
-    asks_at 0 1 ∷ tick_at 0 ∷ from 3 origin (got_stale 1 1) ∷ asks_at 3 2 ∷ tick_at 3 ∷ tick_at 3 ∷ []
+    asks_at 0 1 ∷ tick_at 0 ∷ from 3 origin (got_stale 1 1) ∷ asks_at 3 2
+    ∷ tick_at 3 ∷ tick_at 3 ∷ []
 
 abbrev pub request_first_sent : List Sent
 request_first_sent =
@@ -132,7 +134,8 @@ request_first_sent =
 -- the same with the answer one millisecond earlier: the client comes first
 abbrev pub client_first : List Turn
 client_first =
-    asks_at 0 1 ∷ tick_at 0 ∷ from 2 origin (got_stale 1 1) ∷ asks_at 3 2 ∷ tick_at 3 ∷ tick_at 3 ∷ []
+    asks_at 0 1 ∷ tick_at 0 ∷ from 2 origin (got_stale 1 1) ∷ asks_at 3 2
+    ∷ tick_at 3 ∷ tick_at 3 ∷ []
 
 abbrev pub client_first_sent : List Sent
 client_first_sent =

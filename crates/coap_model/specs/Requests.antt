@@ -160,7 +160,11 @@ on_new w now client m = on_verdict w now client m (verdict_of w.setting.routes m
 abbrev pub repeats : World → ℕ → Endpoint → Option (List ℕ) → Step
 repeats w now client None = silent Again (later w now)
 repeats w now client (Some bytes) =
-    record { report = record { send = Some client; outcome = Again }; bytes = bytes; world = later w now }
+    record {
+      report = record { send = Some client; outcome = Again };
+      bytes = bytes;
+      world = later w now;
+    }
 
 -- there is no room to remember the request: silence
 abbrev pub forgets : World → ℕ → Step

@@ -116,7 +116,8 @@ pub fn examples_of_replies()
 /// replies need no memory.
 pub fn examples_of_forms_and_tables()
     ensures form { spelling (forwarded eight_zeros named [] 7) ≡ named_form }
-    ensures own { spelling (own_reply NOT_FOUND [] 7 (0xAA ∷ [])) ≡ 0x51 ∷ 0x84 ∷ 0 ∷ 7 ∷ 0xAA ∷ [] }
+    ensures own { spelling (own_reply NOT_FOUND [] 7 (0xAA ∷ []))
+        ≡ 0x51 ∷ 0x84 ∷ 0 ∷ 7 ∷ 0xAA ∷ [] }
     ensures gateway { spelling bad_gateway ≡ 0x50 ∷ 0xA2 ∷ 0 ∷ 0 ∷ [] }
     ensures greatest { uint_spelling greatest_max_age ≡ 0xFF ∷ 0xFF ∷ 0xFF ∷ 0xFF ∷ [] }
     ensures short_of_two { with_id 0x0102 (9 ∷ 8 ∷ []) ≡ 9 ∷ 8 ∷ [] }
@@ -409,9 +410,9 @@ pub fn what_is_promised_holds_at_each_place()
 {}
 
 /// What is promised gives what is owed, place by place: a request that repeats a place before it is
-/// told again; one that doesn't meets silence where there is no room to remember it; a new one whose
-/// key has a fresh entry is answered from the cache; and an answer is stored by its size where it
-/// was obtained, memory aside, and not stored where it wasn't.
+/// told again; one that doesn't meets silence where there is no room to remember it; a new one
+/// whose key has a fresh entry is answered from the cache; and an answer is stored by its size
+/// where it was obtained, memory aside, and not stored where it wasn't.
 pub fn what_is_owed_is_given_at_each_place()
     ensures again { (history : List Entry) (w : World) (p : Promised history w)
         (place former : Place) (client : Endpoint) (request : Message)

@@ -6,7 +6,8 @@ use Rattle.coap_option.specs.declared.side.Side.{Side}
 use Rattle.coap_option.specs.Classes.{is_unsafe}
 use Rattle.coap_option.specs.Places.{PlacedOption, places, is_recognised_at}
 
--- unsafe and not recognised: a proxy must not forward the message (RFC 7252, 5.4.1, 5.4.2 and 5.7.1)
+-- unsafe and not recognised: a proxy must not forward the message (RFC 7252, 5.4.1, 5.4.2 and
+-- 5.7.1)
 abbrev pub is_refused : Side → PlacedOption → Bool
 is_refused side p = is_unsafe p.option.number && not (is_recognised_at side p)
 

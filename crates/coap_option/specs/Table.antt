@@ -6,7 +6,8 @@ use Rattle.coap_option.specs.declared.table.Row.{Row}
 use Rattle.coap_option.specs.declared.table.Times.{Times}
 use Rattle.coap_option.specs.declared.table.Times.TheVariants.{Never, Once, Many}
 
--- number; how often in a request, and in a response; least and greatest length of the value, in bytes
+-- number; how often in a request, and in a response; least and greatest length of the value, in
+-- bytes
 abbrev pub entry : ℕ → Times → Times → ℕ → ℕ → Row
 entry number requests responses shortest longest =
     record {

@@ -26,8 +26,8 @@ abbrev pub ended_as : Result ℕ ReplayError → Result (Unit {0}) Fault
 ended_as (Ok count) = Ok tt
 ended_as (Err e) = Err (replay_fault e)
 
--- a replay by that proxy, of so many turns at most; or there was no memory for the proxy, and nothing
--- was written
+-- a replay by that proxy, of so many turns at most; or there was no memory for the proxy, and
+-- nothing was written
 abbrev pub IsServed : ℕ → World → Option (List ℕ) → Option (List ℕ) → Option (List ℕ)
     → Result (Unit {0}) Fault → Type 0
 IsServed turns proxy input old new result = ((result ≡ Err OutOfMemory) × Appends old new [])
@@ -49,4 +49,5 @@ abbrev pub IsServedOver : {P : Type 0} → (P → ℕ → Turn → P → Type 0)
 IsServedOver gives takes clock failures turns proxy p q result =
     ((result ≡ Err OutOfMemory) × (q ≡ p))
     ⊎ ((after : World) × (driven : Result Stats DriveError)
-    × port.Ends gives takes clock failures turns proxy p after q driven × (result ≡ driven_as driven))
+    × port.Ends gives takes clock failures turns proxy p after q driven
+    × (result ≡ driven_as driven))

@@ -1,4 +1,5 @@
--- The target of a request at a proxy (RFC 7252, 5.7.2, 5.7.3, 5.10.1 and 5.10.2), or why it has none.
+-- The target of a request at a proxy (RFC 7252, 5.7.2, 5.7.3, 5.10.1 and 5.10.2), or why it has
+-- none.
 use Rattle.std.specs.Prelude.{ℕ, Bool, ◌==◌, List, [], ◌∷◌, map, codes, bytes_eq, Option, Some, None, ok_or, Result, Ok, Err, if◌then◌else◌}
 use Rattle.std.specs.Char.{to_ascii_lowercase}
 use Rattle.std.specs.Str.{is_utf8}
@@ -28,8 +29,8 @@ first_value (value ∷ values) = Some value
 abbrev pub value_of : ℕ → Message → Option (List ℕ)
 value_of number m = first_value (values_of number m.options)
 
--- The port that Uri-Port says. Without one it is that of the scheme (RFC 7252, 6.1), not the one that the request
--- came to (5.10.1).
+-- The port that Uri-Port says. Without one it is that of the scheme (RFC 7252, 6.1), not the one
+-- that the request came to (5.10.1).
 abbrev pub uri_port : Option (List ℕ) → ℕ
 uri_port None = 5683
 uri_port (Some value) = uint_of value
@@ -65,15 +66,16 @@ target_at_host hosts (Addr ip) uri =
 abbrev pub remote : List KnownHost → UriParts → Result Target TargetError
 remote hosts uri = target_at_host hosts uri.host uri
 
--- A request for a URI. One whose host is an own name is to the proxy itself (RFC 7252, 5.7.2), whatever its port.
+-- A request for a URI. One whose host is an own name is to the proxy itself (RFC 7252, 5.7.2),
+-- whatever its port.
 abbrev pub resolved : Routes → UriParts → Result Target TargetError
 resolved routes uri =
     if is_own routes.names uri.host
     then local routes uri.path uri.query
     else remote routes.hosts uri
 
--- by Proxy-Uri: the URI says it all (RFC 7252, 5.10.2); what a text says takes no memory, so that the last case
--- never comes
+-- by Proxy-Uri: the URI says it all (RFC 7252, 5.10.2); what a text says takes no memory, so that
+-- the last case never comes
 abbrev pub of_uri : Routes → Result UriParts UriError → Result Target TargetError
 of_uri routes (Ok uri) = resolved routes uri
 of_uri routes (Err uri_error.Bad) = Err BadUri
@@ -83,8 +85,8 @@ of_uri routes (Err uri_error.OutOfMemory) = Err OutOfMemory
 unfoldable pub by_uri : Routes → List ℕ → Result Target TargetError
 by_uri routes text = if is_utf8 text then of_uri routes (uri_of text) else Err BadUri
 
--- by Proxy-Scheme: the URI is composed of the Uri options (RFC 7252, 5.10.2 and 6.5); without Uri-Host
--- its authority is the proxy itself
+-- by Proxy-Scheme: the URI is composed of the Uri options (RFC 7252, 5.10.2 and 6.5); without
+-- Uri-Host its authority is the proxy itself
 abbrev pub composed : Routes → Message → Option (List ℕ) → Result Target TargetError
 composed routes m None = local routes (path_of m) (query_of m)
 composed routes m (Some host) =
@@ -110,9 +112,10 @@ abbrev pub if_any : List HostPart → Result Target TargetError → Result Targe
 if_any [] target = Err NotProxied
 if_any (name ∷ names) target = target
 
--- By Proxy-Uri, if the request has one; else by Proxy-Scheme, if it has one (RFC 7252, 5.10.2). With
--- neither it is one to the proxy itself, of whatever Uri-Host and Uri-Port.
-abbrev pub by_options : Routes → Message → Option (List ℕ) → Option (List ℕ) → Result Target TargetError
+-- By Proxy-Uri, if the request has one; else by Proxy-Scheme, if it has one (RFC 7252, 5.10.2).
+-- With neither it is one to the proxy itself, of whatever Uri-Host and Uri-Port.
+abbrev pub by_options : Routes → Message → Option (List ℕ) → Option (List ℕ)
+    → Result Target TargetError
 by_options routes m None None = local routes (path_of m) (query_of m)
 by_options routes m None (Some scheme) = if_any routes.names (by_scheme routes m scheme)
 by_options routes m (Some uri) scheme = if_any routes.names (by_uri routes uri)

@@ -59,8 +59,8 @@ are_distinct (h ∷ hosts) =
 abbrev pub is_unmarked : ℕ → Bool
 is_unmarked b = not (b == question_mark) && not (b == number_sign)
 
--- A prefix begins with a slash, and holds neither query nor fragment. After each slash stands a segment;
--- the slash alone has none.
+-- A prefix begins with a slash, and holds neither query nor fragment. After each slash stands a
+-- segment; the slash alone has none.
 abbrev pub is_prefix : List ℕ → Bool
 is_prefix text = (slice_index text 0 == slash) && list_all is_unmarked text
 

@@ -4,8 +4,8 @@ use Rattle.std.specs.List.{AllByRecursion}
 use Rattle.coap_routes.specs.declared.map.Map.{Map}
 use Rattle.coap_routes.specs.Routes.{begins}
 
--- Its prefix begins the path. Each earlier map whose prefix does so too has a shorter one, and no later
--- one has a longer one.
+-- Its prefix begins the path. Each earlier map whose prefix does so too has a shorter one, and no
+-- later one has a longer one.
 pub record Wins (maps : List Map) (path : List (List ℕ)) (m : Map) : Type 0 where
   pub earlier : List Map
   pub later : List Map
