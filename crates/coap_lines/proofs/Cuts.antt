@@ -1,9 +1,10 @@
 -- Texts that are cut where a byte first stands.
-use Rattle.std.proofs.Common.{◌≡◌, ◌==◌, ℕ, suc, ◌+◌, ◌<◌, ◌≤◌, true, false, List, [], ◌∷◌, ◌++◌, length, take, drop, Some, None, Option, option_map, position, refl, sym, ap, ◌∙◌, arith, add-one, ⊎_elim, ltb, cond, eq-eqb}
-use Rattle.std.specs.List.{All, position_or_len}
+use Rattle.std.proofs.Common.{◌≡◌, ◌==◌, ℕ, true, false, List, [], ◌∷◌, ◌++◌, length, drop, Some, None, Option, option_map, refl, sym, ap, ◌∙◌, arith, ⊎_elim, cond, eq-eqb}
+use Rattle.std.specs.List.{All, join_with_byte, slice_split}
 use Rattle.std.specs.Option.{unwrap_or}
-use Rattle.std.proofs.lemmas.Bool.{cases_Bool, eqb-true, ltb-true, ltb-false, or_parts}
+use Rattle.std.proofs.lemmas.Bool.{cases_Bool, eqb-true, or_parts}
 use Rattle.std.proofs.lemmas.List.Elements.{All-nil, All-cons}
+use Rattle.std.proofs.lemmas.List.Splits.{join_with_byte-slice_split, length-slice_split, slice_split_at, slice_split_none}
 use Rattle.std.proofs.lemmas.Option.{none-some}
 use Rattle.coap_lines.specs.Texts.{cut, has, with_front}
 
@@ -14,53 +15,6 @@ cut-here byte b text hit = ap (λ t. cond t (Some ([], text)) (option_map (with_
 -- and one that begins with another
 cut-later : (byte b : ℕ) (text : List ℕ) → (b == byte) ≡ false → cut byte (b ∷ text) ≡ option_map (with_front b) (cut byte text)
 cut-later byte b text miss = ap (λ t. cond t (Some ([], text)) (option_map (with_front b) (cut byte text))) miss
-
--- what stands before the place and after it
-cut_place : (byte : ℕ) (text : List ℕ) (n : ℕ) → position_or_len (λ b. b == byte) text ≡ n → n < length text → cut byte text ≡ Some (take n text, drop (suc n) text)
-cut_place byte [] n is within = absurd (omega arith)
-cut_place byte (b ∷ text) n is within =
-    ⊎_elim
-    (λ yes. let zeroth : n ≡ 0 = sym (rw yes at is) in rw zeroth (cut-here byte b text yes))
-    (λ no.
-    let m = position_or_len (λ b. b == byte) text in
-    let found : 1 + m ≡ n = rw no at is in
-    let later : n ≡ suc m = omega arith in
-    let inside : m < length text = omega arith in
-    let rest = cut_place byte text m refl inside in
-    rw later (cut-later byte b text no ∙ ap (option_map (with_front b)) rest))
-    (cases_Bool (b == byte))
-
--- where the byte stands nowhere, there is nothing to cut
-cut_nowhere : (byte : ℕ) (text : List ℕ) → length text ≤ position_or_len (λ b. b == byte) text → cut byte text ≡ None
-cut_nowhere byte [] all = refl
-cut_nowhere byte (b ∷ text) all =
-    ⊎_elim
-    (λ yes. let none : position_or_len (λ b. b == byte) (b ∷ text) ≡ 0 = rw yes refl in absurd (omega arith))
-    (λ no.
-    let more : position_or_len (λ b. b == byte) (b ∷ text) ≡ 1 + position_or_len (λ b. b == byte) text = rw no refl in
-    let rest : length text ≤ position_or_len (λ b. b == byte) text = omega arith in
-    cut-later byte b text no ∙ ap (option_map (with_front b)) (cut_nowhere byte text rest))
-    (cases_Bool (b == byte))
-
--- a text that is cut at a place
-pub cut-at : (byte : ℕ) (text : List ℕ) (i : ℕ) → position (λ b. b == byte) text ≡ Some i → cut byte text ≡ Some (take i text, drop (i + 1) text)
-cut-at byte text i found =
-    ⊎_elim
-    (λ yes.
-    let n = position_or_len (λ b. b == byte) text in
-    let is : Some n ≡ Some i = rw yes at found in
-    let same : n ≡ i = cc in
-    rw add-one (cut_place byte text i same (rw same at (ltb-true n (length text) yes))))
-    (λ no. absurd (none-some i (rw no at found)))
-    (cases_Bool (ltb (position_or_len (λ b. b == byte) text) (length text)))
-
--- and one without such a place
-pub cut-nowhere : (byte : ℕ) (text : List ℕ) → position (λ b. b == byte) text ≡ None → cut byte text ≡ None
-cut-nowhere byte text none =
-    ⊎_elim
-    (λ yes. absurd (none-some (position_or_len (λ b. b == byte) text) (sym (rw yes at none))))
-    (λ no. cut_nowhere byte text (ltb-false (position_or_len (λ b. b == byte) text) (length text) no))
-    (cases_Bool (ltb (position_or_len (λ b. b == byte) text) (length text)))
 
 -- a text without the byte isn't cut
 cut-without : (byte : ℕ) (text : List ℕ) → has byte text ≡ false → cut byte text ≡ None
@@ -118,3 +72,49 @@ none-has byte (b ∷ text) none =
     unmapped : (parts : Option (List ℕ × List ℕ)) → option_map (with_front b) parts ≡ None → parts ≡ None
     unmapped None is = refl
     unmapped (Some p) is = absurd (none-some (with_front b p) (sym is))
+
+-- the parts of a text that is cut
+slice_split-cut : (byte : ℕ) (text front rest : List ℕ) → cut byte text ≡ Some (front, rest) → slice_split (λ b. b == byte) text ≡ front ∷ slice_split (λ b. b == byte) rest
+slice_split-cut byte text front rest found =
+    let is = cut-is byte text front rest found in
+    rw (is.0) (slice_split_at (λ b. b == byte) front byte rest (All-others byte front is.1) (eq-eqb byte byte refl))
+
+-- and of one that isn't
+slice_split-uncut : (byte : ℕ) (text : List ℕ) → cut byte text ≡ None → slice_split (λ b. b == byte) text ≡ text ∷ []
+slice_split-uncut byte text none = slice_split_none (λ b. b == byte) text (All-others byte text (none-has byte text none))
+
+-- there is at least one part
+some-part : (byte : ℕ) (text : List ℕ) → slice_split (λ b. b == byte) text ≡ [] → ⊥
+some-part byte text none =
+    let count = length-slice_split (λ b. b == byte) text in
+    let zero : length (slice_split (λ b. b == byte) text) ≡ 0 = rw none refl in
+    omega arith
+
+-- texts with the same parts are the same
+same-parts : (byte : ℕ) (a b : List ℕ) → slice_split (λ x. x == byte) a ≡ slice_split (λ x. x == byte) b → a ≡ b
+same-parts byte a b same =
+    sym (join_with_byte-slice_split byte a) ∙ ap (join_with_byte byte) same ∙ join_with_byte-slice_split byte b
+
+-- a text is cut after its first part, where others follow
+pub cut-parts : (byte : ℕ) (text front rest : List ℕ) → slice_split (λ b. b == byte) text ≡ front ∷ slice_split (λ b. b == byte) rest → cut byte text ≡ Some (front, rest)
+cut-parts byte text front rest parts = go (cut byte text) refl
+  where
+    go : (o : Option (List ℕ × List ℕ)) → cut byte text ≡ o → o ≡ Some (front, rest)
+    go None is =
+        let one : text ∷ [] ≡ front ∷ slice_split (λ b. b == byte) rest = sym (slice_split-uncut byte text is) ∙ parts in
+        absurd (some-part byte rest (sym (ap (drop 1) one)))
+    go (Some (f, r)) is =
+        let two : f ∷ slice_split (λ b. b == byte) r ≡ front ∷ slice_split (λ b. b == byte) rest = sym (slice_split-cut byte text f r is) ∙ parts in
+        let before : f ≡ front = cc in
+        let after : r ≡ rest = same-parts byte r rest (ap (drop 1) two) in
+        rw (before, after) refl
+
+-- and isn't where it is one part
+pub cut-part : (byte : ℕ) (text front : List ℕ) → slice_split (λ b. b == byte) text ≡ front ∷ [] → cut byte text ≡ None
+cut-part byte text front part = go (cut byte text) refl
+  where
+    go : (o : Option (List ℕ × List ℕ)) → cut byte text ≡ o → o ≡ None
+    go None is = refl
+    go (Some (f, r)) is =
+        let two : f ∷ slice_split (λ b. b == byte) r ≡ front ∷ [] = sym (slice_split-cut byte text f r is) ∙ part in
+        absurd (some-part byte r (ap (drop 1) two))

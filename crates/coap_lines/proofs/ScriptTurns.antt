@@ -9,7 +9,7 @@ use Rattle.coap_model.specs.Runs.{AreTurns, Turn}
 use Rattle.coap_lines.specs.Datagrams.{IsHex}
 use Rattle.coap_lines.specs.Lines.{is_skipped, is_too_long}
 use Rattle.coap_lines.specs.Scripts.{Script, bad_at, script_from, with_event, with_turn}
-use Rattle.coap_lines.specs.Turns.{IsHappening, greatest, turn_of}
+use Rattle.coap_lines.specs.Turns.{IsEventText, greatest, turn_of}
 use Rattle.coap_lines.proofs.TurnTexts.{turn_of-is}
 
 -- what is written as hexadecimal digits are bytes
@@ -18,7 +18,7 @@ IsBytes-hex text bytes (inl none) = rw (none.1) (λ i. omega arith)
 IsBytes-hex text bytes (inr some) = (decode_of-ok text bytes some.1).3
 
 -- so a datagram that a text says has bytes
-pub IsEvent-said : (text : List ℕ) (event : Event) → IsHappening text event → IsEvent event
+pub IsEvent-said : (text : List ℕ) (event : Event) → IsEventText text event → IsEvent event
 IsEvent-said text tick is = tt
 IsEvent-said text (arrival from bytes) (source, hex, split, endpoint, digits) = IsBytes-hex hex bytes digits
 

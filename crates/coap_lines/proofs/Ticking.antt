@@ -21,9 +21,9 @@ never_tick P text other = go (event_of text) refl
         absurd (false≢true (sym other ∙ (bytes_eq-Decides text (codes "tick")).1 said))
 
 -- a turn is a tick where its event is one
-pub tick_of_event : (P : Type 0) (o : Option Event) (last now draw : ℕ) → IfSome o (λ event. event ≡ tick → P) → IfSome (o >>= λ event. not_before last (turn_at now draw event)) (λ turn. turn.event ≡ tick → P)
-tick_of_event P None last now draw holds = tt
-tick_of_event P (Some event) last now draw holds = go (leb last now)
+pub turn_ticks : (P : Type 0) (o : Option Event) (last now draw : ℕ) → IfSome o (λ event. event ≡ tick → P) → IfSome (o >>= λ event. not_before last (turn_at now draw event)) (λ turn. turn.event ≡ tick → P)
+turn_ticks P None last now draw holds = tt
+turn_ticks P (Some event) last now draw holds = go (leb last now)
   where
     go : (b : Bool) → IfSome (cond b (Some (turn_at now draw event)) None) (λ turn. turn.event ≡ tick → P)
     go false = tt

@@ -15,7 +15,7 @@ use Rattle.coap_lines.specs.Texts.{cut, has}
 use Rattle.coap_lines.specs.Numbers.{IsNumber, number_of}
 use Rattle.coap_lines.specs.Endpoints.{endpoint_of}
 use Rattle.coap_lines.specs.Datagrams.{bytes_read}
-use Rattle.coap_lines.specs.Turns.{IsHappening, IsTurnLine, arrival_of, event_of, greatest, not_before, turn_at, turn_of}
+use Rattle.coap_lines.specs.Turns.{IsEventText, IsTurnLine, arrival_of, event_of, greatest, not_before, turn_at, turn_of}
 use Rattle.coap_lines.proofs.Cuts.{cut-front, cut-is}
 use Rattle.coap_lines.proofs.HexTexts.{bytes_read-is, bytes_read-written}
 use Rattle.coap_lines.proofs.Numerals.{has-decimal, number_of-is, number_of-written}
@@ -38,8 +38,8 @@ not_tick source hex clear = go (bytes_eq (source ++ 32 ∷ hex) (codes "tick")) 
         let joined : has 32 (source ++ 32 ∷ hex) ≡ false = rw same refl in
         absurd (false≢true (sym joined ∙ parted))
 
--- what is said to have happened is read
-event_of-written : (text : List ℕ) (event : Event) → IsHappening text event → event_of text ≡ Some event
+-- an event that a text says is read
+event_of-written : (text : List ℕ) (event : Event) → IsEventText text event → event_of text ≡ Some event
 unfolding event_of arrival_of
 event_of-written text tick is = rw (is) refl
 event_of-written text (arrival from bytes) (source, hex, split, endpoint, digits) =
@@ -47,21 +47,21 @@ event_of-written text (arrival from bytes) (source, hex, split, endpoint, digits
     rw (split, not_tick source hex clear, cut-front 32 source hex clear, endpoint_of-written source from endpoint, bytes_read-written hex bytes digits) refl
 
 -- what was read was said
-pub event_of-is : (text : List ℕ) (event : Event) → event_of text ≡ Some event → IsHappening text event
+pub event_of-is : (text : List ℕ) (event : Event) → event_of text ≡ Some event → IsEventText text event
 unfolding event_of arrival_of
 event_of-is text event found = go (bytes_eq text (codes "tick")) refl found
   where
-    go : (t : Bool) → bytes_eq text (codes "tick") ≡ t → cond t (Some tick) (cut 32 text >>= λ parts. endpoint_of parts.0 >>= λ from. bytes_read parts.1 >>= λ bytes. Some (arrival from bytes)) ≡ Some event → IsHappening text event
+    go : (t : Bool) → bytes_eq text (codes "tick") ≡ t → cond t (Some tick) (cut 32 text >>= λ parts. endpoint_of parts.0 >>= λ from. bytes_read parts.1 >>= λ bytes. Some (arrival from bytes)) ≡ Some event → IsEventText text event
     go true is made =
         let same : tick ≡ event = ap (λ (o : Option Event). unwrap_or {T = Event} o event) made in
         rw (← same) ((bytes_eq-Decides text (codes "tick")).0 is)
     go false is made = parted (cut 32 text) refl made
       where
-        parted : (p : Option (List ℕ × List ℕ)) → cut 32 text ≡ p → (p >>= λ parts. endpoint_of parts.0 >>= λ from. bytes_read parts.1 >>= λ bytes. Some (arrival from bytes)) ≡ Some event → IsHappening text event
+        parted : (p : Option (List ℕ × List ℕ)) → cut 32 text ≡ p → (p >>= λ parts. endpoint_of parts.0 >>= λ from. bytes_read parts.1 >>= λ bytes. Some (arrival from bytes)) ≡ Some event → IsEventText text event
         parted None is made = absurd (none-some event made)
         parted (Some (source, hex)) is made = read (endpoint_of source) refl (bytes_read hex) refl made
           where
-            read : (e : Option Endpoint) → endpoint_of source ≡ e → (b : Option (List ℕ)) → bytes_read hex ≡ b → (e >>= λ from. b >>= λ bytes. Some (arrival from bytes)) ≡ Some event → IsHappening text event
+            read : (e : Option Endpoint) → endpoint_of source ≡ e → (b : Option (List ℕ)) → bytes_read hex ≡ b → (e >>= λ from. b >>= λ bytes. Some (arrival from bytes)) ≡ Some event → IsEventText text event
             read None endpoint b digits made = absurd (none-some event made)
             read (Some from) endpoint None digits made = absurd (none-some event made)
             read (Some from) endpoint (Some bytes) digits made =
@@ -71,11 +71,11 @@ event_of-is text event found = go (bytes_eq text (codes "tick")) refl found
 -- a turn that a line says is read
 pub turn_of-written : (last : ℕ) (line : List ℕ) (turn : Turn) → IsTurnLine last line turn → turn_of last line ≡ Some turn
 unfolding turn_of
-turn_of-written last line turn (moment, draw, what, split, now, onward, number, happened) =
+turn_of-written last line turn (moment, draw, what, split, now, onward, number, event) =
     let moved : line ≡ moment ++ 32 ∷ (draw ++ 32 ∷ what) = split ∙ append_assoc moment (32 ∷ draw) (32 ∷ what) in
     let first = cut-front 32 moment (draw ++ 32 ∷ what) (has-number greatest turn.now moment (lit< tt) now) in
     let second = cut-front 32 draw what (has-number 1000 turn.draw draw (lit< tt) number) in
-    rw (moved, first, second, number_of-written greatest turn.now moment (lit< tt) now, number_of-written 1000 turn.draw draw (lit< tt) number, event_of-written what turn.event happened, le-leb last turn.now onward) refl
+    rw (moved, first, second, number_of-written greatest turn.now moment (lit< tt) now, number_of-written 1000 turn.draw draw (lit< tt) number, event_of-written what turn.event event, le-leb last turn.now onward) refl
 
 -- a turn that was read was said
 pub turn_of-is : (last : ℕ) (line : List ℕ) (turn : Turn) → turn_of last line ≡ Some turn → IsTurnLine last line turn

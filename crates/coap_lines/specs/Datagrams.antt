@@ -5,7 +5,8 @@ use Rattle.std.specs.Str.{bytes_eq}
 use Rattle.hex.specs.declared.error.FromHexError.{FromHexError}
 use Rattle.hex.specs.Hex.{decode_of, encode_upper, is_hex_digit}
 
--- a text writes the bytes: an even number of digits in either case, at least two, or a hyphen for none
+-- a text writes the bytes: an even number of digits in either case, at least two, or a hyphen for
+-- none
 abbrev pub IsHex : List ℕ → List ℕ → Type 0
 IsHex text bytes =
     ((text ≡ codes "-") × (bytes ≡ [])) ⊎ ((2 ≤ length text) × (decode_of text ≡ Ok bytes))

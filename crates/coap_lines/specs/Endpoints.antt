@@ -20,8 +20,8 @@ abbrev pub AreGroups : List ℕ → List ℕ → Type 0
 AreGroups text segments = (groups : List (List ℕ)) × (text ≡ join_with_byte colon groups)
     × AllZip IsGroup groups segments × (length segments ≡ 8)
 
--- a text writes an address: four numbers of 0 to 255 without leading zeros, with dots between them, or
--- eight groups in brackets
+-- a text writes an address: four numbers of 0 to 255 without leading zeros, with dots between them,
+-- or eight groups in brackets
 abbrev pub IsAddress : List ℕ → Ip → Type 0
 IsAddress text (V4 octets) = IsDotted text octets
 IsAddress text (V6 octets) = (inner segments : List ℕ)
@@ -83,7 +83,8 @@ group_text n = digits 16 false n
 -- the texts of four groups, with colons between them
 abbrev pub four_groups : ℕ → ℕ → ℕ → ℕ → List ℕ
 four_groups a b c d =
-    group_text a ++ codes ":" ++ group_text b ++ codes ":" ++ group_text c ++ codes ":" ++ group_text d
+    group_text a ++ codes ":" ++ group_text b ++ codes ":"
+    ++ group_text c ++ codes ":" ++ group_text d
 
 -- the groups in brackets
 abbrev pub groups_text : List ℕ → List ℕ

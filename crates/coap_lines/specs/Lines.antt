@@ -21,8 +21,8 @@ abbrev pub IsCutShort : List ℕ → List (List ℕ) → Type 0
 IsCutShort input lines = (front : List (List ℕ)) × (last : List ℕ)
     × (lines ≡ front ++ last ∷ []) × (last ≢ []) × (input ≡ ended front ++ last)
 
--- An input has these lines: no line feed stands in one, and each ends with one, but the last may lack it, if
--- it isn't empty.
+-- An input has these lines: no line feed stands in one, and each ends with one, but the last may
+-- lack it, if it isn't empty.
 abbrev pub AreLines : List ℕ → List (List ℕ) → Type 0
 AreLines input lines = AllByRecursion (λ line. has line_feed line ≡ false) lines
     × ((input ≡ ended lines) ⊎ IsCutShort input lines)
@@ -33,7 +33,8 @@ without_empty_end [] = []
 without_empty_end ([] ∷ []) = []
 without_empty_end (part ∷ parts) = part ∷ without_empty_end parts
 
--- the lines of an input: what stands between line feeds, and after the last of them, if that isn't empty
+-- the lines of an input: what stands between line feeds, and after the last of them, if that isn't
+-- empty
 abbrev pub lines_of : List ℕ → List (List ℕ)
 lines_of input = without_empty_end (slice_split (λ b. b == line_feed) input)
 
@@ -69,7 +70,8 @@ IsNext input (Some rest) line Line = IsLine input rest line
 IsNext input (Some rest) line TooLong = IsTooLong input rest line
 IsNext input (Some rest) line End = lines_of input ≡ []
 
--- of what a reader has left, a part of the first line was taken, perhaps nothing, and not its line feed
+-- of what a reader has left, a part of the first line was taken, perhaps nothing, and not its line
+-- feed
 abbrev pub IsBegun : Option (List ℕ) → Option (List ℕ) → Type 0
 IsBegun old new = (part : List ℕ) × (has line_feed part ≡ false) × Consumes old new part
 

@@ -11,7 +11,7 @@ abbrev pub Adds : Vec ℕ → Vec ℕ → List ℕ → ℕ → Type 0
 Adds old new text most = (new.items ≡ old.items ++ text)
     × (vec_len new ≤ vec_len old + most) × (vec_capacity old ≤ vec_capacity new)
 
--- The most bytes of the line of a datagram of so many bytes: 20 digits of a moment, 47 bytes of an endpoint, two
--- digits for each byte, or a hyphen where there are none, two spaces and a line feed.
+-- The most bytes of the line of a datagram of so many bytes: 20 digits of a moment, 47 bytes of an
+-- endpoint, two digits for each byte, or a hyphen where there are none, two spaces and a line feed.
 abbrev pub longest_line : ℕ → ℕ
 longest_line count = 71 + 2 * count

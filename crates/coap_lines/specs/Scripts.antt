@@ -18,8 +18,8 @@ bad_at number = record { turns = []; bad = Some number }
 abbrev pub with_turn : Turn → Script → Script
 with_turn turn script = record { turns = turn ∷ script.turns; bad = script.bad }
 
--- A line that is neither skipped nor too long asks for its event; `rest` is what the lines after it ask for, by
--- the moment of that event. A proxy does 2^63 events, and no more.
+-- A line that is neither skipped nor too long asks for its event; `rest` is what the lines after it
+-- ask for, by the moment of that event. A proxy does 2^63 events, and no more.
 abbrev pub with_event : ℕ → ℕ → Option Turn → (ℕ → Script) → Script
 with_event number events None rest = bad_at number
 with_event number events (Some turn) rest =

@@ -4,8 +4,8 @@ use Rattle.std.specs.Str.{bytes_eq}
 use Rattle.coap_model.specs.Events.{Event}
 use Rattle.coap_model.specs.Events.Event.{arrival, tick}
 use Rattle.coap_model.specs.Runs.{Turn}
-use Rattle.coap_lines.specs.declared.reading.turn.Input.{Input}
-use Rattle.coap_lines.specs.declared.reading.turn.Input.TheVariants.{Datagram, Tick}
+use Rattle.coap_lines.specs.declared.reading.turn.OwnedEvent.{OwnedEvent}
+use Rattle.coap_lines.specs.declared.reading.turn.OwnedEvent.TheVariants.{Datagram, Tick}
 use Rattle.coap_lines.specs.declared.reading.turn.Turn.{Turn as TurnRead}
 use Rattle.coap_message.specs.Reading.{◌>>=◌}
 use Rattle.coap_lines.specs.Texts.{cut, space}
@@ -17,19 +17,19 @@ use Rattle.coap_lines.specs.Datagrams.{IsHex, bytes_read}
 abbrev pub greatest : ℕ
 greatest = 2 ^ 62
 
--- a text says what happened: a tick, or a datagram with its source
-abbrev pub IsHappening : List ℕ → Event → Type 0
-IsHappening text tick = text ≡ codes "tick"
-IsHappening text (arrival from bytes) = (source hex : List ℕ)
+-- a text says an event: a tick, or a datagram with its source
+abbrev pub IsEventText : List ℕ → Event → Type 0
+IsEventText text tick = text ≡ codes "tick"
+IsEventText text (arrival from bytes) = (source hex : List ℕ)
     × (text ≡ source ++ space ∷ hex) × IsEndpoint source from × IsHex hex bytes
 
--- A line says a turn after the last moment: a moment, a draw and what happened, with one space between
+-- A line says a turn after the last moment: a moment, a draw and an event, with one space between
 -- two of them.
 abbrev pub IsTurnLine : ℕ → List ℕ → Turn → Type 0
 IsTurnLine last line turn = (moment draw what : List ℕ)
     × (line ≡ moment ++ space ∷ draw ++ space ∷ what)
     × IsNumber greatest moment turn.now × (last ≤ turn.now)
-    × IsNumber 1000 draw turn.draw × IsHappening what turn.event
+    × IsNumber 1000 draw turn.draw × IsEventText what turn.event
 
 -- the datagram that a text says
 unfoldable pub arrival_of : List ℕ → Option Event
@@ -39,7 +39,7 @@ arrival_of text = do
   bytes ← bytes_read parts.1
   Some (arrival from bytes)
 
--- what a text says that happened
+-- the event that a text says
 unfoldable pub event_of : List ℕ → Option Event
 event_of text = if bytes_eq text (codes "tick") then Some tick else arrival_of text
 
@@ -61,9 +61,9 @@ turn_of last line = do
   not_before last (turn_at now draw event)
 
 -- what was read, as the model sees it
-abbrev pub event_seen : Input → Event
+abbrev pub event_seen : OwnedEvent → Event
 event_seen (Datagram from bytes) = arrival from bytes
 event_seen Tick = tick
 
 abbrev pub turn_seen : TurnRead → Turn
-turn_seen turn = turn_at turn.now turn.draw (event_seen turn.input)
+turn_seen turn = turn_at turn.now turn.draw (event_seen turn.event)

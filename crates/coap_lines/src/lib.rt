@@ -1,4 +1,4 @@
-//! Lines: what happens to a proxy and what it sends, as text.
+//! Lines: the events of a proxy and what it sends, as text.
 #![tactic(auto)]
 
 mod error;
@@ -10,6 +10,6 @@ mod writing;
 
 pub use error::LineError;
 pub use reading::input::{LONGEST, Next, is_skipped, next_line};
-pub use reading::turn::{Input, Turn, read_turn};
+pub use reading::turn::{OwnedEvent, Turn, read_turn};
 pub use writing::line::{line_buffer, put_line};
 pub use writing::output::write_bytes;

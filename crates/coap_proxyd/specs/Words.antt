@@ -3,7 +3,7 @@ use Rattle.std.specs.Prelude.{◌≡◌, ◌⊎◌, ℕ, List, [], ◌∷◌, Op
 use Rattle.coap_target.specs.declared.endpoint.Endpoint.{Endpoint}
 use Rattle.coap_target.specs.declared.endpoint.Ip.{Ip}
 use Rattle.coap_target.specs.declared.endpoint.Ip.TheVariants.{V4}
-use Rattle.coap_words.specs.Answer.{Says}
+use Rattle.coap_uri.specs.Answer.{Says}
 use Rattle.coap_words.specs.LocalAddress.{local_address_of}
 use Rattle.coap_words.specs.ProxyOption as proxy
 use Rattle.coap_words.specs.Settings.{ReadsWords}

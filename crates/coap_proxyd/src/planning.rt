@@ -2,7 +2,7 @@
 ghost use Rattle.std.specs.Prelude.{◌≡◌, IfOk, Ok, option_map, string_bytes};
 ghost use Rattle.coap_model.specs.World.{new_world};
 ghost use Rattle.coap_routes.specs.RouteTexts.{pair_of};
-ghost use Rattle.coap_words.specs.Answer.{Says};
+ghost use Rattle.coap_uri.specs.Answer.{Says};
 ghost use Rattle.coap_words.specs.ConfigView as view;
 ghost use Rattle.coap_words.specs.ProxyOption.{bytes_of};
 ghost use Rattle.coap_proxyd.specs.Words as words;

@@ -273,7 +273,7 @@ module _ (w v : World) (input left left' old new : Option (List ℕ)) (lines cou
             asked = asked;
           })
 
-      -- nothing was read behind its line
+      -- nothing was read after its line
       read-to : IfSome input (λ i. IsReadTo w i left' turns)
       read-to = go input left at.asked left' asks
         where

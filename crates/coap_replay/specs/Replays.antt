@@ -40,8 +40,8 @@ run_at w history = record { world = w; history = history }
 abbrev pub world_after : World → List Taken → World
 world_after w turns = (run_of (run_at w []) turns).world
 
--- A proxy did these turns, whose moments don't go back, and nothing else. It carries the history of them in
--- front of any that it carried before.
+-- A proxy did these turns, whose moments don't go back, and nothing else. It carries the history of
+-- them in front of any that it carried before.
 pub record HasDone (w : World) (turns : List Taken) (v : World) : Type 0 where
   pub are : AreTurns w.last (turns_of turns)
   pub world : v ≡ world_after w turns
@@ -63,10 +63,10 @@ abbrev pub script_after : World → List Taken → ℕ → List (List ℕ) → S
 script_after w turns line left =
     script_from line (world_after w turns).last (world_after w turns).events left
 
--- These turns are those of the lines of an input before the one of this number, and these lines are left: that
--- one, if there is one, and those after it.
-pub record IsUpTo (w : World) (input : List ℕ) (turns : List Taken) (line : ℕ) (left : List (List ℕ))
-    : Type 0 where
+-- These turns are those of the lines of an input before the one of this number, and these lines are
+-- left: that one, if there is one, and those after it.
+pub record IsUpTo (w : World) (input : List ℕ) (turns : List Taken) (line : ℕ)
+    (left : List (List ℕ)) : Type 0 where
   pub front : List (List ℕ)
   pub split : lines_of input ≡ front ++ left
   pub number : line ≡ length front + 1
@@ -82,8 +82,8 @@ IsAtEvent w input turns line = (left : List (List ℕ)) × (turn : Turn)
 abbrev pub IsAtStart : Option (List ℕ) → Option (List ℕ) → List Taken → ℕ → Type 0
 IsAtStart input left turns line = (left ≡ input) × (turns ≡ []) × (line ≡ 1)
 
--- Of the line after these turns a part was taken, perhaps nothing, and not its line feed: `rest` is what the reader
--- has left, `done` are the lines before it.
+-- Of the line after these turns a part was taken, perhaps nothing, and not its line feed: `rest` is
+-- what the reader has left, `done` are the lines before it.
 abbrev pub IsBroken : World → List ℕ → Option (List ℕ) → List Taken → Type 0
 IsBroken w input None turns = ⊥
 IsBroken w input (Some rest) turns = (done part : List ℕ)
@@ -96,9 +96,9 @@ IsWrittenInPart w old new turns = (before : List Taken) × (turn : Taken) × (fr
     × (turns ≡ before ++ turn ∷ []) × (line_sent (world_after w before) turn ≡ front ++ back)
     × Appends old new (output_of w before ++ front)
 
--- Of an input nothing was read behind the line of the last of these turns, and nothing at all without
--- turns. `done` are the lines before that one, with which `text` begins, and `rest` is what the reader
--- has left.
+-- Of an input nothing was read after the line of the last of these turns, and nothing at all
+-- without turns. `done` are the lines before that one, with which `text` begins, and `rest` is what
+-- the reader has left.
 abbrev pub IsReadTo : World → List ℕ → Option (List ℕ) → List Taken → Type 0
 IsReadTo w input left turns = ((turns ≡ []) × (left ≡ Some input))
     ⊎ ((before : List Taken) × (last : Taken) × (turns ≡ before ++ last ∷ [])
@@ -107,25 +107,26 @@ IsReadTo w input left turns = ((turns ≡ []) × (left ≡ Some input))
     × AsksFor (length (lines_of done) + 1) (world_after w before).last (world_after w before).events
     (lines_of text) last.turn)
 
--- The lines of an input say fewer turns than so many, and these are all of them; or these are so many,
--- and nothing was read behind the last.
+-- The lines of an input say fewer turns than so many, and these are all of them; or these are so
+-- many, and nothing was read after the last.
 abbrev pub IsThrough : World → ℕ → List ℕ → Option (List ℕ) → List Taken → Type 0
 IsThrough w most input left turns = ((length turns < most)
     × (script_for w input ≡ record { turns = turns_of turns; bad = None }))
     ⊎ ((length turns ≡ most) × IsReadTo w input left turns)
 
--- How a replay of at most so many turns ends, that did these turns. `input` is what the reader had left
--- at first, and `left` what it has left now, where that is known; `old` and `new` are what was written
--- before and after.
+-- How a replay of at most so many turns ends, that did these turns. `input` is what the reader had
+-- left at first, and `left` what it has left now, where that is known; `old` and `new` are what was
+-- written before and after.
 --   Ok: all lines were done, or as many turns as may be, and their lines written.
 --   A bad line: the lines before it were done, and their lines written.
---   Want of memory at a line: the lines before it were done, and their lines written. Its event was not
---   done; or nothing was read at all, and the number is 1.
+--   Want of memory at a line: the lines before it were done, and their lines written. Its event was
+--   not done; or nothing was read at all, and the number is 1.
 --   `Read`: some lines were done, perhaps none, and their lines written. The next one was not read
 --   whole, but for its line feed. That the reader failed isn't said.
---   `Write`: some lines were done, at least one, and their lines written but for an end of the last.
---   That the writer failed isn't said.
--- A line that is bad, that finds no memory or that can't be read comes before so many turns are done.
+--   `Write`: some lines were done, at least one, and their lines written but for an end of the
+--   last. That the writer failed isn't said.
+-- A line that is bad, that finds no memory or that can't be read comes before so many turns are
+-- done.
 abbrev pub Ends : World → ℕ → Option (List ℕ) → Option (List ℕ) → Option (List ℕ)
     → Option (List ℕ) → List Taken → Result ℕ ReplayError → Type 0
 Ends w most input left old new turns (Ok n) = (n ≡ length turns) × (n ≤ most)
@@ -190,8 +191,8 @@ IfDo P (Err Write) = ⊥
 abbrev pub taken : Turn → Bool → Taken
 taken t grown = record { turn = t; grown = grown }
 
--- A turn was done, and its line written. Or memory was missing, and nothing was done or written; or the writer failed
--- at its line.
+-- A turn was done, and its line written. Or memory was missing, and nothing was done or written; or
+-- the writer failed at its line.
 abbrev pub DoesTurn : World → World → Turn → Option (List ℕ) → Option (List ℕ) → ℕ
     → Result (Unit {0}) ReplayError → Type 0
 DoesTurn w v t old new number (Ok u) = (grown : Bool)
@@ -203,4 +204,5 @@ DoesTurn w v t old new number (Err (OutOfMemory line)) =
 DoesTurn w v t old new number (Err Read) = ⊥
 DoesTurn w v t old new number (Err Write) = (grown : Bool)
     × (v ≡ (step_taken w (taken t grown)).world)
-    × ((front back : List ℕ) × (line_sent w (taken t grown) ≡ front ++ back) × Appends old new front)
+    × ((front back : List ℕ) × (line_sent w (taken t grown) ≡ front ++ back)
+    × Appends old new front)

@@ -9,8 +9,8 @@ use crate::error::ReplayError;
 use coap_cache::Store;
 use coap_core::{Core, Event, Report};
 use coap_lines::{
-    Input, LONGEST, LineError, Next, Turn, is_skipped, line_buffer, next_line, put_line, read_turn,
-    write_bytes,
+    LONGEST, LineError, Next, OwnedEvent, Turn, is_skipped, line_buffer, next_line, put_line,
+    read_turn, write_bytes,
 };
 use coap_message::Datagram;
 use std::alloc::Global;
@@ -71,16 +71,16 @@ fn next_asked<R: BufRead>(
     }
 }
 
-/// The event of a turn.
-fn event_of(input: &Input) -> Event<'_>
-    ensures { seen result ≡ event_seen input.now }
+/// An event as a core takes it, with its bytes lent.
+fn event_of(event: &OwnedEvent) -> Event<'_>
+    ensures { seen result ≡ event_seen event.now }
 {
-    match input {
-        Input::Datagram { from, bytes } => Event::Datagram {
+    match event {
+        OwnedEvent::Datagram { from, bytes } => Event::Datagram {
             from: *from,
             bytes: bytes.as_slice(),
         },
-        Input::Tick => Event::Tick,
+        OwnedEvent::Tick => Event::Tick,
     }
 }
 
@@ -116,7 +116,7 @@ fn do_turn<W: Write, S: Store + Drop>(
     ensures text { vec_capacity text.old ≤ vec_capacity text.new }
     ensures setting { core.new.setting ≡ core.old.setting }
 {
-    let Ok(report) = core.step(turn.now, turn.draw, event_of(&turn.input), out) else {
+    let Ok(report) = core.step(turn.now, turn.draw, event_of(&turn.event), out) else {
         return Err(ReplayError::OutOfMemory { line: number });
     };
     line_for(text, turn.now, report, out);
@@ -128,7 +128,7 @@ fn do_turn<W: Write, S: Store + Drop>(
 
 /// Does the events of an input, one after the other, and writes the lines of what is sent: those
 /// that the core sends at each event, and nothing else. Answers how many events were done. After so
-/// many turns it ends, and reads nothing behind the line of the last: a bad line there isn't seen.
+/// many turns it ends, and reads nothing after the line of the last: a bad line there isn't seen.
 ///
 /// Room for a line that is read and for one that is written is made before the first event.
 ///

@@ -13,7 +13,8 @@ use Rattle.url.specs.Parts.{Parts, nonempty_host}
 use Rattle.coap_target.specs.declared.endpoint.Ip.{Ip}
 use Rattle.coap_target.specs.declared.endpoint.Ip.TheVariants.{V4, V6}
 
--- the four bytes of an IPv4 address in dotted-decimal form, each written in one way (RFC 3986, 3.2.2)
+-- the four bytes of an IPv4 address in dotted-decimal form, each written in one way (RFC 3986,
+-- 3.2.2)
 unfoldable pub ipv4_of : List ℕ → Option (List ℕ)
 ipv4_of text = whole_value (read_ipv4 text)
 

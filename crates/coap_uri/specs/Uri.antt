@@ -29,12 +29,12 @@ abbrev pub decoded_parts : ℕ → List ℕ → List (List ℕ)
 decoded_parts separator text = map percent_decode (slice_split (λ b. b == separator) text)
 
 -- the segments of a path: those after its first slash, and none where nothing stands there
-abbrev pub segments_behind : List ℕ → List (List ℕ)
-segments_behind [] = []
-segments_behind (b ∷ rest) = decoded_parts slash (b ∷ rest)
+abbrev pub segments_after : List ℕ → List (List ℕ)
+segments_after [] = []
+segments_after (b ∷ rest) = decoded_parts slash (b ∷ rest)
 
 abbrev pub path_parts : List ℕ → List (List ℕ)
-path_parts path = segments_behind (drop 1 path)
+path_parts path = segments_after (drop 1 path)
 
 -- the parts of a query between `&`; an empty query has one, which is empty
 abbrev pub query_parts : Option (List ℕ) → List (List ℕ)
@@ -51,8 +51,8 @@ host_part (Domain text) = name_or (ipv4_of text) text
 host_part (Ipv4 address) = Addr (V4 (ipv4_octets address))
 host_part (Ipv6 address) = Addr (V6 (ipv6_octets address))
 
--- a host that stands alone, as in Uri-Host (RFC 7252, 5.10.1): in ASCII lower case, an address, or else
--- a name as it stands
+-- a host that stands alone, as in Uri-Host (RFC 7252, 5.10.1): in ASCII lower case, an address, or
+-- else a name as it stands
 abbrev pub host_or : Option Ip → List ℕ → HostPart
 host_or (Some ip) lower = Addr ip
 host_or None lower = Name lower
@@ -76,8 +76,8 @@ are_short uri =
 abbrev pub port_part : Option ℕ → ℕ
 port_part port = unwrap_or port 5683
 
--- neither a user name nor a password nor a fragment, which `coap` URIs don't have (RFC 7252, 6.1 and
--- 6.4)
+-- neither a user name nor a password nor a fragment, which `coap` URIs don't have (RFC 7252, 6.1
+-- and 6.4)
 abbrev pub is_plain : Parts → Bool
 is_plain url = not (has_credentials url) && not (is_some url.fragment)
 

@@ -145,7 +145,7 @@ pub fn path_parts(alloc: Global, path: &[u8]) -> Result<Pieces, OutOfMemory>
 {
     match path {
         [] | [_] => Ok(Pieces::new(alloc)),
-        [_, behind @ ..] => split_decoded(alloc, behind, b'/'),
+        [_, after @ ..] => split_decoded(alloc, after, b'/'),
     }
 }
 

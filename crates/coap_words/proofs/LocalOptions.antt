@@ -9,10 +9,12 @@ last_passes : (x y : Bool) → (x && y) ≡ true → y ≡ true
 last_passes true y h = h
 last_passes false y h = absurd cc
 
+-- a test whose opposite passes fails
 passes_not : (x : Bool) → not x ≡ true → x ≡ false
 passes_not false h = refl
 passes_not true h = absurd cc
 
+-- of ten tests that all pass, the last the opposite of one, that one fails
 tenth : (a b c d e f g h i j : Bool) → (a && (b && (c && (d && (e && (f && (g && (h && (i && not j))))))))) ≡ true → j ≡ false
 tenth a b c d e f g h i j all =
     passes_not j

@@ -9,6 +9,7 @@ use Rattle.coap_words.specs.OptionTable.{greatest}
 use Rattle.coap_words.specs.declared.settings.Settings.{Settings}
 use Rattle.clap.specs.Words.{Row}
 
+-- the greatest number of 64 bits
 abbrev all : ℕ
 all = 18446744073709551615
 
@@ -29,6 +30,7 @@ pub reads-option : {E : Type 0} (G : Text → Result ℕ E → Type 0) (o found 
 reads-option G None found r is only none some = none is
 reads-option G (Some t) found r is only none some = reads-text G t r only (some t is)
 
+-- what a text says within a range is the number that it says, where that is in the range
 narrowed-text : (least most : ℕ) (t : Text) (n : Option ℕ) → most ≤ all → SaysNumber 0 all t n → SaysNumber least most t (narrowed least most n)
 narrowed-text least most t None small said = λ p. said (p.0, omega arith, omega (arith, p.2))
 narrowed-text least most t (Some n) small said =
@@ -63,6 +65,7 @@ in-range least most None (Some n) is = absurd cc
 in-range least most (Some t) None is = tt
 in-range least most (Some t) (Some n) is = (rw is.1 is.0.1, rw is.1 is.0.2)
 
+-- a number that is in a range isn't above its end
 upper : (least most : ℕ) (n : Option ℕ) → IfSome n (λ x. (least ≤ x) × (x ≤ most)) → IfSome n (λ x. x ≤ most)
 upper least most None is = tt
 upper least most (Some n) is = is.1

@@ -11,10 +11,11 @@ use Rattle.coap_words.specs.declared.settings.Settings.{Settings}
 use Rattle.coap_words.specs.declared.settings.WordsError.{WordsError}
 use Rattle.coap_words.specs.declared.settings.WordsError.TheVariants.{OutOfMemory}
 
--- `clap` says of such options what it finds and what it refuses
+-- the options are simple, so that `clap` says what it finds of them
 table-simple : is_simple option_table ≡ true
 table-simple = refl
 
+-- and none has a rule on another, so that it says what it refuses
 table-free : is_simple_and_free option_table ≡ true
 table-free = refl
 

@@ -61,7 +61,7 @@ is_known place.Top key = is_among top_keys key
 is_known place.Limits key = is_limit key
 is_known place.Map key = is_among (codes "prefix" ∷ codes "origin" ∷ []) key
 
--- the name of a key, with a dot behind the name of its table
+-- the name of a key, with a dot after the name of its table
 abbrev pub within : Text → Text → Text
 within outer key = outer ++ codes "." ++ key
 

@@ -28,7 +28,7 @@ number n = integer (pos n)
 abbrev pub version_1 : Entry
 version_1 = (codes "version", number 1)
 
--- what a tree says with version 1 behind all other keys
+-- what a tree says with version 1 after all other keys
 abbrev pub said_with : List Entry → Result Said ConfigError
 said_with entries = table_said (table_of (entries ++ version_1 ∷ []))
 

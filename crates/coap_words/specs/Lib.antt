@@ -1,4 +1,3 @@
-pub mod Answer
 pub mod Texts
 pub mod MapOption
 pub mod ProxyOption

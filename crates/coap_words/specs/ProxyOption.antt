@@ -28,10 +28,6 @@ seen option = record { next = option.next; names = bytes_of option.names }
 abbrev pub parts : Text → List Text
 parts text = slice_split (λ b. b == comma) text
 
-abbrev pub parts_left : Option Text → List Text
-parts_left None = []
-parts_left (Some text) = parts text
-
 -- an own name, in lower case
 abbrev pub name_of : Text → Option Text
 name_of text = if is_name text then Some (lower text) else None

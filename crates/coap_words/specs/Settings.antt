@@ -10,7 +10,7 @@ use Rattle.coap_words.specs.declared.settings.Settings.{Settings}
 use Rattle.coap_words.specs.declared.settings.WordsError.{WordsError}
 use Rattle.coap_words.specs.declared.settings.WordsError.TheVariants.{Usage, OutOfMemory}
 
--- a number from `least` to `most` that a text says in decimal digits, behind a plus or none
+-- a number from `least` to `most` that a text says in decimal digits, after a plus or none
 abbrev pub SaysNumber : ℕ → ℕ → Text → Option ℕ → Type 0
 SaysNumber least most text number =
     let digits = without_leading_plus text in

@@ -10,7 +10,7 @@ use std::error::Error;
 use std::fmt;
 use std::marker::Model;
 
-/// The name of a key, with a dot behind the name of its table. A contract sees its bytes.
+/// The name of a key, with a dot after the name of its table. A contract sees its bytes.
 #[derive(Debug, Drop)]
 pub struct KeyName {
     text: String,

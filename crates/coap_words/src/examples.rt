@@ -65,7 +65,7 @@ pub fn words()
     ensures port { one_of (codes "port") (matches_of option_table (codes "-p" ∷ codes "5684" ∷ []))
         ≡ Some (codes "5684") }
     ensures port_is_taken { fault_of option_table (codes "-p" ∷ codes "5684" ∷ []) ≡ [] }
-    ensures port_behind { one_of (codes "port") (matches_of option_table (codes "-p5684" ∷ []))
+    ensures port_joined { one_of (codes "port") (matches_of option_table (codes "-p5684" ∷ []))
         ≡ Some (codes "5684") }
     ensures port_0 { fault_of option_table (codes "-p" ∷ codes "0" ∷ [])
         ≡ kind.ValueValidation ∷ [] }

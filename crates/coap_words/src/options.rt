@@ -55,7 +55,7 @@ fn port<'a>(alloc: Global) -> Arg<'a>
 fn names<'a>(alloc: Global) -> Arg<'a>
     ensures { rule_of result ≡ spec.names_rule }
 {
-    let help = "Own names behind a comma, between commas, 1 to 64, in place of those in the file \
+    let help = "Own names after a comma, between commas, 1 to 64, in place of those in the file \
 [default: the file's]";
     by_letter(alloc, "names", 'P', ",NAMES", help)
 }

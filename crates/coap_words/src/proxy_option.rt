@@ -1,8 +1,9 @@
 //! The value of `-P`: the own names of the proxy.
 ghost use Rattle.std.specs.Prelude.{◌≡◌, ◌<◌, ◌∷◌, IfSome, length, ok_or, string_bytes};
 ghost use Rattle.std.specs.Option.{option_copied};
-ghost use Rattle.coap_words.specs.Answer.{Says};
-ghost use Rattle.coap_words.specs.ProxyOption.{bytes_of, name_of, names_of, parts, parts_left, proxy_option_of, seen};
+ghost use Rattle.coap_uri.specs.Answer.{Says};
+ghost use Rattle.coap_uri.specs.Uri.{parts_left};
+ghost use Rattle.coap_words.specs.ProxyOption.{bytes_of, comma, name_of, names_of, parts, proxy_option_of, seen};
 ghost use Rattle.coap_words.specs.declared.error.ProxyOptionError.TheVariants as errors;
 
 use crate::error::ProxyOptionError;
@@ -60,7 +61,8 @@ fn read_names(alloc: Global, text: &str) -> Result<Vec<String>, ProxyOptionError
 
 /// What stands before the first comma, and what stands after it, if there is one.
 fn first_part(text: &str) -> (&str, Option<&str>)
-    ensures parts { parts text.now ≡ result.0.now ∷ parts_left (option_copied result.1) }
+    ensures parts { parts text.now
+        ≡ result.0.now ∷ parts_left comma (option_copied result.1) }
     ensures shorter { IfSome result.1 (λ after. length after.now < length text.now) }
 {
     match cut(text, ',') {

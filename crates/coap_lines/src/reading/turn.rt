@@ -19,9 +19,9 @@ const LATEST: u64 = 1 << 62;
 /// The greatest draw.
 const GREATEST_DRAW: u64 = 1_000;
 
-/// What happens at a turn.
+/// An event with the bytes of its datagram.
 #[derive(Debug, Drop)]
-pub enum Input {
+pub enum OwnedEvent {
     /// A datagram comes from an endpoint.
     Datagram { from: Endpoint, bytes: Seq<u8> },
     /// Time has passed.
@@ -35,12 +35,12 @@ pub struct Turn {
     pub now: u64,
     /// At most 1,000.
     pub draw: u16,
-    pub input: Input,
+    pub event: OwnedEvent,
 }
 
 /// The datagram that a text says, with its source.
 #[tactic(auto, unfolding(crate::specs::Turns::arrival_of))]
-fn read_arrival(alloc: Global, text: &[u8]) -> Result<Input, LineError>
+fn read_arrival(alloc: Global, text: &[u8]) -> Result<OwnedEvent, LineError>
     ensures { Finds event_seen (arrival_of text.now) result }
 {
     let Some((source, hex)) = cut(text, b' ') else {
@@ -50,17 +50,17 @@ fn read_arrival(alloc: Global, text: &[u8]) -> Result<Input, LineError>
         return Err(LineError::Bad);
     };
     let bytes = read_bytes(alloc, hex)?;
-    Ok(Input::Datagram { from, bytes })
+    Ok(OwnedEvent::Datagram { from, bytes })
 }
 
-/// What a text says that happened.
+/// The event that a text says.
 #[tactic(auto, unfolding(crate::specs::Turns::event_of))]
-fn read_input(alloc: Global, text: &[u8]) -> Result<Input, LineError>
+fn read_event(alloc: Global, text: &[u8]) -> Result<OwnedEvent, LineError>
     ensures read { Finds event_seen (event_of text.now) result }
     ensures ticks { IfSome (event_of text.now) (λ event. event ≡ tick → IsOk result) }
 {
     if text == b"tick".as_slice() {
-        return Ok(Input::Tick);
+        return Ok(OwnedEvent::Tick);
     }
     read_arrival(alloc, text)
 }
@@ -72,7 +72,7 @@ fn read_input(alloc: Global, text: &[u8]) -> Result<Input, LineError>
 /// # Errors
 /// `Bad` where the line says none, and only there. `OutOfMemory` where it says one whose datagram
 /// found no memory; a tick takes none.
-#[tactic(auto, using(crate::proofs::Ticking::tick_of_event), unfolding(crate::specs::Turns::turn_of))]
+#[tactic(auto, using(crate::proofs::Ticking::turn_ticks), unfolding(crate::specs::Turns::turn_of))]
 pub fn read_turn(alloc: Global, line: &[u8], last: u64) -> Result<Turn, LineError>
     ensures read { Finds turn_seen (turn_of last line.now) result }
     ensures ticks { IfSome (turn_of last line.now) (λ turn. turn.event ≡ tick → IsOk result) }
@@ -80,7 +80,7 @@ pub fn read_turn(alloc: Global, line: &[u8], last: u64) -> Result<Turn, LineErro
     let Some((moment, rest)) = cut(line, b' ') else {
         return Err(LineError::Bad);
     };
-    let Some((draw, what)) = cut(rest, b' ') else {
+    let Some((draw, text)) = cut(rest, b' ') else {
         return Err(LineError::Bad);
     };
     let Some(now) = read_number(moment, LATEST) else {
@@ -92,10 +92,10 @@ pub fn read_turn(alloc: Global, line: &[u8], last: u64) -> Result<Turn, LineErro
     if now < last {
         return Err(LineError::Bad);
     }
-    let input = read_input(alloc, what)?;
+    let event = read_event(alloc, text)?;
     Ok(Turn {
         now,
         draw: draw as u16,
-        input,
+        event,
     })
 }

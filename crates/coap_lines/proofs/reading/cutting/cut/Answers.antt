@@ -1,10 +1,9 @@
 use Rattle.std.proofs.Common.{sym}
-use Rattle.std.proofs.lemmas.List.{take_rest}
-use Rattle.coap_lines.proofs.Cuts.{cut-at, cut-nowhere}
+use Rattle.coap_lines.proofs.Cuts.{cut-part, cut-parts}
 use Rattle.coap_lines.proofs.reading.cutting.cut.Goals as goal
 
 pub returns-in-Some : goal.returns-in-Some
-returns-in-Some c = rw take_rest (sym (cut-at c.args.byte c.args.text.now c.in-Some.end (sym c.in-Some.ensures)))
+returns-in-Some c = sym (cut-parts c.args.byte c.args.text.now _ c.in-Some.after.now (rw c.in-Some.is at c.first_part.ensures.parts))
 
 pub returns-in-None : goal.returns-in-None
-returns-in-None c = sym (cut-nowhere c.args.byte c.args.text.now (sym c.in-None.ensures))
+returns-in-None c = sym (cut-part c.args.byte c.args.text.now _ (rw c.in-None.is at c.first_part.ensures.parts))
