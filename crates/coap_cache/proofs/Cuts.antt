@@ -38,7 +38,7 @@ module _ {X : Type 0} (size : X → ℕ) where
           omega arith
       go false t rest = omega arith
 
-  -- something stands behind what is cut
+  -- something stands after what is cut
   cut-splits : (bytes count : ℕ) (xs : List X) → (rest : List X) × (xs ≡ cut size bytes count xs ++ rest)
   cut-splits bytes count [] = ([], refl)
   cut-splits bytes count (x ∷ xs) = go (nat_le (size x) bytes && nat_le 1 count) (cut-splits (bytes - size x) (count - 1) xs)

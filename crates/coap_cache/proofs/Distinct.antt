@@ -38,7 +38,7 @@ all-kept p (x ∷ xs) = go (p x) refl (all-kept p xs)
     go true e rest = and_from (p x) (list_all p (filter p xs)) e rest
     go false e rest = rest
 
--- what each element passes behind a change, each of those changed passes
+-- what each element passes after a change, each of those changed passes
 all-map : {X : Type 0} (p q : X → Bool) (f : X → X) (xs : List X) → ((x : X) → p (f x) ≡ q x) → list_all q xs ≡ true → list_all p (map f xs) ≡ true
 all-map p q f [] same all = refl
 all-map p q f (x ∷ xs) same all =

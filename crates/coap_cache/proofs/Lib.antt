@@ -8,5 +8,5 @@ pub mod ListStores
 pub mod Tags
 pub mod Picked
 pub mod Renewals
-pub mod Parts
+pub mod AroundMaxAge
 pub mod Updates

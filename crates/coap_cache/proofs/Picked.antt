@@ -5,7 +5,7 @@ use Rattle.coap_message.specs.declared.options.Opt.{Opt}
 use Rattle.coap_message.specs.Options.{AreOptions, last_number}
 use Rattle.coap_cache.specs.Renewing.{above, below, from}
 
--- options in order are so behind any lower number
+-- options in order are so after any lower number
 pub AreOptions-weaken : (before least : ℕ) (os : List Opt) → before ≤ least → AreOptions least os → AreOptions before os
 AreOptions-weaken before least [] le are = tt
 AreOptions-weaken before least (o ∷ os) le are = (omega arith, are.1, are.2, are.3)
@@ -19,7 +19,7 @@ AreOptions-filter test before (o ∷ os) are = go (test o) (AreOptions-filter te
     go true rest = (are.0, are.1, are.2, rest)
     go false rest = AreOptions-weaken before o.number (filter test os) are.0 rest
 
--- also behind any number that is above none of them
+-- also after any number that is above none of them
 pub AreOptions-above : (test : Opt → Bool) (before least : ℕ) (os : List Opt) → ((o : Opt) → test o ≡ true → before ≤ o.number) → AreOptions least os → AreOptions before (filter test os)
 AreOptions-above test before least [] holds are = tt
 AreOptions-above test before least (o ∷ os) holds are = go (test o) refl (AreOptions-above test before o.number os holds are.3)

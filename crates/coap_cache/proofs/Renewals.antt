@@ -18,11 +18,11 @@ module _ (left rest : List Opt) (x : Opt) (next : left ≡ x ∷ rest) where
   pub next-in_order : (before : ℕ) → AreOptions before left → AreOptions before (x ∷ rest)
   next-in_order before are = subst (AreOptions before) next are
 
-  -- and the others are in order behind it
+  -- and the others are in order after it
   pub rest-in_order : (before : ℕ) → AreOptions before left → AreOptions x.number rest
   rest-in_order before are = (subst (AreOptions before) next are).3
 
-  -- so they are behind what stands before it
+  -- so they are after what stands before it
   pub skipped-in_order : (before : ℕ) → AreOptions before left → AreOptions before rest
   skipped-in_order before are = let in_order = subst (AreOptions before) next are in AreOptions-weaken before x.number rest in_order.0 in_order.3
 
@@ -31,7 +31,7 @@ module _ (left rest : List Opt) (x : Opt) (next : left ≡ x ∷ rest) where
   from-first before are = let in_order = subst (AreOptions before) next are in subst (AreOptions x.number) (sym next) (omega arith, in_order.1, in_order.2, in_order.3)
 
   module _ (list more : List Opt) (pushed : more ≡ list ++ x ∷ []) where
-    -- it is added behind a list
+    -- it is added after a list
     pub pushed-in_order : AreOptions (last_number 0 list) left → AreOptions (last_number 0 more) rest
     pushed-in_order are = rw (pushed, last_number-push 0 list x) (rest-in_order (last_number 0 list) are)
 

@@ -15,10 +15,11 @@ abbrev pub first_tag : List Opt → Option (List ℕ)
 first_tag [] = None
 first_tag (o ∷ os) = cond (o.number == 4) (cond (is_recognised Response 4 (length o.value) 0) (Some o.value) None) (first_tag os)
 
+-- an option with how many of its number stand before it
 abbrev placed : Opt → ℕ → PlacedOption
 placed o n = record { option = o; before = n }
 
--- an ETag behind another isn't recognised
+-- an ETag after another isn't recognised
 second-fails : (n : ℕ) (o : Opt) (before : ℕ) → o.number ≡ 4 → before ≡ n → 1 ≤ n → is_of Response 4 (placed o before) ≡ false
 second-fails n o before tag counted more =
     let none : (before == 0) ≡ false = grind arith in
@@ -29,7 +30,7 @@ second-fails n o before tag counted more =
     go true false = refl
     go false b = refl
 
--- so none is found behind one
+-- so none is found after one
 none-behind : (passed os : List Opt) → 1 ≤ count_of 4 passed → find (is_of Response 4) (places_behind passed os) ≡ None
 none-behind passed [] more = refl
 none-behind passed (o ∷ os) more =
@@ -48,7 +49,7 @@ none-behind passed (o ∷ os) more =
 tests : (o : Opt) (before : ℕ) → o.number ≡ 4 → before ≡ 0 → is_of Response 4 (placed o before) ≡ is_recognised Response 4 (length o.value) 0
 tests o before tag zero = rw (tag, zero) refl
 
--- behind options without an ETag the first one is found
+-- after options without an ETag the first one is found
 found-first : (passed os : List Opt) → count_of 4 passed ≡ 0 → option_map (λ p. p.option.value) (find (is_of Response 4) (places_behind passed os)) ≡ first_tag os
 found-first passed [] none = refl
 found-first passed (o ∷ os) none =

@@ -90,7 +90,7 @@ of_number-sides n number os other = go (nat_lt n number) refl
 apart : (m n : ℕ) → (m == n) ≡ false → m ≢ n
 apart m n e same = let is = eq-eqb m n same in cc
 
--- the options of a number behind the newer one of that number
+-- the options of a number after the newer one of that number
 kind-same : (n number : ℕ) (newer older : List Opt) → number ≡ n → cond (has_number n newer) (of_number n newer) (of_number n (above number older)) ≡ of_number n newer
 kind-same n number newer older same = go (has_number n newer) refl
   where

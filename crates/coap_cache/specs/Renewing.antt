@@ -2,11 +2,14 @@
 use Rattle.std.specs.Prelude.{ℕ, Bool, false, ◌==◌, ◌&&◌, not, nat_le, nat_lt, List, [], ◌∷◌, ◌++◌, Option, filter, find}
 use Rattle.std.specs.List.{list_any}
 use Rattle.std.specs.Option.{option_map, option_map_or}
+use Rattle.coap_message.specs.declared.code.TheConstants.Code.{CONTENT, VALID}
 use Rattle.coap_message.specs.declared.options.Opt.{Opt}
+use Rattle.coap_message.specs.Codes.{is_code}
 use Rattle.coap_message.specs.Message.{Message}
 use Rattle.coap_message.specs.Options.{option_of}
 use Rattle.coap_message.specs.Uint.{uint_spelling}
 use Rattle.coap_target.specs.Equality.{same_bytes}
+use Rattle.coap_option.specs.declared.numbers.TheConstants.{ETAG, MAX_AGE}
 use Rattle.coap_option.specs.declared.side.Side.TheVariants.{Response}
 use Rattle.coap_option.specs.Classes.{is_unsafe}
 use Rattle.coap_option.specs.Places.{places}
@@ -14,11 +17,11 @@ use Rattle.coap_option.specs.Selection.{is_of, max_age_of}
 
 -- the value of a response's ETag, the first one, where it is recognised (RFC 7252, 5.10.6.1)
 abbrev pub tag_of : List Opt → Option (List ℕ)
-tag_of options = option_map (λ p. p.option.value) (find (is_of Response 4) (places options))
+tag_of options = option_map (λ p. p.option.value) (find (is_of Response ETAG) (places options))
 
 -- a Max-Age of so many seconds, in as few bytes as will do (RFC 7252, 3.2 and 5.10.5)
 abbrev pub max_age_option : ℕ → Opt
-max_age_option seconds = option_of 14 (uint_spelling seconds)
+max_age_option seconds = option_of MAX_AGE (uint_spelling seconds)
 
 -- the options of one kind
 abbrev pub of_number : ℕ → List Opt → List Opt
@@ -67,5 +70,5 @@ has_tag tag m = option_map_or (same_bytes tag) (tag_of m.options) false
 -- is validated.
 abbrev pub is_validated : Message → Message → Bool
 is_validated response valid =
-    response.code.0 == 69 && valid.code.0 == 67
+    is_code response.code CONTENT && is_code valid.code VALID
     && option_map_or (λ tag. has_tag tag valid) (tag_of response.options) false

@@ -3,16 +3,18 @@ use Rattle.std.specs.Prelude.{ℕ, ◌==◌, ◌/◌, ◌||◌, Bool, if◌then�
 use Rattle.std.specs.List.{list_any}
 use Rattle.std.specs.Option.{option_map_or}
 use Rattle.coap_message.specs.declared.code.Code.{Code}
+use Rattle.coap_message.specs.declared.code.TheConstants.Code.{CONTENT, VALID}
 use Rattle.coap_message.specs.declared.kind.Kind.{Kind}
-use Rattle.coap_message.specs.Codes.{code_of}
+use Rattle.coap_message.specs.Codes.{is_code}
 use Rattle.coap_message.specs.Message.{Message}
 use Rattle.coap_message.specs.Options.{option_of}
+use Rattle.coap_option.specs.declared.numbers.TheConstants.{ETAG}
 use Rattle.coap_target.specs.Equality.{same_bytes}
 use Rattle.coap_cache.specs.Renewing.{tag_of, max_age_option, with_max_age}
 
 -- 2.05
 abbrev pub is_content : Code → Bool
-is_content code = code.0 == 69
+is_content code = is_code code CONTENT
 
 -- a 2.05, or an error of class 4 or 5, is told with a Max-Age
 abbrev pub tells_age : Code → Bool
@@ -31,8 +33,8 @@ held_tag m tags = if is_content m.code then among tags (tag_of m.options) else N
 abbrev pub valid : Message → ℕ → List ℕ → Message
 valid m left tag =
     record m {
-      code = code_of 2 3;
-      options = option_of 4 tag ∷ max_age_option left ∷ [];
+      code = VALID;
+      options = option_of ETAG tag ∷ max_age_option left ∷ [];
       payload = [];
     }
 

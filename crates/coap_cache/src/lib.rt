@@ -18,7 +18,7 @@ pub use error::RenewError;
 pub use key::CacheKey;
 pub use list_store::ListStore;
 pub use renew::renewed;
-pub use show::{put_aged, show_into, tells_age};
+pub use show::{put_aged, put_max_age, show_into, tells_age};
 pub use size::bytes_of;
 pub use store::{Put, Store};
 pub use stored::Stored;

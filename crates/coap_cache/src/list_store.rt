@@ -175,7 +175,7 @@ fn count_fitting(entries: &[(CacheKey, Stored)], bytes: u64, most: usize) -> usi
     count
 }
 
-/// Gives up the entries behind those that keep within the limits.
+/// Gives up the entries after those that keep within the limits.
 fn cut_to(entries: &mut Vec<(CacheKey, Stored)>, bytes: u64, most: usize)
     requires { bytes < 2 ^ 63 }
     ensures { entries.new.items ≡ cut entry_size bytes most entries.old.items }

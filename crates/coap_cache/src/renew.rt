@@ -56,7 +56,7 @@ fn is_validated(response: &Message, valid: &MessageRef<'_>) -> bool
 
 /// A stored 2.05 with the options that a 2.03 renews.
 fn renew(alloc: Global, response: &Message, valid: &MessageRef<'_>) -> Result<Message, OutOfMemory>
-    requires { response.now.code.0 ≡ 69 }
+    requires { response.now.code ≡ Code.CONTENT }
     ensures { IfOk result (λ message. message ≡ renewed response.now valid.now) }
 {
     let newer = news_of(alloc, valid)?;
@@ -68,7 +68,7 @@ fn renew(alloc: Global, response: &Message, valid: &MessageRef<'_>) -> Result<Me
 
 /// The same 2.05 with other options.
 fn with_options(response: &Message, options: OptionList) -> Result<Message, OutOfMemory>
-    requires { response.now.code.0 ≡ 69 }
+    requires { response.now.code ≡ Code.CONTENT }
     ensures { IfOk result (λ message. message ≡ record response.now { options = options }) }
 {
     Ok(Message {
@@ -134,7 +134,7 @@ fn updated(
     Ok(list)
 }
 
-/// Adds the options below a number behind the others. Answers those that are left.
+/// Adds the options below a number after the others. Answers those that are left.
 fn push_below<'a>(
     list: &mut OptionList,
     left: OptRefs<'a>,
@@ -160,7 +160,7 @@ fn push_below<'a>(
     }
 }
 
-/// The options that are left behind those of a number.
+/// The options that stand after those of a number.
 fn above<'a>(left: OptRefs<'a>, number: u16) -> OptRefs<'a>
     requires { AreOptions number left }
     ensures { result ≡ above number left.entry }
@@ -180,7 +180,7 @@ fn above<'a>(left: OptRefs<'a>, number: u16) -> OptRefs<'a>
     }
 }
 
-/// Adds all the options that are left behind the others.
+/// Adds all the options that are left after the others.
 fn push_all(list: &mut OptionList, left: OptRefs<'_>) -> Result<(), OutOfMemory>
     requires { AreOptions (last_number 0 list.old) left }
     ensures { OnOk result (list.new ≡ list.old ++ left.entry) }

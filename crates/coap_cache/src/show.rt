@@ -1,19 +1,19 @@
 //! What clients are given for a response, written without memory (RFC 7252, 5.6, 5.7.1, 5.10.5 and
 //! 5.10.6).
 ghost use Rattle.std.specs.Prelude.{◌≡◌, ◌≤◌, ◌<◌, ◌↔◌, ◌∷◌, [], length, IfOk, IsErr, OnOk, OnErr};
-ghost use Rattle.coap_message.specs.Datagram.{Appends, holding};
+ghost use Rattle.coap_message.specs.Datagram.{Appends, holding, unit_of};
+ghost use Rattle.coap_message.specs.Message.{message_of};
 ghost use Rattle.coap_message.specs.Options.{last_number, option_of};
 ghost use Rattle.coap_message.specs.Spelling.{options_spelling, spelling};
+ghost use Rattle.coap_option.specs.declared.numbers.TheConstants.{ETAG, MAX_AGE};
 ghost use Rattle.coap_cache.specs.Renewing.{max_age_option, with_max_age};
 ghost use Rattle.coap_cache.specs.Showing.{addressed, shown, tells_age, told};
-ghost use Rattle.coap_message.specs.Message.{message_of};
-ghost use Rattle.coap_message.specs.Datagram.{unit_of};
 ghost use Rattle.coap_cache.specs.Writing.{floor_of, is_in, part_of};
 
 use crate::tag::held_tag;
 use coap_message::{
-    Code, Datagram, Full, Head, Kind, Message, Options, Pieces, Token, put_head, put_option,
-    put_options, put_payload, without_zeros,
+    Code, Datagram, Full, Head, Kind, Message, Options, Pieces, Token, put_head, put_message,
+    put_option, put_payload, without_zeros,
 };
 use coap_option::numbers;
 
@@ -83,33 +83,14 @@ fn put_shown(
         result }
 {
     match left {
-        Some(left) => {
-            if tells_age(head.code) {
-                put_told(message, head, token, left, tags, out, room)
-            } else {
-                put_stored(message, head, token, out, room)
-            }
+        Some(left) if tells_age(head.code) => {
+            put_told(message, head, token, left, tags, out, room)
         }
-        None => put_stored(message, head, token, out, room),
+        _ => {
+            let options = message.options.lent();
+            put_message(out, room, head, token, &options, message.payload.as_slice())
+        }
     }
-}
-
-/// Writes a response as it is.
-#[tactic(auto, unfolding(coap_message::specs::Spelling::spelling))]
-fn put_stored(
-    message: &Message,
-    head: Head,
-    token: &Token,
-    out: &mut Datagram,
-    room: usize,
-) -> Result<(), Full>
-    requires { room ≤ out.old.room }
-    ensures { Appends (holding out.old []) out.new room
-        (spelling (message_of head token.now message.now.options message.now.payload)) result }
-{
-    put_head(out, room, head, token)?;
-    put_options(out, room, &message.options.lent())?;
-    put_payload(out, room, message.payload.as_slice())
 }
 
 /// Writes a response that is told with a Max-Age.
@@ -134,7 +115,7 @@ fn put_told(
 }
 
 /// Writes a 2.03 with a tag and a Max-Age.
-#[tactic(auto, unfolding(coap_message::specs::Spelling::spelling, coap_message::specs::Uint::uint_spelling))]
+#[tactic(auto, unfolding(coap_message::specs::Spelling::spelling))]
 fn put_valid(
     head: Head,
     token: &Token,
@@ -148,7 +129,7 @@ fn put_valid(
     ensures { Appends (holding out.old []) out.new room
         (spelling
         (message_of (record head { code = Code.VALID }) token.now
-        (option_of 4 tag.now ∷ max_age_option left ∷ []) [])) result }
+        (option_of ETAG tag.now ∷ max_age_option left ∷ []) [])) result }
 {
     let valid = Head {
         kind: head.kind,
@@ -160,11 +141,16 @@ fn put_valid(
     put_max_age(out, room, numbers::ETAG, left)
 }
 
-/// Adds a Max-Age behind an option of the number `before`.
+/// Adds a Max-Age of so many seconds after an option of the number `before`, 0 for none, if at most
+/// `room` bytes are held then. It takes no memory.
+///
+/// # Errors
+/// `Full`, exactly where more than `room` bytes would be held. Then a part of it may have been
+/// added.
 #[tactic(auto, unfolding(coap_message::specs::Uint::uint_spelling))]
-fn put_max_age(out: &mut Datagram, room: usize, before: u16, seconds: u64) -> Result<(), Full>
+pub fn put_max_age(out: &mut Datagram, room: usize, before: u16, seconds: u64) -> Result<(), Full>
     requires room { room ≤ out.old.room }
-    requires above { before ≤ 14 }
+    requires above { before ≤ MAX_AGE }
     ensures { Appends out.old out.new room (options_spelling before (max_age_option seconds ∷ []))
         result }
 {
@@ -212,7 +198,7 @@ fn put_with_max_age(
 {
     let before = put_part(out, room, 0, options, Part::Before)?;
     put_max_age(out, room, before, left)?;
-    put_part(out, room, numbers::MAX_AGE, options, Part::Behind)?;
+    put_part(out, room, numbers::MAX_AGE, options, Part::After)?;
     Ok(())
 }
 
@@ -221,8 +207,8 @@ fn put_with_max_age(
 pub(crate) enum Part {
     /// Before a Max-Age.
     Before,
-    /// Behind it.
-    Behind,
+    /// After it.
+    After,
 }
 
 impl Part {
@@ -232,12 +218,12 @@ impl Part {
     {
         match self {
             Part::Before => number < numbers::MAX_AGE,
-            Part::Behind => numbers::MAX_AGE < number,
+            Part::After => numbers::MAX_AGE < number,
         }
     }
 }
 
-/// Adds those options that stand in this part, behind one of the number `before`. Answers the
+/// Adds those options that stand in this part, after one of the number `before`. Answers the
 /// number of the last.
 fn put_part(
     out: &mut Datagram,

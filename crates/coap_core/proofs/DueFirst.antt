@@ -17,7 +17,7 @@ use Rattle.coap_core.specs.declared.ticks.DueItem.{DueItem}
 use Rattle.coap_core.specs.declared.ticks.DueItem.TheVariants.{ToSend, ToServe}
 use Rattle.coap_core.specs.Steps.{item_as}
 
--- ---- the first of two lists, one behind the other
+-- ---- the first of two lists, one after the other
 
 -- of two items that may be there the one that is due first
 abbrev sooner : Option Item → Option Item → Option Item

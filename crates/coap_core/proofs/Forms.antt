@@ -47,7 +47,7 @@ module _ (old mid new : Datagram) (room before : ℕ) (xs ys : List Opt) where
   pub full-first : (e f : Full) → Appends old new room (options_spelling before xs) (Err e) → Appends old new room (options_spelling before (xs ++ ys)) (Err f)
   full-first e f a = rw (options_spelling-append before xs ys) (Appends-full old new room (options_spelling before xs) (options_spelling (last_number before xs) ys) e f a)
 
-  -- the first options were written, and the others are written behind them or have no room
+  -- the first options were written, and the others are written after them or have no room
   pub written-both : (last : ℕ) (r : Result (Unit {0}) Full) → last ≡ last_number before xs → Appends old mid room (options_spelling before xs) (Ok tt) → Appends mid new room (options_spelling last ys) r → Appends old new room (options_spelling before (xs ++ ys)) r
   written-both last r is a b =
       let others : Appends mid new room (options_spelling (last_number before xs) ys) r = subst (λ (n : ℕ). Appends mid new room (options_spelling n ys) r) is b in
@@ -84,7 +84,7 @@ first-holds : (a b : Bool) → (a && b) ≡ true → a ≡ true
 first-holds true b e = refl
 first-holds false b e = absurd cc
 
--- the others in a gap are in order behind what may stand before it
+-- the others in a gap are in order after what may stand before it
 pub AreOptions-others : (gap : Gap) (before : ℕ) (os : List Opt) → before ≤ floor_of gap → AreOptions 0 os → AreOptions before (others_in gap os)
 AreOptions-others gap before os le are =
     AreOptions-above (λ o. is_in gap o.number && goes_on GET o) before 0 os (λ o is. let low = in-gap gap o.number (first-holds (is_in gap o.number) (goes_on GET o) is) in omega arith) are
@@ -155,7 +155,7 @@ split-at n low (o ∷ os) used are none = go (ltb o.number n) refl (ltb n o.numb
         let same : o.number ≡ n = omega (arith, ltb-false _ _ e, ltb-false _ _ f) in
         absurd (let g = sym (ap is_used_up same) ∙ none.0 in let h = sym used ∙ g in cc)
 
--- an option is put behind those of lower numbers
+-- an option is put after those of lower numbers
 put_in-past : (o : Opt) (front others : List Opt) → AllByRecursion (λ p. p.number < o.number) front → put_in o (front ++ others) ≡ front ++ put_in o others
 put_in-past o [] others all = refl
 put_in-past o (p ∷ front) others all = rw (lt-leb o.number p.number all.0) (ap (λ (l : List Opt). p ∷ l) (put_in-past o front others all.1))
@@ -261,7 +261,7 @@ module _ (t : Target) (is : IsTarget t) (os : List Opt) (are : AreOptions 0 os) 
       go [] short = AreOptions-weaken 11 15 queries (omega arith) queries-in_order
       go (v ∷ vs) short = (omega arith, omega arith, omega (arith, short.0), go vs short.1)
 
-  -- behind Uri-Path the queries stand between the others
+  -- after Uri-Path the queries stand between the others
   from-queries : merged queries (behind 11) ≡ below 15 (behind 11) ++ (queries ++ behind 15)
   from-queries =
       let split = split-at 15 11 (behind 11) refl (behind-in_order 11) (behind-unused 11) in
@@ -273,7 +273,7 @@ module _ (t : Target) (is : IsTarget t) (os : List Opt) (are : AreOptions 0 os) 
       ∙ merged-past 15 15 queries (below 15 (behind 11)) (behind 15) (omega arith) queries-in_order (below-all 15 (behind 11))
       ∙ ap (λ (l : List Opt). below 15 (behind 11) ++ l) (sym (ap (λ (l : List Opt). merged l (behind 15)) nil) ∙ front)
 
-  -- behind Uri-Host the segments do too
+  -- after Uri-Host the segments do too
   from-paths : merged (paths ++ queries) (behind 3) ≡ below 11 (behind 3) ++ (paths ++ (below 15 (behind 11) ++ (queries ++ behind 15)))
   from-paths =
       let split = split-at 11 3 (behind 3) refl (behind-in_order 3) (behind-unused 3) in

@@ -144,7 +144,7 @@ sent-with id (Done a) b e = absurd cc
 -- ---- the first of a table of which something holds
 
 module _ (holds : Numbered Exchange → Bool) where
-  -- it stands behind what came before
+  -- it stands after what came before
   behind : (least : ℕ) (xs : List (Numbered Exchange)) (x : Numbered Exchange) → IsRising least xs → find holds xs ≡ Some x → least < x.0
   behind least [] x rising e = absurd cc
   behind least (y ∷ ys) x rising e = go (holds y) e (λ f. behind y.0 ys x rising.1 f)

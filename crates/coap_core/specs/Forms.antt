@@ -46,7 +46,7 @@ floor_of BeforePath = URI_HOST
 floor_of BeforeQuery = URI_PATH
 floor_of Last = URI_QUERY
 
--- the number of the option behind the gap
+-- the number of the option after the gap
 abbrev pub end_of : Gap → ℕ
 end_of BeforeHost = URI_HOST
 end_of BeforePath = URI_PATH

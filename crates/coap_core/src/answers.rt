@@ -2,6 +2,7 @@
 ghost use Rattle.std.specs.Prelude.{◌≡◌, ◌≤◌, ◌==◌, true, not, filter, IfOk};
 ghost use Rattle.std.specs.List.{list_any};
 ghost use Rattle.coap_message.specs.declared.code.Code.{Code};
+ghost use Rattle.coap_option.specs.declared.numbers.TheConstants.{OBSERVE};
 ghost use Rattle.coap_model.specs.Answers.{is_storable, without_observe, fits, answer_of, left_of, left_told, bad_gateway};
 
 use coap_cache::{put_aged, tells_age};
@@ -17,7 +18,7 @@ const GREATEST_MAX_AGE: u64 = 4_294_967_295;
 
 /// Whether one of the options is an Observe.
 fn has_observe(options: &Options<'_>) -> bool
-    ensures { result ≡ list_any (λ o. o.number == 6) options.now }
+    ensures { result ≡ list_any (λ o. o.number == OBSERVE) options.now }
 {
     for option in options.iter() {
         if option.number == numbers::OBSERVE {
@@ -29,7 +30,7 @@ fn has_observe(options: &Options<'_>) -> bool
 
 /// A copy of the options without Observe, in no more room than it needs.
 fn without_observe(alloc: Global, options: &Options<'_>) -> Result<OptionList, OutOfMemory>
-    ensures { IfOk result (λ list. list ≡ filter (λ o. not (o.number == 6)) options.now) }
+    ensures { IfOk result (λ list. list ≡ filter (λ o. not (o.number == OBSERVE)) options.now) }
 {
     if !has_observe(options) {
         return options.to_owned(alloc);

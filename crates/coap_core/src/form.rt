@@ -27,11 +27,11 @@ use coap_target::Target;
 pub(crate) enum Gap {
     /// Before the Uri-Host.
     BeforeHost,
-    /// Behind the Uri-Host, before any Uri-Path.
+    /// After the Uri-Host, before any Uri-Path.
     BeforePath,
-    /// Behind the Uri-Paths, before any Uri-Query.
+    /// After the Uri-Paths, before any Uri-Query.
     BeforeQuery,
-    /// Behind them all.
+    /// After them all.
     Last,
 }
 
@@ -48,7 +48,7 @@ impl Gap {
         }
     }
 
-    /// The number of the options of the target that stand behind it. None do behind the last gap.
+    /// The number of the options of the target that stand after it. None do after the last gap.
     fn end(self) -> u16
         ensures { result ≡ end_of self }
     {
@@ -79,7 +79,7 @@ fn goes_on(option: OptRef<'_>) -> bool
     }
 }
 
-// ---- options, behind one of the number `before`; what is answered is the number of the last
+// ---- options, after one of the number `before`; what is answered is the number of the last
 
 /// Adds those options of a GET in a gap that are sent on.
 fn put_others(

@@ -24,10 +24,10 @@ use crate::known::reply_kind;
 use crate::request_target::{Asked, RequestTarget};
 use crate::token::token_of;
 use crate::world::{World, silent};
-use crate::writing::{put_message, put_stored, put_with_max_age};
+use crate::writing::{put_bare, put_stored, put_with_max_age};
 use coap_cache::{CacheKey, Store};
 use coap_exchange::Waiter;
-use coap_message::{Code, Datagram, Kind, MessageRef, Options, OutOfMemory, Pieces, Seq};
+use coap_message::{Code, Datagram, Kind, MessageRef, OutOfMemory, Pieces, Seq};
 use coap_model::{Outcome, Report};
 use coap_option::{numbers, screen_request};
 use coap_routes::TargetError;
@@ -326,7 +326,7 @@ impl<S: Store + Drop> World<S> {
         ensures kept { out.new.room ≡ out.old.room }
     {
         let head = self.reply_head(request, code);
-        put_message(out, head, &request.token, &Options::none(), &[]);
+        put_bare(out, head, &request.token);
         self.reply(now, client, request, Outcome::Refused(code), out)
     }
 

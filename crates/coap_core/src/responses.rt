@@ -114,7 +114,7 @@ impl<S: Store + Drop> World<S> {
         let answer = answer_of(self.alloc, most, now, response, out)?;
         let entry = self.entry_made(now, number, &answer)?;
         let storing = self.keep(entry);
-        self.exchanges.answer(number, answer);
+        self.exchanges.set_answer(number, answer);
         out.clear();
         self.pass(now);
         Ok(silent(Outcome::Answered { storing }))

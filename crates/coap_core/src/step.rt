@@ -12,9 +12,9 @@ ghost use Rattle.coap_core.specs.Steps.{Does, CanGoOn};
 
 use crate::event::Event;
 use crate::world::{World, silent};
-use crate::writing::put_message;
+use crate::writing::put_bare;
 use coap_cache::Store;
-use coap_message::{Code, Datagram, Head, Kind, MessageRef, Options, OutOfMemory, Token, head_of};
+use coap_message::{Code, Datagram, Head, Kind, MessageRef, OutOfMemory, Token, head_of};
 use coap_model::{Outcome, Report};
 use coap_target::Endpoint;
 
@@ -156,7 +156,7 @@ impl<S: Store + Drop> World<S> {
             code: Code::EMPTY,
             id,
         };
-        put_message(out, head, &Token::empty(), &Options::none(), &[]);
+        put_bare(out, head, &Token::empty());
         self.pass(now);
         Report {
             send: Some(source),

@@ -9,51 +9,23 @@ ghost use Rattle.coap_model.specs.Answers.{shown, stored_answer};
 ghost use Rattle.coap_core.specs.Steps.{shown_as};
 
 use crate::answers::left_told;
-use coap_cache::{Stored, show_into};
+use coap_cache::{Stored, put_max_age, show_into};
 use coap_exchange::Answer;
 use coap_message::{
-    Code, Datagram, Full, Head, Kind, Options, Pieces, Token, put_head, put_option, put_options,
-    put_payload, without_zeros,
+    Datagram, Full, Head, Kind, Options, Pieces, Token, put_head, put_message, put_payload,
 };
-use coap_option::numbers;
 
-// ---- the proxy's own messages, and what clients are shown
+// ---- the proxy's own messages
 
-/// Writes a message with these options.
-pub(crate) fn put_message(
-    out: &mut Datagram,
-    head: Head,
-    token: &Token,
-    options: &Options<'_>,
-    payload: &[u8],
-)
-    requires fits { length (spelling (message_of head token.now options.now payload.now))
-        ≤ out.old.room }
-    ensures { out.new
-        ≡ holding out.old (spelling (message_of head token.now options.now payload.now)) }
+/// Writes a message with neither options nor a payload.
+pub(crate) fn put_bare(out: &mut Datagram, head: Head, token: &Token)
+    requires fits { length (spelling (message_of head token.now [] [])) ≤ out.old.room }
+    ensures { out.new ≡ holding out.old (spelling (message_of head token.now [] [])) }
 {
     let room = out.room();
-    if try_message(out, room, head, token, options, payload).is_err() {
+    if put_message(out, room, head, token, &Options::none(), &[]).is_err() {
         unreachable!();
     }
-}
-
-#[tactic(auto, unfolding(coap_message::specs::Spelling::spelling))]
-fn try_message(
-    out: &mut Datagram,
-    room: usize,
-    head: Head,
-    token: &Token,
-    options: &Options<'_>,
-    payload: &[u8],
-) -> Result<(), Full>
-    requires room { room ≤ out.old.room }
-    ensures { Appends (holding out.old []) out.new room
-        (spelling (message_of head token.now options.now payload.now)) result }
-{
-    put_head(out, room, head, token)?;
-    put_options(out, room, options)?;
-    put_payload(out, room, payload)
 }
 
 /// Writes a message whose one option is a Max-Age of so many seconds (RFC 7252, 5.10.5).
@@ -77,7 +49,7 @@ pub(crate) fn put_with_max_age(
     }
 }
 
-#[tactic(auto, unfolding(coap_message::specs::Spelling::spelling, coap_message::specs::Uint::uint_spelling))]
+#[tactic(auto, unfolding(coap_message::specs::Spelling::spelling))]
 fn try_with_max_age(
     out: &mut Datagram,
     room: usize,
@@ -90,9 +62,8 @@ fn try_with_max_age(
     ensures { Appends (holding out.old []) out.new room
         (spelling (message_of head token.now (max_age_option seconds ∷ []) payload.now)) result }
 {
-    let seconds = seconds.to_be_bytes();
     put_head(out, room, head, token)?;
-    put_option(out, room, 0, numbers::MAX_AGE, without_zeros(&seconds))?;
+    put_max_age(out, room, 0, seconds)?;
     put_payload(out, room, payload)
 }
 

@@ -29,11 +29,6 @@ is_sent Queued = false
 is_sent (Sent s) = true
 is_sent (Done a) = false
 
-abbrev pub is_done : ExchangeState → Bool
-is_done Queued = false
-is_done (Sent s) = false
-is_done (Done a) = true
-
 -- how many exchanges are in a state that passes the test
 abbrev pub count_where : (ExchangeState → Bool) → List (Numbered Exchange) → ℕ
 count_where test [] = 0

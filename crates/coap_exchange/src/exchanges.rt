@@ -156,7 +156,7 @@ impl Exchanges {
     }
 
     /// The answer of the exchange of this number came, whose request was sent.
-    pub fn answer(&mut self, number: u64, answer: Answer)
+    pub fn set_answer(&mut self, number: u64, answer: Answer)
         requires sent { IfSome (item_at number self.old.items) (λ x. is_sent x.state ≡ true) }
         ensures answered { self.new
             ≡ record self.old { items = with_state number (Done answer) self.old.items } }

@@ -1,15 +1,16 @@
 -- When reading is refused, and with which refusal.
-use Rattle.std.proofs.Common.{◌≡◌, ℕ, ◌+◌, ◌*◌, ◌/◌, ◌%◌, ◌<◌, ◌≤◌, Bool, true, false, cond, eqb, List, [], ◌∷◌, length, Option, Some, None, Result, Ok, Err, refl, sym, subst, ◌∙◌, arith}
+use Rattle.std.proofs.Common.{◌≡◌, ℕ, ◌/◌, ◌%◌, ◌<◌, ◌≤◌, Bool, true, false, cond, eqb, List, [], ◌∷◌, length, Option, Some, None, Result, Ok, Err, refl, sym, subst, ◌∙◌, arith}
 use Rattle.std.specs.Prelude.{IsOk, ◌↔◌, MatchResult, IfOk}
 use Rattle.std.proofs.lemmas.Bool.{eqb-true, ne_eqb, eq-eqb, false≢true}
 use Rattle.coap_message.specs.declared.error.DecodeError.{DecodeError}
 use Rattle.coap_message.specs.declared.error.DecodeError.TheVariants as errors
 use Rattle.coap_message.specs.declared.error.ReadError.{ReadError}
 use Rattle.coap_message.specs.declared.error.ReadError.TheVariants as unread
+use Rattle.coap_message.specs.declared.message.Head.{Head}
 use Rattle.coap_message.specs.Message.{Message}
 use Rattle.coap_message.specs.Uint.{IsBytes}
 use Rattle.coap_message.specs.Spelling.{Spells, SpellsNone, IsVersionOne}
-use Rattle.coap_message.specs.Reading.{Body, body_behind, with_header, read_message, decode_error, Decodes}
+use Rattle.coap_message.specs.Reading.{Body, body_behind, head_from, with_header, read_message, decode_error, Decodes}
 use Rattle.coap_message.proofs.WholeMessages.{read_is, read_again}
 
 -- ---- the refusals of the definition
@@ -19,15 +20,15 @@ abbrev read_of : Bool → Result Message ReadError → Result Message ReadError
 read_of version found = cond version found (Err unread.Version)
 
 -- with a header a message is not too short
-found_is : (version : Bool) (first code id : ℕ) (found : Option Body) → read_of version (with_header first code id found) ≡ Err unread.Short → ⊥
-found_is true first code id None e = cc
-found_is true first code id (Some body) e = cc
-found_is false first code id found e = cc
+found_is : (version : Bool) (head : Head) (found : Option Body) → read_of version (with_header head found) ≡ Err unread.Short → ⊥
+found_is true head None e = cc
+found_is true head (Some body) e = cc
+found_is false head found e = cc
 
 -- what stands after a header is no fault of the version
-not_version : (first code id : ℕ) (found : Option Body) → with_header first code id found ≡ Err unread.Version → ⊥
-not_version first code id None e = cc
-not_version first code id (Some body) e = cc
+not_version : (head : Head) (found : Option Body) → with_header head found ≡ Err unread.Version → ⊥
+not_version head None e = cc
+not_version head (Some body) e = cc
 
 -- what is too short has fewer than four bytes
 short_is : (bytes : List ℕ) → read_message bytes ≡ Err unread.Short → length bytes < 4
@@ -36,7 +37,7 @@ short_is [] e = omega arith
 short_is (a ∷ []) e = omega arith
 short_is (a ∷ b ∷ []) e = omega arith
 short_is (a ∷ b ∷ c ∷ []) e = omega arith
-short_is (a ∷ b ∷ c ∷ d ∷ rest) e = absurd (found_is (eqb (a / 64) 1) _ _ _ _ e)
+short_is (a ∷ b ∷ c ∷ d ∷ rest) e = absurd (found_is (eqb (a / 64) 1) _ _ e)
 
 -- and fewer than four bytes are too short
 pub is_short : (bytes : List ℕ) → length bytes < 4 → read_message bytes ≡ Err unread.Short
@@ -56,8 +57,8 @@ version_is (a ∷ b ∷ []) e = absurd cc
 version_is (a ∷ b ∷ c ∷ []) e = absurd cc
 version_is (a ∷ b ∷ c ∷ d ∷ rest) e = (omega arith, λ one. at_test (eqb (a / 64) 1) (eq-eqb (a / 64) 1 one) e)
   where
-    at_test : (t : Bool) → t ≡ true → read_of t (with_header a b (256 * c + d) (body_behind b (a % 16) rest)) ≡ Err unread.Version → ⊥
-    at_test true is h = not_version a b (256 * c + d) (body_behind b (a % 16) rest) h
+    at_test : (t : Bool) → t ≡ true → read_of t (with_header (head_from a b c d) (body_behind b (a % 16) rest)) ≡ Err unread.Version → ⊥
+    at_test true is h = not_version (head_from a b c d) (body_behind b (a % 16) rest) h
     at_test false is h = cc
 
 -- and a header that says so is one
@@ -78,7 +79,7 @@ format_is (a ∷ b ∷ []) e = absurd cc
 format_is (a ∷ b ∷ c ∷ []) e = absurd cc
 format_is (a ∷ b ∷ c ∷ d ∷ rest) e = (omega arith, at_test (eqb (a / 64) 1) refl e)
   where
-    at_test : (t : Bool) → eqb (a / 64) 1 ≡ t → read_of t (with_header a b (256 * c + d) (body_behind b (a % 16) rest)) ≡ Err unread.Format → a / 64 ≡ 1
+    at_test : (t : Bool) → eqb (a / 64) 1 ≡ t → read_of t (with_header (head_from a b c d) (body_behind b (a % 16) rest)) ≡ Err unread.Format → a / 64 ≡ 1
     at_test true is h = eqb-true _ _ is
     at_test false is h = absurd cc
 

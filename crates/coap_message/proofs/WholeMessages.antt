@@ -9,13 +9,14 @@ use Rattle.coap_message.specs.declared.kind.Kind.{Kind}
 use Rattle.coap_message.specs.declared.kind.Kind.TheVariants.{Con, Non, Ack, Rst}
 use Rattle.coap_message.specs.declared.error.ReadError.{ReadError}
 use Rattle.coap_message.specs.declared.error.ReadError.TheVariants as unread
+use Rattle.coap_message.specs.declared.message.Head.{Head}
 use Rattle.coap_message.specs.declared.options.Opt.{Opt}
 use Rattle.coap_message.specs.Kind.{kind_number, kind_of}
 use Rattle.coap_message.specs.Options.{AreOptions}
-use Rattle.coap_message.specs.Message.{Message}
+use Rattle.coap_message.specs.Message.{Message, message_of}
 use Rattle.coap_message.specs.Uint.{IsBytes}
 use Rattle.coap_message.specs.Spelling.{SpellsOptions, SpellsPayload, header, Spells}
-use Rattle.coap_message.specs.Reading.{Body, options_at, body_at, body_behind, with_header, read_message, head_at}
+use Rattle.coap_message.specs.Reading.{Body, options_at, body_at, body_behind, head_from, with_header, read_message, head_at}
 use Rattle.coap_message.proofs.Extensions.{IsBytes-right}
 use Rattle.coap_message.proofs.ManyOptions.{mapped_is, options_is, options_again}
 
@@ -133,14 +134,10 @@ number_below Non = omega arith
 number_below Ack = omega arith
 number_below Rst = omega arith
 
--- the message of a header and a body
-abbrev message_of : ℕ → ℕ → ℕ → Body → Message
-message_of first code id body = record { kind = kind_of (first / 16 % 4); code = record { 0 = code }; id = id; token = body.token; options = body.options; payload = body.payload }
-
 -- a message that is read has a body
-with_header_is : (first code id : ℕ) (found : Option Body) (m : Message) → with_header first code id found ≡ Ok m → (body : Body) × (found ≡ Some body) × (message_of first code id body ≡ m)
-with_header_is first code id None m e = absurd cc
-with_header_is first code id (Some body) m e = (body, refl, cc)
+with_header_is : (head : Head) (found : Option Body) (m : Message) → with_header head found ≡ Ok m → (body : Body) × (found ≡ Some body) × (message_of head body.token body.options body.payload ≡ m)
+with_header_is head None m e = absurd cc
+with_header_is head (Some body) m e = (body, refl, cc)
 
 -- a message that is read has version 1
 version_is : (b : Bool) (r : Result Message ReadError) (m : Message) → cond b r (Err unread.Version) ≡ Ok m → (b ≡ true) × (r ≡ Ok m)
@@ -157,13 +154,13 @@ read_is (a ∷ []) m fits e = absurd cc
 read_is (a ∷ b ∷ []) m fits e = absurd cc
 read_is (a ∷ b ∷ c ∷ []) m fits e = absurd cc
 read_is (first ∷ code ∷ high ∷ low ∷ rest) m fits e =
-    let v = version_is (eqb (first / 64) 1) (with_header first code (256 * high + low) (body_behind code (first % 16) rest)) m e in
+    let v = version_is (eqb (first / 64) 1) (with_header (head_from first code high low) (body_behind code (first % 16) rest)) m e in
     let version : first / 64 ≡ 1 = eqb-true _ _ v.0 in
-    let h = with_header_is first code (256 * high + low) (body_behind code (first % 16) rest) m v.1 in
+    let h = with_header_is (head_from first code high low) (body_behind code (first % 16) rest) m v.1 in
     let behind : IsBytes rest = IsBytes-right (first ∷ code ∷ high ∷ low ∷ []) rest fits in
     let b = behind_is code (first % 16) rest h.0 behind h.1 in
     let t = b.0.takes in
-    let made = message_of first code (256 * high + low) h.0 in
+    let made = message_of (head_from first code high low) h.0.token h.0.options h.0.payload in
     let kind = number-of_kind (first / 16 % 4) (omega arith) in
     let low_small : low < 256 = fits 3 in
     let first_is : first ≡ 64 + 16 * kind_number (kind_of (first / 16 % 4)) + length h.0.token = omega (arith, fits 0, version, kind, b.1) in
@@ -207,6 +204,6 @@ head_read (a ∷ []) m e = absurd cc
 head_read (a ∷ b ∷ []) m e = absurd cc
 head_read (a ∷ b ∷ c ∷ []) m e = absurd cc
 head_read (first ∷ code ∷ high ∷ low ∷ rest) m e =
-    let v = version_is (eqb (first / 64) 1) (with_header first code (256 * high + low) (body_behind code (first % 16) rest)) m e in
-    let h = with_header_is first code (256 * high + low) (body_behind code (first % 16) rest) m v.1 in
+    let v = version_is (eqb (first / 64) 1) (with_header (head_from first code high low) (body_behind code (first % 16) rest)) m e in
+    let h = with_header_is (head_from first code high low) (body_behind code (first % 16) rest) m v.1 in
     rw v.0 (ap (λ (n : Message). Some (record { kind = n.kind; code = n.code; id = n.id })) h.2)

@@ -14,8 +14,8 @@ holding d bytes = record { room = d.room; bytes = bytes }
 abbrev pub AddsFront : List ℕ → List ℕ → List ℕ → Type 0
 AddsFront old new bytes = (length old ≤ length new) × (new ≡ take (length new) (old ++ bytes))
 
--- Bytes are written after what is held. Or else more than `room` bytes would be held, and a beginning of
--- the bytes may have been written.
+-- Bytes are written after what is held. Or else more than `room` bytes would be held, and a
+-- beginning of the bytes may have been written.
 abbrev pub Appends : Datagram → Datagram → ℕ → List ℕ → Result (Unit {0}) Full → Type 0
 Appends old new room bytes (Ok u) =
     (new ≡ holding old (old.bytes ++ bytes)) × (length old.bytes + length bytes ≤ room)

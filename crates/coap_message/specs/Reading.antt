@@ -97,31 +97,32 @@ body_behind zero zero (b ∷ bytes) = None
 body_behind zero (suc n) bytes = None
 body_behind (suc code) token_length bytes = body_at token_length bytes
 
+-- what the first four bytes of a datagram say, but for its version and the length of the token
+abbrev pub head_from : ℕ → ℕ → ℕ → ℕ → Head
+head_from first code high low =
+    record {
+      kind = kind_of (first / 16 % 4);
+      code = record { 0 = code };
+      id = 256 * high + low;
+    }
+
 -- the message of a header and what was read after it
-abbrev pub with_header : ℕ → ℕ → ℕ → Option Body → Result Message ReadError
-with_header first code id None = Err unread.Format
-with_header first code id (Some body) =
-    let head : Head = record { kind = kind_of (first / 16 % 4); code = record { 0 = code }; id = id } in
-    Ok (message_of head body.token body.options body.payload)
+abbrev pub with_header : Head → Option Body → Result Message ReadError
+with_header head None = Err unread.Format
+with_header head (Some body) = Ok (message_of head body.token body.options body.payload)
 
 -- the message that the bytes spell, or why there is none
 unfoldable pub read_message : List ℕ → Result Message ReadError
 read_message (first ∷ code ∷ high ∷ low ∷ rest) =
     if first / 64 == 1
-    then with_header first code (256 * high + low) (body_behind code (first % 16) rest)
+    then with_header (head_from first code high low) (body_behind code (first % 16) rest)
     else Err unread.Version
 read_message _ = Err unread.Short
 
--- what the first four bytes of a datagram of version 1 say
+-- the same, where the version is 1
 abbrev pub header_at : ℕ → ℕ → ℕ → ℕ → Option Head
 header_at first code high low =
-    if first / 64 == 1
-    then Some (record {
-      kind = kind_of (first / 16 % 4);
-      code = record { 0 = code };
-      id = 256 * high + low;
-    })
-    else None
+    if first / 64 == 1 then Some (head_from first code high low) else None
 
 -- the head of a datagram of at least four bytes and version 1
 abbrev pub head_at : List ℕ → Option Head

@@ -1,5 +1,5 @@
--- How a message is spelled as bytes (RFC 7252, 3 and 3.1): first as a relation, case by case, and then
--- as the function that writes it.
+-- How a message is spelled as bytes (RFC 7252, 3 and 3.1): first as a relation, case by case, and
+-- then as the function that writes it.
 use Rattle.std.specs.Prelude.{◌≡◌, ℕ, ◌+◌, ◌-◌, ◌*◌, ◌/◌, ◌%◌, ◌<◌, ◌≤◌, nat_lt, if◌then◌else◌, List, [], ◌∷◌, ◌++◌, length, slice_index}
 use Rattle.coap_message.specs.declared.message.Head.{Head}
 use Rattle.coap_message.specs.declared.options.Opt.{Opt}
@@ -7,17 +7,18 @@ use Rattle.coap_message.specs.Kind.{kind_number}
 use Rattle.coap_message.specs.Options.{AreOptions}
 use Rattle.coap_message.specs.Message.{Message, IsBareIfEmpty}
 
--- A delta or a length is written as four bits and the bytes that extend them: 0 to 12 as the four bits
--- alone; from 13 on as 13 and one byte, which holds the number less 13; from 269 on as 14 and two bytes,
--- which hold the number less 269. The four bits 15 stand for nothing.
+-- A delta or a length is written as four bits and the bytes that extend them: 0 to 12 as the four
+-- bits alone; from 13 on as 13 and one byte, which holds the number less 13; from 269 on as 14 and
+-- two bytes, which hold the number less 269. The four bits 15 stand for nothing.
 abbrev pub Extends : ℕ → List ℕ → ℕ → Type 0
 Extends bits [] n = (bits ≡ n) × (n < 13)
 Extends bits (a ∷ []) n = (bits ≡ 13) × (a < 256) × (n ≡ a + 13)
 Extends bits (a ∷ b ∷ []) n = (bits ≡ 14) × (a < 256) × (b < 256) × (n ≡ 256 * a + b + 269)
 Extends bits (a ∷ b ∷ c ∷ more) n = ⊥
 
--- An option is written after one of the number `before` (0 at the first): a byte with the delta of its
--- number and the length of its value in four bits each, the bytes that extend them, and the value.
+-- An option is written after one of the number `before` (0 at the first): a byte with the delta of
+-- its number and the length of its value in four bits each, the bytes that extend them, and the
+-- value.
 pub record SpellsOption (before : ℕ) (bytes : List ℕ) (option : Opt) : Type 0 where
   pub delta : ℕ
   pub delta_bits : ℕ
@@ -44,8 +45,8 @@ abbrev pub SpellsPayload : List ℕ → List ℕ → Type 0
 SpellsPayload bytes [] = bytes ≡ []
 SpellsPayload bytes (p ∷ ps) = bytes ≡ 255 ∷ p ∷ ps
 
--- what a message is, beside the ranges that the types of its fields bring along: a code below 256, an id below
--- 65,536, values of bytes
+-- what a message is, beside the ranges that the types of its fields bring along: a code below 256,
+-- an id below 65,536, values of bytes
 pub record IsMessage (m : Message) : Type 0 where
   pub token : length m.token ≤ 8
   pub options : AreOptions 0 m.options

@@ -49,14 +49,6 @@ impl<T> Seq<T> {
         Seq { items }
     }
 
-    /// The `Vec` of the list, without copying, for callers that go on with one.
-    pub fn into_vec(self) -> Vec<T>
-        ensures { result.items ≡ self }
-    {
-        let Seq { items } = self;
-        items
-    }
-
     /// The list as a slice.
     pub fn as_slice(&self) -> &[T]
         ensures { result.now ≡ self.now }

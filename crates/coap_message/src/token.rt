@@ -11,7 +11,7 @@ pub struct Token {
 }
 
 impl Model for Token {
-    ghost use Rattle.std.specs.Prelude.{ℕ, List, ◌++◌, ◌-◌, length, replicate};
+    ghost use Rattle.std.specs.Prelude.{ℕ, List};
     ghost use Rattle.std.specs.Coded.{coded_ℕ, coded_list};
 
     ghost Value = { List ℕ };
@@ -19,14 +19,13 @@ impl Model for Token {
     ghost coded = { coded_list coded_ℕ };
 
     ghost use Rattle.coap_message.specs.Token.{token_bytes, IsToken};
-    ghost use Rattle.coap_message.specs.TokenForm.{one_form};
+    ghost use Rattle.coap_message.specs.TokenForm.{padded, one_form};
 
     ghost view = { token_bytes };
 
     ghost invariant = { IsToken };
 
-    ghost inverse = { λ bytes.
-        record { places = bytes ++ replicate (8 - length bytes) 0; len = length bytes } };
+    ghost inverse = { padded };
 
     ghost inverse_ok = { one_form };
 }

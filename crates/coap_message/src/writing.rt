@@ -1,8 +1,9 @@
 //! Writing a message as bytes (RFC 7252, 3).
 ghost use Rattle.std.specs.Prelude.{◌≡◌, ◌<◌, ◌≤◌, ◌↔◌, [], length, OnOk, OnErr, IsErr};
 ghost use Rattle.coap_message.specs.Datagram.{Appends, holding};
+ghost use Rattle.coap_message.specs.Message.{message_of};
 ghost use Rattle.coap_message.specs.Options.{option_of};
-ghost use Rattle.coap_message.specs.Spelling.{IsMessage, Spells, bits_of, more_of, header_spelling, head_spelling, option_spelling, options_spelling, payload_spelling, spelling};
+ghost use Rattle.coap_message.specs.Spelling.{Spells, bits_of, more_of, header_spelling, head_spelling, option_spelling, options_spelling, payload_spelling, spelling};
 
 use crate::datagram::Datagram;
 use crate::error::Full;
@@ -120,20 +121,29 @@ pub fn put_head(out: &mut Datagram, room: usize, head: Head, token: &Token) -> R
     append(out, room, token)
 }
 
+/// Writes the message of these parts (RFC 7252, 3), if it is at most `room` bytes. The datagram is
+/// cleared first. It takes no memory.
+///
+/// # Errors
+/// `Full`, exactly where the message is longer than `room` bytes. Then a part of it may have been
+/// written.
 #[tactic(auto, unfolding(crate::specs::Spelling::spelling))]
-fn put_message(out: &mut Datagram, room: usize, message: &Message) -> Result<(), Full>
+pub fn put_message(
+    out: &mut Datagram,
+    room: usize,
+    head: Head,
+    token: &Token,
+    options: &Options<'_>,
+    payload: &[u8],
+) -> Result<(), Full>
     requires { room ≤ out.old.room }
-    ensures written { Appends (holding out.old []) out.new room (spelling message.now) result }
-    ensures valid { OnOk result (IsMessage message.now) }
+    ensures written { Appends (holding out.old []) out.new room
+        (spelling (message_of head token.now options.now payload.now)) result }
+    ensures within { length token.now ≤ 8 }
 {
-    let head = Head {
-        kind: message.kind,
-        code: message.code,
-        id: message.id,
-    };
-    put_head(out, room, head, &message.token)?;
-    put_options(out, room, &message.options.lent())?;
-    put_payload(out, room, message.payload.as_slice())
+    put_head(out, room, head, token)?;
+    put_options(out, room, options)?;
+    put_payload(out, room, payload)
 }
 
 /// Writes the one spelling of a message, which takes no memory. The datagram is cleared first.
@@ -144,7 +154,14 @@ pub fn encode_into(message: &Message, out: &mut Datagram, room: usize) -> Result
     ensures full { IsErr result ↔ (room < length (spelling message.now)) }
     ensures err { OnErr result (out.new ≡ holding out.old []) }
 {
-    if let Err(full) = put_message(out, room, message) {
+    let head = Head {
+        kind: message.kind,
+        code: message.code,
+        id: message.id,
+    };
+    let options = message.options.lent();
+    let payload = message.payload.as_slice();
+    if let Err(full) = put_message(out, room, head, &message.token, &options, payload) {
         out.clear();
         return Err(full);
     }

@@ -1,5 +1,5 @@
 use Rattle.std.proofs.Common.{refl, arith}
-use Rattle.coap_cache.proofs.Parts.{AreOptions-part}
+use Rattle.coap_cache.proofs.AroundMaxAge.{AreOptions-part}
 use Rattle.coap_cache.proofs.show.put_part.Goals as goal
 
 pub loop-option-init : goal.loop-option-init

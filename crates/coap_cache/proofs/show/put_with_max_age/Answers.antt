@@ -6,7 +6,7 @@ use Rattle.coap_message.specs.Spelling.{options_spelling}
 use Rattle.coap_cache.specs.declared.show.Part.TheVariants.{Before}
 use Rattle.coap_cache.specs.Renewing.{max_age_option}
 use Rattle.coap_cache.specs.Writing.{part_of}
-use Rattle.coap_cache.proofs.Parts.{full-before, full-between, last-before, written-behind}
+use Rattle.coap_cache.proofs.AroundMaxAge.{full-before, full-between, last-before, written-after}
 use Rattle.coap_cache.proofs.show.put_with_max_age.Goals as goal
 
 pub returns-in_err-before : goal.returns-in_err-before
@@ -28,9 +28,9 @@ pub returns-in_err-put_part : goal.returns-in_err-put_part
 returns-in_err-put_part c =
     let p = err_from_is_err_and c.from_residual-in_err-put_part.result c.from_residual-in_err-put_part.ensures.1 in
     let max_age : Appends c.put_part.new.out c.put_max_age.new.out c.args.room (options_spelling (last_number 0 (part_of Before c.args.options.now)) (max_age_option c.args.left ∷ [])) (Ok tt) = rw c.in_ok-before.ensures.last at c.in_ok-put_max_age.ensures in
-    rw p.1 (written-behind c.args.left c.args.options.now c.args.out.now c.put_part.new.out c.put_max_age.new.out c.put_part-2.new.out c.args.room c.in_ok-before.ensures.written (Err p.0) max_age c.in_err-put_part.ensures.written)
+    rw p.1 (written-after c.args.left c.args.options.now c.args.out.now c.put_part.new.out c.put_max_age.new.out c.put_part-2.new.out c.args.room c.in_ok-before.ensures.written (Err p.0) max_age c.in_err-put_part.ensures.written)
 
 pub returns : goal.returns
 returns c =
     let max_age : Appends c.put_part.new.out c.put_max_age.new.out c.args.room (options_spelling (last_number 0 (part_of Before c.args.options.now)) (max_age_option c.args.left ∷ [])) (Ok tt) = rw c.in_ok-before.ensures.last at c.in_ok-put_max_age.ensures in
-    written-behind c.args.left c.args.options.now c.args.out.now c.put_part.new.out c.put_max_age.new.out c.put_part-2.new.out c.args.room c.in_ok-before.ensures.written (Ok tt) max_age c.in_ok-put_part.ensures.written
+    written-after c.args.left c.args.options.now c.args.out.now c.put_part.new.out c.put_max_age.new.out c.put_part-2.new.out c.args.room c.in_ok-before.ensures.written (Ok tt) max_age c.in_ok-put_part.ensures.written

@@ -16,6 +16,7 @@ delta c = more_of c.from-delta.result
 abbrev len : After-append → List ℕ
 len c = more_of (length c.args.value.now)
 
+-- together they are its spelling
 written : (c : After-append) → first c ++ (delta c ++ (len c ++ c.args.value.now)) ≡ option_spelling c.args.before (record { number = c.args.number; value = c.args.value.now })
 written c =
     option_written c.args.before (record { number = c.args.number; value = c.args.value.now }) c.from-delta.result (length c.args.value.now) c.bits.result c.bits-2.result c.from-delta.ensures refl c.bits.ensures.value c.bits-2.ensures.value

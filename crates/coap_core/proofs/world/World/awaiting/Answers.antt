@@ -19,6 +19,7 @@ returns-in_err-number-clause-exact g c =
 token : (g : Over) (c : After-get g) → token_of c.self.inside.salt c.in_ok-number.number ≡ c.args.response.now.token
 token g c = rw (← c.response.view_is, ← c.as_slice.ensures.bytes) c.in_ok-number.ensures.found
 
+-- the numbers that were given fit eight bytes
 few : (g : Over) (c : After-get g) → c.self.inside.exchanges.admitted < 2 ^ 64
 few g c = let o = rw (← c.self.view_is) at c.requires.opened in omega (arith, o)
 
