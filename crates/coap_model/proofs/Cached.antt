@@ -197,3 +197,7 @@ cache-obtained setting _ _ (hit {past = past} {cached = cs} d client request tar
     All-used P (request_key target request) cs entry found (All-weaken (WasObtained setting past) P cs (later setting past d) (cache-obtained setting past cs c))
 cache-obtained setting _ _ (otherwise {past = past} {cached = cs} d leaving c) =
     All-weaken (WasObtained setting past) (WasObtained setting (d ∷ past)) cs (later setting past d) (cache-obtained setting past cs c)
+
+-- so what is found in it was obtained
+pub found-obtained : (setting : Setting) (history : List Deed) (cached : List Cached) (key : CacheKey) (c : Cached) → IsCacheOf setting history cached → of_key cached_key key cached ≡ Some c → WasObtained setting history c
+found-obtained setting history cached key c is found = (find-holds (WasObtained setting history) (has_key cached_key key) cached c (cache-obtained setting history cached is) found).0

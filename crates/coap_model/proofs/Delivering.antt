@@ -95,7 +95,6 @@ delivery w history e id v a s act acts sent spells =
     record {
       waiter = v.0;
       act = act;
-      first = g.unserved;
       opened = o;
       target = s.target;
       getting = got.getting;

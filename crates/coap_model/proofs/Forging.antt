@@ -44,7 +44,7 @@ for_another s =
 
 -- it wasn't served
 pub again : ¬ IsDelivery setting (right ∷ past) right
-again s = let same = same_serves 1 s.waiter s.act in s.first.0 (record { act = ap serves same; outcome = refl })
+again s = s.acting.due.unserved.0 (record { act = refl; outcome = refl })
 
 -- its exchange was got
 pub nothing_got : ¬ IsDelivery setting (asked ∷ opened ∷ []) right

@@ -123,7 +123,6 @@ keeps_forwarding w history c now draw x onward due =
           target = x.1.key.target;
           id = id;
           target_is = may.target_is;
-          first = state.0;
           acting = acting w history c now (sending x) due e refl refl refl;
           tells = record { sent = refl; spells = spells };
         },

@@ -112,8 +112,6 @@ keeps_hitting w history c now draw client bytes m key entry onward first verdict
         verdict = verdict;
         is_cache = c.store.is_cache;
         found = f.is_there;
-        key_is = f.key_is;
-        obtained = f.was_obtained;
         fresh = fresh-at _ _ (subst (λ (s : Entry). is_usable now s.1 ≡ true) f.stored_is usable);
         new = first-new w history c now client bytes m onward first;
         ids = has-id w history c now draw client bytes m onward first free;

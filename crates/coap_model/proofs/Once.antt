@@ -1,23 +1,24 @@
 -- What is done at one place alone.
-use Rattle.std.proofs.Common.{◌≡◌, ℕ, List, sym, ◌∙◌, subst}
+use Rattle.std.proofs.Common.{◌≡◌, ℕ, List, subst}
 use Rattle.coap_model.specs.declared.report.Outcome.TheVariants.{SentRequest, Delivered}
 use Rattle.coap_model.specs.Setting.{Setting}
-use Rattle.coap_model.specs.History.{Deed, Place, IsPlaceOf, Never, Sends, Gets, Serves}
+use Rattle.coap_model.specs.Due.{IsDueAt}
+use Rattle.coap_model.specs.History.{Act, Deed, Place, IsPlaceOf, Never, Sends, Gets, Serves}
 use Rattle.coap_model.specs.Justified.{IsForwarding, IsDelivery, AllJustified}
 use Rattle.coap_model.proofs.Acting.{got-first}
-use Rattle.coap_model.proofs.Places.{same_moves, same_serves, first-once, justified-at}
+use Rattle.coap_model.proofs.Places.{first-once, justified-at}
 
 -- an exchange was never sent on before the place where it is
 sent-first : (setting : Setting) (history : List Deed) (x : ℕ) (p : Place) → AllJustified setting history → IsPlaceOf history p → Sends setting.salt x p → Never (Sends setting.salt x) p.before
 sent-first setting history x p all at s =
     let j : IsForwarding setting p.before p.deed = justified-at setting history p SentRequest all at s.outcome in
-    subst (λ (n : ℕ). Never (Sends setting.salt n) p.before) (same_moves j.exchange x (sym j.act ∙ s.act)) j.first
+    (subst (λ (a : Act). IsDueAt setting p.before a j.acting.at) s.act j.acting.due).unsent
 
 -- a client was never served before the place where it is
 served-first : (setting : Setting) (history : List Deed) (v : ℕ) (p : Place) → AllJustified setting history → IsPlaceOf history p → Serves v p → Never (Serves v) p.before
 served-first setting history v p all at s =
     let j : IsDelivery setting p.before p.deed = justified-at setting history p Delivered all at s.outcome in
-    subst (λ (n : ℕ). Never (Serves n) p.before) (same_serves j.waiter v (sym j.act ∙ s.act)) j.first
+    (subst (λ (a : Act). IsDueAt setting p.before a j.acting.at) s.act j.acting.due).unserved
 
 -- the request of an exchange is sent at one place
 pub sent-once : (setting : Setting) (history : List Deed) (x : ℕ) (a b : Place) → AllJustified setting history → IsPlaceOf history a → IsPlaceOf history b → Sends setting.salt x a → Sends setting.salt x b → a ≡ b

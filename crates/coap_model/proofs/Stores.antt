@@ -10,7 +10,7 @@ use Rattle.coap_routes.specs.Request.{request_target}
 use Rattle.coap_cache.specs.declared.key.CacheKey.{CacheKey}
 use Rattle.coap_cache.specs.declared.stored.Stored.{Stored}
 use Rattle.coap_cache.specs.Entries.{Entry, entry_key, entry_size, stored_for, IsStore}
-use Rattle.coap_cache.specs.Lists.{has_key, of_key, others, put, used, total}
+use Rattle.coap_cache.specs.Lists.{of_key, others, put, used, total}
 use Rattle.coap_cache.proofs.Distinct.{of_key-key}
 use Rattle.coap_cache.proofs.Held.{IsStore-others, IsStore-used, IsStore-put}
 use Rattle.coap_model.specs.declared.report.Outcome.TheVariants.{Answered, Hit}
@@ -19,11 +19,10 @@ use Rattle.coap_model.specs.Setting.{Setting}
 use Rattle.coap_model.specs.Forms.{request_key}
 use Rattle.coap_model.specs.History.{Deed, Place, Brings}
 use Rattle.coap_model.specs.Pairs.{Pairs, Both}
-use Rattle.coap_model.specs.Cached.{IsObtained, Cached, cached_key, cached_size, cached_here, entry_of_cached, store_limits, leaves, IsCacheOf, empty, kept, too_large, hit, otherwise, IsStored, IsStoreOf, WasObtained, IsEntryOf}
-use Rattle.coap_model.proofs.Lists.{find-holds}
+use Rattle.coap_model.specs.Cached.{IsObtained, Cached, cached_key, cached_size, cached_here, entry_of_cached, store_limits, leaves, IsCacheOf, empty, kept, too_large, hit, otherwise, IsStored, IsStoreOf, IsEntryOf}
 use Rattle.coap_model.proofs.Places.{here}
 use Rattle.coap_model.proofs.Pairs.{Pairs-total, Pairs-of_key, Pairs-others, Pairs-used, Pairs-put}
-use Rattle.coap_model.proofs.Cached.{cache-obtained}
+use Rattle.coap_model.proofs.Cached.{found-obtained}
 
 -- ---- what a store keeps of entries
 
@@ -84,7 +83,7 @@ found-cached setting history store cached key stored is each found = go (of_key 
   where
     go : (c : Option Cached) → of_key cached_key key cached ≡ c → Both IsStored (Some stored) c → IsEntryOf setting history cached key stored
     go None e both = absurd both
-    go (Some c) e both = record { entry = c; is_there = e; key_is = of_key-key cached_key key cached c e; stored_is = both; was_obtained = (find-holds (WasObtained setting history) (has_key cached_key key) cached c (cache-obtained setting history cached is) e).0 }
+    go (Some c) e both = record { entry = c; is_there = e; key_is = of_key-key cached_key key cached c e; stored_is = both; was_obtained = found-obtained setting history cached key c is e }
 
 -- and what the cache has for it is in the store
 pub cached-found : (store : List Entry) (cached : List Cached) (key : CacheKey) (c : Cached) → Pairs IsStored store cached → of_key cached_key key cached ≡ Some c → of_key entry_key key store ≡ Some (entry_of_cached c)

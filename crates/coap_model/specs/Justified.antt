@@ -27,9 +27,9 @@ use Rattle.coap_model.specs.Remembered.{most_remembered, remembered_at}
 use Rattle.coap_model.specs.Forms.{forwarded, key_sent, request_key}
 use Rattle.coap_model.specs.Verdicts.{Verdict, refused_with, may_ask, verdict_of, form_fits}
 use Rattle.coap_model.specs.Answers.{answer_of, stored_answer, shown}
-use Rattle.coap_model.specs.Cached.{IsObtained, Cached, cached_key, cached_size, cached_here, entry_of_cached, IsCacheOf, WasObtained}
+use Rattle.coap_model.specs.Cached.{IsObtained, Cached, cached_key, cached_size, cached_here, entry_of_cached, IsCacheOf}
 use Rattle.coap_model.specs.Due.{IsDueAt, IsSooner}
-use Rattle.coap_model.specs.History.{Entry, Act, no_item, admits, moves, serves, Deed, Place, IsPlaceOf, Never, takes, gives_id, opened_in, ids_in, HasIds, HasRoom, Opens, Brings, Sends, Meets, Gets, Serves, Gives}
+use Rattle.coap_model.specs.History.{Entry, Act, no_item, admits, moves, serves, Deed, Place, IsPlaceOf, Never, takes, gives_id, opened_in, ids_in, HasIds, HasRoom, Opens, Brings, Meets, Gets, Gives}
 
 -- ---- requests
 
@@ -119,8 +119,8 @@ pub record IsRefusal (setting : Setting) (past : List Deed) (d : Deed) (code : C
   pub tells : Tells client (at_once request (own_reply code [] id request.token)) d.entry
 
 -- A reply from the cache: the client is shown the entry of its key in the cache of what was done
--- before, which was obtained and is fresh, with what is left of its Max-Age, or as a 2.03 where one
--- of its tags is the entry's.
+-- before, which is fresh, with what is left of its Max-Age, or as a 2.03 where one of its tags is
+-- the entry's. That it was received for this key follows.
 pub record IsHit (setting : Setting) (past : List Deed) (d : Deed) : Type 0 where
   pub act : d.act ≡ no_item
   pub client : Endpoint
@@ -133,8 +133,6 @@ pub record IsHit (setting : Setting) (past : List Deed) (d : Deed) : Type 0 wher
   pub verdict : verdict_on setting request ≡ may_ask key
   pub is_cache : IsCacheOf setting past cached
   pub found : of_key cached_key key cached ≡ Some entry
-  pub key_is : entry.key ≡ key
-  pub obtained : WasObtained setting past entry
   pub fresh : is_fresh_at d.entry.now entry ≡ true
   pub new : IsNew setting past d.entry.now client request
   pub ids : HasIdFor request past
@@ -227,9 +225,9 @@ pub record IsActing (setting : Setting) (past : List Deed) (d : Deed) : Type 0 w
 
 -- ---- what is sent on, and what comes back
 
--- the request that is sent on: for an exchange that was opened and never sent, the request for the
--- target of the client's request, with what is sent on of its options and with the exchange's
--- token, to the target's endpoint
+-- the request that is sent on: for an exchange whose request is due, and so was never sent, the
+-- request for the target of the client's request, with what is sent on of its options and with the
+-- exchange's token, to the target's endpoint
 pub record IsForwarding (setting : Setting) (past : List Deed) (d : Deed) : Type 0 where
   pub exchange : ℕ
   pub act : d.act ≡ moves exchange
@@ -237,7 +235,6 @@ pub record IsForwarding (setting : Setting) (past : List Deed) (d : Deed) : Type
   pub target : Target
   pub id : ℕ
   pub target_is : request_target setting.routes opened.request ≡ Ok target
-  pub first : Never (Sends setting.salt exchange) past
   pub acting : IsActing setting past d
   pub tells :
       Tells target.at
@@ -299,7 +296,6 @@ pub record IsNotStored (setting : Setting) (past : List Deed) (d : Deed) : Type 
 pub record IsDelivery (setting : Setting) (past : List Deed) (d : Deed) : Type 0 where
   pub waiter : ℕ
   pub act : d.act ≡ serves waiter
-  pub first : Never (Serves waiter) past
   pub opened : WasOpened setting past waiter
   pub target : Target
   pub getting : Place
