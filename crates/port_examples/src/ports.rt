@@ -1,19 +1,16 @@
-//! A core over a port in memory, and the program over one, from its words to how it ends.
+//! A core over a port in memory, and the program over one, from its plan to how it ends.
 ghost use Rattle.std.specs.Prelude.{◌≡◌, IfOk};
 
 use coap_cache::ListStore;
 use coap_core::{Core, LimitValues, Limits};
 use coap_message::{OutOfMemory, Seq};
 use coap_port::{DriveError, Handed, MemoryPort, Port, Scripted, Stats, drive};
-use coap_proxyd::{Fault, Plan, read_plan, read_wanted, serve_port};
+use coap_proxyd::{Plan, serve_port};
 use coap_routes::Routes;
 use coap_target::{Endpoint, Ip};
 use std::alloc::{AllocError, Global};
 use std::process::Abort;
 use std::test::*;
-
-/// A map of `t`, a first message id and a salt.
-const WORDS: &str = "--map /t=coap://127.0.0.1:5690/temp --id 1 --salt 0 --turns ";
 
 /// A GET of `t` by a client, and the origin's answer.
 const GET: [u8; 6] = [0x50, 0x01, 0x00, 0x07, 0xB1, 0x74];
@@ -32,22 +29,18 @@ const BOTH: &str = "\
 40001 50450002D1010AFF3231
 ";
 
-/// What the program is to do by its words, with so many turns.
-fn plan(alloc: Global, turns: &str) -> Result<Plan, Fault> {
-    let Ok(words) = words(alloc, turns) else {
-        return Err(Fault::OutOfMemory);
-    };
-    read_plan(alloc, read_wanted(alloc, &words)?, None)
-}
-
-/// The words of a plan.
-fn words(alloc: Global, turns: &str) -> Result<Vec<String>, AllocError> {
-    let mut words = Vec::new(alloc);
-    for word in WORDS.split_whitespace() {
-        words.push(String::from_str(alloc, word)?)?;
-    }
-    words.push(String::from_str(alloc, turns)?)?;
-    Ok(words)
+/// What the program is to do: to map `t` to the origin, and to end after so many turns.
+fn plan(alloc: Global, turns: u64) -> Result<Plan, Fail> {
+    let ip = Ip::V4([127, 0, 0, 1]);
+    Ok(Plan {
+        local: Endpoint { ip, port: 5683 },
+        limits: Limits::new(LimitValues::default())?,
+        routes: Routes::fixed(alloc)?,
+        replay: false,
+        first_id: Some(1),
+        salt: Some(0),
+        turns: Some(turns),
+    })
 }
 
 /// A datagram from this host, at a moment.
@@ -156,13 +149,10 @@ fn a_core_is_driven_over_a_port(rt: HostRuntime) -> Result<(), Fail> {
 // ---- the program
 
 /// How many datagrams are handed over, and how the program ends, with so many turns.
-fn done(alloc: Global, turns: &str, refused: Option<usize>) -> Result<(usize, String), Fail> {
+fn done(alloc: Global, turns: u64, refused: Option<usize>) -> Result<(usize, String), Fail> {
     let mut port = port(alloc, 2, refused)?;
-    let ended = match plan(alloc, turns) {
-        Ok(plan) => serve_port::<_, ListStore>(alloc, (), plan, 9, 9, &mut port),
-        Err(fault) => Err(fault),
-    };
-    let text = match ended {
+    let plan = plan(alloc, turns)?;
+    let text = match serve_port::<_, ListStore>(alloc, (), plan, 9, 9, &mut port) {
         Ok(()) => String::from_str(alloc, "done")?,
         Err(fault) => format!(in alloc; "{fault}")?,
     };
@@ -174,14 +164,14 @@ fn the_program_runs_over_a_port(rt: HostRuntime) -> Result<(), Fail> {
     let alloc = rt.alloc();
     for (turns, refused, handed, told) in [
         // the request is sent on at the second turn, its answer delivered at the fourth
-        ("1", None, 0, "done"),
-        ("3", None, 1, "done"),
-        ("4", None, 2, "done"),
+        (1, None, 0, "done"),
+        (3, None, 1, "done"),
+        (4, None, 2, "done"),
         // the port fails at the fifth, as it has nothing more to give
-        ("5", None, 2, "coap-proxyd: socket"),
+        (5, None, 2, "coap-proxyd: socket"),
         // a datagram that isn't taken ends nothing
-        ("4", Some(0), 1, "done"),
-        ("4", Some(1), 1, "done"),
+        (4, Some(0), 1, "done"),
+        (4, Some(1), 1, "done"),
     ] {
         let (count, text) = done(alloc, turns, refused)?;
         assert_eq!(rt; (count, text.as_str()), (handed, told));

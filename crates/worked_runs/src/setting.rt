@@ -51,12 +51,9 @@ pub(crate) fn config_of(alloc: Global, events: &[u8]) -> io::Result<Option<Strin
     Ok(Some(text))
 }
 
-/// A line of a mark isn't as it should be.
+/// A line of a run's setting can't be read.
 fn bad_mark() -> io::Error {
-    io::Error::new(
-        ErrorKind::InvalidData,
-        "a line of a run's setting can't be read",
-    )
+    io::Error::from(ErrorKind::InvalidData)
 }
 
 /// The two parts of each value, parted by a space.
