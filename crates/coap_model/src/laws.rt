@@ -10,7 +10,7 @@ ghost use Rattle.coap_cache.specs.declared.key.CacheKey.{CacheKey};
 ghost use Rattle.coap_routes.specs.Routes.{AreRoutes};
 ghost use Rattle.coap_exchange.specs.declared.exchange.Answer.{Answer};
 ghost use Rattle.coap_model.specs.Limits.{AreLimits, default_limits};
-ghost use Rattle.coap_model.specs.Setting.{Setting};
+ghost use Rattle.coap_model.specs.Setting.{Setting, setting_of};
 ghost use Rattle.coap_model.specs.declared.report.Outcome.{Outcome};
 ghost use Rattle.coap_model.specs.declared.report.Outcome.TheVariants.{Rejected, Again, NoRecordRoom, Hit, Opened, Idle, Refused, Overloaded, NoId, Answered};
 ghost use Rattle.coap_cache.specs.Lists.{of_key, total};
@@ -112,8 +112,8 @@ pub fn examples_of_replies()
 {}
 
 /// The form of a target with a host and a query, and that target read back off it; replies of the
-/// proxy's own, and ids that are put in; what is held, counted and due after some turns; and which
-/// replies need no memory.
+/// proxy's own, and ids that are put in; what is held, counted and due after some turns; which
+/// outcomes need no memory and which may; and what a proxy is made with.
 pub fn examples_of_forms_and_tables()
     ensures form { spelling (forwarded eight_zeros named [] 7) ≡ named_form }
     ensures own { spelling (own_reply NOT_FOUND [] 7 (0xAA ∷ []))
@@ -143,6 +143,13 @@ pub fn examples_of_forms_and_tables()
         } }
     ensures no_memory_to_repeat { takes_memory Again ≡ false }
     ensures no_memory_to_forget { takes_memory NoRecordRoom ≡ false }
+    ensures memory_to_answer { takes_memory (Answered Kept) ≡ true }
+    ensures memory_to_refuse { takes_memory (Refused NOT_FOUND) ≡ true }
+    ensures first_id { (setting_of default_limits proxy.setting.routes 1 2).first_id ≡ 1 }
+    ensures salt { (setting_of default_limits proxy.setting.routes 1 2).salt ≡ 2 }
+    ensures turns { turns_of
+        (record { turn = record { now = 5; draw = 3; event = tick }; grown = true } ∷ [])
+        ≡ record { now = 5; draw = 3; event = tick } ∷ [] }
     ensures none_due { next_due proxy ≡ None }
     ensures due_at_opening { next_due (after proxy (asks_at 5 1 ∷ [])) ≡ Some 5 }
 {}
