@@ -1,6 +1,6 @@
 //! Laws of the step: public functions that do nothing, whose contracts are the laws.
 ghost use Rattle.std.specs.Prelude.{◌≡◌, ◌≢◌, ℕ, ◌+◌, ◌-◌, ◌*◌, ◌%◌, ◌<◌, ◌≤◌, Bool, true, List, [], ◌∷◌, ◌++◌, filter, length, map, Some, None, false};
-ghost use Rattle.coap_message.specs.declared.kind.Kind.TheVariants.{Con, Non};
+ghost use Rattle.coap_message.specs.declared.kind.Kind.TheVariants.{Con, Non, Ack};
 ghost use Rattle.coap_message.specs.declared.message.Head.{Head};
 ghost use Rattle.coap_message.specs.Message.{Message};
 ghost use Rattle.coap_message.specs.Reading.{head_at};
@@ -35,7 +35,7 @@ ghost use Rattle.coap_model.specs.Memory.{takes_memory};
 ghost use Rattle.coap_model.specs.Step.{step_of};
 ghost use Rattle.coap_model.specs.Ticks.{next_due, with_id};
 ghost use Rattle.coap_model.specs.History.{Entry, Act, no_item, serves, takes, grown_of, gives_id, ids_in, under_way, Deed, Place, IsPlaceOf, Somewhere, Sends, Gets, Serves, Gives, HasRoom, last_of, IsInOrder};
-ghost use Rattle.coap_model.specs.Messages.{brings_requests, eight_zeros, own_reply, told_again};
+ghost use Rattle.coap_model.specs.Messages.{brings_requests, eight_zeros, own_reply, reply_kind, told_again};
 ghost use Rattle.coap_model.specs.Duplicates.{IsRememberedAt, Repeats};
 ghost use Rattle.coap_model.specs.Due.{IsDueAt, IsNextDue};
 ghost use Rattle.coap_model.specs.Justified.{IsRequestOf, IsNew, IsUnprocessable, verdict_on, fits_on, is_fresh_at, HasIdFor, IsMiss, IsObtainedHere, size_here, HaveOneMemory, IsAwaited, IsActing, IsDelivery, JustifiedBy, AllJustified, IsOwed, MayFollow, AreOfOneTurn, IsForwarding};
@@ -118,8 +118,11 @@ pub fn examples_of_forms_and_tables()
     ensures form { spelling (forwarded eight_zeros named [] 7) ≡ named_form }
     ensures own { spelling (own_reply NOT_FOUND [] 7 (0xAA ∷ []))
         ≡ 0x51 ∷ 0x84 ∷ 0 ∷ 7 ∷ 0xAA ∷ [] }
+    ensures to_no_request { reply_kind Ack ≡ Non }
+    ensures of_no_request { told_again Ack (9 ∷ []) ≡ None }
     ensures gateway { spelling bad_gateway ≡ 0x50 ∷ 0xA2 ∷ 0 ∷ 0 ∷ [] }
     ensures greatest { uint_spelling greatest_max_age ≡ 0xFF ∷ 0xFF ∷ 0xFF ∷ 0xFF ∷ [] }
+    ensures short_of_one { with_id 0x0102 (9 ∷ []) ≡ 9 ∷ [] }
     ensures short_of_two { with_id 0x0102 (9 ∷ 8 ∷ []) ≡ 9 ∷ 8 ∷ [] }
     ensures short_of_three { with_id 0x0102 (9 ∷ 8 ∷ 7 ∷ []) ≡ 9 ∷ 8 ∷ 7 ∷ [] }
     ensures for_want_of_memory { refusal_of OutOfMemory ≡ BAD_REQUEST }
@@ -145,11 +148,12 @@ pub fn examples_of_forms_and_tables()
     ensures no_memory_to_forget { takes_memory NoRecordRoom ≡ false }
     ensures memory_to_answer { takes_memory (Answered Kept) ≡ true }
     ensures memory_to_refuse { takes_memory (Refused NOT_FOUND) ≡ true }
-    ensures first_id { (setting_of default_limits proxy.setting.routes 1 2).first_id ≡ 1 }
-    ensures salt { (setting_of default_limits proxy.setting.routes 1 2).salt ≡ 2 }
+    ensures first_id { (setting_of default_limits proxy.setting.routes 7 8).first_id ≡ 7 }
+    ensures salt { (setting_of default_limits proxy.setting.routes 7 8).salt ≡ 8 }
     ensures turns { turns_of
         (record { turn = record { now = 5; draw = 3; event = tick }; grown = true } ∷ [])
         ≡ record { now = 5; draw = 3; event = tick } ∷ [] }
+    ensures a_turn { AreTurns 5 (record { now = 5; draw = 3; event = tick } ∷ []) }
     ensures none_due { next_due proxy ≡ None }
     ensures due_at_opening { next_due (after proxy (asks_at 5 1 ∷ [])) ≡ Some 5 }
 {}
