@@ -34,7 +34,7 @@ ghost use Rattle.coap_routes.specs.declared.error.TargetError.TheVariants.{OutOf
 ghost use Rattle.coap_model.specs.Memory.{takes_memory};
 ghost use Rattle.coap_model.specs.Step.{step_of};
 ghost use Rattle.coap_model.specs.Ticks.{next_due, with_id};
-ghost use Rattle.coap_model.specs.History.{Entry, Act, no_item, serves, takes, grown_of, gives_id, ids_in, under_way, Deed, Place, IsPlaceOf, Somewhere, Sends, Gets, Serves, Gives, HasRoom, last_of, IsInOrder};
+ghost use Rattle.coap_model.specs.History.{Entry, Act, no_item, serves, takes, comes_con, grown_of, gives_id, ids_in, under_way, Deed, Place, IsPlaceOf, Somewhere, Sends, Gets, Serves, Gives, HasRoom, last_of, IsInOrder};
 ghost use Rattle.coap_model.specs.Messages.{brings_requests, eight_zeros, own_reply, reply_kind, told_again};
 ghost use Rattle.coap_model.specs.Duplicates.{IsRememberedAt, Repeats};
 ghost use Rattle.coap_model.specs.Due.{IsDueAt, IsNextDue};
@@ -153,6 +153,9 @@ pub fn examples_of_forms_and_tables()
     ensures turns { turns_of
         (record { turn = record { now = 5; draw = 3; event = tick }; grown = true } ∷ [])
         ≡ record { now = 5; draw = 3; event = tick } ∷ [] }
+    ensures one_memory { HaveOneMemory (Answered Kept) (Answered TooLarge) }
+    ensures any_memory { HaveOneMemory Opened Idle }
+    ensures no_datagram { comes_con tick ≡ false }
     ensures a_turn { AreTurns 5 (record { now = 5; draw = 3; event = tick } ∷ []) }
     ensures none_due { next_due proxy ≡ None }
     ensures due_at_opening { next_due (after proxy (asks_at 5 1 ∷ [])) ≡ Some 5 }
