@@ -3,8 +3,6 @@ pub mod Cuts
 pub mod Found
 pub mod Distinct
 pub mod Held
-pub mod Marking
-pub mod ListStores
 pub mod Tags
 pub mod Picked
 pub mod Renewals

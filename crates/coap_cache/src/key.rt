@@ -6,7 +6,7 @@ use coap_target::Target;
 
 /// What a request and one whose response was stored have in common where that response answers
 /// both: the target, and the options that take part in the cache key (RFC 7252, 5.4.2 and 5.6).
-#[derive(Clone, Debug, PartialEq, Eq, Hash)]
+#[derive(PartialEq, Eq, Hash)]
 pub struct CacheKey {
     pub target: Target,
     pub options: OptionList,

@@ -5,7 +5,6 @@ use coap_message::Message;
 use coap_option::max_age;
 
 /// A response that is kept.
-#[derive(Clone, Debug, PartialEq, Eq)]
 pub struct Stored {
     /// The response. Its kind, its message id and its token are of no account.
     pub response: Message,

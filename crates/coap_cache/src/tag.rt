@@ -9,7 +9,7 @@ use coap_message::{Code, Message, Options, Pieces};
 use coap_option::{Side, numbers, recognised};
 
 /// The value of a response's ETag, the first one, if it is recognised.
-pub(crate) fn tag_of<'a>(options: &Options<'a>) -> Option<&'a [u8]>
+pub fn tag_of<'a>(options: &Options<'a>) -> Option<&'a [u8]>
     ensures value { option_map (λ tag. tag.now) result ≡ tag_of options.now }
     ensures short { IfSome result (λ tag. length tag.now ≤ 8) }
 {

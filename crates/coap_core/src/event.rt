@@ -6,7 +6,7 @@ ghost use Rattle.coap_core.specs.Events.{seen};
 use coap_target::Endpoint;
 
 /// What happens to a proxy.
-#[derive(Clone, Copy, Debug, PartialEq, Eq)]
+#[derive(Clone, Copy)]
 pub enum Event<'a> {
     /// A datagram came from an endpoint.
     Datagram { from: Endpoint, bytes: &'a [u8] },

@@ -17,7 +17,6 @@ pub const EXCHANGE_LIFETIME: u64 = 247_000;
 pub const NON_LIFETIME: u64 = 145_000;
 
 /// A message that was seen, and what was sent at once in reply to it.
-#[derive(Clone, Debug, PartialEq, Eq)]
 pub struct Record {
     /// Where the message came from.
     pub from: Endpoint,

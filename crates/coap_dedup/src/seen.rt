@@ -1,7 +1,7 @@
 //! Whether a message was seen before.
 
 /// Whether a message was seen before (RFC 7252, 4.5).
-#[derive(Clone, Copy, Debug, PartialEq, Eq)]
+#[derive(Clone, Copy)]
 pub enum Seen<'a> {
     /// It is a new one.
     New,

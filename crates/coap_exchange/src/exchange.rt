@@ -8,7 +8,7 @@ use coap_cache::CacheKey;
 use coap_message::{Message, Seq};
 
 /// The sending of a request.
-#[derive(Clone, Copy, Debug, PartialEq, Eq)]
+#[derive(Clone, Copy)]
 pub struct Sending {
     /// The number of the event in which the request was first sent.
     pub asked: u64,
@@ -17,7 +17,6 @@ pub struct Sending {
 }
 
 /// The answer of an exchange.
-#[derive(Clone, Debug, PartialEq, Eq)]
 pub struct Answer {
     pub message: Message,
     /// The moment at which it came, in milliseconds.
@@ -42,7 +41,7 @@ impl Drop for Answer {
 ///           a tick sends           a response comes        the last waiter is served
 /// Queued  -------------->  Sent  ------------------> Done ------------------------->  closed
 /// ```
-#[derive(Clone, Debug, Drop, PartialEq, Eq)]
+#[derive(Drop)]
 pub enum ExchangeState {
     /// The request waits for its turn.
     Queued,
@@ -75,7 +74,6 @@ impl ExchangeState {
 }
 
 /// A request on its way to an origin.
-#[derive(Clone, Debug, PartialEq, Eq)]
 pub struct Exchange {
     /// What its response answers: the target, and the options that take part in the cache key.
     pub key: CacheKey,

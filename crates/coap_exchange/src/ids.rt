@@ -4,7 +4,7 @@ ghost use Rattle.coap_exchange.specs.Ids.{nth_id};
 
 /// The message ids that a proxy gives: counted up from the first, and begun anew at 0 after 65,535.
 /// `next` asks that fewer than 32,768 were given, so that none comes back.
-#[derive(Clone, Copy, Debug, PartialEq, Eq)]
+#[derive(Clone, Copy)]
 pub struct Ids {
     /// The first.
     pub first: u16,

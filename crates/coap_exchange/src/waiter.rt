@@ -8,7 +8,6 @@ use coap_target::Endpoint;
 ///            its exchange is done, a tick serves it
 /// waiting  ---------------------------------------->  closed
 /// ```
-#[derive(Clone, Debug, PartialEq, Eq)]
 pub struct Waiter {
     pub client: Endpoint,
     pub token: Token,

@@ -1,6 +1,6 @@
 -- The store that is kept as a list keeps its word.
 use Rattle.std.proofs.Common.{◌≡◌, List, sym, subst}
-use Rattle.coap_cache.specs.declared.list_store.ListStore.{ListStore}
+use Rattle.coap_list.specs.declared.list_store.ListStore.{ListStore}
 use Rattle.coap_cache.specs.Entries.{Entry, Limits, IsStore}
 
 -- the limits of a store

@@ -3,17 +3,13 @@ ghost use Rattle.std.specs.Prelude.{◌≡◌, ◌<◌, ◌≤◌, ◌^◌, ◌�
 ghost use Rattle.coap_cache.specs.Entries.{entry_key, entry_size, is_for, marked};
 ghost use Rattle.coap_cache.specs.Lists.{are_distinct, cut, has_key, of_key, others, total, used};
 
-use crate::key::CacheKey;
-use crate::size::bytes_of;
-use crate::store::{Put, Store};
-use crate::stored::Stored;
+use coap_cache::{CacheKey, Put, Store, Stored, bytes_of};
 use coap_message::OutOfMemory;
 use coap_target::Target;
 use std::alloc::Global;
 
 /// A store that keeps its entries as a list, the most recently used first, and walks it for each
 /// call.
-#[derive(Debug)]
 pub struct ListStore {
     entries: Vec<(CacheKey, Stored)>,
     most_bytes: u64,

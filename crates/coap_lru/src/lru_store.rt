@@ -21,7 +21,6 @@ use std::hash::BuildHasher;
 /// A store that finds an entry by the hash of its key, and the keys of a target by the hash of
 /// that. Strangers choose both, so that the hasher is to have keys drawn at random, as
 /// `RandomState` has.
-#[derive(Debug)]
 pub struct LruStore<H: BuildHasher> {
     recent: LruCache<CacheKey, Stored, H>,
     total: u64,

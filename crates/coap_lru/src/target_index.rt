@@ -17,7 +17,6 @@ use std::collections::{HashMap, HashSet};
 use std::hash::BuildHasher;
 
 /// Keys in groups, one for each target.
-#[derive(Debug)]
 pub(crate) struct TargetIndex<H: BuildHasher> {
     pub(crate) groups: HashMap<Target, HashSet<CacheKey, H>, H>,
     alloc: Global,

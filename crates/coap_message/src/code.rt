@@ -3,7 +3,7 @@ ghost use Rattle.std.specs.Prelude.{◌≡◌, ◌/◌, ◌%◌, ◌↔◌, IsTr
 ghost use Rattle.coap_message.specs.Codes.{is_request, is_response};
 
 /// A code: three bits of class and five bits of detail, written `c.dd` (RFC 7252, 3).
-#[derive(Clone, Copy, Debug, PartialEq, Eq, PartialOrd, Ord, Hash)]
+#[derive(Clone, Copy, Debug, PartialEq, Eq)]
 pub struct Code(pub u8);
 
 impl Code {

@@ -7,7 +7,7 @@ use std::marker::Model;
 
 /// A buffer for one datagram, whose room is reserved once. A contract sees its room and the bytes
 /// that it holds.
-#[derive(Debug, Drop)]
+#[derive(Drop)]
 pub struct Datagram {
     places: Vec<u8>,
     held: usize,

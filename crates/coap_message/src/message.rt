@@ -13,7 +13,7 @@ use std::marker::Model;
 
 /// A message. An Empty one, of code 0.00, has neither token nor options nor payload (RFC 7252,
 /// 4.1).
-#[derive(Clone, Debug, PartialEq, Eq, Hash)]
+#[derive(Clone)]
 pub struct Message {
     pub kind: Kind,
     pub code: Code,
@@ -51,7 +51,7 @@ impl Model for Message {
 }
 
 /// The beginning of a message that any datagram of at least four bytes and version 1 has.
-#[derive(Clone, Copy, Debug, PartialEq, Eq, Hash)]
+#[derive(Clone, Copy)]
 pub struct Head {
     pub kind: Kind,
     pub code: Code,

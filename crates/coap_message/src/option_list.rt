@@ -15,7 +15,7 @@ use std::hash::{Hash, Hasher};
 use std::marker::Model;
 
 /// Options in order, kept as the bytes that spell them. A contract sees the list.
-#[derive(Debug, Drop)]
+#[derive(Drop)]
 pub struct OptionList {
     pub(crate) bytes: Seq<u8>,
     pub(crate) last: u16,

@@ -12,14 +12,14 @@ use std::alloc::Global;
 use std::marker::Model;
 
 /// An option: a number and a value (RFC 7252, 3.1).
-#[derive(Clone, Debug, Drop, PartialEq, Eq, Hash)]
+#[derive(Drop)]
 pub struct Opt {
     pub number: u16,
     pub value: Seq<u8>,
 }
 
 /// An option whose value is lent.
-#[derive(Clone, Copy, Debug)]
+#[derive(Clone, Copy)]
 pub struct OptRef<'a> {
     pub number: u16,
     pub value: &'a [u8],

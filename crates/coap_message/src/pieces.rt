@@ -55,7 +55,7 @@ impl<'a> Iterator for PieceRefs<'a> {
 }
 
 /// A list of byte strings. A contract sees the list.
-#[derive(Debug, Drop)]
+#[derive(Drop)]
 pub struct Pieces {
     bytes: Seq<u8>,
 }

@@ -10,7 +10,7 @@ use std::hash::{Hash, Hasher};
 use std::marker::Model;
 
 /// A list of `T`, kept in a `Vec`. A contract sees the list, and neither pointer nor capacity.
-#[derive(Debug, Drop)]
+#[derive(Drop)]
 pub struct Seq<T> {
     items: Vec<T>,
 }

@@ -4,7 +4,7 @@ ghost use Rattle.std.specs.Prelude.{◌≡◌, ◌≤◌, ◌++◌, [], replicat
 use std::marker::Model;
 
 /// A token: at most eight bytes (RFC 7252, 3). A contract sees the bytes.
-#[derive(Clone, Copy, Debug, PartialEq, Eq, Hash)]
+#[derive(Clone, Copy, Debug, PartialEq, Eq)]
 pub struct Token {
     places: [u8; 8],
     len: usize,

@@ -15,7 +15,7 @@ use std::marker::Model;
 const LAST_MOMENT: u64 = 1 << 62;
 
 /// A turn of a script: a moment, a draw, and a datagram with its source, or none for a tick.
-#[derive(Debug, Drop)]
+#[derive(Drop)]
 pub struct Scripted {
     pub now: u64,
     pub draw: u16,
@@ -23,7 +23,7 @@ pub struct Scripted {
 }
 
 /// Bytes that were handed to a port for an endpoint.
-#[derive(Debug, Drop)]
+#[derive(Drop)]
 pub struct Handed {
     pub to: Endpoint,
     pub bytes: Seq<u8>,

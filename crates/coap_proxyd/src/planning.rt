@@ -20,7 +20,7 @@ use coap_words::{Config, parse_map_option, read_config};
 use std::alloc::Global;
 
 /// What the program is to do.
-#[derive(Debug, Drop)]
+#[derive(Drop)]
 pub struct Plan {
     /// Where to listen.
     pub local: Endpoint,

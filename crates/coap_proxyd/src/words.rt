@@ -14,7 +14,7 @@ use std::alloc::Global;
 const PORT: u16 = 5683;
 
 /// What the words of the program ask for, of which `-A` and `-P` were read.
-#[derive(Debug, Drop)]
+#[derive(Drop)]
 pub struct Wanted {
     /// Where to listen.
     pub local: Endpoint,

@@ -15,7 +15,7 @@ pub enum RenewError {
 
 impl From<OutOfMemory> for RenewError {
     ghost use Rattle.std.specs.Prelude.{◌≡◌};
-    ghost use Rattle.coap_cache.specs.declared.error.RenewError.TheVariants as errors;
+    ghost use Rattle.coap_renewal.specs.declared.error.RenewError.TheVariants as errors;
 
     ghost from_gives = { λ _ e. e ≡ errors.OutOfMemory };
 

@@ -4,8 +4,7 @@ ghost use Rattle.coap_message.specs.Options.{AreOptions, last_number};
 ghost use Rattle.coap_cache.specs.Renewing.{above, below, from, is_validated, max_age_option, news_of, renewed, safe_options, updated};
 
 use crate::error::RenewError;
-use crate::stored::Stored;
-use crate::tag::tag_of;
+use coap_cache::{Stored, tag_of};
 use coap_message::{
     Code, Message, MessageRef, OptRefs, OptionList, Options, OutOfMemory, without_zeros,
 };

@@ -4,7 +4,6 @@ use coap_target::{Ip, Target};
 
 /// Where paths lead that begin with the prefix: to the origin, with what is left of the path after
 /// the origin's own.
-#[derive(Clone, Debug, PartialEq, Eq, Hash)]
 pub struct Map {
     pub prefix: Pieces,
     pub origin: Target,
@@ -20,7 +19,6 @@ impl Drop for Map {
 }
 
 /// A host's name, in ASCII lower case, and its address.
-#[derive(Clone, Debug, PartialEq, Eq, Hash)]
 pub struct KnownHost {
     pub name: Seq<u8>,
     pub ip: Ip,

@@ -15,7 +15,6 @@ use std::marker::Model;
 /// The routes of a proxy: its own names, the addresses of hosts, and its maps, each in the order in
 /// which it was handed in. A contract sees the three lists. The origins of the maps are targets:
 /// host, segments and parts of the query have at most 255 bytes each.
-#[derive(Debug)]
 pub struct Routes {
     pub(crate) names: Seq<HostPart>,
     pub(crate) hosts: Seq<KnownHost>,

@@ -7,7 +7,7 @@ use coap_message::{OutOfMemory, Pieces, Seq};
 
 /// A resource of an origin: the host by which it is asked for, none for an address; the endpoint;
 /// the segments of its path and the parts of its query, decoded.
-#[derive(Clone, Debug, PartialEq, Eq, Hash)]
+#[derive(Clone, PartialEq, Eq, Hash)]
 pub struct Target {
     pub host: Option<Seq<u8>>,
     pub at: Endpoint,

@@ -22,7 +22,7 @@ use url::{Host, Url};
 pub const DEFAULT_PORT: u16 = 5683;
 
 /// A host: a name, or an address.
-#[derive(Clone, Debug, Drop, PartialEq, Eq, Hash)]
+#[derive(Drop, PartialEq, Eq)]
 pub enum HostPart {
     Name(Seq<u8>),
     Addr(Ip),
@@ -39,7 +39,7 @@ impl HostPart {
 
 /// The parts of a `coap` URI, decoded. A name of a host is in ASCII lower case but for what its
 /// escapes stood for.
-#[derive(Clone, Debug, Drop, PartialEq, Eq, Hash)]
+#[derive(Drop, PartialEq, Eq)]
 pub struct UriParts {
     pub host: HostPart,
     pub port: u16,

@@ -19,7 +19,7 @@ use toml::{Table, Value};
 
 /// What a configuration says. Names, hosts and maps are the texts of which `Routes::new` makes
 /// routes.
-#[derive(Debug, Drop)]
+#[derive(Drop)]
 pub struct Config {
     /// The limits; each that is left out has its default.
     pub limits: Limits,

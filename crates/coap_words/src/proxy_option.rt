@@ -16,7 +16,7 @@ use std::alloc::Global;
 const MOST_NAMES: usize = 64;
 
 /// What `-P` says.
-#[derive(Debug, Drop)]
+#[derive(Drop)]
 pub struct ProxyOption {
     /// The proxy that requests are sent to. None so far.
     pub next: Option<Endpoint>,

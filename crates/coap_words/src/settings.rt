@@ -6,7 +6,6 @@ use std::alloc::AllocError;
 use thiserror::Error;
 
 /// What each option says, where it is given.
-#[derive(Debug)]
 pub struct Settings {
     /// `-A`: the local address, as a text (`read_local_address`).
     pub address: Option<String>,

@@ -1,5 +1,4 @@
-//! Tests over ports: a core and the program over one in memory, which ends and refuses, and a port
-//! over a socket.
+//! Tests over ports: a core over one in memory, which ends and refuses, and a port over a socket.
 #![tactic(auto)]
 
 #[cfg(test)]

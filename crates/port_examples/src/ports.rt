@@ -1,11 +1,10 @@
-//! A core over a port in memory, and the program over one, from its plan to how it ends.
+//! A core over a port in memory.
 ghost use Rattle.std.specs.Prelude.{◌≡◌, IfOk};
 
-use coap_cache::ListStore;
 use coap_core::{Core, LimitValues, Limits};
+use coap_list::ListStore;
 use coap_message::{OutOfMemory, Seq};
 use coap_port::{DriveError, Handed, MemoryPort, Port, Scripted, Stats, drive};
-use coap_proxyd::{Plan, serve_port};
 use coap_routes::Routes;
 use coap_target::{Endpoint, Ip};
 use std::alloc::{AllocError, Global};
@@ -28,20 +27,6 @@ const BOTH: &str = "\
 5690 480100010000000000000001B474656D70
 40001 50450002D1010AFF3231
 ";
-
-/// What the program is to do: to map `t` to the origin, and to end after so many turns.
-fn plan(alloc: Global, turns: u64) -> Result<Plan, Fail> {
-    let ip = Ip::V4([127, 0, 0, 1]);
-    Ok(Plan {
-        local: Endpoint { ip, port: 5683 },
-        limits: Limits::new(LimitValues::default())?,
-        routes: Routes::fixed(alloc)?,
-        replay: false,
-        first_id: Some(1),
-        salt: Some(0),
-        turns: Some(turns),
-    })
-}
 
 /// A datagram from this host, at a moment.
 fn arrival(alloc: Global, now: u64, port: u16, bytes: &[u8]) -> Result<Scripted, OutOfMemory> {
@@ -67,8 +52,6 @@ fn port(alloc: Global, given: usize, refused: Option<usize>) -> Result<MemoryPor
     }
     Ok(port)
 }
-
-// ---- a core
 
 /// What was done in so many turns, where the port took so many datagrams, and didn't take others.
 fn stats(turns: u64, sent: u64, send_faults: u64) -> Stats {
@@ -142,39 +125,6 @@ fn a_core_is_driven_over_a_port(rt: HostRuntime) -> Result<(), Fail> {
         (4, 2, Some(1), (Ok(stats(4, 1, 1)), SENT_ON)),
     ] {
         check_driven(&rt, alloc, (turns, given, refused), expected)?;
-    }
-    Ok(())
-}
-
-// ---- the program
-
-/// How many datagrams are handed over, and how the program ends, with so many turns.
-fn done(alloc: Global, turns: u64, refused: Option<usize>) -> Result<(usize, String), Fail> {
-    let mut port = port(alloc, 2, refused)?;
-    let plan = plan(alloc, turns)?;
-    let text = match serve_port::<_, ListStore>(alloc, (), plan, 9, 9, &mut port) {
-        Ok(()) => String::from_str(alloc, "done")?,
-        Err(fault) => format!(in alloc; "{fault}")?,
-    };
-    Ok((port.handed().len(), text))
-}
-
-#[test]
-fn the_program_runs_over_a_port(rt: HostRuntime) -> Result<(), Fail> {
-    let alloc = rt.alloc();
-    for (turns, refused, handed, told) in [
-        // the request is sent on at the second turn, its answer delivered at the fourth
-        (1, None, 0, "done"),
-        (3, None, 1, "done"),
-        (4, None, 2, "done"),
-        // the port fails at the fifth, as it has nothing more to give
-        (5, None, 2, "coap-proxyd: socket"),
-        // a datagram that isn't taken ends nothing
-        (4, Some(0), 1, "done"),
-        (4, Some(1), 1, "done"),
-    ] {
-        let (count, text) = done(alloc, turns, refused)?;
-        assert_eq!(rt; (count, text.as_str()), (handed, told));
     }
     Ok(())
 }

@@ -1,7 +1,9 @@
-//! Tests that cross crates, of what no worked run can show: what a core tells of itself, and
-//! readers and writers that fail.
+//! Tests of what no worked run can show: what a core tells of itself, readers and writers that fail,
+//! and calls that the program has no use for.
 #![tactic(auto)]
 
+#[cfg(test)]
+mod parts;
 #[cfg(test)]
 mod replays;
 #[cfg(test)]

@@ -1,5 +1,6 @@
-//! What is copied of the options of a request, and the bytes of a number, with ample memory.
-use coap_message::{MessageRef, OutOfMemory, uint_bytes};
+//! What takes memory and isn't called in the worked runs, with ample memory: a message of its own,
+//! what is copied of the options of a request, and the bytes of a number.
+use coap_message::{MessageRef, OutOfMemory, decode, uint_bytes};
 use coap_option::{forward_options, key_options, tags};
 use std::alloc::Global;
 use std::test::*;
@@ -20,8 +21,9 @@ fn is_written(alloc: Global, number: u64, bytes: &[u8]) -> Result<bool, OutOfMem
 }
 
 #[test]
-fn options_and_numbers_are_copied(rt: HostRuntime) -> Result<(), Fail> {
+fn messages_options_and_numbers_are_copied(rt: HostRuntime) -> Result<(), Fail> {
     let request = MessageRef::read(REQUEST)?;
+    assert!(rt; decode(rt.alloc(), REQUEST)?.options.size() == 8);
     // options of two and of one, each of two bytes and one for a greater step
     assert!(rt; sizes(rt.alloc(), &request)? == (6, 3, 1));
     assert!(rt; is_written(rt.alloc(), 65536, b"\x01\x00\x00")?);

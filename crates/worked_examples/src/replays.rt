@@ -1,7 +1,7 @@
 //! Replays of an input that comes in pieces, of readers and writers that fail or are interrupted,
 //! and on a core that goes on.
-use coap_cache::ListStore;
 use coap_core::{Core, LimitValues, Limits};
+use coap_list::ListStore;
 use coap_message::OutOfMemory;
 use coap_replay::{ReplayError, replay};
 use coap_routes::Routes;

@@ -1,6 +1,6 @@
 //! A core that is called by hand: what it answers, what it sends, and what it tells of itself.
-use coap_cache::ListStore;
 use coap_core::{Core, Counts, Event, LimitValues, Limits, Outcome, Report, Storing};
+use coap_list::ListStore;
 use coap_message::{Datagram, OutOfMemory};
 use coap_routes::Routes;
 use coap_target::{Endpoint, Ip};

@@ -12,7 +12,9 @@ const ENDING: &str = ".events";
 pub(crate) fn file_of(alloc: Global, name: &str) -> Result<String, AllocError>
     ensures { IfOk result (λ file. string_bytes file ≡ name.now ++ codes ".events") }
 {
-    format!(in alloc; "{name}{ENDING}")
+    let mut file = String::from_str(alloc, name)?;
+    file.push_str(ENDING)?;
+    Ok(file)
 }
 
 /// The name of the run in a file of this name, if it is a run's.

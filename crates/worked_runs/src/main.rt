@@ -1,18 +1,19 @@
 //! The worked runs. Each file `NAME.events` of the current folder is one: comments that say what it
-//! shows and name the program's words, with the lines of a configuration or none, or else the
-//! routes and limits of its own, then events. They are replayed in order of name, over both stores,
-//! which are to write the same. What is written stands after a line with the run's name; where the
-//! program would stop before it is done, a line says with which status and text.
+//! shows and name the program's words, with the lines of a configuration or none, then events. They
+//! are replayed in order of name, over both stores, which are to write the same. What is written
+//! stands after a line with the run's name; where the program would stop before it is done, a line
+//! says with which status and text.
 //!
 //! The runs stand in `data`, and what all of them must write in `stdout`. To add one, add its file
 //! and its lines, and compare: `cd data && ../out/worked_runs | diff - ../stdout`.
 #![tactic(auto)]
 
 mod files;
+mod lines;
 mod run;
-mod setting;
 
-use coap_cache::{ListStore, Store};
+use coap_cache::Store;
+use coap_list::ListStore;
 use coap_lru::LruStore;
 use std::hash::RandomState;
 use std::io::Write;

@@ -14,7 +14,7 @@ use std::io::{BufRead, ErrorKind};
 pub const LONGEST: usize = 16_384;
 
 /// What comes next of an input.
-#[derive(Clone, Copy, Debug, PartialEq, Eq)]
+#[derive(Clone, Copy, PartialEq, Eq)]
 pub enum Next {
     /// A line.
     Line,

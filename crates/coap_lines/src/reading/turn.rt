@@ -20,7 +20,7 @@ const LATEST: u64 = 1 << 62;
 const GREATEST_DRAW: u64 = 1_000;
 
 /// An event with the bytes of its datagram.
-#[derive(Debug, Drop)]
+#[derive(Drop)]
 pub enum OwnedEvent {
     /// A datagram comes from an endpoint.
     Datagram { from: Endpoint, bytes: Seq<u8> },
@@ -29,7 +29,7 @@ pub enum OwnedEvent {
 }
 
 /// An event with its moment and its draw.
-#[derive(Debug, Drop)]
+#[derive(Drop)]
 pub struct Turn {
     /// Milliseconds, at most 2^62.
     pub now: u64,

@@ -1,7 +1,7 @@
 use Rattle.std.proofs.Common.{◌≡◌, ◌≤◌, ◌<◌, ◌^◌, ◌++◌, ◌-◌, drop, take}
 use Rattle.coap_cache.specs.Entries.{entry_size}
 use Rattle.coap_cache.specs.Lists.{cut}
-use Rattle.coap_cache.proofs.list_store.count_fitting.Given as goal
+use Rattle.coap_list.proofs.list_store.count_fitting.Given as goal
 
 abbrev pub invariant-loop-key : goal.invariant-loop-key
 invariant-loop-key l = record {

@@ -2,9 +2,9 @@ use Rattle.std.proofs.Common.{◌≡◌, ◌+◌, true, cond, count_by, get_or, 
 use Rattle.std.proofs.lemmas.List.Edits.{map_over_more}
 use Rattle.std.proofs.lemmas.List.Sums.{sum_by_more}
 use Rattle.coap_cache.specs.Entries.{Entry, is_for, marked}
-use Rattle.coap_cache.proofs.Marking.{comes}
-use Rattle.coap_cache.proofs.list_store.mark_entries.Goals as goal
-use Rattle.coap_cache.proofs.list_store.mark_entries.Goals.{then-mark_entry, else-mark_entry}
+use Rattle.coap_list.proofs.Marking.{comes}
+use Rattle.coap_list.proofs.list_store.mark_entries.Goals as goal
+use Rattle.coap_list.proofs.list_store.mark_entries.Goals.{then-mark_entry, else-mark_entry}
 
 pub loop-entry-preserved : goal.loop-entry-preserved
 loop-entry-preserved c =

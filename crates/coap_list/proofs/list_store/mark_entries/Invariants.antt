@@ -1,6 +1,6 @@
 use Rattle.std.proofs.Common.{◌≡◌, ◌≤◌, ◌++◌, drop, map, take, count_by}
 use Rattle.coap_cache.specs.Entries.{is_for, marked}
-use Rattle.coap_cache.proofs.list_store.mark_entries.Given as goal
+use Rattle.coap_list.proofs.list_store.mark_entries.Given as goal
 
 abbrev pub invariant-loop-entry : goal.invariant-loop-entry
 invariant-loop-entry l = record {

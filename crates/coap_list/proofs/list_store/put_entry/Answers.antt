@@ -2,7 +2,7 @@ use Rattle.std.proofs.Common.{sym, ◌∙◌}
 use Rattle.coap_option.proofs.Picking.{on_err}
 use Rattle.coap_cache.specs.Entries.{entry_key}
 use Rattle.coap_cache.proofs.Found.{others-absent}
-use Rattle.coap_cache.proofs.list_store.put_entry.Goals as goal
+use Rattle.coap_list.proofs.list_store.put_entry.Goals as goal
 
 pub returns-in_err-insert-clause-err : goal.returns-in_err-insert-clause-err
 returns-in_err-insert-clause-err c =

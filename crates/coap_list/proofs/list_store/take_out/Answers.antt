@@ -2,7 +2,7 @@ use Rattle.std.proofs.Common.{sym, ◌∙◌}
 use Rattle.coap_cache.specs.Entries.{entry_key}
 use Rattle.coap_cache.specs.Lists.{has_key}
 use Rattle.coap_cache.proofs.Found.{IsTaken, others-none, position-none, position-taken}
-use Rattle.coap_cache.proofs.list_store.take_out.Goals as goal
+use Rattle.coap_list.proofs.list_store.take_out.Goals as goal
 
 pub returns-in-Some-clause-entry : goal.returns-in-Some-clause-entry
 returns-in-Some-clause-entry c =

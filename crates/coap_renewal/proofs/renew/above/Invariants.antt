@@ -1,7 +1,7 @@
 use Rattle.std.proofs.Common.{◌≡◌, length}
 use Rattle.coap_message.specs.Options.{AreOptions}
 use Rattle.coap_cache.specs.Renewing.{above}
-use Rattle.coap_cache.proofs.renew.above.Given as goal
+use Rattle.coap_renewal.proofs.renew.above.Given as goal
 
 abbrev pub invariant-same : goal.invariant-same
 invariant-same l = record {

@@ -1,7 +1,7 @@
 use Rattle.std.proofs.Common.{◌≡◌, ◌++◌, length}
 use Rattle.coap_message.specs.Options.{AreOptions, last_number}
 use Rattle.coap_cache.specs.Renewing.{below, from}
-use Rattle.coap_cache.proofs.renew.push_below.Given as goal
+use Rattle.coap_renewal.proofs.renew.push_below.Given as goal
 
 abbrev pub invariant-below : goal.invariant-below
 invariant-below l = record {

@@ -3,7 +3,7 @@ use Rattle.std.specs.Option.{option_map}
 use Rattle.coap_cache.specs.Entries.{Entry, entry_key}
 use Rattle.coap_cache.specs.Lists.{has_key}
 use Rattle.coap_cache.proofs.Found.{IsTaken, position-none, position-taken}
-use Rattle.coap_cache.proofs.list_store.ListStoreStore.peek.Goals as goal
+use Rattle.coap_list.proofs.list_store.ListStoreStore.peek.Goals as goal
 
 pub returns-in-Some : goal.returns-in-Some
 returns-in-Some c =

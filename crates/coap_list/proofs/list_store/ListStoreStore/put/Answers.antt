@@ -1,9 +1,9 @@
 use Rattle.std.proofs.Common.{◌≡◌, ap, ◌∙◌}
 use Rattle.coap_cache.specs.Entries.{Entry, IsStore, entry_key, entry_size}
 use Rattle.coap_cache.specs.Lists.{cut, put}
-use Rattle.coap_cache.proofs.ListStores.{IsStore-along, is_store, limits_of}
+use Rattle.coap_list.proofs.ListStores.{IsStore-along, is_store, limits_of}
 use Rattle.coap_cache.proofs.Held.{IsStore-others, IsStore-put}
-use Rattle.coap_cache.proofs.list_store.ListStoreStore.put.Goals as goal
+use Rattle.coap_list.proofs.list_store.ListStoreStore.put.Goals as goal
 
 pub invariant_of-self : goal.invariant_of-self
 invariant_of-self c =

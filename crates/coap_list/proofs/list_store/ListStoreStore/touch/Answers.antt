@@ -1,7 +1,7 @@
 use Rattle.coap_cache.specs.Entries.{IsStore}
-use Rattle.coap_cache.proofs.ListStores.{IsStore-along, is_store, limits_of}
+use Rattle.coap_list.proofs.ListStores.{IsStore-along, is_store, limits_of}
 use Rattle.coap_cache.proofs.Held.{IsStore-used}
-use Rattle.coap_cache.proofs.list_store.ListStoreStore.touch.Goals as goal
+use Rattle.coap_list.proofs.list_store.ListStoreStore.touch.Goals as goal
 
 pub invariant_of-self : goal.invariant_of-self
 invariant_of-self c =

@@ -1,0 +1,2 @@
+pub mod ListStores
+pub mod Marking

@@ -1,0 +1,46 @@
+//! What the lines of a run say of it that are comments with a mark.
+ghost use Rattle.std.specs.Prelude.{◌≡◌, IfSome, drop, length};
+
+use std::alloc::{AllocError, Global};
+
+/// A line of the program's words, parted by spaces: `# words: WORD ..`.
+const WORDS: &[u8] = b"# words:";
+/// A line of a configuration: `# config: LINE`.
+const CONFIG: &[u8] = b"# config: ";
+
+/// What stands after a mark of a line, if it has the mark.
+fn after<'a>(line: &'a [u8], mark: &[u8]) -> Option<&'a [u8]>
+    ensures { IfSome result (λ text. text.now ≡ drop (length mark.now) line.now) }
+{
+    line.strip_prefix(mark)
+}
+
+/// The words that a line names, if it names some.
+pub(crate) fn words_of(line: &[u8]) -> Option<&[u8]> {
+    after(line, WORDS)
+}
+
+/// The words of a text, which are parted by spaces. One that isn't UTF-8 is left out.
+pub(crate) fn words_in(alloc: Global, text: &[u8]) -> Result<Vec<String>, AllocError> {
+    let mut words = Vec::new(alloc);
+    for word in text.split(|byte| *byte == b' ') {
+        if let Ok(word) = str::from_utf8(word) {
+            if !word.is_empty() {
+                words.push(String::from_str(alloc, word)?)?;
+            }
+        }
+    }
+    Ok(words)
+}
+
+/// The configuration of a run, if there is one.
+pub(crate) fn config_of(alloc: Global, events: &[u8]) -> Result<Option<Vec<u8>>, AllocError> {
+    let mut text = Vec::new(alloc);
+    for line in events.split(|byte| *byte == b'\n') {
+        if let Some(value) = after(line, CONFIG) {
+            text.extend_from_slice(value)?;
+            text.push(b'\n')?;
+        }
+    }
+    Ok(if text.is_empty() { None } else { Some(text) })
+}
