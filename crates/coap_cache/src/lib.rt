@@ -2,6 +2,7 @@
 //! shown (RFC 7252, 5.6, 5.7.1, 5.10.5 and 5.10.6).
 #![tactic(auto)]
 
+mod answer;
 mod key;
 pub mod laws;
 mod show;
@@ -10,6 +11,7 @@ mod store;
 mod stored;
 mod tag;
 
+pub use answer::Answer;
 pub use key::CacheKey;
 pub use show::{put_aged, put_max_age, show_into, tells_age};
 pub use size::bytes_of;

@@ -4,7 +4,7 @@ use Rattle.std.specs.Prelude.{option_map}
 use Rattle.std.specs.List.{AllByRecursion}
 use Rattle.std.proofs.lemmas.Bool.{eq-eqb, ne_eqb, leb-true, leb-false, le-leb, lt-leb}
 use Rattle.coap_exchange.specs.declared.due.Due.{Due}
-use Rattle.coap_exchange.specs.declared.exchange.Answer.{Answer}
+use Rattle.coap_cache.specs.declared.answer.Answer.{Answer}
 use Rattle.coap_exchange.specs.declared.exchange.Exchange.{Exchange}
 use Rattle.coap_exchange.specs.declared.waiter.Waiter.{Waiter}
 use Rattle.coap_exchange.specs.Due.{Item, sending, serving, due_of, due_as, exchange_items, waiter_items, with_item, answer_in, earlier, least}

@@ -1,11 +1,9 @@
 pub mod Asking
 pub mod Carried
 pub mod DueFirst
-pub mod Forms
 pub mod Records
 pub mod Keeping
-pub mod Tokens
-pub mod Observing
+pub mod Awaiting
 pub mod Uris
 pub mod Widths
 pub mod Read

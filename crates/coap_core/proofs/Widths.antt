@@ -9,7 +9,7 @@ use Rattle.coap_message.specs.Datagram.{Datagram, Appends, holding}
 use Rattle.coap_message.specs.Spelling.{spelling}
 use Rattle.coap_target.specs.declared.target.Target.{Target}
 use Rattle.coap_model.specs.Verdicts.{form_fits}
-use Rattle.coap_model.specs.Forms.{forwarded}
+use Rattle.coap_forward.specs.Forms.{forwarded}
 use Rattle.coap_model.proofs.Verdicts.{form-length}
 
 -- a form fits with any token of eight bytes where it does with zeros

@@ -2,10 +2,7 @@
 use Rattle.std.specs.Prelude.{◌≡◌, ℕ, ◌+◌, ◌<◌, ◌≤◌, ◌^◌, true, List, ◌∷◌, Option, Some, None, IfSome, option_map}
 use Rattle.coap_message.specs.Datagram.{Datagram, holding}
 use Rattle.coap_message.specs.Message.{Message}
-use Rattle.coap_message.specs.declared.kind.Kind.{Kind}
-use Rattle.coap_exchange.specs.declared.exchange.Answer.{Answer}
 use Rattle.coap_exchange.specs.declared.exchange.Exchange.{Exchange}
-use Rattle.coap_model.specs.Answers.{shown}
 use Rattle.coap_exchange.specs.Exchanges.{is_sent}
 use Rattle.coap_exchange.specs.Table.{Numbered, IsRising, item_at}
 use Rattle.coap_exchange.specs.declared.waiter.Waiter.{Waiter}
@@ -113,9 +110,3 @@ delivery_of w now number (Some v) =
 
 abbrev pub delivery_at : World → ℕ → ℕ → Option Step
 delivery_at w now number = delivery_of w now number (item_at number w.waiters)
-
--- ---- what is shown
-
--- what a client is given for an answer, in a message of this type
-abbrev pub shown_as : Kind → ℕ → Answer → ℕ → List ℕ → List (List ℕ) → Message
-shown_as kind now a id token tags = record (shown now a id token tags) { kind = kind }

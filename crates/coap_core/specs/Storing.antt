@@ -3,13 +3,13 @@ use Rattle.std.specs.Prelude.{◌≡◌, ℕ, ◌<◌, ◌≤◌, Bool, if◌the
 use Rattle.coap_cache.specs.Entries as store
 use Rattle.coap_cache.specs.Entries.{Entry, entry_key, entry_size}
 use Rattle.coap_cache.specs.Lists.{of_key, others, put}
-use Rattle.coap_exchange.specs.declared.exchange.Answer.{Answer}
+use Rattle.coap_cache.specs.declared.answer.Answer.{Answer}
 use Rattle.coap_exchange.specs.declared.exchange.Exchange.{Exchange}
 use Rattle.coap_exchange.specs.Table.{Numbered, item_at}
 use Rattle.coap_message.specs.Message.{Message}
 use Rattle.coap_model.specs.declared.report.Storing.{Storing}
 use Rattle.coap_model.specs.declared.report.Storing.TheVariants.{Kept, TooLarge, NoMemory, NotStored}
-use Rattle.coap_model.specs.Answers.{is_storable}
+use Rattle.coap_forward.specs.Answers.{is_storable}
 use Rattle.coap_model.specs.Limits.{Limits}
 use Rattle.coap_model.specs.Responses.{entry_made, answers}
 use Rattle.coap_model.specs.World.{World, Step}

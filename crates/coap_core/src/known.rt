@@ -2,7 +2,7 @@
 //! and 4.5).
 ghost use Rattle.std.specs.Prelude.{◌≡◌, ◌≤◌, true, length, Some, is_some, IfOk, IfSome, OnOk, OnErr};
 ghost use Rattle.coap_message.specs.declared.message.Head.{Head};
-ghost use Rattle.coap_model.specs.Messages.{reply_kind, reply_id};
+ghost use Rattle.coap_forward.specs.Messages.{reply_kind, reply_id};
 ghost use Rattle.coap_model.specs.World.{next_id, records_of, has_record_room, can_reply};
 ghost use Rattle.coap_model.specs.Requests.{known_of, replied, with_record};
 ghost use Rattle.coap_core.specs.Steps.{CanGoOn, CanRemember, IsSaid, repetition_of};

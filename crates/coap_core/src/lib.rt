@@ -1,9 +1,7 @@
 //! The step of a proxy in code: exactly the step of the model, for one event at a time.
 #![tactic(auto)]
 
-mod answers;
 mod event;
-mod form;
 mod known;
 mod proxy;
 mod request_target;
@@ -11,9 +9,7 @@ mod requests;
 mod responses;
 mod step;
 mod ticks;
-mod token;
 mod world;
-mod writing;
 
 pub use coap_model::{Counts, Limit, LimitError, LimitValues, Limits, Outcome, Report, Storing};
 pub use event::Event;

@@ -1,14 +1,13 @@
-//! What a request asks for: its target, before anything of it is kept, its key, and the values that
-//! say a target's parts.
+//! What a request asks for: its target, before anything of it is kept, and its key.
 ghost use Rattle.std.specs.Prelude.{◌≡◌, OnOk};
 ghost use Rattle.coap_option.specs.Selection.{tags_of};
-ghost use Rattle.coap_model.specs.Forms.{request_key};
-ghost use Rattle.coap_core.specs.Forms.{host_values, seen, values_left};
+ghost use Rattle.coap_model.specs.Keys.{request_key};
+ghost use Rattle.coap_core.specs.Forms.{seen};
 
 use coap_cache::CacheKey;
-use coap_message::{MessageRef, OptionList, OutOfMemory, PieceRefs, Pieces};
+use coap_message::{MessageRef, OptionList, OutOfMemory, Pieces};
 use coap_option::{key_options_into, tags_into};
-use coap_routes::{MappedTarget, Segments};
+use coap_routes::MappedTarget;
 use coap_target::{Endpoint, Ip, Target};
 use std::alloc::Global;
 
@@ -70,42 +69,5 @@ impl Asked {
         }
         key_options_into(&mut self.key.options, request)?;
         tags_into(&mut self.tags, request)
-    }
-}
-
-/// Values that say a part of a target.
-#[derive(Drop)]
-pub(crate) enum PartValues<'a> {
-    /// A host, or none.
-    Host(Option<&'a [u8]>),
-    /// Those of a list.
-    Kept(PieceRefs<'a>),
-}
-
-/// The value that says the host, if there is one.
-pub(crate) fn host_of(target: &Target) -> PartValues<'_>
-    ensures { values_left result ≡ host_values target.now.host }
-{
-    match &target.host {
-        Some(host) => PartValues::Host(Some(host.as_slice())),
-        None => PartValues::Host(None),
-    }
-}
-
-impl<'a> Segments<'a> for PartValues<'a> {
-    ghost left = { values_left };
-
-    fn next_segment(&mut self) -> Option<&'a [u8]> {
-        match self {
-            PartValues::Host(host) => host.take(),
-            PartValues::Kept(pieces) => pieces.next(),
-        }
-    }
-
-    fn again(&self) -> PartValues<'a> {
-        match self {
-            PartValues::Host(host) => PartValues::Host(*host),
-            PartValues::Kept(pieces) => PartValues::Kept(pieces.again()),
-        }
     }
 }

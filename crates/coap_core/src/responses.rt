@@ -8,11 +8,10 @@ ghost use Rattle.coap_model.specs.History.{grown_of};
 ghost use Rattle.coap_core.specs.Storing.{IsKept, answering_at, if_storable};
 ghost use Rattle.coap_core.specs.Steps.{Does, CanGoOn, IsSentAt};
 
-use crate::answers::{answer_of, is_storable};
-use crate::token::number_of;
 use crate::world::{World, silent};
 use coap_cache::{CacheKey, Put, Store, Stored};
 use coap_exchange::{Answer, Exchange, ExchangeState};
+use coap_forward::{answer_of, is_storable, number_of};
 use coap_message::{Datagram, Message, MessageRef, OutOfMemory};
 use coap_model::{Outcome, Report, Storing};
 use coap_target::Endpoint;

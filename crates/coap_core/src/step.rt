@@ -12,8 +12,8 @@ ghost use Rattle.coap_core.specs.Steps.{Does, CanGoOn};
 
 use crate::event::Event;
 use crate::world::{World, silent};
-use crate::writing::put_bare;
 use coap_cache::Store;
+use coap_forward::put_bare;
 use coap_message::{Code, Datagram, Head, Kind, MessageRef, OutOfMemory, Token, head_of};
 use coap_model::{Outcome, Report};
 use coap_target::Endpoint;

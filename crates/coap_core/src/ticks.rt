@@ -6,11 +6,10 @@ ghost use Rattle.coap_exchange.specs.Table.{item_at};
 ghost use Rattle.coap_model.specs.Ticks.{items_of, next_due, on_tick, idles};
 ghost use Rattle.coap_core.specs.Steps.{Does, CanGoOn, item_as, sending_at, delivery_at};
 
-use crate::form::put_with_id;
 use crate::world::{World, silent};
-use crate::writing::put_shown;
 use coap_cache::Store;
 use coap_exchange::{Due, Sending};
+use coap_forward::{put_shown, put_with_id};
 use coap_message::Datagram;
 use coap_model::{Outcome, Report};
 

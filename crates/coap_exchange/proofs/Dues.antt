@@ -3,7 +3,7 @@ use Rattle.std.proofs.Common.{◌≡◌, ℕ, List, [], ◌∷◌, Bool, true, f
 use Rattle.std.specs.Prelude.{option_map}
 use Rattle.std.proofs.lemmas.Bool.{eqb-true, eqb-false, eq-eqb, ne_eqb}
 use Rattle.coap_exchange.specs.declared.due.Due.{Due}
-use Rattle.coap_exchange.specs.declared.exchange.Answer.{Answer}
+use Rattle.coap_cache.specs.declared.answer.Answer.{Answer}
 use Rattle.coap_exchange.specs.declared.exchange.Exchange.{Exchange}
 use Rattle.coap_exchange.specs.Due.{Item, due_as, answer_at, answer_in, least}
 use Rattle.coap_exchange.specs.Table.{Numbered, item_at}

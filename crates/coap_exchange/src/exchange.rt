@@ -4,7 +4,7 @@ ghost use Rattle.std.specs.Option.{option_copied};
 ghost use Rattle.coap_exchange.specs.Due.{answer_at};
 ghost use Rattle.coap_exchange.specs.Exchanges.{is_queued};
 
-use coap_cache::CacheKey;
+use coap_cache::{Answer, CacheKey};
 use coap_message::{Message, Seq};
 
 /// The sending of a request.
@@ -14,25 +14,6 @@ pub struct Sending {
     pub asked: u64,
     /// The message id that it was given.
     pub id: u16,
-}
-
-/// The answer of an exchange.
-pub struct Answer {
-    pub message: Message,
-    /// The moment at which it came, in milliseconds.
-    pub got: u64,
-    /// Whether it is the proxy's own (5.02), in place of what the origin sent.
-    pub own: bool,
-}
-
-impl Drop for Answer {
-    fn drop(self) {
-        let Answer {
-            message: _,
-            got: _,
-            own: _,
-        } = self;
-    }
 }
 
 /// How far an exchange has come.

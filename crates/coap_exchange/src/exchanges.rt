@@ -10,9 +10,9 @@ ghost use Rattle.coap_exchange.specs.Exchanges.{with_state, is_queued, is_sent, 
 ghost use Rattle.coap_exchange.specs.Table.{empty_table, item_at, admitted_to, without, withdrawn, IsTable};
 
 use crate::due::Due;
-use crate::exchange::{Answer, Exchange, ExchangeState, Sending};
+use crate::exchange::{Exchange, ExchangeState, Sending};
 use crate::table::{AdmitError, Table};
-use coap_cache::CacheKey;
+use coap_cache::{Answer, CacheKey};
 use coap_message::{OutOfMemory, Seq};
 use indexmap::IndexMap;
 use std::alloc::Global;

@@ -10,8 +10,9 @@ mod table;
 mod waiter;
 mod waiters;
 
+pub use coap_cache::Answer;
 pub use due::Due;
-pub use exchange::{Answer, Exchange, ExchangeState, Sending};
+pub use exchange::{Exchange, ExchangeState, Sending};
 pub use exchanges::Exchanges;
 pub use ids::Ids;
 pub use table::{AdmitError, Table};

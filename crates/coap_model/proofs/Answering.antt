@@ -21,13 +21,13 @@ use Rattle.coap_exchange.proofs.Counts.{one_if}
 use Rattle.coap_exchange.proofs.States.{moved-cases, length-with_state, IsRising-with_state}
 use Rattle.coap_model.specs.Events.{arrival}
 use Rattle.coap_message.specs.Codes.{is_response}
-use Rattle.coap_model.specs.Messages.{is_ack, token_of}
+use Rattle.coap_forward.specs.Messages.{is_ack, token_of}
 use Rattle.coap_cache.specs.Entries.{Entry, entry_size}
-use Rattle.coap_exchange.specs.declared.exchange.Answer.{Answer}
+use Rattle.coap_cache.specs.declared.answer.Answer.{Answer}
 use Rattle.coap_model.specs.declared.report.Outcome.TheVariants.{Answered}
 use Rattle.coap_model.specs.declared.report.Storing.{Storing}
 use Rattle.coap_model.specs.declared.report.Storing.TheVariants.{Kept, TooLarge, NoMemory, NotStored}
-use Rattle.coap_model.specs.Answers.{answer_of, is_storable}
+use Rattle.coap_forward.specs.Answers.{answer_of, is_storable}
 use Rattle.coap_model.specs.Cached.{leaves, cached_here, entry_of_cached, IsObtained, IsStoreOf}
 use Rattle.coap_model.specs.Justified.{IsAnswer, IsObtainedHere, JustifiedBy}
 use Rattle.coap_model.proofs.Rules.{IsStoring, kept, too_large, no_memory, not_stored}

@@ -8,11 +8,12 @@ use Rattle.coap_routes.specs.Routes.{AreRoutes}
 use Rattle.coap_cache.specs.declared.key.CacheKey.{CacheKey}
 use Rattle.coap_model.specs.declared.report.Outcome.TheVariants.{Opened}
 use Rattle.coap_model.specs.Setting.{Setting}
-use Rattle.coap_model.specs.Messages.{token_of}
-use Rattle.coap_model.specs.Forms.{forwarded, key_sent, request_key}
+use Rattle.coap_forward.specs.Messages.{token_of}
+use Rattle.coap_forward.specs.Forms.{forwarded}
+use Rattle.coap_model.specs.Keys.{key_sent, request_key}
 use Rattle.coap_model.specs.History.{Deed}
 use Rattle.coap_model.specs.Justified.{WasOpened, IsForwarding, AllJustified, verdict_on}
-use Rattle.coap_model.proofs.Forms.{key-forwarded}
+use Rattle.coap_model.proofs.Keys.{key-forwarded}
 use Rattle.coap_model.proofs.Places.{justified-at, request-unique}
 use Rattle.coap_model.proofs.Verdicts.{IsAskable, askable}
 

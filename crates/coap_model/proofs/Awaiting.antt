@@ -19,7 +19,7 @@ use Rattle.coap_exchange.specs.Table.{Numbered}
 use Rattle.coap_model.specs.Setting.{Setting}
 use Rattle.coap_model.specs.Events.{Event, arrival}
 use Rattle.coap_message.specs.Codes.{is_response}
-use Rattle.coap_model.specs.Messages.{is_ack, token_of}
+use Rattle.coap_forward.specs.Messages.{is_ack, token_of}
 use Rattle.coap_model.specs.World.{World}
 use Rattle.coap_model.specs.Responses.{has_id, awaits, awaiting}
 use Rattle.coap_model.specs.History.{Deed, Place, IsPlaceOf, Somewhere, opened_in, Opens, Sends, Meets, Gets, Serves}

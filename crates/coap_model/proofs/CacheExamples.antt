@@ -19,9 +19,10 @@ use Rattle.coap_model.specs.declared.report.Outcome.TheVariants.{Answered, SentR
 use Rattle.coap_model.specs.declared.report.Storing.{Storing}
 use Rattle.coap_model.specs.declared.report.Storing.TheVariants.{Kept, TooLarge}
 use Rattle.coap_model.specs.Events.{arrival}
-use Rattle.coap_model.specs.Messages.{token_of}
-use Rattle.coap_model.specs.Forms.{target_options, target_sent, key_sent}
-use Rattle.coap_model.specs.Answers.{answer_of}
+use Rattle.coap_forward.specs.Messages.{token_of}
+use Rattle.coap_forward.specs.Forms.{target_options}
+use Rattle.coap_model.specs.Keys.{target_sent, key_sent}
+use Rattle.coap_forward.specs.Answers.{answer_of}
 use Rattle.coap_model.specs.Examples.{origin, client, get_t, get_temp}
 use Rattle.coap_model.specs.LimitExamples as limited
 use Rattle.coap_model.specs.OptionExamples.{key_of_temp}

@@ -14,13 +14,13 @@ use Rattle.coap_routes.specs.declared.error.TargetError.{TargetError}
 use Rattle.coap_routes.specs.Request.{request_target}
 use Rattle.coap_cache.specs.declared.key.CacheKey.{CacheKey}
 use Rattle.coap_cache.specs.Showing.{tells_age}
-use Rattle.coap_exchange.specs.declared.exchange.Answer.{Answer}
+use Rattle.coap_cache.specs.declared.answer.Answer.{Answer}
 use Rattle.coap_cache.specs.Lists.{has_key, has_other_key, of_key, others, cut, used}
 use Rattle.coap_model.specs.declared.report.Outcome.{Outcome}
 use Rattle.coap_model.specs.Setting.{Setting}
 use Rattle.coap_model.specs.Events.{Event}
-use Rattle.coap_model.specs.Forms.{key_sent, request_key}
-use Rattle.coap_model.specs.Answers.{answer_of, is_storable, without_observe, is_passed_on, bad_gateway}
+use Rattle.coap_model.specs.Keys.{key_sent, request_key}
+use Rattle.coap_forward.specs.Answers.{answer_of, is_storable, without_observe, is_passed_on, bad_gateway}
 use Rattle.coap_model.specs.History.{Deed, Place, IsPlaceOf, Never, Brings, Sends, Meets, Matches}
 use Rattle.coap_model.specs.Cached.{IsObtained, Cached, cached_key, cached_size, cached_with, cached_here, leaves, IsCacheOf, empty, kept, too_large, hit, otherwise, WasObtained, IsOfOrigin}
 use Rattle.coap_model.proofs.Lists.{find-holds, All-filter}

@@ -1,5 +1,5 @@
 -- Counted: what a proxy counts of its store and of its records is what the history left.
-use Rattle.std.proofs.Common.{◌≡◌, ℕ, ◌≤◌, List, length, sym, ap, ◌∙◌, arith}
+use Rattle.std.proofs.Common.{◌≡◌, List, length, ap, ◌∙◌, arith}
 use Rattle.coap_message.specs.declared.kind.Kind.{Kind}
 use Rattle.coap_dedup.specs.Records.{Records, living_at}
 use Rattle.coap_cache.specs.Entries.{entry_size}

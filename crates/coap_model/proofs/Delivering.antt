@@ -9,7 +9,7 @@ use Rattle.coap_target.specs.declared.target.Target.{Target}
 use Rattle.coap_cache.specs.declared.key.CacheKey.{CacheKey}
 use Rattle.coap_routes.specs.Request.{request_target}
 use Rattle.coap_target.proofs.Lists.{All-weaken}
-use Rattle.coap_exchange.specs.declared.exchange.Answer.{Answer}
+use Rattle.coap_cache.specs.declared.answer.Answer.{Answer}
 use Rattle.coap_exchange.specs.declared.exchange.ExchangeState.{ExchangeState}
 use Rattle.coap_exchange.specs.declared.exchange.ExchangeState.TheVariants.{Done}
 use Rattle.coap_exchange.specs.declared.exchange.Exchange.{Exchange}
@@ -18,8 +18,8 @@ use Rattle.coap_exchange.proofs.Counts.{one_if}
 use Rattle.coap_exchange.proofs.Tables.{IsRising-without}
 use Rattle.coap_exchange.specs.Table.{Numbered, without}
 use Rattle.coap_model.specs.Events.{tick}
-use Rattle.coap_model.specs.Forms.{request_key}
-use Rattle.coap_model.specs.Answers.{answer_of, shown}
+use Rattle.coap_model.specs.Keys.{request_key}
+use Rattle.coap_forward.specs.Answers.{answer_of, shown}
 use Rattle.coap_exchange.specs.Exchanges.{is_queued, count_where}
 use Rattle.coap_model.specs.World.{World, next_id, later}
 use Rattle.coap_exchange.specs.Due.{serving, least, answer_in}

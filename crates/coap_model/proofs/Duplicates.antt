@@ -15,7 +15,7 @@ use Rattle.coap_dedup.specs.Lists.{is_living, is_of, record_of}
 use Rattle.coap_dedup.proofs.Apart.{is_of-key}
 use Rattle.coap_dedup.proofs.Orders.{same_key-itself}
 use Rattle.coap_model.specs.Events.{Event, arrival, tick}
-use Rattle.coap_model.specs.Messages.{brings_requests, told_again}
+use Rattle.coap_forward.specs.Messages.{brings_requests, told_again}
 use Rattle.coap_model.specs.History.{Entry, Deed, Place, IsPlaceOf, Somewhere}
 use Rattle.coap_model.specs.Remembered.{goes_with, is_remembered, kept_of, kept_at, kept_by, kept_in, remembered_at, remembered_for}
 use Rattle.coap_model.specs.Duplicates.{Repeats, IsRememberedAt}

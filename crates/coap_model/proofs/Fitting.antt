@@ -1,15 +1,15 @@
 -- No datagram that a proxy sends is longer than a datagram may be.
-use Rattle.std.proofs.Common.{◌≡◌, ℕ, Bool, ◌≤◌, true, List, [], ◌∷◌, length, Option, Some, None, refl, sym, subst, arith}
+use Rattle.std.proofs.Common.{◌≡◌, ℕ, Bool, ◌≤◌, true, List, length, Option, Some, None, refl, sym, subst, arith}
 use Rattle.coap_message.specs.Spelling.{spelling}
 use Rattle.coap_message.proofs.Spellings.{spelling-length}
-use Rattle.coap_exchange.specs.declared.exchange.Answer.{Answer}
+use Rattle.coap_cache.specs.declared.answer.Answer.{Answer}
+use Rattle.coap_forward.proofs.Forms.{length-with_id}
 use Rattle.coap_model.specs.declared.limits.Limit.TheVariants.{Datagram}
 use Rattle.coap_model.specs.Limits.{AreLimits}
 use Rattle.coap_model.specs.Events.{Event, IsEvent}
-use Rattle.coap_model.specs.Messages.{reset}
-use Rattle.coap_model.specs.Answers.{shown}
-use Rattle.coap_model.specs.World.{World, Step, next_id}
-use Rattle.coap_model.specs.Ticks.{with_id}
+use Rattle.coap_forward.specs.Messages.{reset}
+use Rattle.coap_forward.specs.Answers.{shown}
+use Rattle.coap_model.specs.World.{World, Step, next_id, records_of}
 use Rattle.coap_model.specs.Step.{step_of}
 use Rattle.coap_model.specs.History.{Entry, Deed}
 use Rattle.coap_model.specs.Carries.{IsExchangeOf, IsWaiterOf, Bears, Carries}
@@ -28,7 +28,6 @@ use Rattle.coap_dedup.specs.Lists.{is_of, is_living, record_of, reply_bytes}
 use Rattle.coap_dedup.specs.Records.{Records, living_at}
 use Rattle.std.specs.List.{AllByRecursion}
 use Rattle.std.specs.Option.{option_map_or}
-use Rattle.coap_model.specs.World.{records_of}
 use Rattle.coap_model.specs.Requests.{repeats}
 use Rattle.coap_option.specs.Selection.{tags_of}
 
@@ -37,15 +36,6 @@ use Rattle.coap_option.specs.Selection.{tags_of}
 -- a Reset is short
 reset-short : (id : ℕ) → length (spelling (reset id)) ≤ 128
 reset-short id = omega (arith, spelling-length (reset id))
-
--- another id leaves a form as long as it is
-pub length-with_id : (id : ℕ) (form : List ℕ) → length (with_id id form) ≡ length form
-unfolding with_id
-length-with_id id [] = refl
-length-with_id id (a ∷ []) = refl
-length-with_id id (a ∷ b ∷ []) = refl
-length-with_id id (a ∷ b ∷ c ∷ []) = refl
-length-with_id id (a ∷ b ∷ c ∷ d ∷ rest) = refl
 
 -- ---- each case
 

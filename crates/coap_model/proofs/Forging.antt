@@ -9,7 +9,7 @@ use Rattle.coap_message.specs.Uint.{uint_spelling}
 use Rattle.coap_message.specs.Spelling.{spelling, option_spelling}
 use Rattle.coap_message.proofs.WholeMessages.{read_again}
 use Rattle.coap_option.specs.Selection.{tags_of, max_age_of}
-use Rattle.coap_model.specs.Answers.{answer_of, shown}
+use Rattle.coap_forward.specs.Answers.{answer_of, shown}
 use Rattle.coap_model.specs.Examples.{origin, client, get_t, get_temp, content, content_for_client}
 use Rattle.coap_model.specs.History.{no_item, moves, serves, Deed, Sends, Place, IsPlaceOf, Opens, takes, Gets}
 use Rattle.coap_model.specs.declared.report.Outcome.TheVariants.{Answered, SentRequest}
@@ -21,7 +21,7 @@ use Rattle.coap_routes.specs.Routes.{mapped_target}
 use Rattle.coap_routes.specs.Request.{request_target}
 use Rattle.coap_target.specs.declared.target.Target.{Target}
 use Rattle.coap_cache.specs.declared.key.CacheKey.{CacheKey}
-use Rattle.coap_model.specs.Forms.{key_sent, target_sent}
+use Rattle.coap_model.specs.Keys.{key_sent, target_sent}
 use Rattle.coap_model.specs.Cached.{IsOfOrigin, WasObtained}
 use Rattle.std.specs.List.{sum_by}
 use Rattle.coap_model.specs.CacheExamples as cached

@@ -12,12 +12,12 @@ use Rattle.coap_exchange.specs.Table.{Numbered}
 use Rattle.coap_exchange.proofs.Counts.{one_if}
 use Rattle.coap_exchange.proofs.States.{moved-cases, length-with_state, IsRising-with_state}
 use Rattle.coap_model.specs.Events.{tick}
-use Rattle.coap_model.specs.Messages.{token_of}
-use Rattle.coap_model.specs.Forms.{forwarded}
+use Rattle.coap_forward.specs.Messages.{token_of}
+use Rattle.coap_forward.specs.Forms.{forwarded, with_id}
 use Rattle.coap_model.specs.Verdicts.{may_ask}
 use Rattle.coap_model.specs.World.{World, next_id}
 use Rattle.coap_exchange.specs.Due.{sending, least}
-use Rattle.coap_model.specs.Ticks.{items_of, if_due, with_id, sends}
+use Rattle.coap_model.specs.Ticks.{items_of, if_due, sends}
 use Rattle.coap_model.specs.History.{moves, Deed, Sends, Gets}
 use Rattle.coap_model.specs.Justified.{verdict_on}
 use Rattle.coap_model.specs.Runs.{entry_of}
@@ -25,8 +25,9 @@ use Rattle.coap_model.specs.Carries.{IsState, IsExchangeOf, IsWaiterOf, Bears}
 use Rattle.coap_model.proofs.Lists.{All-map, Has, All-there}
 use Rattle.coap_model.proofs.Quiet.{remembered-still}
 use Rattle.coap_model.proofs.Places.{here, doing, same_moves, opened-number, one-opened}
-use Rattle.coap_model.proofs.Forms.{forwarded-is, with_id-forwarded, key-forwarded}
-use Rattle.coap_model.proofs.Spelled.{length-token_of}
+use Rattle.coap_forward.proofs.Forms.{forwarded-is, with_id-forwarded}
+use Rattle.coap_model.proofs.Keys.{key-forwarded}
+use Rattle.coap_forward.proofs.Tokens.{length-token_of}
 use Rattle.coap_model.proofs.Verdicts.{askable}
 use Rattle.coap_model.proofs.Tables.{due-sending, ArePaired-with_state, HasNumber-with_state, count-moved}
 use Rattle.coap_model.proofs.Frames.{clock_frame, numbers_frame, exchange_moved, exchange_frame, waiters_frame, fresh_frame, later_served, gets-not, serves-not}

@@ -11,12 +11,12 @@ use Rattle.coap_cache.specs.declared.key.CacheKey.{CacheKey}
 use Rattle.coap_cache.specs.Entries.{Entry, entry_key}
 use Rattle.coap_cache.specs.Freshness.{is_usable}
 use Rattle.coap_cache.specs.Lists.{of_key, used}
-use Rattle.coap_exchange.specs.declared.exchange.Answer.{Answer}
+use Rattle.coap_cache.specs.declared.answer.Answer.{Answer}
 use Rattle.coap_model.specs.Setting.{Setting}
 use Rattle.coap_model.specs.Events.{arrival}
-use Rattle.coap_model.specs.Answers.{answer_of, stored_answer, shown}
+use Rattle.coap_forward.specs.Answers.{answer_of, stored_answer, shown}
 use Rattle.coap_model.specs.Verdicts.{may_ask}
-use Rattle.coap_model.specs.Messages.{at_once}
+use Rattle.coap_forward.specs.Messages.{at_once}
 use Rattle.coap_model.specs.World.{World, next_id, can_reply, ids_to_reply}
 use Rattle.coap_model.specs.Requests.{hits, remembers}
 use Rattle.coap_model.specs.History.{gives_id, no_item, Deed}

@@ -18,7 +18,7 @@ use Rattle.coap_message.proofs.Spellings.{options-length, spelled_once, spelling
 use Rattle.coap_target.specs.declared.target.Target.{Target}
 use Rattle.coap_cache.specs.declared.key.CacheKey.{CacheKey}
 use Rattle.coap_target.proofs.Lists.{All-weaken}
-use Rattle.coap_exchange.specs.declared.exchange.Answer.{Answer}
+use Rattle.coap_cache.specs.declared.answer.Answer.{Answer}
 use Rattle.coap_exchange.specs.declared.exchange.ExchangeState.{ExchangeState}
 use Rattle.coap_exchange.specs.declared.exchange.ExchangeState.TheVariants.{Queued, Sent, Done}
 use Rattle.coap_exchange.specs.declared.exchange.Exchange.{Exchange}
@@ -35,13 +35,15 @@ use Rattle.coap_option.specs.Selection.{sent_on, key_of, is_of}
 use Rattle.coap_option.specs.Screening.{first_refused}
 use Rattle.coap_option.specs.Side.{side_of}
 use Rattle.coap_routes.specs.Routes.{AreRoutes}
-use Rattle.coap_model.specs.Forms.{host_options, target_options, merged, forwarded, says_target}
-use Rattle.coap_model.specs.Answers.{is_screened, without_observe, widest, fits, bad_gateway, is_passed_on, answer_of}
+use Rattle.coap_forward.specs.Forms.{host_options, target_options, merged, forwarded}
+use Rattle.coap_model.specs.Keys.{says_target}
+use Rattle.coap_forward.specs.Answers.{is_screened, without_observe, widest, fits, bad_gateway, is_passed_on, answer_of}
 use Rattle.coap_model.specs.World.{World}
 use Rattle.coap_model.specs.History.{Deed}
 use Rattle.coap_model.specs.Carries.{IsState, IsExchangeOf, IsWaiterOf, Bears}
 use Rattle.coap_target.specs.Target.{IsShort, IsTarget}
-use Rattle.coap_model.proofs.Forms.{AreUnused, in_key, key-screened, sent-unused, AreOptions-merged, target-options, sent-options, target-kept}
+use Rattle.coap_forward.proofs.Forms.{AreUnused, in_key, key-screened, sent-unused, AreOptions-merged, target-options, sent-options}
+use Rattle.coap_model.proofs.Keys.{target-kept}
 use Rattle.coap_model.proofs.Verdicts.{IsAskable, askable}
 use Rattle.coap_model.proofs.OptionLengths.{filter-length}
 use Rattle.coap_model.proofs.Showing.{within-widest}

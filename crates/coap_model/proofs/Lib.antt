@@ -1,4 +1,4 @@
-pub mod Forms
+pub mod Keys
 pub mod OptionLengths
 pub mod Spelled
 pub mod Showing

@@ -13,8 +13,8 @@ use Rattle.coap_model.specs.declared.report.Outcome.{Outcome}
 use Rattle.coap_model.specs.declared.report.Outcome.TheVariants.{Answered}
 use Rattle.coap_model.specs.declared.report.Storing.TheVariants.{Kept, TooLarge, NoMemory, NotStored}
 use Rattle.coap_model.specs.Setting.{Setting}
-use Rattle.coap_model.specs.Forms.{key_sent}
-use Rattle.coap_model.specs.Answers.{answer_of, is_passed_on, is_storable, without_observe}
+use Rattle.coap_model.specs.Keys.{key_sent}
+use Rattle.coap_forward.specs.Answers.{answer_of, is_passed_on, is_storable, without_observe}
 use Rattle.coap_model.specs.History.{Deed, Place, takes, Gets}
 use Rattle.coap_model.specs.Cached.{IsObtained, IsOfOrigin, Cached, cached_key, cached_size, cached_here, IsCacheOf}
 use Rattle.coap_model.specs.Justified.{IsObtainedHere, size_here, JustifiedBy}

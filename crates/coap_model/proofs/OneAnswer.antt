@@ -20,10 +20,10 @@ use Rattle.coap_model.specs.Setting.{Setting}
 use Rattle.coap_model.specs.Events.{IsEvent}
 use Rattle.coap_dedup.specs.declared.record.Record.{Record}
 use Rattle.coap_dedup.specs.Lists.{record_of}
-use Rattle.coap_model.specs.Messages.{is_con, reset, own_reply, busy_reply, at_once, reply_kind, reply_id, token_of}
+use Rattle.coap_forward.specs.Messages.{is_con, reset, own_reply, busy_reply, at_once, reply_kind, reply_id, token_of}
 use Rattle.coap_model.specs.Remembered.{most_remembered, remembered_at}
-use Rattle.coap_model.specs.Forms.{forwarded}
-use Rattle.coap_model.specs.Answers.{answer_of, stored_answer, shown}
+use Rattle.coap_forward.specs.Forms.{forwarded}
+use Rattle.coap_forward.specs.Answers.{answer_of, stored_answer, shown}
 use Rattle.coap_model.specs.World.{World}
 use Rattle.coap_model.specs.Step.{step_of}
 use Rattle.coap_model.specs.History.{Entry, Act, no_item, admits, moves, serves, Deed, Place, ids_in, comes_con, ids_given, takes, Brings, Sends, Gets, Gives, AreIds}

@@ -4,8 +4,8 @@ use Rattle.coap_model.specs.declared.report.Outcome.TheVariants.{Answered}
 use Rattle.coap_model.specs.declared.report.Storing.{Storing}
 use Rattle.coap_model.specs.declared.report.Storing.TheVariants.{Kept, TooLarge, NoMemory, NotStored}
 use Rattle.coap_model.specs.Setting.{Setting}
-use Rattle.coap_model.specs.Forms.{key_sent}
-use Rattle.coap_model.specs.Answers.{answer_of, is_storable}
+use Rattle.coap_model.specs.Keys.{key_sent}
+use Rattle.coap_forward.specs.Answers.{answer_of, is_storable}
 use Rattle.coap_model.specs.History.{Deed}
 use Rattle.coap_model.specs.Cached.{cached_size, cached_here, IsObtained}
 use Rattle.coap_model.specs.Justified.{IsAnswer, IsObtainedHere, size_here, JustifiedBy, HaveOneMemory}

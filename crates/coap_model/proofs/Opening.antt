@@ -14,7 +14,7 @@ use Rattle.coap_model.specs.Events.{arrival}
 use Rattle.coap_model.specs.Verdicts.{may_ask}
 use Rattle.coap_exchange.specs.Exchanges.{is_queued, count_where}
 use Rattle.coap_model.specs.World.{World, has_ids, has_room}
-use Rattle.coap_model.specs.Messages.{is_non}
+use Rattle.coap_forward.specs.Messages.{is_non}
 use Rattle.coap_model.specs.Requests.{opens, new_exchange, new_waiter, next_token, can_open, remembers}
 use Rattle.coap_model.specs.History.{admits, serves, Deed, Place, IsPlaceOf, Never, opened_in, Gets, Serves}
 use Rattle.coap_model.specs.Justified.{AllJustified}
@@ -22,7 +22,7 @@ use Rattle.coap_model.specs.declared.report.Outcome.TheVariants.{Delivered}
 use Rattle.coap_model.specs.Runs.{entry_of}
 use Rattle.coap_model.specs.Carries.{IsExchangeOf, IsWaiterOf, ArePaired, HasNumber, Bears}
 use Rattle.coap_model.proofs.Places.{here, doing, never-from, place-before, justified-at, Opens-number, opened-number}
-use Rattle.coap_model.proofs.Spelled.{length-token_of}
+use Rattle.coap_forward.proofs.Tokens.{length-token_of}
 use Rattle.coap_model.proofs.Verdicts.{form-short}
 use Rattle.coap_model.proofs.Rules.{IsFirst, verdict_in, fits_in, IsMissed}
 use Rattle.coap_model.proofs.OwnReplies.{non_is}

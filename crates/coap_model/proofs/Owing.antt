@@ -15,7 +15,7 @@ use Rattle.coap_model.specs.Setting.{Setting}
 use Rattle.coap_dedup.specs.declared.record.Record.{Record}
 use Rattle.coap_dedup.specs.Lists.{record_of}
 use Rattle.coap_model.specs.Events.{Event, arrival, tick}
-use Rattle.coap_model.specs.Messages.{brings_requests}
+use Rattle.coap_forward.specs.Messages.{brings_requests}
 use Rattle.coap_model.specs.Remembered.{most_remembered, remembered_at}
 use Rattle.coap_model.specs.Verdicts.{may_ask}
 use Rattle.coap_model.specs.History.{Act, Deed, takes, HasIds, HasRoom, Brings}

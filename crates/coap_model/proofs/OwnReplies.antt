@@ -9,7 +9,7 @@ use Rattle.coap_message.specs.Message.{Message}
 use Rattle.coap_message.specs.Spelling.{IsMessage, spelling, more_length}
 use Rattle.coap_message.specs.Uint.{uint_spelling}
 use Rattle.coap_message.proofs.Spellings.{spelling-length}
-use Rattle.coap_model.specs.Messages.{is_con, is_non, brings_requests, own_reply, busy_reply, at_once, reply_id}
+use Rattle.coap_forward.specs.Messages.{is_con, is_non, brings_requests, own_reply, busy_reply, at_once, reply_id}
 use Rattle.coap_model.specs.World.{World, reserved, has_ids, can_reply, ids_to_reply}
 use Rattle.coap_model.proofs.Spelled.{length-uint_spelling}
 

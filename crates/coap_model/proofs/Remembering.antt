@@ -19,7 +19,7 @@ use Rattle.coap_dedup.proofs.Kept.{AreRecords-kept}
 use Rattle.coap_dedup.proofs.Passing.{living-kept, AreUpTo-kept}
 use Rattle.coap_model.specs.Setting.{Setting}
 use Rattle.coap_model.specs.Events.{arrival}
-use Rattle.coap_model.specs.Messages.{is_con, brings_requests, told_again}
+use Rattle.coap_forward.specs.Messages.{is_con, brings_requests, told_again}
 use Rattle.coap_model.specs.Remembered.{is_remembered, kept_by, kept_in, kept_of, most_remembered, remembered_at, remembered_for}
 use Rattle.coap_model.specs.World.{World, Step, records_of}
 use Rattle.coap_model.specs.Requests.{record_made}

@@ -15,7 +15,7 @@ use Rattle.coap_model.specs.declared.report.Outcome.{Outcome}
 use Rattle.coap_model.specs.declared.report.Outcome.TheVariants.{Ignored, Rejected, Again, NoRecordRoom, Refused, Hit, Joined, Opened, Overloaded, NoId, Answered, Acked, SentRequest, Resent, Delivered, GaveUp, Idle}
 use Rattle.coap_model.specs.Setting.{Setting}
 use Rattle.coap_model.specs.Events.{arrival}
-use Rattle.coap_model.specs.Messages.{is_con, told_again}
+use Rattle.coap_forward.specs.Messages.{is_con, told_again}
 use Rattle.coap_model.specs.History.{Deed, Place, IsPlaceOf, last_of, IsInOrder}
 use Rattle.coap_model.specs.Remembered.{is_remembered, remembered_at}
 use Rattle.coap_model.specs.Duplicates.{Repeats}

@@ -19,14 +19,14 @@ use Rattle.coap_cache.specs.Freshness.{is_usable}
 use Rattle.coap_cache.specs.Lists.{of_key, others, put}
 use Rattle.coap_model.specs.declared.report.Storing.{Storing}
 use Rattle.coap_model.specs.declared.report.Storing.TheVariants.{Kept, TooLarge, NoMemory, NotStored}
-use Rattle.coap_model.specs.Answers.{answer_of, is_storable}
-use Rattle.coap_exchange.specs.declared.exchange.Answer.{Answer}
+use Rattle.coap_forward.specs.Answers.{answer_of, is_storable}
+use Rattle.coap_cache.specs.declared.answer.Answer.{Answer}
 use Rattle.coap_exchange.specs.declared.exchange.Exchange.{Exchange}
 use Rattle.coap_exchange.specs.declared.waiter.Waiter.{Waiter}
 use Rattle.coap_exchange.specs.Table.{Numbered}
 use Rattle.coap_model.specs.Events.{Event, arrival, tick, IsEvent}
 use Rattle.coap_message.specs.Codes.{is_request, is_response}
-use Rattle.coap_model.specs.Messages.{is_con, brings_requests, is_ack}
+use Rattle.coap_forward.specs.Messages.{is_con, brings_requests, is_ack}
 use Rattle.coap_model.specs.Verdicts.{Verdict, refused_with, may_ask, verdict_of, form_fits}
 use Rattle.coap_dedup.specs.declared.record.Record.{Record}
 use Rattle.coap_model.specs.World.{World, Step, has_record_room, can_reply, ignores}

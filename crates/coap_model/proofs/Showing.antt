@@ -30,8 +30,8 @@ use Rattle.coap_cache.specs.Showing.{is_content, tells_age, among, held_tag, val
 use Rattle.coap_cache.proofs.Picked.{AreOptions-above, AreOptions-filter, above-all, below-none, last-below}
 use Rattle.coap_cache.proofs.Tags.{first_tag, tag_of-first, tag-short}
 use Rattle.coap_target.specs.Equality.{same_bytes}
-use Rattle.coap_exchange.specs.declared.exchange.Answer.{Answer}
-use Rattle.coap_model.specs.Answers.{is_screened, without_observe, greatest_max_age, widest, fits, is_passed_on, bad_gateway, answer_of, left_of, left_told, shown}
+use Rattle.coap_cache.specs.declared.answer.Answer.{Answer}
+use Rattle.coap_forward.specs.Answers.{is_screened, without_observe, greatest_max_age, widest, fits, is_passed_on, bad_gateway, answer_of, left_of, left_told, shown}
 use Rattle.coap_model.proofs.OptionLengths.{lower-length}
 use Rattle.coap_model.proofs.Spelled.{length-uint_spelling}
 

@@ -1,9 +1,8 @@
 -- The messages that a proxy makes are messages, and so each is spelled; what is read off them.
-use Rattle.std.proofs.Common.{◌≡◌, ◌≢◌, ℕ, zero, suc, ◌+◌, ◌%◌, ◌^◌, ◌<◌, ◌≤◌, Bool, true, false, cond, leb, List, [], ◌∷◌, length, Some, None, Result, Ok, Err, refl, sym, ap, ◌∙◌, arith}
+use Rattle.std.proofs.Common.{◌≡◌, ◌≢◌, ℕ, zero, suc, ◌≤◌, Bool, true, false, cond, leb, List, [], ◌∷◌, length, Some, None, Result, Ok, Err, refl, ap, arith}
 use Rattle.std.specs.Result.{result_ok}
-use Rattle.std.specs.Int.{w64, to_be_bytes, from_be_bytes}
+use Rattle.std.specs.Int.{w64, to_be_bytes}
 use Rattle.std.proofs.lemmas.Bool.{leb-true, le-leb}
-use Rattle.std.proofs.lemmas.Nat.{from_be_bytes-to_be_bytes_8}
 use Rattle.coap_message.specs.declared.code.Code.{Code}
 use Rattle.coap_message.specs.declared.error.ReadError.{ReadError}
 use Rattle.coap_message.specs.declared.options.Opt.{Opt}
@@ -14,7 +13,7 @@ use Rattle.coap_message.specs.Spelling.{IsMessage, Spells}
 use Rattle.coap_message.specs.Reading.{read_message}
 use Rattle.coap_message.proofs.WholeMessages.{read_is}
 use Rattle.coap_cache.specs.Renewing.{max_age_option}
-use Rattle.coap_model.specs.Messages.{reset, own_reply, busy_reply, token_of}
+use Rattle.coap_forward.specs.Messages.{reset, own_reply, busy_reply}
 use Rattle.coap_model.specs.Step.{message_in}
 
 -- ---- a Max-Age
@@ -47,22 +46,6 @@ own_reply-is code options id token some are short = record { token = short; opti
 -- and so is one that says when to try again
 pub busy_reply-is : (seconds id : ℕ) (token : List ℕ) → length token ≤ 8 → IsMessage (busy_reply seconds id token)
 busy_reply-is seconds id token short = own_reply-is _ (max_age_option seconds ∷ []) id token (λ e. absurd (omega arith)) (max_age-options seconds) short
-
--- ---- tokens and ids
-
--- a token has eight bytes
-pub length-token_of : (salt number : ℕ) → length (token_of salt number) ≡ 8
-unfolding token_of
-length-token_of salt number = refl
-
--- tokens of two exchanges differ
-pub token-same : (salt m n : ℕ) → m < 2 ^ 64 → n < 2 ^ 64 → token_of salt m ≡ token_of salt n → m ≡ n
-unfolding token_of
-token-same salt m n small_m small_n same =
-    let a = from_be_bytes-to_be_bytes_8 ((salt + m) % 2 ^ 64) (omega arith) in
-    let b = from_be_bytes-to_be_bytes_8 ((salt + n) % 2 ^ 64) (omega arith) in
-    let sums : (salt + m) % 2 ^ 64 ≡ (salt + n) % 2 ^ 64 = sym a ∙ ap (from_be_bytes w64) same ∙ b in
-    omega (arith, sums)
 
 -- ---- what is read
 

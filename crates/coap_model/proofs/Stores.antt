@@ -16,7 +16,7 @@ use Rattle.coap_cache.proofs.Held.{IsStore-others, IsStore-used, IsStore-put}
 use Rattle.coap_model.specs.declared.report.Outcome.TheVariants.{Answered, Hit}
 use Rattle.coap_model.specs.declared.report.Storing.TheVariants.{Kept, TooLarge}
 use Rattle.coap_model.specs.Setting.{Setting}
-use Rattle.coap_model.specs.Forms.{request_key}
+use Rattle.coap_model.specs.Keys.{request_key}
 use Rattle.coap_model.specs.History.{Deed, Place, Brings}
 use Rattle.coap_model.specs.Pairs.{Pairs, Both}
 use Rattle.coap_model.specs.Cached.{IsObtained, Cached, cached_key, cached_size, cached_here, entry_of_cached, store_limits, leaves, IsCacheOf, empty, kept, too_large, hit, otherwise, IsStored, IsStoreOf, IsEntryOf}

@@ -8,16 +8,16 @@ use Rattle.coap_message.specs.Reading.{head_at}
 use Rattle.coap_target.specs.declared.endpoint.Endpoint.{Endpoint}
 use Rattle.coap_cache.specs.Entries.{Entry, entry_key, entry_size}
 use Rattle.coap_cache.specs.Lists.{of_key, others}
-use Rattle.coap_exchange.specs.declared.exchange.Answer.{Answer}
+use Rattle.coap_cache.specs.declared.answer.Answer.{Answer}
 use Rattle.coap_exchange.specs.declared.exchange.Exchange.{Exchange}
 use Rattle.coap_exchange.specs.Table.{Numbered}
 use Rattle.coap_model.specs.declared.report.Outcome.{Outcome}
 use Rattle.coap_model.specs.declared.report.Outcome.TheVariants.{Answered}
 use Rattle.coap_model.specs.declared.report.Storing.TheVariants.{TooLarge, NoMemory, NotStored}
-use Rattle.coap_model.specs.Answers.{answer_of, is_storable}
+use Rattle.coap_forward.specs.Answers.{answer_of, is_storable}
 use Rattle.coap_model.specs.Events.{Event, arrival, tick}
 use Rattle.coap_model.specs.History.{grown_of}
-use Rattle.coap_model.specs.Messages.{brings_requests, is_ack}
+use Rattle.coap_forward.specs.Messages.{brings_requests, is_ack}
 use Rattle.coap_model.specs.Requests.{on_request}
 use Rattle.coap_model.specs.Responses.{awaiting, entry_made, answers_so, keeps_if, on_awaited, on_response}
 use Rattle.coap_model.specs.Step.{unprocessed, on_no_request, message_in, on_read, step_of}

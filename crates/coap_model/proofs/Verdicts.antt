@@ -20,8 +20,9 @@ use Rattle.coap_routes.specs.declared.routes.Routes.{Routes}
 use Rattle.coap_routes.specs.Request.{request_target}
 use Rattle.coap_routes.specs.Routes.{AreRoutes}
 use Rattle.coap_routes.proofs.Requests.{request_target-is}
-use Rattle.coap_model.specs.Messages.{eight_zeros}
-use Rattle.coap_model.specs.Forms.{forwarded, request_key}
+use Rattle.coap_forward.specs.Messages.{eight_zeros}
+use Rattle.coap_forward.specs.Forms.{forwarded}
+use Rattle.coap_model.specs.Keys.{request_key}
 use Rattle.coap_model.specs.Verdicts.{Verdict, refused_with, may_ask, refusal_of, verdict_of_target, verdict_of_options, verdict_of, form_fits}
 use Rattle.coap_model.specs.Setting.{Setting}
 use Rattle.coap_model.specs.History.{Deed}

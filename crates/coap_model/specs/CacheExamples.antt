@@ -15,16 +15,16 @@ use Rattle.coap_model.specs.declared.report.Outcome.TheVariants.{Answered, Hit}
 use Rattle.coap_model.specs.declared.report.Storing.TheVariants.{Kept}
 use Rattle.coap_model.specs.Limits.{default_limits}
 use Rattle.coap_model.specs.Events.{arrival}
-use Rattle.coap_model.specs.Messages.{token_of}
-use Rattle.coap_model.specs.Forms.{forwarded}
-use Rattle.coap_model.specs.Answers.{answer_of}
+use Rattle.coap_forward.specs.Messages.{token_of}
+use Rattle.coap_forward.specs.Forms.{forwarded}
+use Rattle.coap_forward.specs.Answers.{answer_of}
 use Rattle.coap_model.specs.Examples.{origin, client, get_t, answer}
 use Rattle.coap_model.specs.LimitExamples as limited
 use Rattle.coap_model.specs.OptionExamples.{key_of_temp}
 use Rattle.coap_model.specs.History.{no_item, moves, Deed}
 use Rattle.coap_model.specs.Forged as forged
 use Rattle.coap_model.specs.Forged.{setting, opened, asked}
-use Rattle.coap_model.specs.Answers.{is_storable}
+use Rattle.coap_forward.specs.Answers.{is_storable}
 use Rattle.coap_model.specs.Cached.{Cached, cached_with}
 
 -- ---- what may be kept

@@ -17,8 +17,8 @@ use Rattle.coap_model.specs.declared.report.Outcome.{Outcome}
 use Rattle.coap_model.specs.declared.report.Outcome.TheVariants.{Answered, Hit}
 use Rattle.coap_model.specs.declared.report.Storing.TheVariants.{Kept, TooLarge}
 use Rattle.coap_model.specs.Setting.{Setting}
-use Rattle.coap_model.specs.Forms.{key_sent, request_key}
-use Rattle.coap_model.specs.Answers.{answer_of, is_storable, without_observe, is_passed_on}
+use Rattle.coap_model.specs.Keys.{key_sent, request_key}
+use Rattle.coap_forward.specs.Answers.{answer_of, is_storable, without_observe, is_passed_on}
 use Rattle.coap_model.specs.History.{Deed, Place, index, IsPlaceOf, Brings, Gets, Matches}
 use Rattle.coap_model.specs.Pairs.{Pairs}
 

@@ -5,7 +5,7 @@ use Rattle.coap_message.specs.Spelling.{spelling}
 use Rattle.coap_option.specs.Selection.{sent_on, tags_of}
 use Rattle.coap_routes.specs.Routes.{AreRoutes}
 use Rattle.coap_cache.specs.declared.key.CacheKey.{CacheKey}
-use Rattle.coap_exchange.specs.declared.exchange.Answer.{Answer}
+use Rattle.coap_cache.specs.declared.answer.Answer.{Answer}
 use Rattle.coap_exchange.specs.declared.exchange.ExchangeState.{ExchangeState}
 use Rattle.coap_exchange.specs.declared.exchange.ExchangeState.TheVariants.{Queued, Sent, Done}
 use Rattle.coap_exchange.specs.declared.exchange.Exchange.{Exchange}
@@ -16,10 +16,11 @@ use Rattle.coap_message.specs.declared.kind.Kind.TheVariants.{Con, Non}
 use Rattle.coap_dedup.specs.Lists.{AreUpTo, reply_bytes}
 use Rattle.coap_dedup.specs.Records.{Records, AreRecords, living_at}
 use Rattle.coap_model.specs.Setting.{Setting}
-use Rattle.coap_model.specs.Messages.{token_of}
-use Rattle.coap_model.specs.Forms.{forwarded, key_sent}
+use Rattle.coap_forward.specs.Messages.{token_of}
+use Rattle.coap_forward.specs.Forms.{forwarded}
+use Rattle.coap_model.specs.Keys.{key_sent}
 use Rattle.coap_model.specs.Verdicts.{may_ask}
-use Rattle.coap_model.specs.Answers.{answer_of}
+use Rattle.coap_forward.specs.Answers.{answer_of}
 use Rattle.coap_exchange.specs.Exchanges.{is_queued, count_where}
 use Rattle.coap_model.specs.World.{World, reserved}
 use Rattle.coap_model.specs.History.{Entry, Deed, told_by, Place, index, IsPlaceOf, Never, Somewhere, opened_in, sent_in, served_in, ids_in, Sends, Asks, Gets, Serves, last_of, IsInOrder, AreIds}

@@ -7,7 +7,7 @@ use Rattle.coap_message.specs.Reading.{head_at}
 use Rattle.coap_target.specs.declared.endpoint.Endpoint.{Endpoint}
 use Rattle.coap_dedup.specs.declared.record.Record.{Record}
 use Rattle.coap_model.specs.Events.{arrival}
-use Rattle.coap_model.specs.Messages.{is_con, told_again}
+use Rattle.coap_forward.specs.Messages.{is_con, told_again}
 use Rattle.coap_model.specs.History.{Place}
 use Rattle.coap_model.specs.Remembered.{is_remembered}
 

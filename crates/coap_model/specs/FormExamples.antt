@@ -7,7 +7,7 @@ use Rattle.coap_message.specs.Reading.{read_message}
 use Rattle.coap_target.specs.declared.endpoint.Endpoint.{Endpoint}
 use Rattle.coap_target.specs.declared.target.Target.{Target}
 use Rattle.coap_model.specs.World.{World}
-use Rattle.coap_model.specs.Forms.{target_sent}
+use Rattle.coap_model.specs.Keys.{target_sent}
 use Rattle.coap_model.specs.Runs.{Turn}
 use Rattle.coap_model.specs.Step.{step_of}
 use Rattle.coap_model.specs.Examples.{origin}

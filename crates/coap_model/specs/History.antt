@@ -16,7 +16,7 @@ use Rattle.coap_model.specs.Limits.{Limits}
 use Rattle.coap_model.specs.Setting.{Setting}
 use Rattle.coap_model.specs.Events.{Event, arrival, tick}
 use Rattle.coap_message.specs.Codes.{is_response}
-use Rattle.coap_model.specs.Messages.{is_con, token_of}
+use Rattle.coap_forward.specs.Messages.{is_con, token_of}
 
 -- one step as the outside saw it, with all that the step read
 pub record Entry : Type 0 where

@@ -22,11 +22,12 @@ use Rattle.coap_model.specs.declared.report.Storing.TheVariants.{Kept, TooLarge,
 use Rattle.coap_model.specs.Setting.{Setting}
 use Rattle.coap_model.specs.Events.{Event, arrival, tick}
 use Rattle.coap_message.specs.Codes.{is_request}
-use Rattle.coap_model.specs.Messages.{brings_requests, reset, own_reply, busy_reply, at_once, token_of}
+use Rattle.coap_forward.specs.Messages.{brings_requests, reset, own_reply, busy_reply, at_once, token_of}
 use Rattle.coap_model.specs.Remembered.{most_remembered, remembered_at}
-use Rattle.coap_model.specs.Forms.{forwarded, key_sent, request_key}
+use Rattle.coap_forward.specs.Forms.{forwarded}
+use Rattle.coap_model.specs.Keys.{key_sent, request_key}
 use Rattle.coap_model.specs.Verdicts.{Verdict, refused_with, may_ask, verdict_of, form_fits}
-use Rattle.coap_model.specs.Answers.{answer_of, stored_answer, shown}
+use Rattle.coap_forward.specs.Answers.{answer_of, stored_answer, shown}
 use Rattle.coap_model.specs.Cached.{IsObtained, Cached, cached_key, cached_size, cached_here, entry_of_cached, IsCacheOf}
 use Rattle.coap_model.specs.Due.{IsDueAt, IsSooner}
 use Rattle.coap_model.specs.History.{Entry, Act, no_item, admits, moves, serves, Deed, Place, IsPlaceOf, Never, takes, gives_id, opened_in, ids_in, HasIds, HasRoom, Opens, Brings, Meets, Gets, Gives}

@@ -1,9 +1,7 @@
 pub mod Limits
 pub mod Setting
-pub mod Messages
-pub mod Forms
+pub mod Keys
 pub mod Verdicts
-pub mod Answers
 pub mod Events
 pub mod Remembered
 pub mod Duplicates

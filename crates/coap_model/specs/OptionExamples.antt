@@ -17,7 +17,7 @@ use Rattle.coap_routes.specs.Routes.{fixed_map}
 use Rattle.coap_cache.specs.declared.key.CacheKey.{CacheKey}
 use Rattle.coap_model.specs.declared.report.Outcome.TheVariants.{Refused, Opened, SentRequest}
 use Rattle.coap_model.specs.Limits.{default_limits}
-use Rattle.coap_model.specs.Forms.{key_sent}
+use Rattle.coap_model.specs.Keys.{key_sent}
 use Rattle.coap_model.specs.Runs.{Turn}
 use Rattle.coap_model.specs.World.{World, new_world}
 use Rattle.coap_model.specs.Examples.{Sent, origin, client, from, tick_at, nothing, to, get_temp, answer, answered_by, delivered_as, delivered_once}

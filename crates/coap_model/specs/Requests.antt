@@ -15,14 +15,14 @@ use Rattle.coap_cache.specs.Lists.{of_key, used}
 use Rattle.coap_dedup.specs.declared.record.Record.{Record}
 use Rattle.coap_dedup.specs.Lists.{record_of}
 use Rattle.coap_dedup.specs.Records.{living_at, with_kept}
-use Rattle.coap_model.specs.Answers.{shown, stored_answer}
+use Rattle.coap_forward.specs.Answers.{shown, stored_answer}
 use Rattle.coap_exchange.specs.declared.exchange.ExchangeState.TheVariants.{Queued}
 use Rattle.coap_exchange.specs.declared.exchange.Exchange.{Exchange}
 use Rattle.coap_exchange.specs.declared.waiter.Waiter.{Waiter}
 use Rattle.coap_exchange.specs.Table.{Numbered}
 use Rattle.coap_model.specs.declared.report.Outcome.TheVariants.{Again, NoRecordRoom, Refused, Hit, Overloaded, NoId, Opened}
-use Rattle.coap_model.specs.Messages.{is_con, is_non, own_reply, busy_reply, at_once, told_again, token_of}
-use Rattle.coap_model.specs.Forms.{forwarded}
+use Rattle.coap_forward.specs.Messages.{is_con, is_non, own_reply, busy_reply, at_once, told_again, token_of}
+use Rattle.coap_forward.specs.Forms.{forwarded}
 use Rattle.coap_model.specs.Verdicts.{Verdict, refused_with, may_ask, verdict_of, form_fits}
 use Rattle.coap_model.specs.World.{World, Step, later, silent, says, records_of, has_record_room, next_id, can_reply, ids_to_reply, has_room}
 

@@ -9,7 +9,7 @@ use Rattle.coap_target.specs.declared.endpoint.Endpoint.{Endpoint}
 use Rattle.coap_model.specs.declared.report.Outcome.TheVariants.{Rejected}
 use Rattle.coap_model.specs.Events.{Event, arrival, tick}
 use Rattle.coap_message.specs.Codes.{is_request, is_response}
-use Rattle.coap_model.specs.Messages.{is_con, brings_requests, is_ack, reset}
+use Rattle.coap_forward.specs.Messages.{is_con, brings_requests, is_ack, reset}
 use Rattle.coap_model.specs.World.{World, Step, later, says, ignores}
 use Rattle.coap_model.specs.Requests.{on_request}
 use Rattle.coap_model.specs.Responses.{on_response}

@@ -1,6 +1,6 @@
 -- The step of a tick: what is due is done, one thing at a time.
-use Rattle.std.specs.Prelude.{ℕ, ◌+◌, ◌/◌, ◌%◌, nat_le, if◌then◌else◌, List, [], ◌∷◌, ◌++◌, Option, Some, None, option_map}
-use Rattle.coap_exchange.specs.declared.exchange.Answer.{Answer}
+use Rattle.std.specs.Prelude.{ℕ, ◌+◌, nat_le, if◌then◌else◌, List, ◌++◌, Option, Some, None, option_map}
+use Rattle.coap_cache.specs.declared.answer.Answer.{Answer}
 use Rattle.coap_exchange.specs.declared.exchange.ExchangeState.TheVariants.{Sent}
 use Rattle.coap_exchange.specs.declared.exchange.Exchange.{Exchange}
 use Rattle.coap_exchange.specs.declared.waiter.Waiter.{Waiter}
@@ -9,7 +9,8 @@ use Rattle.coap_exchange.specs.Due.{Item, sending, serving, due_of, exchange_ite
 use Rattle.coap_exchange.specs.Table.{Numbered, without}
 use Rattle.coap_exchange.specs.Waiters.{is_awaited}
 use Rattle.coap_model.specs.declared.report.Outcome.TheVariants.{SentRequest, Delivered, Idle}
-use Rattle.coap_model.specs.Answers.{shown}
+use Rattle.coap_forward.specs.Answers.{shown}
+use Rattle.coap_forward.specs.Forms.{with_id}
 use Rattle.coap_model.specs.World.{World, Step, later, silent, says, next_id}
 
 -- ---- what is due
@@ -26,14 +27,6 @@ if_due now None = None
 if_due now (Some i) = if nat_le (due_of i) now then Some i else None
 
 -- ---- what is done
-
--- a form with a message id in place of its own
-unfoldable pub with_id : ℕ → List ℕ → List ℕ
-with_id id [] = []
-with_id id (a ∷ []) = a ∷ []
-with_id id (a ∷ b ∷ []) = a ∷ b ∷ []
-with_id id (a ∷ b ∷ c ∷ []) = a ∷ b ∷ c ∷ []
-with_id id (a ∷ b ∷ c ∷ d ∷ rest) = a ∷ b ∷ id / 256 ∷ id % 256 ∷ rest
 
 -- the request is sent to its origin, with a new id
 abbrev pub sends : World → ℕ → Numbered Exchange → Step

@@ -15,8 +15,9 @@ use Rattle.coap_routes.specs.declared.error.TargetError.{TargetError}
 use Rattle.coap_routes.specs.declared.error.TargetError.TheVariants.{BadUri, NotProxied, NotFound, OutOfMemory}
 use Rattle.coap_routes.specs.declared.routes.Routes.{Routes}
 use Rattle.coap_routes.specs.Request.{request_target}
-use Rattle.coap_model.specs.Messages.{eight_zeros}
-use Rattle.coap_model.specs.Forms.{forwarded, request_key}
+use Rattle.coap_forward.specs.Messages.{eight_zeros}
+use Rattle.coap_forward.specs.Forms.{forwarded}
+use Rattle.coap_model.specs.Keys.{request_key}
 
 pub data Verdict : Type 0 where
   refused_with : Code → Verdict

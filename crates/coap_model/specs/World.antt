@@ -18,7 +18,7 @@ use Rattle.coap_model.specs.declared.report.Outcome.TheVariants.{Ignored}
 use Rattle.coap_model.specs.declared.report.Report.{Report}
 use Rattle.coap_model.specs.declared.report.Counts.{Counts}
 use Rattle.coap_model.specs.Setting.{Setting}
-use Rattle.coap_model.specs.Messages.{is_con}
+use Rattle.coap_forward.specs.Messages.{is_con}
 
 pub record World : Type 0 where
   pub setting : Setting

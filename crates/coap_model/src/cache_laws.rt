@@ -12,7 +12,7 @@ ghost use Rattle.coap_cache.specs.Lists.{of_key, others, put, total, used};
 ghost use Rattle.coap_model.specs.declared.report.Outcome.TheVariants.{Answered, Hit};
 ghost use Rattle.coap_model.specs.declared.report.Storing.TheVariants.{Kept, TooLarge, NoMemory};
 ghost use Rattle.coap_model.specs.Setting.{Setting};
-ghost use Rattle.coap_model.specs.Forms.{request_key};
+ghost use Rattle.coap_model.specs.Keys.{request_key};
 ghost use Rattle.coap_model.specs.History as told;
 ghost use Rattle.coap_model.specs.History.{Deed, Place, IsPlaceOf, Brings, takes, Gets};
 ghost use Rattle.coap_model.specs.Cached.{IsObtained, IsOfOrigin, Cached, cached_key, cached_size, cached_here, entry_of_cached, store_limits, leaves, IsCacheOf, StandsFirst, IsStored, IsStoreOf, WasObtained, IsEntryOf};

@@ -1,5 +1,5 @@
 use Rattle.std.proofs.Common.{refl}
-use Rattle.coap_model.specs.Messages.{token_of}
+use Rattle.coap_forward.specs.Messages.{token_of}
 use Rattle.coap_model.proofs.cache_laws.examples_of_keeping.Goals as goal
 
 pub returns : goal.returns

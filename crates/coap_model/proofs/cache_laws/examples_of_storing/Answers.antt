@@ -2,7 +2,7 @@ use Rattle.std.proofs.Common.{refl}
 use Rattle.coap_message.specs.Reading.{read_message, body_at, options_within, option_at, extended}
 use Rattle.coap_message.specs.Spelling.{spelling, option_spelling}
 use Rattle.coap_message.specs.Uint.{uint_spelling}
-use Rattle.coap_model.specs.Answers.{answer_of}
+use Rattle.coap_forward.specs.Answers.{answer_of}
 use Rattle.coap_model.proofs.cache_laws.examples_of_storing.Goals as goal
 
 pub returns : goal.returns

@@ -4,11 +4,11 @@ use Rattle.coap_message.specs.Spelling.{spelling, option_spelling}
 use Rattle.coap_message.specs.Uint.{uint_spelling}
 use Rattle.coap_routes.specs.Request.{request_target}
 use Rattle.coap_routes.specs.Routes.{mapped_target}
-use Rattle.coap_model.specs.Messages.{token_of}
-use Rattle.coap_model.specs.Forms.{target_options}
+use Rattle.coap_forward.specs.Messages.{token_of}
+use Rattle.coap_forward.specs.Forms.{target_options}
 use Rattle.coap_model.specs.Verdicts.{verdict_of, form_fits}
-use Rattle.coap_model.specs.Answers.{answer_of}
-use Rattle.coap_model.specs.Ticks.{with_id}
+use Rattle.coap_forward.specs.Answers.{answer_of}
+use Rattle.coap_forward.specs.Forms.{with_id}
 use Rattle.coap_model.specs.Step.{message_in}
 use Rattle.coap_model.proofs.laws.examples_at_limits.Goals as goal
 

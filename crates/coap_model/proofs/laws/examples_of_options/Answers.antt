@@ -6,11 +6,12 @@ use Rattle.std.specs.Net.Reader.{read_number, read_octet, read_ipv4}
 use Rattle.coap_uri.specs.Address.{ipv4_of, ipv6_between}
 use Rattle.coap_routes.specs.Request.{by_scheme, request_target}
 use Rattle.coap_routes.specs.Routes.{mapped_target}
-use Rattle.coap_model.specs.Messages.{token_of}
-use Rattle.coap_model.specs.Forms.{target_sent, target_options, key_sent}
+use Rattle.coap_forward.specs.Messages.{token_of}
+use Rattle.coap_model.specs.Keys.{target_sent, key_sent}
+use Rattle.coap_forward.specs.Forms.{target_options}
 use Rattle.coap_model.specs.Verdicts.{verdict_of, form_fits}
-use Rattle.coap_model.specs.Answers.{answer_of}
-use Rattle.coap_model.specs.Ticks.{with_id}
+use Rattle.coap_forward.specs.Answers.{answer_of}
+use Rattle.coap_forward.specs.Forms.{with_id}
 use Rattle.coap_model.specs.Step.{message_in}
 use Rattle.coap_model.proofs.laws.examples_of_options.Goals as goal
 

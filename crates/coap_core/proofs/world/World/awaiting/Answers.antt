@@ -3,8 +3,8 @@ use Rattle.std.specs.Prelude.{option_map}
 use Rattle.coap_target.specs.Endpoint.{same_endpoint}
 use Rattle.coap_exchange.specs.declared.exchange.Exchange.{Exchange}
 use Rattle.coap_exchange.specs.Table.{Numbered, item_at}
-use Rattle.coap_model.specs.Messages.{token_of}
-use Rattle.coap_core.proofs.Tokens.{nobody-awaits, awaits-none, awaits-one, sent-with}
+use Rattle.coap_forward.specs.Messages.{token_of}
+use Rattle.coap_core.proofs.Awaiting.{nobody-awaits, awaits-none, awaits-one, sent-with}
 use Rattle.coap_core.proofs.world.World.awaiting.Given.{Over}
 use Rattle.coap_core.proofs.world.World.awaiting.Goals.{After-get}
 use Rattle.coap_core.proofs.world.World.awaiting.Goals as goal

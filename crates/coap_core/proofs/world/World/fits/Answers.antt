@@ -1,5 +1,5 @@
 use Rattle.std.proofs.Common.{◌≡◌, ◌∙◌, length, ap}
-use Rattle.coap_model.proofs.Spelled.{length-token_of}
+use Rattle.coap_forward.proofs.Tokens.{length-token_of}
 use Rattle.coap_core.proofs.Widths.{form-fits}
 use Rattle.coap_core.proofs.world.World.fits.Goals as goal
 

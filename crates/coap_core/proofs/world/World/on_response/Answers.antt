@@ -9,7 +9,7 @@ use Rattle.coap_model.specs.Responses.{on_response}
 use Rattle.coap_model.specs.World.{Step}
 use Rattle.coap_core.specs.Steps.{Does}
 use Rattle.coap_core.specs.Storing.{answering_at}
-use Rattle.coap_core.proofs.Tokens.{answered, answered-at}
+use Rattle.coap_core.proofs.Awaiting.{answered, answered-at}
 use Rattle.coap_core.proofs.Puts.{answer-takes}
 use Rattle.coap_core.proofs.world.World.on_response.Goals as goal
 

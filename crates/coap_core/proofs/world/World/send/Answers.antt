@@ -2,8 +2,8 @@ use Rattle.std.proofs.Common.{◌≡◌, ◌<◌, ◌≤◌, Some, length, sym, 
 use Rattle.coap_exchange.specs.Exchanges.{is_queued}
 use Rattle.coap_exchange.specs.Table.{item_at}
 use Rattle.coap_model.specs.World.{next_id}
-use Rattle.coap_model.specs.Ticks.{with_id}
-use Rattle.coap_model.proofs.Fitting.{length-with_id}
+use Rattle.coap_forward.specs.Forms.{with_id}
+use Rattle.coap_forward.proofs.Forms.{length-with_id}
 use Rattle.coap_core.proofs.Keeping.{id-for-queued}
 use Rattle.coap_core.proofs.world.World.send.Goals as goal
 

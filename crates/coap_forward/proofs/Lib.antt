@@ -1,0 +1,4 @@
+pub mod Forms
+pub mod Gaps
+pub mod Tokens
+pub mod Observing

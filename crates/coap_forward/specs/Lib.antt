@@ -1,0 +1,4 @@
+pub mod Messages
+pub mod Forms
+pub mod Gaps
+pub mod Answers

@@ -1,0 +1,147 @@
+//! What a proxy makes of a response: the answer that it keeps, and how long that is fresh.
+ghost use Rattle.std.specs.Prelude.{◌≡◌, ◌≤◌, ◌==◌, true, not, filter, IfOk};
+ghost use Rattle.std.specs.List.{list_any};
+ghost use Rattle.coap_message.specs.declared.code.Code.{Code};
+ghost use Rattle.coap_option.specs.declared.numbers.TheConstants.{OBSERVE};
+ghost use Rattle.coap_forward.specs.Answers.{is_storable, without_observe, fits, answer_of, left_of, left_told, bad_gateway};
+
+use coap_cache::{Answer, put_aged, tells_age};
+use coap_message::{
+    Code, Datagram, Head, Kind, Message, MessageRef, OptionList, Options, OutOfMemory, Seq, Token,
+};
+use coap_option::{max_age, numbers, screen_response};
+use std::alloc::Global;
+
+/// The greatest Max-Age, in seconds: it takes four bytes (RFC 7252, 5.10.5).
+const GREATEST_MAX_AGE: u64 = 4_294_967_295;
+
+/// Whether one of the options is an Observe.
+fn has_observe(options: &Options<'_>) -> bool
+    ensures { result ≡ list_any (λ o. o.number == OBSERVE) options.now }
+{
+    for option in options.iter() {
+        if option.number == numbers::OBSERVE {
+            return true;
+        }
+    }
+    false
+}
+
+/// A copy of the options without Observe, in no more room than it needs.
+fn without_observe(alloc: Global, options: &Options<'_>) -> Result<OptionList, OutOfMemory>
+    ensures { IfOk result (λ list. list ≡ filter (λ o. not (o.number == OBSERVE)) options.now) }
+{
+    if !has_observe(options) {
+        return options.to_owned(alloc);
+    }
+    let mut list = OptionList::new(alloc);
+    for option in options.iter() {
+        if option.number != numbers::OBSERVE {
+            list.push(option.number, option.value)?;
+        }
+    }
+    list.shrink_to_fit();
+    Ok(list)
+}
+
+/// A copy of what goes on of a response: Observe is taken off (RFC 7641, 2).
+fn kept(alloc: Global, response: &MessageRef<'_>) -> Result<Message, OutOfMemory>
+    ensures { IfOk result (λ message. message ≡ without_observe response.now) }
+{
+    Ok(Message {
+        kind: response.kind,
+        code: response.code,
+        id: response.id,
+        token: response.token,
+        options: without_observe(alloc, &response.options)?,
+        payload: Seq::from_slice(alloc, response.payload)?,
+    })
+}
+
+/// Whether a response fits a datagram of so many bytes with any token and any Max-Age. Its widest
+/// form is written for that.
+fn fits(message: &Message, most: usize, out: &mut Datagram) -> bool
+    requires { most ≤ out.old.room }
+    ensures exact { result ≡ fits most message.now }
+    ensures kept { out.new.room ≡ out.old.room }
+{
+    let head = Head {
+        kind: Kind::Non,
+        code: message.code,
+        id: 0,
+    };
+    let token = Token::new(&[0; 8]);
+    put_aged(message, head, &token, GREATEST_MAX_AGE, out, most).is_ok()
+}
+
+/// 5.02, in place of a response that can't be passed on (RFC 7252, 5.9.3.3).
+fn bad_gateway(alloc: Global, now: u64) -> Answer
+    ensures { result ≡ record { message = bad_gateway; got = now; own = true } }
+{
+    Answer {
+        message: Message {
+            kind: Kind::Non,
+            code: Code::BAD_GATEWAY,
+            id: 0,
+            token: Token::empty(),
+            options: OptionList::new(alloc),
+            payload: Seq::new(alloc),
+        },
+        got: now,
+        own: true,
+    }
+}
+
+/// The answer that a response gives. What may be passed on is copied here.
+#[tactic(auto, unfolding(crate::specs::Answers::answer_of))]
+pub fn answer_of(
+    alloc: Global,
+    most: usize,
+    now: u64,
+    response: &MessageRef<'_>,
+    out: &mut Datagram,
+) -> Result<Answer, OutOfMemory>
+    requires { most ≤ out.old.room }
+    ensures exact { IfOk result (λ answer. answer ≡ answer_of most now response.now) }
+    ensures kept { out.new.room ≡ out.old.room }
+{
+    if screen_response(response).is_err() || response.code == Code::VALID {
+        return Ok(bad_gateway(alloc, now));
+    }
+    let message = kept(alloc, response)?;
+    if !fits(&message, most, out) {
+        return Ok(bad_gateway(alloc, now));
+    }
+    Ok(Answer {
+        message,
+        got: now,
+        own: false,
+    })
+}
+
+/// For how many seconds an answer still is fresh (RFC 7252, 5.7.1).
+fn left_of(now: u64, answer: &Answer) -> u64
+    ensures { result ≡ left_of now answer.now }
+{
+    let age = now.saturating_sub(answer.got);
+    u64::from(max_age(&answer.message.lent())).saturating_sub(age.div_ceil(1000))
+}
+
+/// That is told of what an origin answered, and not of the proxy's own replies.
+pub fn left_told(now: u64, answer: &Answer) -> Option<u64>
+    ensures { result ≡ left_told now answer.now }
+{
+    if answer.own {
+        None
+    } else {
+        Some(left_of(now, answer))
+    }
+}
+
+/// Whether an answer may be stored: a 2.05 or an error of class 4 or 5 that an origin sent, with a
+/// Max-Age above 0 (RFC 7252, 5.6.1 and 5.9).
+pub fn is_storable(answer: &Answer) -> bool
+    ensures { result ≡ is_storable answer.now }
+{
+    !answer.own && tells_age(answer.message.code) && max_age(&answer.message.lent()) > 0
+}

@@ -1,0 +1,14 @@
+//! What a proxy passes on (RFC 7252, 5.7): the request that it sends to an origin, what it makes of the
+//! response, and what its clients are shown of that.
+#![tactic(auto)]
+
+mod answers;
+mod form;
+mod part;
+mod token;
+mod writing;
+
+pub use answers::{answer_of, is_storable};
+pub use form::{put_forwarded, put_with_id};
+pub use token::{number_of, token_of};
+pub use writing::{put_bare, put_shown, put_stored, put_with_max_age};

@@ -1,0 +1,38 @@
+//! Values that say a part of a target.
+ghost use Rattle.std.specs.Prelude.{◌≡◌, ◌∷◌, [], MatchOption};
+ghost use Rattle.coap_forward.specs.Gaps.{host_values, values_left};
+
+use coap_message::PieceRefs;
+use coap_target::Target;
+
+/// Values that say a part of a target.
+#[derive(Drop)]
+pub(crate) enum PartValues<'a> {
+    /// A host, or none.
+    Host(Option<&'a [u8]>),
+    /// Those of a list.
+    Kept(PieceRefs<'a>),
+}
+
+impl<'a> PartValues<'a> {
+    /// The next value.
+    pub(crate) fn next_value(&mut self) -> Option<&'a [u8]>
+        ensures { MatchOption result ((values_left self.old ≡ []) × (values_left self.new ≡ []))
+            (λ value. values_left self.old ≡ value.now ∷ values_left self.new) }
+    {
+        match self {
+            PartValues::Host(host) => host.take(),
+            PartValues::Kept(pieces) => pieces.next(),
+        }
+    }
+}
+
+/// The value that says the host, if there is one.
+pub(crate) fn host_of(target: &Target) -> PartValues<'_>
+    ensures { values_left result ≡ host_values target.now.host }
+{
+    match &target.host {
+        Some(host) => PartValues::Host(Some(host.as_slice())),
+        None => PartValues::Host(None),
+    }
+}

@@ -1,0 +1,106 @@
+//! The messages that a proxy sends, written part by part into the caller's datagram, without
+//! memory.
+ghost use Rattle.std.specs.Prelude.{◌≡◌, ◌≤◌, ◌∷◌, [], length};
+ghost use Rattle.coap_message.specs.Datagram.{Appends, holding};
+ghost use Rattle.coap_message.specs.Message.{message_of};
+ghost use Rattle.coap_message.specs.Spelling.{spelling};
+ghost use Rattle.coap_cache.specs.Renewing.{max_age_option};
+ghost use Rattle.coap_forward.specs.Answers.{shown, stored_answer};
+ghost use Rattle.coap_forward.specs.Answers.{shown_as};
+
+use crate::answers::left_told;
+use coap_cache::{Answer, Stored, put_max_age, show_into};
+use coap_message::{
+    Datagram, Full, Head, Kind, Options, Pieces, Token, put_head, put_message, put_payload,
+};
+
+// ---- the proxy's own messages
+
+/// Writes a message with neither options nor a payload.
+pub fn put_bare(out: &mut Datagram, head: Head, token: &Token)
+    requires fits { length (spelling (message_of head token.now [] [])) ≤ out.old.room }
+    ensures { out.new ≡ holding out.old (spelling (message_of head token.now [] [])) }
+{
+    let room = out.room();
+    if put_message(out, room, head, token, &Options::none(), &[]).is_err() {
+        unreachable!();
+    }
+}
+
+/// Writes a message whose one option is a Max-Age of so many seconds (RFC 7252, 5.10.5).
+pub fn put_with_max_age(out: &mut Datagram, head: Head, token: &Token, seconds: u64, payload: &[u8])
+    requires fits { length
+        (spelling (message_of head token.now (max_age_option seconds ∷ []) payload.now))
+        ≤ out.old.room }
+    ensures { out.new
+        ≡ holding out.old
+        (spelling (message_of head token.now (max_age_option seconds ∷ []) payload.now)) }
+{
+    let room = out.room();
+    if try_with_max_age(out, room, head, token, seconds, payload).is_err() {
+        unreachable!();
+    }
+}
+
+#[tactic(auto, unfolding(coap_message::specs::Spelling::spelling))]
+fn try_with_max_age(
+    out: &mut Datagram,
+    room: usize,
+    head: Head,
+    token: &Token,
+    seconds: u64,
+    payload: &[u8],
+) -> Result<(), Full>
+    requires { room ≤ out.old.room }
+    ensures { Appends (holding out.old []) out.new room
+        (spelling (message_of head token.now (max_age_option seconds ∷ []) payload.now)) result }
+{
+    put_head(out, room, head, token)?;
+    put_max_age(out, room, 0, seconds)?;
+    put_payload(out, room, payload)
+}
+
+// ---- what clients are shown
+
+/// Writes what a client with these tags is given for an answer.
+pub fn put_shown(
+    out: &mut Datagram,
+    now: u64,
+    answer: &Answer,
+    id: u16,
+    token: &Token,
+    tags: &Pieces,
+)
+    requires fits { length (spelling (shown now answer.now id token.now tags.now)) ≤ out.old.room }
+    ensures { out.new ≡ holding out.old (spelling (shown now answer.now id token.now tags.now)) }
+{
+    let left = left_told(now, answer);
+    let room = out.room();
+    if show_into(&answer.message, Kind::Non, id, token, left, tags, out, room).is_err() {
+        unreachable!();
+    }
+}
+
+/// Writes what a client with these tags is given for what is stored, in a message of this type.
+pub fn put_stored(
+    out: &mut Datagram,
+    now: u64,
+    stored: &Stored,
+    kind: Kind,
+    id: u16,
+    token: &Token,
+    tags: &Pieces,
+)
+    requires fits { length
+        (spelling (shown_as kind now (stored_answer stored.now) id token.now tags.now))
+        ≤ out.old.room }
+    ensures { out.new
+        ≡ holding out.old
+        (spelling (shown_as kind now (stored_answer stored.now) id token.now tags.now)) }
+{
+    let left = Some(stored.left(now));
+    let room = out.room();
+    if show_into(&stored.response, kind, id, token, left, tags, out, room).is_err() {
+        unreachable!();
+    }
+}

@@ -1,0 +1,246 @@
+-- The target and the cache key are read back off the request that was sent on.
+use Rattle.std.proofs.Common.{◌≡◌, ℕ, ◌<◌, Bool, true, false, cond, eqb, leb, List, [], ◌∷◌, ◌++◌, Option, Some, None, refl, sym, ap, subst, ◌∙◌, arith}
+use Rattle.std.specs.Prelude.{◌&&◌, ◌||◌, ◌==◌, not, map, filter}
+use Rattle.std.specs.List.{AllByRecursion}
+use Rattle.std.proofs.lemmas.Bool.{leb-false, eqb-true}
+use Rattle.std.proofs.lemmas.List.{append-nil}
+use Rattle.coap_message.specs.declared.code.Code.{Code}
+use Rattle.coap_message.specs.declared.code.TheConstants.Code.{GET}
+use Rattle.coap_message.specs.declared.options.Opt.{Opt}
+use Rattle.coap_message.specs.Options.{AreOptions, option_of}
+use Rattle.coap_message.specs.Message.{Message}
+use Rattle.coap_option.specs.declared.side.Side.TheVariants.{Request}
+use Rattle.coap_option.specs.Classes.{is_no_cache_key}
+use Rattle.coap_option.specs.Screening.{first_refused}
+use Rattle.coap_option.specs.Selection.{sent_on, key_of}
+use Rattle.coap_target.specs.declared.target.Target.{Target}
+use Rattle.coap_target.specs.Target.{IsTarget}
+use Rattle.coap_target.proofs.Lists.{All-weaken}
+use Rattle.coap_routes.specs.Request.{first_value}
+use Rattle.coap_routes.specs.Routes.{values_of}
+use Rattle.coap_cache.specs.declared.key.CacheKey.{CacheKey}
+use Rattle.coap_forward.specs.Forms.{is_used_up, goes_on, host_options, put_in, merged, target_options, forwarded}
+use Rattle.coap_forward.proofs.Forms.{in_key, AreUnused, unused-clean, key-clean, key-screened, sent-screened, sent-unused, target-options}
+use Rattle.coap_model.specs.Keys.{request_key, says_target, beside_target, target_sent, key_sent}
+
+-- ---- the target, read off the request
+
+-- an option more in front, where the values after it are the same
+values-cons : (number : ℕ) (o : Opt) (os rest : List Opt) → values_of number os ≡ values_of number rest → values_of number (o ∷ os) ≡ values_of number (o ∷ rest)
+values-cons number o os rest same = go (eqb o.number number)
+  where
+    go : (b : Bool) → map (λ p. p.value) (cond b (o ∷ filter (λ p. p.number == number) os) (filter (λ p. p.number == number) os)) ≡ map (λ p. p.value) (cond b (o ∷ filter (λ p. p.number == number) rest) (filter (λ p. p.number == number) rest))
+    go true = ap (λ (l : List (List ℕ)). o.value ∷ l) same
+    go false = same
+
+-- options of two numbers, in either order
+values-swap : (number : ℕ) (o p : Opt) (os : List Opt) → p.number < o.number → values_of number (p ∷ o ∷ os) ≡ values_of number (o ∷ p ∷ os)
+values-swap number o p os less = go (eqb p.number number) refl (eqb o.number number) refl
+  where
+    rest : List Opt
+    rest = filter (λ q. q.number == number) os
+
+    go : (a : Bool) → eqb p.number number ≡ a → (b : Bool) → eqb o.number number ≡ b → map (λ q. q.value) (cond a (p ∷ cond b (o ∷ rest) rest) (cond b (o ∷ rest) rest)) ≡ map (λ q. q.value) (cond b (o ∷ cond a (p ∷ rest) rest) (cond a (p ∷ rest) rest))
+    go true e true f = absurd (let i = eqb-true _ _ e in let j = eqb-true _ _ f in omega arith)
+    go true e false f = refl
+    go false e true f = refl
+    go false e false f = refl
+
+-- an option that is put in counts as one in front
+values-put_in : (number : ℕ) (o : Opt) (os : List Opt) → values_of number (put_in o os) ≡ values_of number (o ∷ os)
+values-put_in number o [] = refl
+values-put_in number o (p ∷ ps) = go (leb o.number p.number) refl (values-put_in number o ps)
+  where
+    go : (b : Bool) → leb o.number p.number ≡ b → values_of number (put_in o ps) ≡ values_of number (o ∷ ps) → values_of number (cond b (o ∷ p ∷ ps) (p ∷ put_in o ps)) ≡ values_of number (o ∷ p ∷ ps)
+    go true e rest = refl
+    go false e rest = values-cons number p (put_in o ps) (o ∷ ps) rest ∙ values-swap number o p ps (let lt = leb-false _ _ e in omega arith)
+
+-- where the others have no value of a number, one list with them has those of the first
+values-merged : (number : ℕ) (os others : List Opt) → values_of number others ≡ [] → values_of number (merged os others) ≡ values_of number os
+values-merged number [] others none = none
+values-merged number (o ∷ os) others none = values-put_in number o (merged os others) ∙ values-cons number o (merged os others) os (values-merged number os others none)
+
+-- there is no value of a number that is used up among options that aren't
+values-unused : (number : ℕ) (os : List Opt) → is_used_up number ≡ true → AreUnused os → values_of number os ≡ []
+values-unused number [] used none = refl
+values-unused number (o ∷ os) used none = go (eqb o.number number) refl (values-unused number os used none.1)
+  where
+    go : (b : Bool) → eqb o.number number ≡ b → values_of number os ≡ [] → map (λ p. p.value) (cond b (o ∷ filter (λ p. p.number == number) os) (filter (λ p. p.number == number) os)) ≡ []
+    go true e rest = absurd (let f = sym (ap is_used_up (eqb-true o.number number e)) ∙ none.0 in let g = sym used ∙ f in cc)
+    go false e rest = rest
+
+-- the values of a number are read back
+values-here : (number : ℕ) (values : List (List ℕ)) (os : List Opt) → eqb number number ≡ true → values_of number (map (option_of number) values ++ os) ≡ values ++ values_of number os
+values-here number [] os same = refl
+values-here number (v ∷ values) os same = rw same (ap (λ (l : List (List ℕ)). v ∷ l) (values-here number values os same))
+
+-- and options of another number don't count
+values-other : (number other : ℕ) (values : List (List ℕ)) (os : List Opt) → eqb other number ≡ false → values_of number (map (option_of other) values ++ os) ≡ values_of number os
+values-other number other [] os differ = refl
+values-other number other (v ∷ values) os differ = rw differ (values-other number other values os differ)
+
+-- the parts of a target are read back off its options
+record IsReadBack (t : Target) (os : List Opt) : Type 0 where
+  pub host : first_value (values_of 3 os) ≡ t.host
+  pub path : values_of 11 os ≡ t.path
+  pub query : values_of 15 os ≡ t.query
+
+-- the options of a target say that target
+read-back : (t : Target) → IsReadBack t (target_options t)
+unfolding target_options
+read-back t = record { host = host t.host; path = path t.host; query = query t.host }
+  where
+    all : Option (List ℕ) → List Opt
+    all h = host_options h ++ (map (option_of 11) t.path ++ map (option_of 15) t.query)
+
+    tail : (number : ℕ) → values_of number (map (option_of 15) t.query) ≡ values_of number (map (option_of 15) t.query ++ [])
+    tail number = sym (ap (values_of number) (append-nil (map (option_of 15) t.query)))
+
+    host : (h : Option (List ℕ)) → first_value (values_of 3 (all h)) ≡ h
+    host None = ap first_value (values-other 3 11 t.path (map (option_of 15) t.query) refl ∙ tail 3 ∙ values-other 3 15 t.query [] refl)
+    host (Some h) = refl
+
+    segments : values_of 11 (all None) ≡ t.path
+    segments = values-here 11 t.path (map (option_of 15) t.query) refl ∙ ap (λ (l : List (List ℕ)). t.path ++ l) (tail 11 ∙ values-other 11 15 t.query [] refl) ∙ append-nil t.path
+
+    path : (h : Option (List ℕ)) → values_of 11 (all h) ≡ t.path
+    path None = segments
+    path (Some h) = segments
+
+    parts : values_of 15 (all None) ≡ t.query
+    parts = values-other 15 11 t.path (map (option_of 15) t.query) refl ∙ tail 15 ∙ values-here 15 t.query [] refl ∙ append-nil t.query
+
+    query : (h : Option (List ℕ)) → values_of 15 (all h) ≡ t.query
+    query None = parts
+    query (Some h) = parts
+
+-- so the target is read back off the request, whatever else is sent on
+target-sent : (token : List ℕ) (t : Target) (others : List Opt) (id : ℕ) → AreUnused others → target_sent t.at (forwarded token t others id) ≡ t
+unfolding target_sent
+target-sent token t others id none =
+    let back = read-back t in
+    made (ap first_value (merges 3 refl) ∙ back.host) (merges 11 refl ∙ back.path) (merges 15 refl ∙ back.query)
+  where
+    merges : (number : ℕ) → is_used_up number ≡ true → values_of number (merged (target_options t) others) ≡ values_of number (target_options t)
+    merges number used = values-merged number (target_options t) others (values-unused number others used none)
+
+    made : {h h' : Option (List ℕ)} {p p' q q' : List (List ℕ)} → h ≡ h' → p ≡ p' → q ≡ q' → ◌≡◌ {A = Target} (record { host = h; at = t.at; path = p; query = q }) (record { host = h'; at = t.at; path = p'; query = q' })
+    made e f g = cc
+
+-- ---- the key, read off the request
+
+-- an option that is left out may be put in
+filter-put_in : (keep : Opt → Bool) (o : Opt) (os : List Opt) → keep o ≡ false → filter keep (put_in o os) ≡ filter keep os
+filter-put_in keep o [] out = rw out refl
+filter-put_in keep o (p ∷ ps) out = go (leb o.number p.number) (filter-put_in keep o ps out)
+  where
+    go : (b : Bool) → filter keep (put_in o ps) ≡ filter keep ps → filter keep (cond b (o ∷ p ∷ ps) (p ∷ put_in o ps)) ≡ filter keep (p ∷ ps)
+    go true rest = rw out refl
+    go false rest = rw rest refl
+
+-- so may a list of which all are left out
+filter-merged : (keep : Opt → Bool) (os others : List Opt) → AllByRecursion (λ o. keep o ≡ false) os → filter keep (merged os others) ≡ filter keep others
+filter-merged keep [] others out = refl
+filter-merged keep (o ∷ os) others out = filter-put_in keep o (merged os others) out.0 ∙ filter-merged keep os others out.1
+
+-- all options of a target say a part of it
+all-say : (t : Target) → AllByRecursion (λ o. says_target o.number ≡ true) (target_options t)
+unfolding target_options
+all-say t = host t.host
+  where
+    values : (number : ℕ) → says_target number ≡ true → (vs : List (List ℕ)) (os : List Opt) → AllByRecursion (λ o. says_target o.number ≡ true) os → AllByRecursion (λ o. says_target o.number ≡ true) (map (option_of number) vs ++ os)
+    values number says [] os rest = rest
+    values number says (v ∷ vs) os rest = (says, values number says vs os rest)
+
+    query : AllByRecursion (λ o. says_target o.number ≡ true) (map (option_of 15) t.query)
+    query = subst (AllByRecursion (λ o. says_target o.number ≡ true)) (append-nil (map (option_of 15) t.query)) (values 15 refl t.query [] tt)
+
+    host : (h : Option (List ℕ)) → AllByRecursion (λ o. says_target o.number ≡ true) (host_options h ++ (map (option_of 11) t.path ++ map (option_of 15) t.query))
+    host None = values 11 refl t.path (map (option_of 15) t.query) query
+    host (Some h) = (refl, values 11 refl t.path (map (option_of 15) t.query) query)
+
+-- an option that is kept stands before the others that are, where they have no lower numbers
+filter-put_in-kept : (keep : Opt → Bool) (o : Opt) (os : List Opt) → keep o ≡ true → AreOptions o.number (filter keep os) → filter keep (put_in o os) ≡ o ∷ filter keep os
+filter-put_in-kept keep o [] kept are = rw kept refl
+filter-put_in-kept keep o (p ∷ ps) kept are = go (leb o.number p.number) refl (keep p) refl (filter-put_in-kept keep o ps kept) are
+  where
+    go : (b : Bool) → leb o.number p.number ≡ b → (k : Bool) → keep p ≡ k → (AreOptions o.number (filter keep ps) → filter keep (put_in o ps) ≡ o ∷ filter keep ps) → AreOptions o.number (cond k (p ∷ filter keep ps) (filter keep ps)) → filter keep (cond b (o ∷ p ∷ ps) (p ∷ put_in o ps)) ≡ o ∷ cond k (p ∷ filter keep ps) (filter keep ps)
+    go true e k f rest are' = rw (kept, f) refl
+    go false e true f rest are' = absurd (let le = are'.0 in let lt = leb-false _ _ e in omega arith)
+    go false e false f rest are' = rw f (rest are')
+
+-- so of two lists as one the first is read back, where all of it is kept and nothing of the other
+pub kept-merged : (keep : Opt → Bool) (low : ℕ) (os others : List Opt) → AreOptions low os → AllByRecursion (λ o. keep o ≡ true) os → filter keep others ≡ [] → filter keep (merged os others) ≡ os
+kept-merged keep low [] others are kept none = none
+kept-merged keep low (o ∷ os) others are kept none =
+    let rest = kept-merged keep o.number os others are.3 kept.1 none in
+    filter-put_in-kept keep o (merged os others) kept.0 (subst (AreOptions o.number) (sym rest) are.3) ∙ ap (λ (l : List Opt). o ∷ l) rest
+
+-- what says a part of a target is used up
+says-used : (number : ℕ) → says_target number ≡ true → is_used_up number ≡ true
+says-used number says = go (eqb number 3) refl (eqb number 11) refl (eqb number 15) refl says
+  where
+    of : (n : ℕ) → is_used_up n ≡ true → eqb number n ≡ true → is_used_up number ≡ true
+    of n used e = subst (λ (k : ℕ). is_used_up k ≡ true) (sym (eqb-true number n e)) used
+
+    go : (a : Bool) → eqb number 3 ≡ a → (b : Bool) → eqb number 11 ≡ b → (c : Bool) → eqb number 15 ≡ c → (a || (b || c)) ≡ true → is_used_up number ≡ true
+    go true e b f c g s = of 3 refl e
+    go false e true f c g s = of 11 refl f
+    go false e false f true g s = of 15 refl g
+    go false e false f false g s = absurd cc
+
+-- so of what isn't used up all stands beside the target
+unused-beside : (os : List Opt) → AreUnused os → filter (λ o. not (says_target o.number)) os ≡ os
+unused-beside [] none = refl
+unused-beside (o ∷ os) none = go (says_target o.number) refl (unused-beside os none.1)
+  where
+    go : (b : Bool) → says_target o.number ≡ b → filter (λ p. not (says_target p.number)) os ≡ os → cond (not b) (o ∷ filter (λ p. not (says_target p.number)) os) (filter (λ p. not (says_target p.number)) os) ≡ o ∷ os
+    go true e rest = absurd (let f = sym none.0 ∙ says-used o.number e in cc)
+    go false e rest = ap (λ (l : List Opt). o ∷ l) rest
+
+-- and nothing of it says a part of the target
+unused-silent : (os : List Opt) → AreUnused os → filter (λ o. says_target o.number) os ≡ []
+unused-silent [] none = refl
+unused-silent (o ∷ os) none = go (says_target o.number) refl (unused-silent os none.1)
+  where
+    go : (b : Bool) → says_target o.number ≡ b → filter (λ p. says_target p.number) os ≡ [] → cond b (o ∷ filter (λ p. says_target p.number) os) (filter (λ p. says_target p.number) os) ≡ []
+    go true e rest = absurd (let f = sym none.0 ∙ says-used o.number e in cc)
+    go false e rest = rest
+
+-- so the options of a target are those of the request that say it
+pub target-kept : (t : Target) (others : List Opt) → IsTarget t → AreUnused others → filter (λ o. says_target o.number) (merged (target_options t) others) ≡ target_options t
+target-kept t others is none = kept-merged (λ o. says_target o.number) 0 (target_options t) others (target-options t is) (all-say t) (unused-silent others none)
+
+-- of what goes on those in the key are those in the key of all
+key-of-sent : (code : Code) (os : List Opt) → filter (in_key code) (filter (goes_on code) os) ≡ filter (in_key code) os
+key-of-sent code [] = refl
+key-of-sent code (o ∷ os) = go (goes_on code o) refl (in_key code o) refl (key-of-sent code os)
+  where
+    out : (g k : Bool) → g ≡ false → (g && not (is_no_cache_key o.number)) ≡ k → k ≡ false
+    out true k e f = absurd cc
+    out false k e f = sym f
+
+    go : (g : Bool) → goes_on code o ≡ g → (k : Bool) → in_key code o ≡ k → filter (in_key code) (filter (goes_on code) os) ≡ filter (in_key code) os
+        → filter (in_key code) (cond g (o ∷ filter (goes_on code) os) (filter (goes_on code) os)) ≡ cond k (o ∷ filter (in_key code) os) (filter (in_key code) os)
+    go true e true f rest = rw (f, rest) refl
+    go true e false f rest = rw (f, rest) refl
+    go false e true f rest = absurd (let g = out (goes_on code o) true e f in cc)
+    go false e false f rest = rest
+
+-- the request that is sent on for a GET has its key
+pub key-forwarded : (token : List ℕ) (t : Target) (m : Message) (id : ℕ) → first_refused Request m.options ≡ None → m.code ≡ GET → key_sent t.at (forwarded token t (sent_on m) id) ≡ request_key t m
+unfolding key_sent
+key-forwarded token t m id screened get =
+    let none = sent-unused m screened in
+    let sent : Message = beside_target (forwarded token t (sent_on m) id) in
+    let options : sent.options ≡ sent_on m = filter-merged (λ o. not (says_target o.number)) (target_options t) (sent_on m) (All-weaken (λ o. says_target o.number ≡ true) (λ o. not (says_target o.number) ≡ false) (target_options t) (λ o says. ap not says) (all-say t)) ∙ unused-beside (sent_on m) none in
+    let unused : AreUnused sent.options = subst AreUnused (sym options) none in
+    let of_sent : key_of sent ≡ filter (in_key GET) sent.options = key-clean sent (unused-clean sent.options unused) in
+    let of_all : key_of m ≡ filter (in_key m.code) m.options = key-screened m screened in
+    let same : filter (in_key GET) (sent_on m) ≡ filter (in_key m.code) m.options =
+    subst (λ (c : Code). filter (in_key c) (sent_on m) ≡ filter (in_key m.code) m.options) get (ap (filter (in_key m.code)) (sent-screened m screened) ∙ key-of-sent m.code m.options)
+    in
+    made (target-sent token t (sent_on m) id none) (of_sent ∙ ap (filter (in_key GET)) options ∙ same ∙ sym of_all)
+  where
+    made : {a b : Target} {p q : List Opt} → a ≡ b → p ≡ q → ◌≡◌ {A = CacheKey} (record { target = a; options = p }) (record { target = b; options = q })
+    made e f = cc
