@@ -10,7 +10,7 @@ use Rattle.coap_message.specs.Message.{Message}
 use Rattle.coap_model.specs.declared.report.Storing.{Storing}
 use Rattle.coap_model.specs.declared.report.Storing.TheVariants.{Kept, TooLarge, NoMemory, NotStored}
 use Rattle.coap_forward.specs.Answers.{is_storable}
-use Rattle.coap_model.specs.Limits.{Limits}
+use Rattle.coap_limits.specs.Limits.{Limits}
 use Rattle.coap_model.specs.Responses.{entry_made, answers}
 use Rattle.coap_model.specs.World.{World, Step}
 

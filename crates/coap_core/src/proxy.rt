@@ -46,7 +46,7 @@ impl<S: Store> Model for Core<S> {
     ghost use Rattle.coap_model.specs.World.{World};
     ghost use Rattle.coap_model.specs.History.{Entry};
     ghost use Rattle.coap_model.specs.Carries.{Carries};
-    ghost use Rattle.coap_model.specs.Limits.{AreLimits};
+    ghost use Rattle.coap_limits.specs.Limits.{AreLimits};
 
     ghost Value = { World };
 

@@ -116,12 +116,36 @@ impl<S: Store + Drop> World<S> {
             return self.lack_id(now, client, request, out);
         }
         let mut asked = self.take_room();
-        let done = match self.verdict_of(request, &mut asked)? {
-            Verdict::RefusedWith(code) => self.refuse(now, client, request, code, out),
-            Verdict::MayAsk => self.on_key(now, client, request, &asked, out),
-        };
-        self.room = asked;
+        let done = self.judge(now, client, request, &mut asked, out);
+        self.give_room(asked);
         done
+    }
+
+    /// What becomes of a request that is new, where a reply can go out: it is refused, or asked
+    /// for. What it asks for is read into `asked`.
+    fn judge(
+        &mut self,
+        now: u64,
+        client: Endpoint,
+        request: &MessageRef<'_>,
+        asked: &mut Asked,
+        out: &mut Datagram,
+    ) -> Result<Report, OutOfMemory>
+        requires can { CanGoOn self.old }
+        requires new { CanRemember now client request.now self.old }
+        requires ids { can_reply self.old request.now.kind ≡ true }
+        requires room { self.old.setting.limits.datagram ≤ out.old.room }
+        requires fits { length (on_new self.old now client request.now).bytes ≤ out.old.room }
+        ensures exact { IfOk result (λ report.
+            Does (remembers now client request.now (on_new self.old now client request.now))
+            report out.old out.new self.new) }
+        ensures err { OnErr result (self.new ≡ self.old) }
+        ensures kept { out.new.room ≡ out.old.room }
+    {
+        match self.verdict_of(request, asked)? {
+            Verdict::RefusedWith(code) => self.refuse(now, client, request, code, out),
+            Verdict::MayAsk => self.on_key(now, client, request, asked, out),
+        }
     }
 
     /// What becomes of a request: the method, the options, the target; the first that is at fault

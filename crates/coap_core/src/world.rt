@@ -128,6 +128,13 @@ impl<S: Store + Drop> World<S> {
         mem::replace(&mut self.room, Asked::new(self.alloc))
     }
 
+    /// Gives it back.
+    pub(crate) fn give_room(&mut self, room: Asked)
+        ensures { self.new ≡ self.old }
+    {
+        self.room = room;
+    }
+
     /// The clock, one event on.
     pub(crate) fn pass(&mut self, now: u64)
         requires { self.old.events < 2 ^ 63 }

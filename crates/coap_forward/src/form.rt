@@ -120,7 +120,8 @@ fn put_values(
     requires above { before ≤ number }
     requires within { AllByRecursion IsShort (values_left values) }
     ensures written { Appends out.old out.new room
-        (options_spelling before (map (option_of number) (values_left values.entry))) (unit_of result) }
+        (options_spelling before (map (option_of number) (values_left values.entry)))
+        (unit_of result) }
     ensures last { IfOk result (λ last.
         last ≡ last_number before (map (option_of number) (values_left values.entry))) }
     ensures below { IfOk result (λ last. last ≤ number) }

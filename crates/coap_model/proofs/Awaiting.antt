@@ -26,7 +26,7 @@ use Rattle.coap_model.specs.History.{Deed, Place, IsPlaceOf, Somewhere, opened_i
 use Rattle.coap_model.specs.Justified.{IsAwaited, AllJustified}
 use Rattle.coap_model.specs.declared.report.Outcome.TheVariants.{SentRequest, Delivered}
 use Rattle.coap_model.specs.Carries.{IsState, IsExchangeOf, HasNumber, Bears}
-use Rattle.coap_model.proofs.Lists.{none-found}
+use Rattle.coap_target.proofs.Lists.{none-found}
 use Rattle.coap_model.proofs.Spelled.{message_in-again}
 use Rattle.coap_model.proofs.Places.{first-once, same_moves, same_serves, place-before, justified-at, Never-at, Opens-number, arrival-same}
 use Rattle.coap_model.proofs.Rules.{IsNothing}

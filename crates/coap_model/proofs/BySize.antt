@@ -8,8 +8,8 @@ use Rattle.coap_cache.proofs.Cuts.{cut-fits}
 use Rattle.coap_model.specs.declared.report.Outcome.{Outcome}
 use Rattle.coap_model.specs.declared.report.Outcome.TheVariants.{Answered}
 use Rattle.coap_model.specs.declared.report.Storing.TheVariants.{Kept, TooLarge, NoMemory, NotStored}
-use Rattle.coap_model.specs.declared.limits.Limit.TheVariants.{CacheEntries}
-use Rattle.coap_model.specs.Limits.{AreLimits}
+use Rattle.coap_limits.specs.declared.limits.Limit.TheVariants.{CacheEntries}
+use Rattle.coap_limits.specs.Limits.{AreLimits}
 use Rattle.coap_model.specs.Setting.{Setting}
 use Rattle.coap_model.specs.World.{World}
 use Rattle.coap_model.specs.History.{Entry as Told, Deed, Place, takes}

@@ -19,7 +19,8 @@ use Rattle.coap_forward.specs.Messages.{brings_requests, told_again}
 use Rattle.coap_model.specs.History.{Entry, Deed, Place, IsPlaceOf, Somewhere}
 use Rattle.coap_model.specs.Remembered.{goes_with, is_remembered, kept_of, kept_at, kept_by, kept_in, remembered_at, remembered_for}
 use Rattle.coap_model.specs.Duplicates.{Repeats, IsRememberedAt}
-use Rattle.coap_model.proofs.Lists.{find-holds, none-found, All-filter}
+use Rattle.coap_target.proofs.Lists.{none-found}
+use Rattle.coap_model.proofs.Lists.{find-holds, All-filter}
 
 -- ---- each record was left at a place
 

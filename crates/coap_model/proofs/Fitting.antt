@@ -4,8 +4,8 @@ use Rattle.coap_message.specs.Spelling.{spelling}
 use Rattle.coap_message.proofs.Spellings.{spelling-length}
 use Rattle.coap_cache.specs.declared.answer.Answer.{Answer}
 use Rattle.coap_forward.proofs.Forms.{length-with_id}
-use Rattle.coap_model.specs.declared.limits.Limit.TheVariants.{Datagram}
-use Rattle.coap_model.specs.Limits.{AreLimits}
+use Rattle.coap_limits.specs.declared.limits.Limit.TheVariants.{Datagram}
+use Rattle.coap_limits.specs.Limits.{AreLimits}
 use Rattle.coap_model.specs.Events.{Event, IsEvent}
 use Rattle.coap_forward.specs.Messages.{reset}
 use Rattle.coap_forward.specs.Answers.{shown}

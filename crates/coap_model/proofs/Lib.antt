@@ -29,7 +29,6 @@ pub mod Carrying
 pub mod Holding
 pub mod Promising
 pub mod Running
-pub mod Limiting
 pub mod Idling
 pub mod Fitting
 pub mod Arrivals

@@ -1,5 +1,5 @@
 -- Lists of which each element has a property.
-use Rattle.std.proofs.Common.{◌≡◌, ◌⊎◌, inl, inr, List, [], ◌∷◌, map, Bool, true, false, Some, None, refl, subst, cond}
+use Rattle.std.proofs.Common.{◌≡◌, ◌⊎◌, inl, inr, List, [], ◌∷◌, map, Bool, true, false, Some, refl, subst, cond}
 use Rattle.std.specs.Prelude.{filter}
 use Rattle.std.specs.List.{AllByRecursion, find}
 use Rattle.coap_target.proofs.Lists.{All-weaken}
@@ -26,15 +26,6 @@ All-filter P test (x ∷ xs) all = go (test x) refl (All-filter P test xs all.1)
     go : (b : Bool) → test x ≡ b → AllByRecursion (λ y. P y × (test y ≡ true)) (filter test xs) → AllByRecursion (λ y. P y × (test y ≡ true)) (cond b (x ∷ filter test xs) (filter test xs))
     go true t rest = ((all.0, t), rest)
     go false t rest = rest
-
--- what is not found passes no test
-pub none-found : {X : Type 0} (test : X → Bool) (xs : List X) → find test xs ≡ None → AllByRecursion (λ x. test x ≡ false) xs
-none-found test [] e = tt
-none-found test (y ∷ ys) e = go (test y) refl e (none-found test ys)
-  where
-    go : (b : Bool) → test y ≡ b → cond b (Some y) (find test ys) ≡ None → (find test ys ≡ None → AllByRecursion (λ x. test x ≡ false) ys) → (test y ≡ false) × AllByRecursion (λ x. test x ≡ false) ys
-    go true t f rest = absurd cc
-    go false t f rest = (t, rest f)
 
 -- ---- elements
 

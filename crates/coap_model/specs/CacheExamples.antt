@@ -13,7 +13,7 @@ use Rattle.coap_cache.specs.declared.stored.Stored.{Stored}
 use Rattle.coap_model.specs.declared.report.Outcome.{Outcome}
 use Rattle.coap_model.specs.declared.report.Outcome.TheVariants.{Answered, Hit}
 use Rattle.coap_model.specs.declared.report.Storing.TheVariants.{Kept}
-use Rattle.coap_model.specs.Limits.{default_limits}
+use Rattle.coap_limits.specs.Limits.{default_limits}
 use Rattle.coap_model.specs.Events.{arrival}
 use Rattle.coap_forward.specs.Messages.{token_of}
 use Rattle.coap_forward.specs.Forms.{forwarded}

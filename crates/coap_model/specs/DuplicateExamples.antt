@@ -3,7 +3,7 @@
 use Rattle.std.specs.Prelude.{ℕ, List, [], ◌∷◌, ◌++◌}
 use Rattle.coap_message.specs.declared.code.TheConstants.Code.{NOT_FOUND}
 use Rattle.coap_model.specs.declared.report.Outcome.TheVariants.{Again, NoRecordRoom, Refused, Hit, Opened, Overloaded}
-use Rattle.coap_model.specs.Limits.{default_limits}
+use Rattle.coap_limits.specs.Limits.{default_limits}
 use Rattle.coap_model.specs.World.{World}
 use Rattle.coap_model.specs.Runs.{Turn}
 use Rattle.coap_model.specs.Examples.{Sent, client, from, nothing, to, get_t, first_answer, first_answer_sent}

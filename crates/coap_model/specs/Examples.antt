@@ -9,7 +9,7 @@ use Rattle.coap_model.specs.declared.report.Outcome.TheVariants.{Ignored, Reject
 use Rattle.coap_model.specs.declared.report.Storing.{Storing}
 use Rattle.coap_model.specs.declared.report.Storing.TheVariants.{Kept, NotStored}
 use Rattle.coap_model.specs.declared.report.Report.{Report}
-use Rattle.coap_model.specs.Limits.{default_limits}
+use Rattle.coap_limits.specs.Limits.{default_limits}
 use Rattle.coap_model.specs.Events.{arrival, tick}
 use Rattle.coap_model.specs.World.{World, Step, new_world}
 use Rattle.coap_model.specs.Step.{step_of}

@@ -15,7 +15,7 @@ use Rattle.coap_exchange.specs.declared.exchange.ExchangeState.TheVariants.{Queu
 use Rattle.coap_exchange.specs.declared.exchange.Exchange.{Exchange}
 use Rattle.coap_exchange.specs.declared.waiter.Waiter.{Waiter}
 use Rattle.coap_exchange.specs.Table.{Numbered}
-use Rattle.coap_model.specs.Limits.{Limits}
+use Rattle.coap_limits.specs.Limits.{Limits}
 use Rattle.coap_model.specs.World.{World}
 
 abbrev pub host_bytes : Option (List ℕ) → ℕ

@@ -12,7 +12,7 @@ use Rattle.coap_model.specs.declared.report.Outcome.{Outcome}
 use Rattle.coap_model.specs.declared.report.Outcome.TheVariants.{Refused, Hit, Opened, Overloaded, Answered, SentRequest, Delivered}
 use Rattle.coap_model.specs.declared.report.Storing.TheVariants.{NoMemory}
 use Rattle.coap_model.specs.declared.report.Report.{Report}
-use Rattle.coap_model.specs.Limits.{Limits}
+use Rattle.coap_limits.specs.Limits.{Limits}
 use Rattle.coap_model.specs.Setting.{Setting}
 use Rattle.coap_model.specs.Events.{Event, arrival, tick}
 use Rattle.coap_message.specs.Codes.{is_response}

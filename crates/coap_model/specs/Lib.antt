@@ -1,4 +1,3 @@
-pub mod Limits
 pub mod Setting
 pub mod Keys
 pub mod Verdicts

@@ -5,7 +5,7 @@ use Rattle.coap_message.specs.declared.code.TheConstants.Code.{NOT_FOUND}
 use Rattle.coap_routes.specs.Routes.{fixed_routes}
 use Rattle.coap_model.specs.declared.report.Outcome.TheVariants.{Ignored, Rejected, Refused, Opened, Overloaded, NoId, Answered, SentRequest, Delivered}
 use Rattle.coap_model.specs.declared.report.Storing.TheVariants.{Kept, NotStored}
-use Rattle.coap_model.specs.Limits.{Limits, default_limits}
+use Rattle.coap_limits.specs.Limits.{Limits, default_limits}
 use Rattle.coap_model.specs.World.{World, new_world}
 use Rattle.coap_model.specs.Runs.{Turn}
 use Rattle.coap_model.specs.Examples.{get_t_as, Sent, origin, client, from, tick_at, nothing, to, proxy, get_t, answer}

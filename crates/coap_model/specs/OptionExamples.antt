@@ -16,7 +16,7 @@ use Rattle.coap_uri.specs.declared.uri.HostPart.TheVariants.{Name}
 use Rattle.coap_routes.specs.Routes.{fixed_map}
 use Rattle.coap_cache.specs.declared.key.CacheKey.{CacheKey}
 use Rattle.coap_model.specs.declared.report.Outcome.TheVariants.{Refused, Opened, SentRequest}
-use Rattle.coap_model.specs.Limits.{default_limits}
+use Rattle.coap_limits.specs.Limits.{default_limits}
 use Rattle.coap_model.specs.Keys.{key_sent}
 use Rattle.coap_model.specs.Runs.{Turn}
 use Rattle.coap_model.specs.World.{World, new_world}

@@ -10,7 +10,7 @@ use Rattle.coap_dedup.specs.declared.record.Record.{Record}
 use Rattle.coap_dedup.specs.Lists.{living}
 use Rattle.coap_model.specs.declared.report.Outcome.{Outcome}
 use Rattle.coap_model.specs.declared.report.Outcome.TheVariants.{Refused, Hit, Opened, Overloaded, NoId}
-use Rattle.coap_model.specs.Limits.{Limits}
+use Rattle.coap_limits.specs.Limits.{Limits}
 use Rattle.coap_model.specs.Events.{Event, arrival, tick}
 use Rattle.coap_forward.specs.Messages.{is_con, is_non, told_again}
 use Rattle.coap_model.specs.History.{Entry, Deed}

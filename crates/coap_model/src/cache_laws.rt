@@ -16,7 +16,7 @@ ghost use Rattle.coap_model.specs.Keys.{request_key};
 ghost use Rattle.coap_model.specs.History as told;
 ghost use Rattle.coap_model.specs.History.{Deed, Place, IsPlaceOf, Brings, takes, Gets};
 ghost use Rattle.coap_model.specs.Cached.{IsObtained, IsOfOrigin, Cached, cached_key, cached_size, cached_here, entry_of_cached, store_limits, leaves, IsCacheOf, StandsFirst, IsStored, IsStoreOf, WasObtained, IsEntryOf};
-ghost use Rattle.coap_model.specs.Limits.{AreLimits};
+ghost use Rattle.coap_limits.specs.Limits.{AreLimits};
 ghost use Rattle.coap_model.specs.World.{World, counts};
 ghost use Rattle.coap_model.specs.Justified.{IsHit, IsObtainedHere, size_here, JustifiedBy};
 ghost use Rattle.coap_model.specs.Carries.{Carries};

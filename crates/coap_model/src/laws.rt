@@ -9,7 +9,7 @@ ghost use Rattle.coap_target.specs.declared.endpoint.Endpoint.{Endpoint};
 ghost use Rattle.coap_cache.specs.declared.key.CacheKey.{CacheKey};
 ghost use Rattle.coap_routes.specs.Routes.{AreRoutes};
 ghost use Rattle.coap_cache.specs.declared.answer.Answer.{Answer};
-ghost use Rattle.coap_model.specs.Limits.{AreLimits, default_limits};
+ghost use Rattle.coap_limits.specs.Limits.{AreLimits, default_limits};
 ghost use Rattle.coap_model.specs.Setting.{Setting, setting_of};
 ghost use Rattle.coap_model.specs.declared.report.Outcome.{Outcome};
 ghost use Rattle.coap_model.specs.declared.report.Outcome.TheVariants.{Rejected, Again, NoRecordRoom, Hit, Opened, Idle, Refused, Overloaded, NoId, Answered};

@@ -4,8 +4,7 @@
 
 pub mod cache_laws;
 pub mod laws;
-mod limits;
 mod report;
 
-pub use limits::{Limit, LimitError, LimitValues, Limits};
+pub use coap_limits::{Limit, LimitError, LimitValues, Limits};
 pub use report::{Counts, Outcome, Report, Storing};

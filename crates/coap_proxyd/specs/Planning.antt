@@ -1,7 +1,7 @@
 -- What the program is to do, by its words and its configuration.
 use Rattle.std.specs.Prelude.{ℕ, List, [], ◌∷◌, ◌++◌, Option, Some, None, option_map, Result, Ok, Err, string_bytes}
 use Rattle.std.specs.Option.{unwrap_or}
-use Rattle.coap_model.specs.Limits.{default_limits}
+use Rattle.coap_limits.specs.Limits.{default_limits}
 use Rattle.coap_model.specs.Setting as model
 use Rattle.coap_routes.specs.RouteLists.{RouteLists}
 use Rattle.coap_routes.specs.RouteTexts.{Pair, routes_of}

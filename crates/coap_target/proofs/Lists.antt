@@ -1,6 +1,6 @@
 -- Lists of which each item has a property.
-use Rattle.std.proofs.Common.{List, [], ◌∷◌, ◌++◌}
-use Rattle.std.specs.List.{AllByRecursion}
+use Rattle.std.proofs.Common.{◌≡◌, Bool, true, false, cond, List, [], ◌∷◌, ◌++◌, Some, None, refl}
+use Rattle.std.specs.List.{AllByRecursion, find}
 
 -- what holds of each item of two lists holds of each of both
 pub All-append : {X : Type 0} (P : X → Type 0) (xs ys : List X) → AllByRecursion P xs → AllByRecursion P ys → AllByRecursion P (xs ++ ys)
@@ -16,3 +16,12 @@ All-parts P (x ∷ xs) ys all = let rest = All-parts P xs ys all.1 in ((all.0, r
 pub All-weaken : {X : Type 0} (P Q : X → Type 0) (xs : List X) → ((x : X) → P x → Q x) → AllByRecursion P xs → AllByRecursion Q xs
 All-weaken P Q [] less all = tt
 All-weaken P Q (x ∷ xs) less all = (less x all.0, All-weaken P Q xs less all.1)
+
+-- what is not found passes no test
+pub none-found : {X : Type 0} (test : X → Bool) (xs : List X) → find test xs ≡ None → AllByRecursion (λ x. test x ≡ false) xs
+none-found test [] e = tt
+none-found test (y ∷ ys) e = go (test y) refl e (none-found test ys)
+  where
+    go : (b : Bool) → test y ≡ b → cond b (Some y) (find test ys) ≡ None → (find test ys ≡ None → AllByRecursion (λ x. test x ≡ false) ys) → (test y ≡ false) × AllByRecursion (λ x. test x ≡ false) ys
+    go true t f rest = absurd cc
+    go false t f rest = (t, rest f)

@@ -4,9 +4,9 @@ use Rattle.std.specs.List.{list_any}
 use Rattle.std.specs.Str.{is_utf8}
 use Rattle.toml.specs.Data.{Data, string, integer, array, table, Members, get_member}
 use Rattle.toml.specs.Parse.{parse_document}
-use Rattle.coap_model.specs.declared.limits.Limit.{Limit}
-use Rattle.coap_model.specs.declared.limits.Limit.TheVariants.{CacheBytes, CacheEntries, ConRecords, NonRecords, Exchanges, Waiters, Nstart, Datagram, ExchangeMs, RetryS}
-use Rattle.coap_model.specs.Limits.{Limits, default_limits, first_fault, value_of}
+use Rattle.coap_limits.specs.declared.limits.Limit.{Limit}
+use Rattle.coap_limits.specs.declared.limits.Limit.TheVariants.{CacheBytes, CacheEntries, ConRecords, NonRecords, Exchanges, Waiters, Nstart, Datagram, ExchangeMs, RetryS}
+use Rattle.coap_limits.specs.Limits.{Limits, default_limits, first_fault, value_of}
 use Rattle.coap_routes.specs.RouteLists.{RouteLists}
 use Rattle.coap_routes.specs.RouteTexts.{Pair, routes_of}
 use Rattle.coap_routes.specs.declared.error.RouteError.{RouteError}

@@ -2,7 +2,7 @@
 use Rattle.std.specs.Prelude.{ℕ, pos, List, [], ◌∷◌, ◌++◌, codes, Result}
 use Rattle.toml.specs.Data.{Data, Members, array, integer, member, no_members, table}
 use Rattle.toml.specs.View.{items_of}
-use Rattle.coap_model.specs.Limits.{Limits, default_limits}
+use Rattle.coap_limits.specs.Limits.{Limits, default_limits}
 use Rattle.coap_words.specs.Config.{Said, table_said}
 use Rattle.coap_words.specs.Texts.{Text}
 use Rattle.coap_words.specs.declared.config_error.ConfigError.{ConfigError}

@@ -12,7 +12,7 @@ use crate::config_error::{ConfigError, KeyName};
 use crate::limit_table::read_limits;
 use crate::lists::{read_hosts, read_maps, read_names};
 use crate::tables::{Place, bad_value, check_keys, member};
-use coap_model::Limits;
+use coap_limits::Limits;
 use coap_routes::{RouteError, Routes};
 use std::alloc::Global;
 use toml::{Table, Value};

@@ -7,7 +7,7 @@ ghost use Rattle.coap_target.specs.declared.endpoint.Ip.TheVariants.{V4};
 ghost use Rattle.toml.specs.Data.{integer, string};
 ghost use Rattle.toml.specs.Parse.{parse_document};
 ghost use Rattle.coap_words.specs.Config.{holding, routes_checked, sending, table_said};
-ghost use Rattle.coap_model.specs.Limits.{all_limits};
+ghost use Rattle.coap_limits.specs.Limits.{all_limits};
 ghost use Rattle.coap_words.specs.Examples.{greatest, least, list, nothing, number, said_limits, said_maps, said_with, table_of, tree, version_1};
 ghost use Rattle.coap_words.specs.LocalAddress.{local_address_of};
 ghost use Rattle.coap_words.specs.MapOption.{map_option_of};

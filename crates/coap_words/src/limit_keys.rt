@@ -2,7 +2,7 @@
 ghost use Rattle.std.specs.Prelude.{◌≡◌, map};
 ghost use Rattle.coap_words.specs.Config.{holding, is_among, is_limit, limit_key, sending};
 
-use coap_model::Limit;
+use coap_limits::Limit;
 
 /// The key of a limit.
 pub fn limit_key(limit: Limit) -> &'static str

@@ -9,7 +9,7 @@ ghost use Rattle.coap_words.specs.declared.config_error.ConfigError.TheVariants 
 use crate::config_error::ConfigError;
 use crate::limit_keys::limit_key;
 use crate::tables::{Place, bad_value, bad_value_in, check_keys, member};
-use coap_model::{Limit, LimitValues, Limits};
+use coap_limits::{Limit, LimitValues, Limits};
 use std::alloc::Global;
 use toml::{Table, Value};
 

@@ -1,6 +1,6 @@
 use Rattle.std.proofs.Common.{◌≤◌, Bool, true, length, subst, sym, arith}
 use Rattle.coap_model.specs.Setting.{Setting}
-use Rattle.coap_model.specs.Limits.{AreLimits}
+use Rattle.coap_limits.specs.Limits.{AreLimits}
 use Rattle.coap_model.specs.Step.{step_of}
 use Rattle.coap_core.specs.Events.{seen}
 use Rattle.coap_core.proofs.Carried.{IsLeft, can_go_on, is-left, is-short, promises-on}

@@ -1,5 +1,5 @@
 use Rattle.std.proofs.Common.{arith}
-use Rattle.coap_model.specs.declared.limits.Limit.TheVariants.{CacheBytes}
+use Rattle.coap_limits.specs.declared.limits.Limit.TheVariants.{CacheBytes}
 use Rattle.coap_core.proofs.world.World.new.Goals as goal
 
 pub with_limits-requires : goal.with_limits-requires

@@ -1,9 +1,9 @@
-use Rattle.std.proofs.Common.{◌≡◌, false, sym, ap, rules}
+use Rattle.std.proofs.Common.{◌≡◌, true, false, sym, ap, rules}
 use Rattle.coap_message.specs.declared.code.TheConstants.Code.{REQUEST_ENTITY_TOO_LARGE}
 use Rattle.coap_model.specs.World.{Step}
-use Rattle.coap_model.specs.Requests.{can_open, refuses, overloads, remembers, on_miss}
+use Rattle.coap_model.specs.Requests.{can_open, refuses, overloads, opens, remembers, on_miss}
 use Rattle.coap_model.proofs.Verdicts.{askable}
-use Rattle.coap_core.proofs.Asking.{does-as, fits-as, too-long, turned-away}
+use Rattle.coap_core.proofs.Asking.{does-as, fits-as, too-long, turned-away, opened}
 use Rattle.coap_core.proofs.world.World.on_miss.Goals as goal
 
 pub fits-requires-clause-get : goal.fits-requires-clause-get
@@ -42,3 +42,24 @@ overload-requires-clause-fits g c =
     let closed : can_open w m.kind ≡ false = rw (← c.request.view_is) (search rules) in
     let away : missed ≡ busy = turned-away w c.args.now c.args.client m c.args.asked.now.key c.requires.ids (sym c.if-not-fits.ensures.exact) closed in
     fits-as busy missed c.args.out.now.room c.fits.new.out.room away c.fits.ensures.kept c.requires.fits
+
+pub returns-then-ne-clause-exact : goal.returns-then-ne-clause-exact
+returns-then-ne-clause-exact g c =
+    let w = c.args.self.now in
+    let m = c.args.request.now in
+    let busy : Step = overloads w c.args.now c.args.client m in
+    let missed : Step = on_miss w c.args.now c.args.client m c.args.asked.now.key in
+    let closed : can_open w m.kind ≡ false = rw (← c.request.view_is) (search rules) in
+    let away : missed ≡ busy = turned-away w c.args.now c.args.client m c.args.asked.now.key c.requires.ids (sym c.if-not-fits.ensures.exact) closed in
+    does-as (remembers c.args.now c.args.client m busy) (remembers c.args.now c.args.client m missed) c.overload.result c.args.out.now c.fits.new.out c.overload.new.out c.overload.new.self (ap (remembers c.args.now c.args.client m) away) c.fits.ensures.kept c.overload.ensures.exact
+
+pub returns-clause-exact : goal.returns-clause-exact
+returns-clause-exact g c =
+    let w = c.args.self.now in
+    let m = c.args.request.now in
+    let key = c.args.asked.now.key in
+    let asked : Step = opens w c.args.now c.args.client m key in
+    let missed : Step = on_miss w c.args.now c.args.client m key in
+    let free : can_open w m.kind ≡ true = rw (← c.request.view_is) (search rules) in
+    let is : missed ≡ asked = opened w c.args.now c.args.client m key (sym c.if-not-fits.ensures.exact) free in
+    does-as (remembers c.args.now c.args.client m asked) (remembers c.args.now c.args.client m missed) c.open.result c.args.out.now c.fits.new.out c.open.new.out c.open.new.self (ap (remembers c.args.now c.args.client m) is) c.fits.ensures.kept (rw c.in_ok-key.ensures at c.open.ensures.exact)

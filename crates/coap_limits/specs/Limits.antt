@@ -1,9 +1,9 @@
 -- The limits of a proxy, the range of each, and which is at fault.
 use Rattle.std.specs.Prelude.{ℕ, ◌≤◌, ◌&&◌, Bool, not, nat_le, List, [], ◌∷◌, Option}
 use Rattle.std.specs.List.{find}
-use Rattle.coap_model.specs.declared.limits.Limit.{Limit}
-use Rattle.coap_model.specs.declared.limits.Limit.TheVariants.{CacheBytes, CacheEntries, ConRecords, NonRecords, Exchanges, Waiters, Nstart, Datagram, ExchangeMs, RetryS}
-use Rattle.coap_model.specs.declared.limits.LimitValues.{LimitValues}
+use Rattle.coap_limits.specs.declared.limits.Limit.{Limit}
+use Rattle.coap_limits.specs.declared.limits.Limit.TheVariants.{CacheBytes, CacheEntries, ConRecords, NonRecords, Exchanges, Waiters, Nstart, Datagram, ExchangeMs, RetryS}
+use Rattle.coap_limits.specs.declared.limits.LimitValues.{LimitValues}
 
 -- a value for each limit
 abbrev pub Limits : Type 0

@@ -1,6 +1,6 @@
-//! The limits of a proxy.
+//! Limits: their ranges, their defaults, and values within the ranges.
 ghost use Rattle.std.specs.Prelude.{◌≡◌, None, Some, not, IfOk, IfErr};
-ghost use Rattle.coap_model.specs.Limits.{AreLimits, default_limits, range_of, value_of, is_out, first_fault};
+ghost use Rattle.coap_limits.specs.Limits.{AreLimits, default_limits, range_of, value_of, is_out, first_fault};
 
 use std::marker::Model;
 use thiserror::Error;
@@ -150,7 +150,7 @@ pub struct Limits {
 }
 
 impl Model for Limits {
-    ghost use Rattle.coap_model.specs.Limits.{Limits, AreLimits};
+    ghost use Rattle.coap_limits.specs.Limits.{Limits, AreLimits};
 
     ghost Value = { Limits };
 
