@@ -8,8 +8,8 @@ use crate::fault::Fault;
 use crate::planning::{Plan, core_of};
 use coap_cache::Store;
 use coap_core::Core;
-use coap_port::{Port, drive};
-use coap_replay::replay;
+use coap_port::{DriveError, Port, Stats, drive};
+use coap_replay::{ReplayError, replay};
 use std::alloc::Global;
 use std::io::{BufReader, Read, Write};
 
@@ -62,7 +62,14 @@ fn serve_on<R: Read + Drop, W: Write, S: Store + Drop>(
     let Ok(mut reader) = BufReader::new(alloc, input) else {
         return Err(Fault::OutOfMemory);
     };
-    replay(alloc, &mut reader, output, core, turns)?;
+    ended(replay(alloc, &mut reader, output, core, turns))
+}
+
+/// How the program ends after a replay.
+fn ended(replayed: Result<u64, ReplayError>) -> Result<(), Fault>
+    ensures { result ≡ spec.ended_as replayed }
+{
+    replayed?;
     Ok(())
 }
 
@@ -88,6 +95,13 @@ pub fn serve_port<P: Port, S: Store + Drop>(
     let Ok(mut core) = core_of::<S>(alloc, seed, plan, first_id, salt) else {
         return Err(Fault::OutOfMemory);
     };
-    drive(alloc, &mut core, port, turns)?;
+    driven(drive(alloc, &mut core, port, turns))
+}
+
+/// How the program ends after a loop over a port.
+fn driven(driven: Result<Stats, DriveError>) -> Result<(), Fault>
+    ensures { result ≡ spec.driven_as driven }
+{
+    driven?;
     Ok(())
 }

@@ -1,5 +1,4 @@
-use Rattle.std.proofs.Common.{◌≡◌, ℕ, List, [], Option, Some, None, Result, inr, Ok, Err, refl, subst}
-use Rattle.std.proofs.lemmas.Result.{err_from_is_err_and}
+use Rattle.std.proofs.Common.{◌≡◌, ℕ, List, [], Option, Some, None, Result, inr, refl, subst}
 use Rattle.std.specs.Io.KnownBytes.{prepend_known}
 use Rattle.coap_replay.specs.Replays.{IsReplayed}
 use Rattle.coap_replay.specs.declared.error.ReplayError.{ReplayError}
@@ -21,11 +20,4 @@ served turns proxy after input left old new replayed is =
 pub returns : goal.returns
 returns g c =
     let reader = c.in-Ok.ensures in
-    served _ c.args.core.now _ (g.R.Read.remaining c.args.input) _ _ _ (Ok c.in_ok-replay.field-0) (rw (reader.capacity, reader.empty, reader.inner) at c.in_ok-replay.ensures.replayed)
-
-pub returns-in_err-replay : goal.returns-in_err-replay
-returns-in_err-replay g c =
-    let reader = c.in-Ok.ensures in
-    let p = err_from_is_err_and c.from_residual.result c.from_residual.ensures.1 in
-    let e = c.in_err-replay.field-0.0 in
-    rw (p.1, p.2) (served _ c.args.core.now _ (g.R.Read.remaining c.args.input) _ _ _ (Err e) (rw (reader.capacity, reader.empty, reader.inner) at c.in_err-replay.ensures.replayed))
+    rw c.ended.ensures (served _ c.args.core.now _ (g.R.Read.remaining c.args.input) _ _ _ c.replay.result (rw (reader.capacity, reader.empty, reader.inner) at c.replay.ensures.replayed))

@@ -1,5 +1,4 @@
-use Rattle.std.proofs.Common.{◌≡◌, ◌+◌, ℕ, Bool, List, Result, inr, Err, refl, subst}
-use Rattle.std.proofs.lemmas.Result.{err_from_is_err_and}
+use Rattle.std.proofs.Common.{◌≡◌, ◌+◌, ℕ, Bool, List, Result, inr, refl, subst}
 use Rattle.coap_target.specs.declared.endpoint.Endpoint.{Endpoint}
 use Rattle.coap_model.specs.Runs.{Turn}
 use Rattle.coap_model.specs.World.{World, new_world}
@@ -23,9 +22,8 @@ driven gives takes clock failures turns asked proxy core after p q r new same en
       refl,
     )
 
-pub returns-in_err-drive : goal.returns-in_err-drive
-returns-in_err-drive g c =
-    let p = err_from_is_err_and c.from_residual.result c.from_residual.ensures.1 in
-    rw (p.1, p.2)
-    (driven g.P.Port.gives g.P.Port.takes g.P.Port.clock g.P.Port.failures _ _ (new_world (setting_of c.args.plan c.args.first_id c.args.salt)) c.in-Ok.core _ c.args.port.now c.drive.new.port (Err c.in_err-drive.field-0.0)
-    c.in-Ok.ensures c.turns_of-turns.ensures c.in_err-drive.ensures)
+pub returns : goal.returns
+returns g c =
+    rw c.driven.ensures
+    (driven g.P.Port.gives g.P.Port.takes g.P.Port.clock g.P.Port.failures _ _ (new_world (setting_of c.args.plan c.args.first_id c.args.salt)) c.in-Ok.core _ c.args.port.now c.drive.new.port c.drive.result
+    c.in-Ok.ensures c.turns_of-turns.ensures c.drive.ensures)
