@@ -3,7 +3,7 @@ ghost use Rattle.std.specs.Prelude.{◌≡◌, ◌+◌, ◌<◌, ◌^◌, None, 
 ghost use Rattle.coap_dedup.specs.declared.record.TheConstants.{EXCHANGE_LIFETIME, NON_LIFETIME};
 ghost use Rattle.coap_dedup.specs.Records.{no_records};
 ghost use Rattle.coap_exchange.specs.Table.{empty_table};
-ghost use Rattle.coap_model.specs.Limits.{AreLimits};
+ghost use Rattle.coap_limits.specs.Limits.{AreLimits};
 ghost use Rattle.coap_model.specs.Setting.{setting_of};
 ghost use Rattle.coap_model.specs.World.{next_id, later, reserved, has_ids, has_room, new_world, counts};
 ghost use Rattle.coap_core.specs.Steps.{CanGoOn};
