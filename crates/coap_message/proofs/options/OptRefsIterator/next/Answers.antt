@@ -1,4 +1,4 @@
-use Rattle.std.proofs.Common.{◌≡◌, [], ◌<◌, length, arith, sym, ap, ◌∙◌}
+use Rattle.std.proofs.Common.{◌≡◌, [], ◌<◌, length, arith, rules, sym, ap, ◌∙◌}
 use Rattle.coap_message.specs.SpelledOptions.{options_of}
 use Rattle.coap_message.specs.Parsing.{parsed}
 use Rattle.coap_message.proofs.OptionSpellings.{next_none, next_some}
@@ -20,3 +20,6 @@ returns-clause-goes c =
     let first = (next_some c.self.inside.before c.self.inside.rest.now (parsed c.in_ok-option.option).0 c.in_ok-option.option.rest.now c.self.invariant (sym c.in_ok-option.ensures.exact)).0 in
     let fewer : length (options_of c.in_ok-option.option.number c.in_ok-option.option.rest.now) < length c.args.self.now = omega (arith, ap length c.self.view_is, ap length first) in
     record { on = λ f. (tt, tt, fewer); keeps = tt; rests = λ f. tt }
+
+pub returns-in_err-option-clause-goes : goal.returns-in_err-option-clause-goes
+returns-in_err-option-clause-goes c = search rules
