@@ -17,6 +17,7 @@ use Rattle.coap_cache.specs.Entries.{Entry, entry_key, has_usable}
 use Rattle.coap_cache.specs.Freshness.{is_usable}
 use Rattle.coap_cache.specs.Lists.{of_key}
 use Rattle.coap_dedup.specs.declared.record.Record.{Record}
+use Rattle.coap_exchange.specs.Ids.{given_in}
 use Rattle.coap_model.specs.declared.report.Report.{Report}
 use Rattle.coap_model.specs.Memory.{takes_memory}
 use Rattle.coap_model.specs.Verdicts.{Verdict, refused_with, may_ask, verdict_of, form_fits}
@@ -68,19 +69,19 @@ module _ (w : World) (now : ℕ) (client : Endpoint) (m : Message) where
   either-takes false s t p q = q
 
   down-takes : (code : Code) → Takes (turns_down w now client m code)
-  down-takes code = either-takes (can_reply w m.kind) (refuses w now client m code) (lacks_id w now) refl refl
+  down-takes code = either-takes (can_reply w now m.kind) (refuses w now client m code) (lacks_id w now) refl refl
 
   miss-takes : (key : CacheKey) → Takes (on_miss w now client m key)
   miss-takes key =
-      either-takes (form_fits w.setting.limits.datagram key.target m) (cond (can_open w m.kind) (opens w now client m key) (turns_away w now client m)) (turns_down w now client m REQUEST_ENTITY_TOO_LARGE)
-      (either-takes (can_open w m.kind) (opens w now client m key) (turns_away w now client m) refl (either-takes (can_reply w m.kind) (overloads w now client m) (lacks_id w now) refl refl))
+      either-takes (form_fits w.setting.limits.datagram key.target m) (cond (can_open w now m.kind) (opens w now client m key) (turns_away w now client m)) (turns_down w now client m REQUEST_ENTITY_TOO_LARGE)
+      (either-takes (can_open w now m.kind) (opens w now client m key) (turns_away w now client m) refl (either-takes (can_reply w now m.kind) (overloads w now client m) (lacks_id w now) refl refl))
       (down-takes REQUEST_ENTITY_TOO_LARGE)
 
   entry-takes : (key : CacheKey) (o : Option Entry) → Takes (on_entry w now client m key o)
   entry-takes key None = miss-takes key
   entry-takes key (Some entry) =
-      either-takes (is_usable now entry.1) (cond (can_reply w m.kind) (hits w now client m key entry.1) (lacks_id w now)) (on_miss w now client m key)
-      (either-takes (can_reply w m.kind) (hits w now client m key entry.1) (lacks_id w now) refl refl)
+      either-takes (is_usable now entry.1) (cond (can_reply w now m.kind) (hits w now client m key entry.1) (lacks_id w now)) (on_miss w now client m key)
+      (either-takes (can_reply w now m.kind) (hits w now client m key entry.1) (lacks_id w now) refl refl)
       (miss-takes key)
 
   verdict-takes : (v : Verdict) → Takes (on_verdict w now client m v)
@@ -95,15 +96,15 @@ module _ (w : World) (now : ℕ) (client : Endpoint) (m : Message) where
 
   module _ (key : CacheKey) where
     -- the form is too long
-    pub too-long : can_reply w m.kind ≡ true → form_fits w.setting.limits.datagram key.target m ≡ false → on_miss w now client m key ≡ refuses w now client m REQUEST_ENTITY_TOO_LARGE
+    pub too-long : can_reply w now m.kind ≡ true → form_fits w.setting.limits.datagram key.target m ≡ false → on_miss w now client m key ≡ refuses w now client m REQUEST_ENTITY_TOO_LARGE
     too-long reply fits = rw (fits, reply) refl
 
     -- there is no room, or it is one that isn't asked for yet
-    pub turned-away : can_reply w m.kind ≡ true → form_fits w.setting.limits.datagram key.target m ≡ true → can_open w m.kind ≡ false → on_miss w now client m key ≡ overloads w now client m
+    pub turned-away : can_reply w now m.kind ≡ true → form_fits w.setting.limits.datagram key.target m ≡ true → can_open w now m.kind ≡ false → on_miss w now client m key ≡ overloads w now client m
     turned-away reply fits closed = rw (fits, closed, reply) refl
 
     -- it is asked for
-    pub opened : form_fits w.setting.limits.datagram key.target m ≡ true → can_open w m.kind ≡ true → on_miss w now client m key ≡ opens w now client m key
+    pub opened : form_fits w.setting.limits.datagram key.target m ≡ true → can_open w now m.kind ≡ true → on_miss w now client m key ≡ opens w now client m key
     opened fits free = rw (fits, free) refl
 
     -- what is stored for it, if anything is, can't be shown
@@ -121,14 +122,14 @@ module _ (w : World) (now : ℕ) (client : Endpoint) (m : Message) where
   -- ---- requests that are new
 
   -- it is refused
-  pub refused : (code : Code) → can_reply w m.kind ≡ true → verdict_of w.setting.routes m ≡ refused_with code → on_new w now client m ≡ refuses w now client m code
+  pub refused : (code : Code) → can_reply w now m.kind ≡ true → verdict_of w.setting.routes m ≡ refused_with code → on_new w now client m ≡ refuses w now client m code
   refused code reply verdict = rw (verdict, reply) refl
 
   -- where no id is free for a reply none is for an exchange
-  shut : can_reply w m.kind ≡ false → can_open w m.kind ≡ false
+  shut : can_reply w now m.kind ≡ false → can_open w now m.kind ≡ false
   shut none = go m.kind none
     where
-      few : leb (w.given + reserved w + 1) 32768 ≡ false → leb (w.given + reserved w + 2) 32768 ≡ false
+      few : leb (given_in now w.ids + reserved w + 1) 32768 ≡ false → leb (given_in now w.ids + reserved w + 2) 32768 ≡ false
       few e = let more = leb-false _ _ e in lt-leb _ _ (omega (arith, more))
 
       last : (a b c : Bool) → c ≡ false → (a && (b && c)) ≡ false
@@ -136,14 +137,14 @@ module _ (w : World) (now : ℕ) (client : Endpoint) (m : Message) where
       last true false c e = refl
       last false b c e = refl
 
-      go : (kind : Kind) → can_reply w kind ≡ false → can_open w kind ≡ false
+      go : (kind : Kind) → can_reply w now kind ≡ false → can_open w now kind ≡ false
       go Con e = absurd cc
-      go Non e = last _ _ (has_ids 2 w) (few e)
+      go Non e = last _ _ (has_ids 2 w now) (few e)
       go Ack e = refl
       go Rst e = refl
 
   -- so nothing is said, whatever the verdict
-  pub lacking : can_reply w m.kind ≡ false → on_new w now client m ≡ lacks_id w now
+  pub lacking : can_reply w now m.kind ≡ false → on_new w now client m ≡ lacks_id w now
   lacking none = of (verdict_of w.setting.routes m)
     where
       miss : (key : CacheKey) (b : Bool) → form_fits w.setting.limits.datagram key.target m ≡ b → on_miss w now client m key ≡ lacks_id w now

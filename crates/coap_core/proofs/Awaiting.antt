@@ -1,6 +1,6 @@
 -- The exchange that awaits a response, found by the number that its token says.
-use Rattle.std.proofs.Common.{◌≡◌, ◌≢◌, ℕ, ◌-◌, ◌^◌, ◌<◌, ◌≤◌, Bool, true, false, cond, eqb, List, [], ◌∷◌, length, Option, Some, None, refl, sym, ap, ◌∙◌, subst, arith}
-use Rattle.std.specs.Prelude.{◌&&◌, IfSome, option_map, if◌then◌else◌}
+use Rattle.std.proofs.Common.{◌≡◌, ◌≢◌, ℕ, ◌^◌, ◌<◌, ◌≤◌, Bool, true, false, cond, eqb, List, [], ◌∷◌, length, Option, Some, None, refl, sym, ap, ◌∙◌, subst, arith}
+use Rattle.std.specs.Prelude.{◌&&◌, not, IfSome, option_map, if◌then◌else◌}
 use Rattle.std.specs.List.{AllByRecursion, find}
 use Rattle.std.proofs.lemmas.Bool.{eqb-true, eqb-false}
 use Rattle.std.proofs.lemmas.Option.{same_Some}
@@ -11,8 +11,8 @@ use Rattle.coap_target.specs.Equality.{same_bytes}
 use Rattle.coap_target.proofs.Equality.{Tells-bytes}
 use Rattle.coap_exchange.specs.declared.exchange.Exchange.{Exchange}
 use Rattle.coap_exchange.specs.declared.exchange.ExchangeState.{ExchangeState}
-use Rattle.coap_exchange.specs.declared.exchange.ExchangeState.TheVariants.{Queued, Sent, Done}
-use Rattle.coap_exchange.specs.Exchanges.{is_sent}
+use Rattle.coap_exchange.specs.declared.exchange.ExchangeState.TheVariants.{Queued, Sent, Acked, Done}
+use Rattle.coap_exchange.specs.Exchanges.{answer_in_state, is_missing, is_done, is_sent, is_sent_state}
 use Rattle.coap_exchange.specs.Table.{Numbered, Table, IsRising, IsTable, item_at}
 use Rattle.coap_forward.specs.Messages.{token_of}
 use Rattle.coap_model.specs.World.{World, Step}
@@ -22,12 +22,12 @@ use Rattle.coap_forward.proofs.Tokens.{length-token_of, token-same}
 
 module _ (salt : ℕ) (source : Endpoint) (m : Message) where
   abbrev is_right : Exchange → Bool
-  is_right x = has_id m.id x.state && same_endpoint x.key.target.at source
+  is_right x = (is_sent x && has_id m.id x.sending) && same_endpoint x.key.target.at source
 
   -- an exchange of another token doesn't
   others-do-not : (x : Numbered Exchange) → token_of salt x.0 ≢ m.token → awaits salt source m x ≡ false
   others-do-not x other =
-      go (has_id m.id x.1.state) (same_endpoint x.1.key.target.at source) (same_bytes (token_of salt x.0) m.token) refl
+      go (is_sent x.1 && has_id m.id x.1.sending) (same_endpoint x.1.key.target.at source) (same_bytes (token_of salt x.0) m.token) refl
     where
       go : (a b t : Bool) → same_bytes (token_of salt x.0) m.token ≡ t → (a && (b && t)) ≡ false
       go a b true e = absurd (other (Tells-bytes.only (token_of salt x.0) m.token e))
@@ -39,7 +39,7 @@ module _ (salt : ℕ) (source : Endpoint) (m : Message) where
   this-does : (x : Numbered Exchange) → token_of salt x.0 ≡ m.token → awaits salt source m x ≡ is_right x.1
   this-does x same =
       let t : same_bytes (token_of salt x.0) m.token ≡ true = rw same (Tells-bytes.itself m.token) in
-      rw t (go (has_id m.id x.1.state) (same_endpoint x.1.key.target.at source))
+      rw t (go (is_sent x.1 && has_id m.id x.1.sending) (same_endpoint x.1.key.target.at source))
     where
       go : (a b : Bool) → (a && (b && true)) ≡ (a && b)
       go true true = refl
@@ -98,15 +98,27 @@ awaits-none salt source m number t small token is few e =
 
 -- where it is of one, that one awaits the response if its endpoint and its id are right
 pub awaits-one : (salt : ℕ) (source : Endpoint) (m : Message) (number : ℕ) (t : Table Exchange) → number < 2 ^ 64 → token_of salt number ≡ m.token → IsTable t → t.admitted < 2 ^ 64 → (x : Exchange) → item_at number t.items ≡ Some x
-    → (b : Bool) → b ≡ (has_id m.id x.state && same_endpoint x.key.target.at source) → awaiting_in salt source m t ≡ (if b then Some number else None)
+    → (b : Bool) → b ≡ ((is_sent x && has_id m.id x.sending) && same_endpoint x.key.target.at source) → awaiting_in salt source m t ≡ (if b then Some number else None)
 awaits-one salt source m number t small token is few x e b f =
     found-by-number salt source m number small token 0 t.items is.rising (all-small t.admitted t.items few is.below) ∙ rw (e, f) refl
 
--- an exchange that was sent with an id was sent
-pub sent-with : (id : ℕ) (s : ExchangeState) (b : Bool) → (has_id id s && b) ≡ true → is_sent s ≡ true
-sent-with id Queued b e = absurd cc
-sent-with id (Sent sending) b e = refl
-sent-with id (Done a) b e = absurd cc
+-- an exchange that awaits a response was sent
+pub sent-with : (id : ℕ) (x : Exchange) (b : Bool) → ((is_sent x && has_id id x.sending) && b) ≡ true → is_sent x ≡ true
+sent-with id x b e = go (is_sent x) (has_id id x.sending) e
+  where
+    go : (s h : Bool) → ((s && h) && b) ≡ true → s ≡ true
+    go true h f = refl
+    go false h f = absurd cc
+
+-- one that was sent isn't done
+pub sent-open : (x : Exchange) → is_sent x ≡ true → is_done x ≡ false
+sent-open x e = go x.state e
+  where
+    go : (s : ExchangeState) → is_sent_state s ≡ true → not (is_missing (answer_in_state s)) ≡ false
+    go Queued f = refl
+    go Sent f = refl
+    go Acked f = refl
+    go (Done a) f = absurd cc
 
 -- ---- the first of a table of which something holds
 

@@ -12,9 +12,8 @@ use Rattle.coap_dedup.specs.Lists.{AreUpTo}
 use Rattle.coap_model.specs.History.{Entry, Deed, last_of, grown_of}
 use Rattle.coap_model.specs.Runs.{entry_of}
 use Rattle.coap_model.specs.Carries.{Carries}
-use Rattle.coap_model.proofs.Acting.{rising-paired}
 use Rattle.coap_model.proofs.Carrying.{keeps_step}
-use Rattle.coap_model.proofs.Frames.{opened-few}
+use Rattle.coap_model.proofs.Frames.{opened-few, admitted-few}
 use Rattle.coap_model.specs.Promised.{Promised}
 use Rattle.coap_model.proofs.Promising.{promises}
 use Rattle.coap_model.proofs.Running.{setting_stays}
@@ -28,14 +27,16 @@ until w deeds last rs all = subst (λ (n : ℕ). AreUpTo n rs) (sym last) all
 pub can_go_on : (history : List Entry) (w : World) → Carries history w → w.events < 2 ^ 63 → CanGoOn w
 can_go_on history w c few =
     let b = c.bears in
-    let opened = opened-few c.deeds w b in
+    let opened = opened-few c.deeds in
+    let admitted = admitted-few c.deeds in
+    let events = b.clock.events in
     record {
       routes = b.routes;
       exchanges = b.whole.rising;
-      waiters = rising-paired 0 w.exchanges w.waiters b.whole.rising b.whole.paired;
+      waiters = b.whole.waiters_rise;
       events = few;
       opened = omega (arith, opened, b.numbers.opened);
-      admitted = omega (arith, opened, b.numbers.admitted);
+      admitted = omega (arith, admitted, b.numbers.admitted);
       ids = b.within.ids;
       con_records = b.con_records.are;
       con_until = until w c.deeds b.clock.last w.con_records.items b.con_records.until;
@@ -52,17 +53,17 @@ pub record IsLeft (w v : World) : Type 0 where
   pub carries : Carries history v
 
 -- what a step leaves: the setting, the limits, and a history that is carried
-pub is-left : (w : World) (now : ℕ) (event : Event) (history : List Entry) → Carries history w → w.last ≤ now → IsEvent event → (r : Result Report OutOfMemory) (old new : Datagram) (v : World)
-    → IfOk r (λ report. Does (step_of w now 0 (grown_of report.outcome) event) report old new v) → OnErr r (v ≡ w) → IsLeft w v
-is-left w now event history c onward fits (Ok report) old new v does same =
+pub is-left : (w : World) (now draw : ℕ) (event : Event) (history : List Entry) → Carries history w → w.last ≤ now → IsEvent event → (r : Result Report OutOfMemory) (old new : Datagram) (v : World)
+    → IfOk r (λ report. Does (step_of w now draw (grown_of report.outcome) event) report old new v) → OnErr r (v ≡ w) → IsLeft w v
+is-left w now draw event history c onward fits (Ok report) old new v does same =
     let grown = grown_of report.outcome in
-    let stays = setting_stays w now 0 grown event fits in
+    let stays = setting_stays w now draw grown event fits in
     record {
       setting = rw does.2 stays;
-      history = entry_of now 0 event (step_of w now 0 grown event) ∷ history;
-      carries = rw does.2 (keeps_step w history now 0 grown event c onward fits);
+      history = entry_of now draw event (step_of w now draw grown event) ∷ history;
+      carries = rw does.2 (keeps_step w history now draw grown event c onward fits);
     }
-is-left w now event history c onward fits (Err e) old new v does same = record { setting = rw same refl; history = history; carries = rw same c }
+is-left w now draw event history c onward fits (Err e) old new v does same = record { setting = rw same refl; history = history; carries = rw same c }
 
 -- what is sent isn't too long, and where memory is missing nothing is sent
 pub is-short : (r : Result Report OutOfMemory) (s : Bool → Step) (old new : Datagram) (v : World) (most : ℕ) → ((grown : Bool) → length (s grown).bytes ≤ most) → IfOk r (λ report. Does (s (grown_of report.outcome)) report old new v) → OnErr r (new ≡ holding old []) → length new.bytes ≤ most

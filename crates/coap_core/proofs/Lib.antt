@@ -1,6 +1,6 @@
 pub mod Asking
 pub mod Carried
-pub mod DueFirst
+pub mod Ticking
 pub mod Records
 pub mod Keeping
 pub mod Awaiting

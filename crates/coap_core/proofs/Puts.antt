@@ -8,9 +8,8 @@ use Rattle.coap_cache.specs.Entries.{Entry, entry_key, entry_size}
 use Rattle.coap_cache.specs.Lists.{of_key}
 use Rattle.coap_cache.specs.declared.answer.Answer.{Answer}
 use Rattle.coap_exchange.specs.declared.exchange.Exchange.{Exchange}
-use Rattle.coap_exchange.specs.declared.exchange.ExchangeState.TheVariants.{Done}
-use Rattle.coap_exchange.specs.Exchanges.{with_state}
-use Rattle.coap_exchange.specs.Table.{Numbered, item_at}
+use Rattle.coap_exchange.specs.Exchanges.{answered}
+use Rattle.coap_exchange.specs.Table.{Numbered, item_at, changed_at}
 use Rattle.coap_model.specs.declared.report.Outcome.TheVariants.{Answered}
 use Rattle.coap_model.specs.declared.report.Report.{Report}
 use Rattle.coap_model.specs.declared.report.Storing.{Storing}
@@ -25,7 +24,7 @@ use Rattle.coap_core.specs.Storing.{IsKept, IsPut, answering_at, if_storable}
 
 -- the exchange of this number has its answer, with the store of these tables
 abbrev pub answered_in : World → ℕ → ℕ → Answer → World
-answered_in v now number a = later (record v { exchanges = with_state number (Done a) v.exchanges }) now
+answered_in v now number a = later (record v { exchanges = changed_at number (answered a) v.exchanges }) now
 
 module _ (w v : World) (now : ℕ) (x : Numbered Exchange) (a : Answer) where
   abbrev made : Entry

@@ -1,12 +1,11 @@
 -- What the calls of a core answer and leave.
-use Rattle.std.specs.Prelude.{◌≡◌, ℕ, ◌+◌, ◌<◌, ◌≤◌, ◌^◌, true, List, ◌∷◌, Option, Some, None, IfSome, option_map}
+use Rattle.std.specs.Prelude.{◌≡◌, ℕ, ◌+◌, ◌<◌, ◌≤◌, ◌^◌, true, List, [], ◌∷◌, Option, Some, None, IfSome, option_map}
 use Rattle.coap_message.specs.Datagram.{Datagram, holding}
 use Rattle.coap_message.specs.Message.{Message}
 use Rattle.coap_exchange.specs.declared.exchange.Exchange.{Exchange}
-use Rattle.coap_exchange.specs.Exchanges.{is_sent}
+use Rattle.coap_exchange.specs.Exchanges.{is_sent, due_among, answer_in, fire_of_sending}
+use Rattle.coap_exchange.specs.Ids.{given_in}
 use Rattle.coap_exchange.specs.Table.{Numbered, IsRising, item_at}
-use Rattle.coap_exchange.specs.declared.waiter.Waiter.{Waiter}
-use Rattle.coap_exchange.specs.Due.{Item, sending, serving, due_as, answer_in}
 use Rattle.coap_model.specs.declared.report.Report.{Report}
 use Rattle.coap_model.specs.Verdicts as verdicts
 use Rattle.coap_routes.specs.Routes.{AreRoutes}
@@ -24,9 +23,7 @@ use Rattle.coap_model.specs.Requests.{known_of, repeats}
 use Rattle.coap_model.specs.World.{World, Step, records_of, reserved}
 use Rattle.coap_core.specs.declared.requests.Verdict.{Verdict}
 use Rattle.coap_core.specs.declared.requests.Verdict.TheVariants.{RefusedWith, MayAsk}
-use Rattle.coap_model.specs.Ticks.{sends, delivers}
-use Rattle.coap_core.specs.declared.ticks.DueItem.{DueItem}
-use Rattle.coap_core.specs.declared.ticks.DueItem.TheVariants.{ToSend, ToServe}
+use Rattle.coap_model.specs.Ticks.{idles, sends, on_fire, on_answer}
 
 -- the report, the datagram and the tables after it are those of the step
 abbrev pub Does : Step → Report → Datagram → Datagram → World → Type 0
@@ -57,7 +54,7 @@ pub record CanGoOn (w : World) : Type 0 where
   pub events : w.events < 2 ^ 63
   pub opened : w.opened < 2 ^ 63
   pub admitted : w.admitted < 2 ^ 63
-  pub ids : w.given + reserved w ≤ 32768
+  pub ids : (now : ℕ) → w.last ≤ now → given_in now w.ids + reserved w ≤ 32768
   pub con_records : AreRecords w.con_records
   pub con_until : AreUpTo w.last w.con_records.items
   pub non_records : AreRecords w.non_records
@@ -79,7 +76,7 @@ IsSaid s report old new = (report ≡ s.report) × (new ≡ holding old s.bytes)
 
 -- the request of the exchange of this number, if there is one, was sent, and no answer has come
 abbrev pub IsSentAt : ℕ → List (Numbered Exchange) → Type 0
-IsSentAt number exchanges = IfSome (item_at number exchanges) (λ x. is_sent x.state ≡ true)
+IsSentAt number exchanges = IfSome (item_at number exchanges) (λ x. is_sent x ≡ true)
 
 -- ---- values of the program as the model sees them
 
@@ -93,20 +90,44 @@ pub record IsAsked (w : World) (m : Message) (asked : Asked) : Type 0 where
   pub key : verdicts.verdict_of w.setting.routes m ≡ verdicts.may_ask asked.key
   pub tags : asked.tags ≡ tags_of m
 
--- an item by its moment and its number
-abbrev pub item_as : Item → DueItem
-item_as (sending x) = ToSend (due_as (sending x))
-item_as (serving v a) = ToServe (due_as (serving v a))
+-- ---- what is due, by its number
 
--- ---- steps by the number of what they are about
+-- an exchange is due at a moment, since then or since before
+pub record IsExchangeDue (w : World) (now : ℕ) (x : Exchange) : Type 0 where
+  pub at : ℕ
+  pub due : due_among w.setting.limits.nstart w.setting.limits.exchange_ms w.exchanges x ≡ Some at
+  pub past : at ≤ now
 
-abbrev pub sending_at : World → ℕ → ℕ → Option Step
-sending_at w now number = option_map (λ x. sends w now (number, x)) (item_at number w.exchanges)
+-- so is the one of this number, if there is one
+abbrev pub IsDueAt : World → ℕ → ℕ → Type 0
+IsDueAt w now number = IfSome (item_at number w.exchanges) (IsExchangeDue w now)
 
-abbrev pub delivery_of : World → ℕ → ℕ → Option Waiter → Option Step
-delivery_of w now number None = None
-delivery_of w now number (Some v) =
-    option_map (λ a. delivers w now (number, v) a) (answer_in v.exchange w.exchanges)
+-- the step of an item that is looked up: where there is none, nothing is done
+abbrev pub step_with : {A : Type 0} → World → ℕ → (A → Step) → Option A → Step
+step_with w now step None = idles w now
+step_with w now step (Some a) = step a
 
-abbrev pub delivery_at : World → ℕ → ℕ → Option Step
-delivery_at w now number = delivery_of w now number (item_at number w.waiters)
+-- the request of the exchange of this number is sent
+abbrev pub sending_at : World → ℕ → ℕ → ℕ → Step
+sending_at w now draw number =
+    step_with w now (sends w now draw number) (item_at number w.exchanges)
+
+-- its timeout has ended
+abbrev pub firing_at : World → ℕ → ℕ → Step
+firing_at w now number =
+    step_with w now (λ x. on_fire w now number x (fire_of_sending now x.sending))
+    (item_at number w.exchanges)
+
+-- the client of this number is given the answer of this exchange
+abbrev pub delivery_at : World → ℕ → ℕ → ℕ → Step
+delivery_at w now number exchange =
+    step_with w now (λ v. on_answer w now number v exchange (answer_in exchange w.exchanges))
+    (item_at number w.waiters)
+
+-- the bytes of the request of the exchange of this number
+abbrev pub form_of : Option Exchange → List ℕ
+form_of None = []
+form_of (Some x) = x.form
+
+abbrev pub form_at : ℕ → List (Numbered Exchange) → List ℕ
+form_at number exchanges = form_of (item_at number exchanges)

@@ -79,32 +79,26 @@ impl<S: Store + Drop> World<S> {
 
     /// Whether a reply can go out at once to a request of this type: an acknowledgement needs no
     /// id.
-    pub(crate) fn can_reply(&self, kind: Kind) -> bool
-        requires { CanGoOn self.now }
-        ensures { result ≡ can_reply self.now kind }
+    pub(crate) fn can_reply(&self, now: u64, kind: Kind) -> bool
+        requires can { CanGoOn self.now }
+        requires onward { self.now.last ≤ now }
+        ensures { result ≡ can_reply self.now now kind }
     {
-        kind == Kind::Con || self.has_ids(1)
+        kind == Kind::Con || self.has_ids(1, now)
     }
 
     /// The id of a reply that goes out at once.
     pub(crate) fn reply_id(&self, request: &MessageRef<'_>) -> u16
-        requires can { CanGoOn self.now }
-        requires ids { can_reply self.now request.now.kind ≡ true }
         ensures { result ≡ reply_id request.now (next_id self.now) }
     {
         match request.kind {
             Kind::Con => request.id,
-            Kind::Non | Kind::Ack | Kind::Rst => {
-                let mut ids = self.ids;
-                ids.next()
-            }
+            Kind::Non | Kind::Ack | Kind::Rst => self.next_id(),
         }
     }
 
     /// The head of a reply of the proxy's own that goes out at once.
     pub(crate) fn reply_head(&self, request: &MessageRef<'_>, code: Code) -> Head
-        requires can { CanGoOn self.now }
-        requires ids { can_reply self.now request.now.kind ≡ true }
         ensures { result
             ≡ record {
               kind = reply_kind request.now.kind;
@@ -157,7 +151,8 @@ impl<S: Store + Drop> World<S> {
     ) -> Result<Report, OutOfMemory>
         requires can { CanGoOn self.old }
         requires new { CanRemember now client request.now self.old }
-        requires ids { can_reply self.old request.now.kind ≡ true }
+        requires onward { self.old.last ≤ now }
+        requires ids { can_reply self.old now request.now.kind ≡ true }
         ensures report { IfOk result (λ report.
             report ≡ record { send = Some client; outcome = outcome }) }
         ensures done { OnOk result
@@ -167,7 +162,7 @@ impl<S: Store + Drop> World<S> {
     {
         self.remember(now, client, request, out.bytes())?;
         if request.kind != Kind::Con {
-            self.ids.next();
+            self.take_id(now);
         }
         self.pass(now);
         Ok(Report {

@@ -85,8 +85,9 @@ impl<S: Store + Drop> Core<S> {
         Ok(Core { world })
     }
 
-    /// One step: what is made of an event at a moment, with a random draw, which no step reads yet.
-    /// The datagram that it sends, if it sends one, is in `out`, which is empty otherwise.
+    /// One step: what is made of an event at a moment, with a random draw, by which the first timeout
+    /// of a request is longer than two seconds (RFC 7252, 4.2). The datagram that it sends, if it
+    /// sends one, is in `out`, which is empty otherwise.
     ///
     /// `now` is in milliseconds, at most 2^62, and doesn't go back; `draw` is at most 1,000; `out`
     /// has room for `datagram()` bytes; fewer than 2^63 steps were done.
@@ -157,7 +158,7 @@ impl<S: Store + Drop> Core<S> {
         datagrams_fit();
         settings_stay();
         event.holds_bytes();
-        self.world.step(now, event, out)
+        self.world.step(now, draw, event, out)
     }
 
     /// The moment at which the next thing is due, in milliseconds, if anything is.

@@ -1,5 +1,5 @@
 //! The step of a request (RFC 7252, 5.7.3).
-ghost use Rattle.std.specs.Prelude.{◌≡◌, ◌⊎◌, ◌+◌, ◌≤◌, true, length, None, Ok, Err, IfOk, IfErr, IfSome, IsSome, OnErr};
+ghost use Rattle.std.specs.Prelude.{◌≡◌, ◌⊎◌, ◌+◌, ◌≤◌, ◌^◌, true, length, None, Ok, Err, IfOk, IfErr, IfSome, IsSome, OnErr};
 ghost use Rattle.coap_message.specs.declared.code.TheConstants.Code.{GET};
 ghost use Rattle.coap_message.specs.Spelling.{spelling};
 ghost use Rattle.coap_option.specs.declared.side.Side.{Side};
@@ -23,7 +23,6 @@ use crate::known::reply_kind;
 use crate::request_target::{Asked, RequestTarget};
 use crate::world::{World, silent};
 use coap_cache::{CacheKey, Store};
-use coap_exchange::Waiter;
 use coap_forward::{put_bare, put_forwarded, put_stored, put_with_max_age, token_of};
 use coap_message::{Code, Datagram, Kind, MessageRef, OutOfMemory, Pieces, Seq};
 use coap_model::{Outcome, Report};
@@ -65,6 +64,7 @@ impl<S: Store + Drop> World<S> {
     ) -> Result<Report, OutOfMemory>
         requires can { CanGoOn self.old }
         requires onward { self.old.last ≤ now }
+        requires moment { now ≤ 2 ^ 62 }
         requires room { self.old.setting.limits.datagram ≤ out.old.room }
         requires fits { length (on_request self.old now client request.now).bytes ≤ out.old.room }
         ensures exact { IfOk result (λ report.
@@ -103,6 +103,8 @@ impl<S: Store + Drop> World<S> {
         out: &mut Datagram,
     ) -> Result<Report, OutOfMemory>
         requires can { CanGoOn self.old }
+        requires onward { self.old.last ≤ now }
+        requires moment { now ≤ 2 ^ 62 }
         requires new { CanRemember now client request.now self.old }
         requires room { self.old.setting.limits.datagram ≤ out.old.room }
         requires fits { length (on_new self.old now client request.now).bytes ≤ out.old.room }
@@ -112,7 +114,7 @@ impl<S: Store + Drop> World<S> {
         ensures err { OnErr result (self.new ≡ self.old) }
         ensures kept { out.new.room ≡ out.old.room }
     {
-        if !self.can_reply(request.kind) {
+        if !self.can_reply(now, request.kind) {
             return self.lack_id(now, client, request, out);
         }
         let mut asked = self.take_room();
@@ -132,8 +134,10 @@ impl<S: Store + Drop> World<S> {
         out: &mut Datagram,
     ) -> Result<Report, OutOfMemory>
         requires can { CanGoOn self.old }
+        requires onward { self.old.last ≤ now }
+        requires moment { now ≤ 2 ^ 62 }
         requires new { CanRemember now client request.now self.old }
-        requires ids { can_reply self.old request.now.kind ≡ true }
+        requires ids { can_reply self.old now request.now.kind ≡ true }
         requires room { self.old.setting.limits.datagram ≤ out.old.room }
         requires fits { length (on_new self.old now client request.now).bytes ≤ out.old.room }
         ensures exact { IfOk result (λ report.
@@ -191,8 +195,10 @@ impl<S: Store + Drop> World<S> {
         out: &mut Datagram,
     ) -> Result<Report, OutOfMemory>
         requires can { CanGoOn self.old }
+        requires onward { self.old.last ≤ now }
+        requires moment { now ≤ 2 ^ 62 }
         requires new { CanRemember now client request.now self.old }
-        requires ids { can_reply self.old request.now.kind ≡ true }
+        requires ids { can_reply self.old now request.now.kind ≡ true }
         requires asked { IsAsked self.old request.now asked.now }
         requires room { self.old.setting.limits.datagram ≤ out.old.room }
         requires fits { length (on_key self.old now client request.now asked.now.key).bytes
@@ -223,8 +229,7 @@ impl<S: Store + Drop> World<S> {
         asked: &Asked,
         out: &mut Datagram,
     ) -> bool
-        requires can { CanGoOn self.now }
-        requires ids { can_reply self.now request.now.kind ≡ true }
+        requires ids { can_reply self.now now request.now.kind ≡ true }
         requires tags { asked.now.tags ≡ tags_of request.now }
         requires fits { length (on_key self.now now client request.now asked.now.key).bytes
             ≤ out.old.room }
@@ -257,8 +262,10 @@ impl<S: Store + Drop> World<S> {
         out: &mut Datagram,
     ) -> Result<Report, OutOfMemory>
         requires can { CanGoOn self.old }
+        requires onward { self.old.last ≤ now }
+        requires moment { now ≤ 2 ^ 62 }
         requires new { CanRemember now client request.now self.old }
-        requires ids { can_reply self.old request.now.kind ≡ true }
+        requires ids { can_reply self.old now request.now.kind ≡ true }
         requires asked { IsAsked self.old request.now asked.now }
         requires room { self.old.setting.limits.datagram ≤ out.old.room }
         requires fits { length (on_miss self.old now client request.now asked.now.key).bytes
@@ -275,7 +282,7 @@ impl<S: Store + Drop> World<S> {
             let code = Code::REQUEST_ENTITY_TOO_LARGE;
             return self.refuse(now, client, request, code, out);
         }
-        if request.kind != Kind::Non || !self.has_room() {
+        if request.kind != Kind::Non || !self.has_room(now) {
             return self.overload(now, client, request, out);
         }
         let key = asked.key.copied()?;
@@ -338,8 +345,9 @@ impl<S: Store + Drop> World<S> {
         out: &mut Datagram,
     ) -> Result<Report, OutOfMemory>
         requires can { CanGoOn self.old }
+        requires onward { self.old.last ≤ now }
         requires new { CanRemember now client request.now self.old }
-        requires ids { can_reply self.old request.now.kind ≡ true }
+        requires ids { can_reply self.old now request.now.kind ≡ true }
         requires fits { length (refuses self.old now client request.now code).bytes ≤ out.old.room }
         ensures exact { IfOk result (λ report.
             Does (remembers now client request.now (refuses self.old now client request.now code))
@@ -361,8 +369,9 @@ impl<S: Store + Drop> World<S> {
         out: &mut Datagram,
     ) -> Result<Report, OutOfMemory>
         requires can { CanGoOn self.old }
+        requires onward { self.old.last ≤ now }
         requires new { CanRemember now client request.now self.old }
-        requires ids { can_reply self.old request.now.kind ≡ true }
+        requires ids { can_reply self.old now request.now.kind ≡ true }
         requires fits { length (overloads self.old now client request.now).bytes ≤ out.old.room }
         ensures exact { IfOk result (λ report.
             Does (remembers now client request.now (overloads self.old now client request.now))
@@ -408,6 +417,7 @@ impl<S: Store + Drop> World<S> {
         out: &mut Datagram,
     ) -> Result<Report, OutOfMemory>
         requires can { CanGoOn self.old }
+        requires moment { now ≤ 2 ^ 62 }
         requires new { CanRemember now client request.now self.old }
         requires tags { tags ≡ tags_of request.now }
         requires form { out.old.bytes
@@ -419,16 +429,15 @@ impl<S: Store + Drop> World<S> {
         ensures kept { out.new.room ≡ out.old.room }
     {
         let form = Seq::from_slice(self.alloc, out.bytes())?;
-        let Ok(number) = self.exchanges.admit(key, form, now) else {
+        let Ok(number) = self.exchanges.admit(key, true, form, None, now) else {
             return Err(OutOfMemory);
         };
-        let waiter = Waiter {
-            client,
-            token: request.token,
-            tags,
-            exchange: number,
-        };
-        if self.waiters.admit(waiter).is_err() {
+        let (kind, token) = (request.kind, request.token);
+        if self
+            .waiters
+            .admit(client, kind, token, tags, number)
+            .is_err()
+        {
             self.exchanges.withdraw();
             return Err(OutOfMemory);
         }

@@ -3,6 +3,7 @@ ghost use Rattle.std.specs.Prelude.{◌≡◌, ◌≤◌, ◌&&◌, true, false,
 ghost use Rattle.coap_target.specs.Endpoint.{same_endpoint};
 ghost use Rattle.coap_model.specs.Memory.{takes_memory};
 ghost use Rattle.coap_model.specs.Responses.{asked_of, has_id, awaiting, on_response};
+ghost use Rattle.coap_exchange.specs.Exchanges.{is_sent};
 ghost use Rattle.coap_exchange.specs.Table.{item_at};
 ghost use Rattle.coap_model.specs.History.{grown_of};
 ghost use Rattle.coap_core.specs.Storing.{IsKept, answering_at, if_storable};
@@ -10,37 +11,38 @@ ghost use Rattle.coap_core.specs.Steps.{Does, CanGoOn, IsSentAt};
 
 use crate::world::{World, silent};
 use coap_cache::{CacheKey, Put, Store, Stored};
-use coap_exchange::{Answer, Exchange, ExchangeState};
+use coap_exchange::{Answer, Exchange, Sending};
 use coap_forward::{answer_of, is_storable, number_of};
 use coap_message::{Datagram, Message, MessageRef, OutOfMemory};
 use coap_model::{Outcome, Report, Storing};
 use coap_target::Endpoint;
 
-/// Whether an exchange was sent with this id, and no answer has come.
-fn has_id(id: u16, state: &ExchangeState) -> bool
-    ensures { result ≡ has_id id state.now }
+/// Whether it was sent with this id.
+fn has_id(id: u16, sending: &Option<Sending>) -> bool
+    ensures { result ≡ has_id id sending.now }
 {
-    match state {
-        ExchangeState::Sent(sending) => sending.id == id,
-        _ => false,
+    match sending {
+        Some(sending) => sending.id == id,
+        None => false,
     }
 }
 
 /// Whether an exchange of the right token awaits a response of this endpoint with this id.
 fn awaits(exchange: &Exchange, source: Endpoint, id: u16) -> bool
     ensures { result
-        ≡ (has_id id exchange.now.state && same_endpoint exchange.now.key.target.at source) }
+        ≡ ((is_sent exchange.now && has_id id exchange.now.sending)
+        && same_endpoint exchange.now.key.target.at source) }
 {
-    has_id(id, &exchange.state) && exchange.key.target.at.is(&source)
+    exchange.is_sent() && has_id(id, &exchange.sending) && exchange.key.target.at.is(&source)
 }
 
 /// The number of the event in which the request of an exchange was sent.
-fn asked_of(state: &ExchangeState) -> u64
-    ensures { result ≡ asked_of state.now }
+fn asked_of(sending: &Option<Sending>) -> u64
+    ensures { result ≡ asked_of sending.now }
 {
-    match state {
-        ExchangeState::Sent(sending) => sending.asked,
-        ExchangeState::Queued | ExchangeState::Done(_) => 0,
+    match sending {
+        Some(sending) => sending.asked,
+        None => 0,
     }
 }
 
@@ -113,7 +115,7 @@ impl<S: Store + Drop> World<S> {
         let answer = answer_of(self.alloc, most, now, response, out)?;
         let entry = self.entry_made(now, number, &answer)?;
         let storing = self.keep(entry);
-        self.exchanges.set_answer(number, answer);
+        self.exchanges.answered(number, answer);
         out.clear();
         self.pass(now);
         Ok(silent(Outcome::Answered { storing }))
@@ -139,7 +141,7 @@ impl<S: Store + Drop> World<S> {
         let key = exchange.key.copied()?;
         let stored = Stored {
             response: copied(&answer.message)?,
-            asked: asked_of(&exchange.state),
+            asked: asked_of(&exchange.sending),
             got_no: self.events,
             got: now,
             marked: false,

@@ -23,20 +23,23 @@ impl<S: Store + Drop> World<S> {
     pub(crate) fn step(
         &mut self,
         now: u64,
+        draw: u16,
         event: Event<'_>,
         out: &mut Datagram,
     ) -> Result<Report, OutOfMemory>
         requires can { CanGoOn self.old }
         requires onward { self.old.last ≤ now }
+        requires moment { now ≤ 2 ^ 62 }
+        requires draw { draw ≤ 1000 }
         requires room { self.old.setting.limits.datagram ≤ out.old.room }
-        requires fits { length (step_of self.old now 0 true (seen event)).bytes ≤ out.old.room }
+        requires fits { length (step_of self.old now draw true (seen event)).bytes ≤ out.old.room }
         ensures exact { IfOk result (λ report.
-            Does (step_of self.old now 0 (grown_of report.outcome) (seen event.entry)) report
+            Does (step_of self.old now draw (grown_of report.outcome) (seen event.entry)) report
             out.old out.new self.new) }
         ensures err { OnErr result (self.new ≡ self.old) }
         ensures none { OnErr result (out.new ≡ holding out.old []) }
         ensures memory { OnErr result
-            (takes_memory (step_of self.old now 0 true (seen event.entry)).report.outcome
+            (takes_memory (step_of self.old now draw true (seen event.entry)).report.outcome
             ≡ true) }
         ensures ticks { seen event.entry ≡ tick → IsOk result }
         ensures unread { IsUnread self.old.setting.limits.datagram (seen event.entry)
@@ -44,7 +47,7 @@ impl<S: Store + Drop> World<S> {
     {
         let done = match event {
             Event::Datagram { from, bytes } => self.on_datagram(now, from, bytes, out),
-            Event::Tick => Ok(self.on_tick(now, out)),
+            Event::Tick => Ok(self.on_tick(now, draw, out)),
         };
         if done.is_err() {
             out.clear();
@@ -61,6 +64,7 @@ impl<S: Store + Drop> World<S> {
     ) -> Result<Report, OutOfMemory>
         requires can { CanGoOn self.old }
         requires onward { self.old.last ≤ now }
+        requires moment { now ≤ 2 ^ 62 }
         requires room { self.old.setting.limits.datagram ≤ out.old.room }
         requires fits { length (on_datagram self.old now true source bytes.now).bytes
             ≤ out.old.room }
@@ -105,6 +109,7 @@ impl<S: Store + Drop> World<S> {
     ) -> Result<Report, OutOfMemory>
         requires can { CanGoOn self.old }
         requires onward { self.old.last ≤ now }
+        requires moment { now ≤ 2 ^ 62 }
         requires room { self.old.setting.limits.datagram ≤ out.old.room }
         requires fits { length (on_message self.old now true source message.now).bytes
             ≤ out.old.room }

@@ -1,7 +1,8 @@
 //! What a proxy was made with, and its tables.
-ghost use Rattle.std.specs.Prelude.{◌≡◌, ◌+◌, ◌<◌, ◌^◌, None, IfOk};
+ghost use Rattle.std.specs.Prelude.{◌≡◌, ◌+◌, ◌<◌, ◌≤◌, ◌^◌, None, IfOk};
 ghost use Rattle.coap_dedup.specs.declared.record.TheConstants.{EXCHANGE_LIFETIME, NON_LIFETIME};
 ghost use Rattle.coap_dedup.specs.Records.{no_records};
+ghost use Rattle.coap_exchange.specs.Ids.{called, left_of};
 ghost use Rattle.coap_exchange.specs.Table.{empty_table};
 ghost use Rattle.coap_limits.specs.Limits.{AreLimits};
 ghost use Rattle.coap_model.specs.Setting.{setting_of};
@@ -11,7 +12,7 @@ ghost use Rattle.coap_core.specs.Steps.{CanGoOn};
 use crate::request_target::Asked;
 use coap_cache::Store;
 use coap_dedup::{EXCHANGE_LIFETIME, NON_LIFETIME, Records};
-use coap_exchange::{Exchanges, Ids, Table, Waiter};
+use coap_exchange::{Exchanges, Ids, Waiters};
 use coap_message::OutOfMemory;
 use coap_model::{Counts, Limits, Outcome, Report};
 use coap_routes::Routes;
@@ -26,13 +27,15 @@ pub(crate) struct World<S: Store> {
     pub(crate) routes: Routes,
     pub(crate) salt: u64,
     pub(crate) exchanges: Exchanges,
-    pub(crate) waiters: Table<Waiter>,
+    pub(crate) waiters: Waiters,
     pub(crate) store: S,
     /// Room for what the next request asks for.
     pub(crate) room: Asked,
     pub(crate) con_records: Records,
     pub(crate) non_records: Records,
     pub(crate) ids: Ids,
+    /// The message id that was given first, or is to be.
+    pub(crate) first_id: u16,
     pub(crate) last: u64,
     pub(crate) events: u64,
 }
@@ -51,6 +54,7 @@ impl<S: Store + Drop> Drop for World<S> {
             con_records: _,
             non_records: _,
             ids: _,
+            first_id: _,
             last: _,
             events: _,
         } = self;
@@ -67,7 +71,7 @@ impl<S: Store> Model for World<S> {
 
     ghost view = { λ w.
         record {
-          setting = setting_of w.limits w.routes w.ids.first w.salt;
+          setting = setting_of w.limits w.routes w.first_id w.salt;
           exchanges = w.exchanges.items;
           waiters = w.waiters.items;
           store = S.entries w.store;
@@ -75,7 +79,7 @@ impl<S: Store> Model for World<S> {
           non_records = w.non_records;
           opened = w.exchanges.admitted;
           admitted = w.waiters.admitted;
-          given = w.ids.given;
+          ids = w.ids;
           last = w.last;
           events = w.events;
         } };
@@ -116,6 +120,7 @@ impl<S: Store + Drop> World<S> {
             con_records,
             non_records,
             ids: Ids::new(first_id),
+            first_id,
             last: 0,
             events: 0,
         })
@@ -144,13 +149,23 @@ impl<S: Store + Drop> World<S> {
         self.events += 1;
     }
 
-    /// The next message id.
-    pub(crate) fn take_id(&mut self) -> u16
-        requires { self.old.given < 32768 }
-        ensures id { result ≡ next_id self.old }
-        ensures given { self.new ≡ record self.old { given = self.old.given + 1 } }
+    /// The message id that is given next.
+    pub(crate) fn next_id(&self) -> u16
+        ensures { result ≡ next_id self.now }
     {
-        self.ids.next()
+        self.ids.following
+    }
+
+    /// Gives the next message id (RFC 7252, 4.4).
+    pub(crate) fn take_id(&mut self, now: u64) -> u16
+        requires { 0 < left_of now self.old.ids }
+        ensures id { result ≡ next_id self.old }
+        ensures given { self.new ≡ record self.old { ids = called now self.old.ids } }
+    {
+        match self.ids.next(now) {
+            Some(id) => id,
+            None => unreachable!(),
+        }
     }
 
     /// How many ids are kept for requests that are still to be sent, and for clients that are still
@@ -159,26 +174,28 @@ impl<S: Store + Drop> World<S> {
         requires { CanGoOn self.now }
         ensures { result ≡ reserved self.now }
     {
-        self.waiters.len() as u64 + self.exchanges.queued() as u64
+        self.waiters.waiting() as u64 + self.exchanges.queued() as u64
     }
 
-    /// Whether so many ids are free.
-    pub(crate) fn has_ids(&self, count: u64) -> bool
+    /// Whether so many ids are free at this moment.
+    pub(crate) fn has_ids(&self, count: u64, now: u64) -> bool
         requires can { CanGoOn self.now }
+        requires onward { self.now.last ≤ now }
         requires few { count < 3 }
-        ensures { result ≡ has_ids count self.now }
+        ensures { result ≡ has_ids count self.now now }
     {
-        self.ids.given + self.reserved() + count <= Ids::MOST
+        self.reserved() + count <= u64::from(self.ids.left(now))
     }
 
     /// Whether there is room for an exchange and its client.
-    pub(crate) fn has_room(&self) -> bool
-        requires { CanGoOn self.now }
-        ensures { result ≡ has_room self.now }
+    pub(crate) fn has_room(&self, now: u64) -> bool
+        requires can { CanGoOn self.now }
+        requires onward { self.now.last ≤ now }
+        ensures { result ≡ has_room self.now now }
     {
         (self.exchanges.len() as u64) < self.limits.values().exchanges
             && (self.waiters.len() as u64) < self.limits.values().waiters
-            && self.has_ids(2)
+            && self.has_ids(2, now)
     }
 
     /// How much the proxy holds.
@@ -197,12 +214,12 @@ impl<S: Store + Drop> World<S> {
 }
 
 /// Empty tables of exchanges and of waiters, with room for as many as the limits say.
-fn new_tables(alloc: Global, limits: &Limits) -> Result<(Exchanges, Table<Waiter>), OutOfMemory>
+fn new_tables(alloc: Global, limits: &Limits) -> Result<(Exchanges, Waiters), OutOfMemory>
     ensures exchanges { IfOk result (λ made. made.0 ≡ empty_table limits.now.exchanges) }
     ensures waiters { IfOk result (λ made. made.1 ≡ empty_table limits.now.waiters) }
 {
     let exchanges = Exchanges::new(alloc, limits.values().exchanges as usize)?;
-    let waiters = Table::new(alloc, limits.values().waiters as usize)?;
+    let waiters = Waiters::new(alloc, limits.values().waiters as usize)?;
     Ok((exchanges, waiters))
 }
 

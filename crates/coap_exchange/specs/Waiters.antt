@@ -1,9 +1,126 @@
--- Tables of waiters.
-use Rattle.std.specs.Prelude.{ℕ, ◌==◌, Bool, List}
-use Rattle.std.specs.List.{list_any}
+-- Waiters: clients that wait for an exchange, or for which a response is on its way.
+use Rattle.std.specs.Prelude.{◌≤◌, ℕ, ◌-◌, ◌^◌, ◌==◌, ◌&&◌, Bool, true, false, nat_lt, List, [], Option, Some, None}
+use Rattle.std.specs.List.{AllByRecursion}
+use Rattle.coap_target.specs.declared.endpoint.Endpoint.{Endpoint}
+use Rattle.coap_target.specs.Endpoint.{same_endpoint}
+use Rattle.coap_cache.specs.declared.answer.Answer.{Answer}
+use Rattle.coap_exchange.specs.declared.exchange.Exchange.{Exchange}
+use Rattle.coap_exchange.specs.declared.timer.Fire.{Fire}
+use Rattle.coap_exchange.specs.declared.timer.Fire.TheVariants.{GiveUp}
+use Rattle.coap_exchange.specs.declared.timer.Timer.{Timer}
 use Rattle.coap_exchange.specs.declared.waiter.Waiter.{Waiter}
+use Rattle.coap_exchange.specs.declared.waiter.WaiterChange.{WaiterChange}
+use Rattle.coap_exchange.specs.declared.waiter.WaiterChange.TheVariants.{Deliver, Fire as fire}
+use Rattle.coap_exchange.specs.declared.waiter.WaiterState.{WaiterState}
+use Rattle.coap_exchange.specs.declared.waiter.WaiterState.TheVariants.{Waiting, Delivering}
+use Rattle.coap_exchange.specs.Exchanges.{answer_in}
 use Rattle.coap_exchange.specs.Table.{Numbered}
+use Rattle.coap_exchange.specs.Timers.{fire_of, fired, IsShort}
 
--- whether a client waits for the exchange of this number
-abbrev pub is_awaited : ℕ → List (Numbered Waiter) → Bool
-is_awaited number waiters = list_any (λ v. v.1.exchange == number) waiters
+-- ---- how far it was served
+
+abbrev pub exchange_of : WaiterState → Option ℕ
+exchange_of (Waiting exchange) = Some exchange
+exchange_of (Delivering bytes id timer) = None
+
+abbrev pub is_waiting_state : WaiterState → Bool
+is_waiting_state (Waiting exchange) = true
+is_waiting_state (Delivering bytes id timer) = false
+
+abbrev pub waits_in_state : ℕ → WaiterState → Bool
+waits_in_state number (Waiting exchange) = exchange == number
+waits_in_state number (Delivering bytes id timer) = false
+
+-- it waits for an exchange
+abbrev pub is_waiting : Waiter → Bool
+is_waiting w = is_waiting_state w.state
+
+-- it waits for the exchange of this number
+abbrev pub waits_for : ℕ → Waiter → Bool
+waits_for number w = waits_in_state number w.state
+
+-- the response was sent with this id, less than 247,000 ms ago
+abbrev pub is_delivered_as : ℕ → ℕ → WaiterState → Bool
+is_delivered_as id now (Waiting exchange) = false
+is_delivered_as id now (Delivering bytes other timer) =
+    (other == id) && nat_lt (now - timer.started) 247000
+
+-- the response was sent to this endpoint with this id, less than 247,000 ms ago (RFC 7252, 4.4)
+abbrev pub was_sent_as : Endpoint → ℕ → ℕ → Waiter → Bool
+was_sent_as at id now w = same_endpoint w.client at && is_delivered_as id now w.state
+
+-- the exchange for which a waiter of a table waits
+abbrev pub awaited_by : Option Waiter → Option ℕ
+awaited_by None = None
+awaited_by (Some w) = exchange_of w.state
+
+-- ---- what happens to it
+
+-- it is sent the response: its token and its tags aren't needed any more
+abbrev pub delivered : List ℕ → ℕ → Timer → Waiter → Waiter
+delivered bytes id timer w =
+    record w { token = []; tags = []; state = Delivering bytes id timer }
+
+-- its timer is due
+abbrev pub fired_state : ℕ → WaiterState → WaiterState
+fired_state now (Waiting exchange) = Waiting exchange
+fired_state now (Delivering bytes id timer) = Delivering bytes id (fired now timer)
+
+abbrev pub fired_waiter : ℕ → Waiter → Waiter
+fired_waiter now w = record w { state = fired_state now w.state }
+
+-- what its timer says where it is due
+abbrev pub fire_of_state : ℕ → WaiterState → Fire
+fire_of_state now (Waiting exchange) = GiveUp
+fire_of_state now (Delivering bytes id timer) = fire_of now timer
+
+abbrev pub fire_at : ℕ → Option Waiter → Fire
+fire_at now None = GiveUp
+fire_at now (Some w) = fire_of_state now w.state
+
+abbrev pub changed_by : WaiterChange → Waiter → Waiter
+changed_by (Deliver bytes id timer) = delivered bytes id timer
+changed_by (fire now) = fired_waiter now
+
+-- ---- when it is due
+
+abbrev pub moment_of : Option Answer → Option ℕ
+moment_of None = None
+moment_of (Some a) = Some a.got
+
+-- it is due at the moment of its exchange's answer, or at the end of the timeout that runs
+abbrev pub due_in : WaiterState → List (Numbered Exchange) → Option ℕ
+due_in (Waiting exchange) exchanges = moment_of (answer_in exchange exchanges)
+due_in (Delivering bytes id timer) exchanges = Some timer.due
+
+abbrev pub due_after : List (Numbered Exchange) → Waiter → Option ℕ
+due_after exchanges w = due_in w.state exchanges
+
+-- ---- what is asked of a waiter that is changed
+
+-- it was sent the response, and the timeout has ended that runs
+abbrev pub HasEnded : ℕ → WaiterState → Type 0
+HasEnded now (Waiting exchange) = ⊥
+HasEnded now (Delivering bytes id timer) = timer.due ≤ now
+
+abbrev pub IsDue : ℕ → Waiter → Type 0
+IsDue now w = HasEnded now w.state
+
+-- its timer can be fired: the timeout has ended, and twice as long a one isn't too long
+abbrev pub CanFire : ℕ → WaiterState → Type 0
+CanFire now (Waiting exchange) = Unit {0}
+CanFire now (Delivering bytes id timer) = (timer.due ≤ now) × (timer.timeout ≤ 2 ^ 32)
+
+abbrev pub CanChange : WaiterChange → Waiter → Type 0
+CanChange (Deliver bytes id timer) w = Unit {0}
+CanChange (fire now) w = (now ≤ 2 ^ 62) × CanFire now w.state
+
+-- ---- what a table of waiters keeps
+
+-- timeouts are no longer than they come to be
+abbrev pub IsStateShort : WaiterState → Type 0
+IsStateShort (Waiting exchange) = Unit {0}
+IsStateShort (Delivering bytes id timer) = IsShort timer
+
+abbrev pub AreShort : List (Numbered Waiter) → Type 0
+AreShort waiters = AllByRecursion (λ w. IsStateShort w.1.state) waiters

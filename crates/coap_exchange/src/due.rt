@@ -1,25 +1,30 @@
-//! What is due.
-ghost use Rattle.std.specs.Prelude.{◌≡◌, Some};
-ghost use Rattle.coap_exchange.specs.Due.{earlier_due};
+//! What is due: a moment, in milliseconds, from which on something is due, and its number in its
+//! table.
+ghost use Rattle.std.specs.Prelude.{◌≡◌};
+ghost use Rattle.coap_exchange.specs.Due.{as_due, is_before, sooner};
 
-/// Something that is due.
-#[derive(Clone, Copy)]
-pub struct Due {
-    /// The moment from which on it is due, in milliseconds.
-    pub at: u64,
-    /// Its number in its table.
-    pub number: u64,
+/// Whether the first is due before the other: earlier, or at one moment under a lower number.
+fn is_before(a: (u64, u64), b: (u64, u64)) -> bool
+    ensures exact { result ≡ is_before a b }
+{
+    a.0 < b.0 || (a.0 == b.0 && a.1 < b.1)
 }
 
-impl Due {
-    /// What is due first, of this and of what was found before; at one moment what was found
-    /// before.
-    pub(crate) fn or_earlier(self, found: Option<Due>) -> Due
-        ensures exact { Some result ≡ earlier_due found (Some self) }
-    {
-        match found {
-            Some(found) if found.at <= self.at => found,
-            _ => self,
-        }
+/// What is due under a number, if anything is.
+pub(crate) fn due_under(number: u64, at: Option<u64>) -> Option<(u64, u64)>
+    ensures exact { result ≡ as_due number at }
+{
+    let at = at?;
+    Some((at, number))
+}
+
+/// The sooner of two, if anything is due.
+pub(crate) fn sooner(a: Option<(u64, u64)>, b: Option<(u64, u64)>) -> Option<(u64, u64)>
+    ensures exact { result ≡ sooner a b }
+{
+    match (a, b) {
+        (Some(x), Some(y)) => Some(if is_before(y, x) { y } else { x }),
+        (Some(_), None) => a,
+        (None, _) => b,
     }
 }

@@ -1,11 +1,17 @@
 //! Exchanges: requests on their way to an origin.
-ghost use Rattle.std.specs.Prelude.{◌≡◌};
+ghost use Rattle.std.specs.Prelude.{◌≡◌, ◌≤◌, ◌^◌};
 ghost use Rattle.std.specs.Option.{option_copied};
-ghost use Rattle.coap_exchange.specs.Due.{answer_at};
-ghost use Rattle.coap_exchange.specs.Exchanges.{is_queued};
+ghost use Rattle.coap_exchange.specs.Exchanges.{answer_at, changed_by, due_of, fire_of_sending, fired_exchange, is_as, is_acked, is_changed_with, is_joinable, is_queued, is_sent, tainted_by, was_sent_as, CanChange, CanFire};
+ghost use Rattle.coap_exchange.specs.Lines.{sends};
 
-use coap_cache::{Answer, CacheKey};
-use coap_message::{Message, Seq};
+use crate::timer::{Fire, Timer};
+use coap_cache::{Answer, CacheKey, Stored};
+use coap_message::{Seq, set_id};
+use coap_target::{Endpoint, Target};
+
+/// For how long a message id that was given isn't given again, in milliseconds (EXCHANGE_LIFETIME;
+/// RFC 7252, 4.8.2).
+pub(crate) const LIFETIME: u64 = 247_000;
 
 /// The sending of a request.
 #[derive(Clone, Copy)]
@@ -14,54 +20,57 @@ pub struct Sending {
     pub asked: u64,
     /// The message id that it was given.
     pub id: u16,
+    pub timer: Timer,
+}
+
+impl Sending {
+    /// Whether it has this id, and was begun less than 247,000 milliseconds before this moment.
+    pub fn is_as(&self, id: u16, now: u64) -> bool
+        ensures exact { result ≡ is_as id now self.now }
+    {
+        self.id == id && now.saturating_sub(self.timer.started) < LIFETIME
+    }
 }
 
 /// How far an exchange has come.
 ///
 /// ```text
-///           a tick sends           a response comes        the last waiter is served
-/// Queued  -------------->  Sent  ------------------> Done ------------------------->  closed
+///           a tick sends          acknowledged           the answer            its last waiter
+/// Queued  -------------->  Sent  -------------->  Acked  --------->  Done     ----------------> closed
+///                                                                  is served
 /// ```
+///
+/// An answer may come in each of the first three: a response, or the proxy's own where a response
+/// can't be had any more.
 #[derive(Drop)]
 pub enum ExchangeState {
     /// The request waits for its turn.
     Queued,
-    /// The request was sent, and no answer has come.
-    Sent(Sending),
+    /// The request was sent, and neither an acknowledgement nor an answer has come.
+    Sent,
+    /// The request was acknowledged, and no answer has come.
+    Acked,
     /// The answer has come.
     Done(Answer),
-}
-
-impl ExchangeState {
-    /// Whether the request waits for its turn.
-    pub fn is_queued(&self) -> bool
-        ensures exact { result ≡ is_queued self.now }
-    {
-        match self {
-            ExchangeState::Queued => true,
-            ExchangeState::Sent(_) | ExchangeState::Done(_) => false,
-        }
-    }
-
-    /// The answer, if it has come.
-    pub fn answer(&self) -> Option<&Answer>
-        ensures exact { option_copied result ≡ answer_at self.now }
-    {
-        match self {
-            ExchangeState::Done(answer) => Some(answer),
-            ExchangeState::Queued | ExchangeState::Sent(_) => None,
-        }
-    }
 }
 
 /// A request on its way to an origin.
 pub struct Exchange {
     /// What its response answers: the target, and the options that take part in the cache key.
     pub key: CacheKey,
-    /// The bytes of the request that is sent on, with the message id 0.
+    /// Whether the method is GET.
+    pub is_get: bool,
+    /// The bytes of the request that is sent on: with the message id 0 until it is sent, and then
+    /// with the one that it was given.
     pub form: Seq<u8>,
+    /// The stored response that the request asks to validate, if it does (RFC 7252, 5.6.2).
+    pub copy: Option<Stored>,
     /// The moment at which it was opened, in milliseconds.
-    pub since: u64,
+    pub admitted: u64,
+    /// The sending of the request, once it was sent.
+    pub sending: Option<Sending>,
+    /// Whether its target was changed since the request was sent (RFC 7252, 5.9.1).
+    pub tainted: bool,
     pub state: ExchangeState,
 }
 
@@ -69,9 +78,173 @@ impl Drop for Exchange {
     fn drop(self) {
         let Exchange {
             key: _,
+            is_get: _,
             form: _,
-            since: _,
+            copy: _,
+            admitted: _,
+            sending: _,
+            tainted: _,
             state: _,
         } = self;
+    }
+}
+
+/// What happens to an exchange.
+#[derive(Drop)]
+pub(crate) enum Change {
+    /// Its request is sent.
+    Send(Sending),
+    /// Its timer is due at this moment.
+    Fire(u64),
+    /// Its request is acknowledged.
+    Acknowledge,
+    /// Its answer has come.
+    Answer(Answer),
+}
+
+impl Change {
+    /// Whether an exchange is sent after this, by whether it was before.
+    pub(crate) fn sends(&self, was: bool) -> bool
+        ensures exact { result ≡ sends self.now was }
+    {
+        match self {
+            Change::Send(_) => true,
+            Change::Fire(_) => was,
+            Change::Acknowledge | Change::Answer(_) => false,
+        }
+    }
+}
+
+impl Exchange {
+    /// Whether the request waits for its turn.
+    pub fn is_queued(&self) -> bool
+        ensures exact { result ≡ is_queued self.now }
+    {
+        match self.state {
+            ExchangeState::Queued => true,
+            ExchangeState::Sent | ExchangeState::Acked | ExchangeState::Done(_) => false,
+        }
+    }
+
+    /// Whether the request was sent, and neither an acknowledgement nor an answer has come.
+    pub fn is_sent(&self) -> bool
+        ensures exact { result ≡ is_sent self.now }
+    {
+        match self.state {
+            ExchangeState::Sent => true,
+            ExchangeState::Queued | ExchangeState::Acked | ExchangeState::Done(_) => false,
+        }
+    }
+
+    /// Whether the request was acknowledged, and no answer has come.
+    pub fn is_acked(&self) -> bool
+        ensures exact { result ≡ is_acked self.now }
+    {
+        match self.state {
+            ExchangeState::Acked => true,
+            ExchangeState::Queued | ExchangeState::Sent | ExchangeState::Done(_) => false,
+        }
+    }
+
+    /// The answer, if it has come.
+    pub fn answer(&self) -> Option<&Answer>
+        ensures exact { option_copied result ≡ answer_at self.now }
+    {
+        match &self.state {
+            ExchangeState::Done(answer) => Some(answer),
+            ExchangeState::Queued | ExchangeState::Sent | ExchangeState::Acked => None,
+        }
+    }
+
+    /// Whether a GET of this key may wait for its answer: it is a GET of an equal key, its target
+    /// wasn't changed since it was sent, and its answer hasn't come.
+    pub fn is_joinable(&self, key: &CacheKey) -> bool
+        ensures exact { result ≡ is_joinable key.now self.now }
+    {
+        self.is_get && !self.tainted && self.answer().is_none() && self.key.is(key)
+    }
+
+    /// Whether its request was sent to this endpoint with this message id, less than 247,000
+    /// milliseconds before this moment (RFC 7252, 4.4).
+    pub fn was_sent_as(&self, at: Endpoint, id: u16, now: u64) -> bool
+        ensures exact { result ≡ was_sent_as at id now self.now }
+    {
+        match &self.sending {
+            Some(sending) => self.key.target.at.is(&at) && sending.is_as(id, now),
+            None => false,
+        }
+    }
+
+    /// Whether a change of this target reaches its answer: its request for that was sent, and no
+    /// answer has come.
+    pub(crate) fn is_changed_with(&self, target: &Target) -> bool
+        ensures exact { result ≡ is_changed_with target.now self.now }
+    {
+        (self.is_sent() || self.is_acked()) && self.key.target.is(target)
+    }
+
+    /// When it is due, if it is: where it waits for its turn at once, unless it is blocked; where
+    /// it was sent as its timer says; at last at its deadline, unless its answer has come.
+    pub(crate) fn due(&self, blocked: bool, exchange_ms: u64) -> Option<u64>
+        requires admitted { self.now.admitted ≤ 2 ^ 62 }
+        requires short { exchange_ms ≤ 600000 }
+        ensures exact { result ≡ due_of blocked exchange_ms self.now }
+    {
+        let deadline = self.admitted + exchange_ms;
+        match &self.state {
+            ExchangeState::Queued => Some(if blocked { deadline } else { self.admitted }),
+            ExchangeState::Sent => match &self.sending {
+                Some(sending) => Some(sending.timer.due.min(deadline)),
+                None => Some(deadline),
+            },
+            ExchangeState::Acked => Some(deadline),
+            ExchangeState::Done(_) => None,
+        }
+    }
+
+    /// What its timer says, now that it is due.
+    pub(crate) fn fire_of(&self, now: u64) -> Fire
+        ensures exact { result ≡ fire_of_sending now self.now.sending }
+    {
+        match &self.sending {
+            Some(sending) => sending.timer.fire_of(now),
+            None => Fire::GiveUp,
+        }
+    }
+
+    /// What happens to it is done.
+    pub(crate) fn change(&mut self, change: Change)
+        requires { CanChange change self.old }
+        ensures exact { self.new ≡ changed_by change self.old }
+    {
+        match change {
+            Change::Send(sending) => {
+                set_id(&mut self.form, sending.id);
+                self.sending = Some(sending);
+                self.state = ExchangeState::Sent;
+            }
+            Change::Fire(now) => self.fire(now),
+            Change::Acknowledge => self.state = ExchangeState::Acked,
+            Change::Answer(answer) => self.state = ExchangeState::Done(answer),
+        }
+    }
+
+    fn fire(&mut self, now: u64)
+        requires now { now ≤ 2 ^ 62 }
+        requires timer { CanFire now self.old.sending }
+        ensures exact { self.new ≡ fired_exchange now self.old }
+    {
+        if let Some(sending) = &mut self.sending {
+            sending.timer.fire(now);
+        }
+    }
+
+    /// It is tainted where a change of this target reaches its answer.
+    pub(crate) fn taint(&mut self, target: &Target)
+        ensures exact { self.new ≡ tainted_by target.now self.old }
+    {
+        if self.is_changed_with(target) {
+            self.tainted = true;
+        }
     }
 }

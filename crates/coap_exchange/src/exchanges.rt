@@ -1,28 +1,36 @@
 //! Tables of exchanges: what is admitted, sent, answered and closed, and what is due.
-ghost use Rattle.std.specs.Prelude.{◌≡◌, ◌+◌, ◌-◌, ◌<◌, ◌^◌, ◌↔◌, length, option_map, nat_eq, if◌then◌else◌, true, false, OnOk, OnErr, IfOk, IfErr, IfSome, IfNone};
+ghost use Rattle.std.specs.Prelude.{◌≡◌, ◌+◌, ◌-◌, ◌<◌, ◌≤◌, ◌^◌, ◌↔◌, ◌&&◌, length, nat_eq, slice_get, if◌then◌else◌, true, false, None, OnOk, OnErr, IfOk, IfErr, IfSome, IfNone};
 ghost use Rattle.std.specs.Map.{set_value};
 ghost use Rattle.std.specs.Option.{option_copied};
-ghost use Rattle.indexmap.specs.IndexMap.{get};
-ghost use Rattle.coap_exchange.specs.declared.exchange.ExchangeState.TheVariants.{Queued, Sent, Done};
+ghost use Rattle.indexmap.specs.IndexMap.{get, index_map_len, set_value_at, values};
+ghost use Rattle.coap_target.specs.declared.endpoint.Endpoint.{Endpoint};
+ghost use Rattle.coap_exchange.specs.declared.exchange.ExchangeState.TheVariants.{Queued};
 ghost use Rattle.coap_exchange.specs.declared.table.AdmitError.TheVariants.{Full};
-ghost use Rattle.coap_exchange.specs.Due.{due_as, exchange_items, least, answer_in};
-ghost use Rattle.coap_exchange.specs.Exchanges.{with_state, is_queued, is_sent, queued_at, count_where};
-ghost use Rattle.coap_exchange.specs.Table.{empty_table, item_at, admitted_to, without, withdrawn, IsTable};
+ghost use Rattle.coap_exchange.specs.Due.{due_row, first_due};
+ghost use Rattle.coap_exchange.specs.Exchanges.{acked, answer_in, answered, changed_by, due_among, fire_at, fired_exchange, is_acked, is_done, is_joinable, is_queued, is_sent, is_sent_to, is_timely, sent, tainted_by, was_sent_as, AreTimely, CanChange, IsDue, IsFireDue};
+ghost use Rattle.coap_exchange.specs.Lines.{is_with, open_in, sent_in, AreLined};
+ghost use Rattle.coap_exchange.specs.Table.{empty_table, item_at, admitted_to, without, withdrawn, changed_at, all_changed, count, first_that, passes, IsTable};
 
-use crate::due::Due;
-use crate::exchange::{Exchange, ExchangeState, Sending};
+use crate::due::{due_under, sooner};
+use crate::exchange::{Change, Exchange, ExchangeState, Sending};
+use crate::lines::{Line, close_one, line_to, move_one, open_one};
 use crate::table::{AdmitError, Table};
-use coap_cache::{Answer, CacheKey};
+use crate::timer::Fire;
+use coap_cache::{Answer, CacheKey, Stored};
 use coap_message::{OutOfMemory, Seq};
+use coap_target::{Endpoint, Target};
 use indexmap::IndexMap;
 use std::alloc::Global;
+use std::collections::BTreeMap;
 use std::marker::Model;
 
-/// Exchanges in order of number. A contract sees the table.
+/// Exchanges in order of number. A contract sees the table. Only `new` and `admit` take memory.
 pub struct Exchanges {
     table: Table<Exchange>,
     /// How many are still to be sent.
     queued: usize,
+    /// How many there are with each endpoint.
+    lines: BTreeMap<Endpoint, Line>,
 }
 
 impl Drop for Exchanges {
@@ -30,21 +38,23 @@ impl Drop for Exchanges {
         let Exchanges {
             table: _,
             queued: _,
+            lines: _,
         } = self;
     }
 }
 
 impl Model for Exchanges {
-    ghost use Rattle.std.specs.Prelude.{◌≡◌};
     ghost use Rattle.coap_exchange.specs.declared.exchange.Exchange.{Exchange};
-    ghost use Rattle.coap_exchange.specs.Exchanges.{is_queued, count_where};
+    ghost use Rattle.coap_exchange.specs.Exchanges.{AreExchanges};
+    ghost use Rattle.coap_exchange.specs.Lines.{AreLined};
     ghost use Rattle.coap_exchange.specs.Table.{Table};
 
     ghost Value = { Table Exchange };
 
     ghost view = { λ e. e.table };
 
-    ghost invariant = { λ e. e.queued ≡ count_where is_queued e.table.items };
+    ghost invariant = { λ e.
+        AreExchanges e.table.items e.queued × AreLined e.table.items e.lines };
 }
 
 impl Exchanges {
@@ -53,7 +63,11 @@ impl Exchanges {
         ensures empty { IfOk result (λ exchanges. exchanges ≡ empty_table limit) }
     {
         let table = Table::new(alloc, limit)?;
-        Ok(Exchanges { table, queued: 0 })
+        Ok(Exchanges {
+            table,
+            queued: 0,
+            lines: BTreeMap::new(alloc),
+        })
     }
 
     /// The number of exchanges under way.
@@ -72,7 +86,7 @@ impl Exchanges {
 
     /// How many are still to be sent.
     pub fn queued(&self) -> usize
-        ensures exact { result ≡ count_where is_queued self.now.items }
+        ensures exact { result ≡ count is_queued self.now.items }
     {
         self.queued
     }
@@ -90,23 +104,76 @@ impl Exchanges {
         ensures exact { option_copied result ≡ answer_in number self.now.items }
     {
         match self.get(number) {
-            Some(exchange) => exchange.state.answer(),
+            Some(exchange) => exchange.answer(),
             None => None,
         }
     }
 
-    /// Opens an exchange after the others: its request waits for its turn. Answers its number.
+    /// The number of the exchange whose answer a GET of this key may wait for: a GET of an equal
+    /// key, whose target wasn't changed since it was sent, and whose answer hasn't come. Of several
+    /// the first.
+    pub fn joinable(&self, key: &CacheKey) -> Option<u64>
+        ensures exact { result ≡ first_that (is_joinable key.now) self.now.items }
+    {
+        self.table.joinable(key)
+    }
+
+    /// The number of the exchange whose request was sent to this endpoint with this message id,
+    /// less than 247,000 milliseconds before this moment (RFC 7252, 4.4). Of several the first.
+    pub fn sent_as(&self, at: Endpoint, id: u16, now: u64) -> Option<u64>
+        ensures exact { result ≡ first_that (was_sent_as at id now) self.now.items }
+    {
+        self.table.sent_as(at, id, now)
+    }
+
+    /// What is due first, as its moment, in milliseconds, and its number; of what is due at one
+    /// moment what has the least number. An exchange is due
+    ///
+    /// - while its request waits for its turn, at its admission, or, where `nstart` or more
+    ///   requests to its endpoint are sent and not acknowledged (RFC 7252, 4.7), at its deadline;
+    /// - once it is sent, at the end of the timeout that runs, or at its deadline, if that is
+    ///   earlier;
+    /// - once it is acknowledged, at its deadline.
+    ///
+    /// The deadline is `exchange_ms` milliseconds after the admission, at most 600,000.
+    pub fn due(&self, nstart: usize, exchange_ms: u64) -> Option<(u64, u64)>
+        requires { exchange_ms ≤ 600000 }
+        ensures exact { result
+            ≡ first_due (due_among nstart exchange_ms self.now.items) self.now.items }
+    {
+        self.table.first_due(&self.lines, nstart, exchange_ms)
+    }
+
+    /// Opens an exchange after the others: its request waits for its turn. Answers its number. The
+    /// moment is in milliseconds, and at most 2^62.
     ///
     /// # Errors
     /// 1. `Full` where the table holds as many as it may. 2. `OutOfMemory`. Nothing is changed
     /// then.
-    pub fn admit(&mut self, key: CacheKey, form: Seq<u8>, now: u64) -> Result<u64, AdmitError>
-        requires { self.old.admitted < 2 ^ 64 - 1 }
+    pub fn admit(
+        &mut self,
+        key: CacheKey,
+        is_get: bool,
+        form: Seq<u8>,
+        copy: Option<Stored>,
+        now: u64,
+    ) -> Result<u64, AdmitError>
+        requires numbers { self.old.admitted < 2 ^ 64 - 1 }
+        requires now { now ≤ 2 ^ 62 }
         ensures number { IfOk result (λ number. number ≡ self.old.admitted + 1) }
         ensures ok { OnOk result
             (self.new
             ≡ admitted_to
-            (record { key = key; form = form; since = now; state = Queued })
+            (record {
+              key = key;
+              is_get = is_get;
+              form = form;
+              copy = copy;
+              admitted = now;
+              sending = None;
+              tainted = false;
+              state = Queued;
+            })
             self.old) }
         ensures full { IfErr result (λ error.
             (error ≡ Full) ↔ (length self.old.items ≡ self.old.limit)) }
@@ -114,15 +181,33 @@ impl Exchanges {
         ensures err { OnErr result (self.new ≡ self.old) }
         ensures sound { IsTable self.old }
     {
+        if self.table.is_full() {
+            return Err(AdmitError::Full);
+        }
+        let at = key.target.at;
+        let Ok(()) = open_one(&mut self.lines, at) else {
+            return Err(AdmitError::OutOfMemory);
+        };
         let exchange = Exchange {
             key,
+            is_get,
             form,
-            since: now,
+            copy,
+            admitted: now,
+            sending: None,
+            tainted: false,
             state: ExchangeState::Queued,
         };
-        let number = self.table.admit(exchange)?;
-        self.queued += 1;
-        Ok(number)
+        match self.table.admit(exchange) {
+            Ok(number) => {
+                self.queued += 1;
+                Ok(number)
+            }
+            Err(error) => {
+                close_one(&mut self.lines, at, false);
+                Err(error)
+            }
+        }
     }
 
     /// Undoes an `admit` that was the last change: takes out the exchange of the last number that
@@ -134,7 +219,9 @@ impl Exchanges {
             → self.old ≡ admitted_to item before
             → self.new ≡ before }
     {
-        self.queued = queued_without(self.queued, &self.table, self.table.admitted());
+        let number = self.table.admitted();
+        self.queued = queued_without(self.queued, &self.table, number);
+        leave(&mut self.lines, &self.table, number);
         self.table.withdraw();
     }
 
@@ -143,93 +230,241 @@ impl Exchanges {
         ensures closed { self.new ≡ record self.old { items = without number self.old.items } }
     {
         self.queued = queued_without(self.queued, &self.table, number);
+        leave(&mut self.lines, &self.table, number);
         self.table.close(number);
     }
 
-    /// The request of the exchange of this number, which waited for its turn, was sent.
+    /// The request of the exchange of this number, which waited for its turn, is sent: its form has
+    /// the message id of the sending from now on. The timeout of its timer is at most 3,000
+    /// milliseconds, as the first one is.
     pub fn send(&mut self, number: u64, sending: Sending)
-        requires queued { IfSome (item_at number self.old.items) (λ x. is_queued x.state ≡ true) }
+        requires queued { IfSome (item_at number self.old.items) (λ x. is_queued x ≡ true) }
+        requires short { sending.timer.timeout ≤ 3000 }
         ensures sent { self.new
-            ≡ record self.old { items = with_state number (Sent sending) self.old.items } }
+            ≡ record self.old { items = changed_at number (sent sending) self.old.items } }
     {
-        self.move_to(number, ExchangeState::Sent(sending));
+        self.change(number, Change::Send(sending));
     }
 
-    /// The answer of the exchange of this number came, whose request was sent.
-    pub fn set_answer(&mut self, number: u64, answer: Answer)
-        requires sent { IfSome (item_at number self.old.items) (λ x. is_sent x.state ≡ true) }
+    /// The timer of the exchange of this number, whose request was sent, is due: what is to be
+    /// done. Where the request is to be sent again, the timer counts that. The moment is in
+    /// milliseconds, and at most 2^62.
+    pub fn fire(&mut self, number: u64, now: u64) -> Fire
+        requires due { IfSome (item_at number self.old.items) (IsDue now) }
+        requires now { now ≤ 2 ^ 62 }
+        ensures exact { result ≡ fire_at now (item_at number self.old.items) }
+        ensures fired { self.new
+            ≡ record self.old { items = changed_at number (fired_exchange now) self.old.items } }
+    {
+        let fire = match self.get(number) {
+            Some(exchange) => exchange.fire_of(now),
+            None => Fire::GiveUp,
+        };
+        self.change(number, Change::Fire(now));
+        fire
+    }
+
+    /// The request of the exchange of this number, which was sent, is acknowledged.
+    pub fn acked(&mut self, number: u64)
+        requires sent { IfSome (item_at number self.old.items) (λ x. is_sent x ≡ true) }
+        ensures acked { self.new
+            ≡ record self.old { items = changed_at number acked self.old.items } }
+    {
+        self.change(number, Change::Acknowledge);
+    }
+
+    /// The answer of the exchange of this number has come: a response, or the proxy's own.
+    pub fn answered(&mut self, number: u64, answer: Answer)
+        requires open { IfSome (item_at number self.old.items) (λ x. is_done x ≡ false) }
         ensures answered { self.new
-            ≡ record self.old { items = with_state number (Done answer) self.old.items } }
+            ≡ record self.old { items = changed_at number (answered answer) self.old.items } }
     {
-        self.move_to(number, ExchangeState::Done(answer));
+        self.change(number, Change::Answer(answer));
     }
 
-    /// What is due first: of requests that wait for their turn the one that was opened first, of
-    /// those opened at one moment the one of the least number.
-    pub fn due(&self) -> Option<Due>
-        ensures exact { result ≡ option_map due_as (least (exchange_items self.now.items)) }
+    /// A change of this target taints the exchanges of that target whose request was sent and whose
+    /// answer hasn't come (RFC 7252, 5.9.1).
+    pub fn taint(&mut self, target: &Target)
+        ensures tainted { self.new
+            ≡ record self.old { items = all_changed (tainted_by target.now) self.old.items } }
     {
-        if self.queued == 0 {
-            None
-        } else {
-            self.table.first_queued()
-        }
+        self.table.taint(target);
     }
 
-    fn move_to(&mut self, number: u64, state: ExchangeState)
-        requires { is_queued state ≡ false }
-        ensures { self.new ≡ record self.old { items = with_state number state self.old.items } }
+    fn change(&mut self, number: u64, change: Change)
+        requires timely { is_timely change ≡ true }
+        requires due { IsFireDue change (item_at number self.old.items) }
+        requires queued { IfSome (item_at number self.old.items) (λ x.
+            is_queued (changed_by change x) ≡ false) }
+        ensures { self.new
+            ≡ record self.old { items = changed_at number (changed_by change) self.old.items } }
     {
         self.queued = queued_without(self.queued, &self.table, number);
-        self.table.move_to(number, state);
+        recount(&mut self.lines, &self.table, number, &change);
+        self.table.change(number, change);
     }
 }
 
 impl Table<Exchange> {
-    fn move_to(&mut self, number: u64, state: ExchangeState)
-        ensures { self.new ≡ record self.old { items = with_state number state self.old.items } }
+    fn change(&mut self, number: u64, change: Change)
+        requires { IfSome (item_at number self.old.items) (CanChange change) }
+        ensures { self.new
+            ≡ record self.old { items = changed_at number (changed_by change) self.old.items } }
     {
-        set_state(&mut self.items, number, state);
+        change_under(&mut self.items, number, change);
     }
 
-    fn first_queued(&self) -> Option<Due>
-        ensures exact { result ≡ option_map due_as (least (exchange_items self.now.items)) }
+    fn taint(&mut self, target: &Target)
+        ensures { self.new
+            ≡ record self.old { items = all_changed (tainted_by target.now) self.old.items } }
+    {
+        taint_all(&mut self.items, target);
+    }
+
+    fn joinable(&self, key: &CacheKey) -> Option<u64>
+        ensures exact { result ≡ first_that (is_joinable key.now) self.now.items }
+    {
+        for (number, exchange) in self.items.iter() {
+            if exchange.is_joinable(key) {
+                return Some(*number);
+            }
+        }
+        None
+    }
+
+    fn sent_as(&self, at: Endpoint, id: u16, now: u64) -> Option<u64>
+        ensures exact { result ≡ first_that (was_sent_as at id now) self.now.items }
+    {
+        for (number, exchange) in self.items.iter() {
+            if exchange.was_sent_as(at, id, now) {
+                return Some(*number);
+            }
+        }
+        None
+    }
+
+    fn first_due(
+        &self,
+        lines: &BTreeMap<Endpoint, Line>,
+        nstart: usize,
+        exchange_ms: u64,
+    ) -> Option<(u64, u64)>
+        requires lined { AreLined self.now.items lines.now }
+        requires short { exchange_ms ≤ 600000 }
+        requires timely { AreTimely self.now.items }
+        ensures exact { result
+            ≡ first_due (due_among nstart exchange_ms self.now.items) self.now.items }
     {
         let mut first = None;
         for (number, exchange) in self.items.iter() {
-            if exchange.state.is_queued() {
-                let due = Due {
-                    at: exchange.since,
-                    number: *number,
-                };
-                first = Some(due.or_earlier(first));
-            }
+            let due = self.due_at(lines, *number, exchange, nstart, exchange_ms);
+            first = sooner(first, due);
         }
         first
     }
+
+    /// When an exchange of the table is due, under its number.
+    fn due_at(
+        &self,
+        lines: &BTreeMap<Endpoint, Line>,
+        number: u64,
+        exchange: &Exchange,
+        nstart: usize,
+        exchange_ms: u64,
+    ) -> Option<(u64, u64)>
+        requires lined { AreLined self.now.items lines.now }
+        requires short { exchange_ms ≤ 600000 }
+        requires timely { exchange.now.admitted ≤ 2 ^ 62 }
+        ensures exact { result
+            ≡ due_row (due_among nstart exchange_ms self.now.items) (number, exchange.now) }
+    {
+        let blocked = exchange.is_queued() && nstart <= line_to(lines, exchange.key.target.at).sent;
+        due_under(number, exchange.due(blocked, exchange_ms))
+    }
 }
 
-fn set_state(exchanges: &mut IndexMap<u64, Exchange>, number: u64, state: ExchangeState)
+fn change_under(exchanges: &mut IndexMap<u64, Exchange>, number: u64, change: Change)
+    requires { IfSome (get nat_eq exchanges.old number) (CanChange change) }
     ensures found { IfSome (get nat_eq exchanges.old number) (λ x.
         exchanges.new.entries
-        ≡ set_value (nat_eq number) exchanges.old.entries (record x { state = state })) }
+        ≡ set_value (nat_eq number) exchanges.old.entries (changed_by change x)) }
     ensures missing { IfNone (get nat_eq exchanges.old number)
         (exchanges.new.entries ≡ exchanges.old.entries) }
 {
     if let Some(exchange) = exchanges.get_mut(&number) {
-        exchange.state = state;
+        exchange.change(change);
     }
+}
+
+fn taint_all(exchanges: &mut IndexMap<u64, Exchange>, target: &Target)
+    ensures { exchanges.new.entries ≡ all_changed (tainted_by target.now) exchanges.old.entries }
+{
+    for place in 0..exchanges.len() {
+        taint_at(exchanges, place, target);
+    }
+}
+
+fn taint_at(exchanges: &mut IndexMap<u64, Exchange>, place: usize, target: &Target)
+    requires { place < index_map_len exchanges.old }
+    ensures { IfSome (slice_get (values exchanges.old) place) (λ x.
+        exchanges.new.entries
+        ≡ set_value_at exchanges.old.entries place (tainted_by target.now x)) }
+{
+    let exchange = exchanges.get_index_mut(place).unwrap();
+    exchange.taint(target);
 }
 
 /// How many are still to be sent, once the exchange of this number no longer is.
 fn queued_without(queued: usize, exchanges: &Table<Exchange>, number: u64) -> usize
-    requires { queued ≡ count_where is_queued exchanges.now.items }
-    ensures fewer { result + (if queued_at (item_at number exchanges.now.items) then 1 else 0)
+    requires { queued ≡ count is_queued exchanges.now.items }
+    ensures fewer { result
+        + (if passes is_queued (item_at number exchanges.now.items) then 1 else 0)
         ≡ queued }
     ensures sound { IsTable exchanges.now }
 {
     match exchanges.get(number) {
-        Some(exchange) if exchange.state.is_queued() => queued - 1,
+        Some(exchange) if exchange.is_queued() => queued - 1,
         _ => queued,
+    }
+}
+
+/// The exchange of this number is counted no more for its endpoint.
+fn leave(lines: &mut BTreeMap<Endpoint, Line>, exchanges: &Table<Exchange>, number: u64)
+    requires { AreLined exchanges.now.items lines.old }
+    ensures all { (e : Endpoint)
+        → open_in lines.new e
+        + (if passes (is_with e) (item_at number exchanges.now.items) then 1 else 0)
+        ≡ open_in lines.old e }
+    ensures sent { (e : Endpoint)
+        → sent_in lines.new e
+        + (if passes (is_sent_to e) (item_at number exchanges.now.items) then 1 else 0)
+        ≡ sent_in lines.old e }
+{
+    let _few = exchanges.len();
+    if let Some(exchange) = exchanges.get(number) {
+        close_one(lines, exchange.key.target.at, exchange.is_sent());
+    }
+}
+
+/// The exchange of this number is counted for its endpoint by what it is after a change.
+fn recount(
+    lines: &mut BTreeMap<Endpoint, Line>,
+    exchanges: &Table<Exchange>,
+    number: u64,
+    change: &Change,
+)
+    requires { AreLined exchanges.now.items lines.old }
+    ensures all { (e : Endpoint) → open_in lines.new e ≡ open_in lines.old e }
+    ensures sent { (e : Endpoint)
+        → sent_in lines.new e
+        + (if passes (is_sent_to e) (item_at number exchanges.now.items) then 1 else 0)
+        ≡ sent_in lines.old e
+        + (if passes (λ x. is_sent_to e (changed_by change.now x))
+        (item_at number exchanges.now.items) then 1 else 0) }
+{
+    let _few = exchanges.len();
+    if let Some(exchange) = exchanges.get(number) {
+        let was = exchange.is_sent();
+        move_one(lines, exchange.key.target.at, was, change.sends(was));
     }
 }

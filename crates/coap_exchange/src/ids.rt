@@ -1,43 +1,64 @@
 //! Message ids (RFC 7252, 4.4).
-ghost use Rattle.std.specs.Prelude.{◌≡◌, ◌+◌, ◌-◌, ◌<◌};
-ghost use Rattle.coap_exchange.specs.Ids.{nth_id};
+ghost use Rattle.std.specs.Prelude.{◌≡◌};
+ghost use Rattle.coap_exchange.specs.Ids.{called, left_of, new_ids, next_of};
 
 /// The message ids that a proxy gives: counted up from the first, and begun anew at 0 after 65,535.
-/// `next` asks that fewer than 32,768 were given, so that none comes back.
+///
+/// Time is cut into windows of 247,000 milliseconds (EXCHANGE_LIFETIME; RFC 7252, 4.8.2), and at
+/// most 32,768 ids are given in one. So an id comes back only where as much time has passed, as
+/// long as moments don't go back. Moments are in milliseconds.
 #[derive(Clone, Copy)]
 pub struct Ids {
-    /// The first.
-    pub first: u16,
-    /// How many were given.
-    pub given: u64,
+    /// The id that is given next.
+    pub following: u16,
+    /// The window in which the last was given, counted from 0.
+    pub window: u64,
+    /// How many were given in that window.
+    pub given: u32,
 }
 
 impl Ids {
-    /// How many ids are given at most.
-    pub const MOST: u64 = 32_768;
+    /// How many ids are given in a window at most.
+    pub const MOST: u32 = 32_768;
+
+    /// How long a window is, in milliseconds.
+    pub const WINDOW: u64 = 247_000;
 
     /// Ids of which none was given yet.
     pub fn new(first: u16) -> Ids
-        ensures exact { result ≡ record { first = first; given = 0 } }
+        ensures exact { result ≡ new_ids first }
     {
-        Ids { first, given: 0 }
+        Ids {
+            following: first,
+            window: 0,
+            given: 0,
+        }
     }
 
-    /// How many are left.
-    pub fn left(&self) -> u64
-        ensures exact { result ≡ 32768 - self.now.given }
+    /// How many may still be given in the window of this moment.
+    pub fn left(&self, now: u64) -> u32
+        ensures exact { result ≡ left_of now self.now }
     {
-        Ids::MOST.saturating_sub(self.given)
+        if self.window == now / Ids::WINDOW {
+            Ids::MOST.saturating_sub(self.given)
+        } else {
+            Ids::MOST
+        }
     }
 
-    /// Gives the next id.
-    pub fn next(&mut self) -> u16
-        requires { self.old.given < 32768 }
-        ensures id { result ≡ nth_id self.old.first self.old.given }
-        ensures given { self.new ≡ record self.old { given = self.old.given + 1 } }
+    /// Gives the next id, unless none is left in the window of this moment.
+    pub fn next(&mut self, now: u64) -> Option<u16>
+        ensures id { result ≡ next_of now self.old }
+        ensures given { self.new ≡ called now self.old }
     {
-        let id = self.first.wrapping_add(self.given as u16);
-        self.given += 1;
-        id
+        let left = self.left(now);
+        if left == 0 {
+            return None;
+        }
+        let id = self.following;
+        self.following = id.wrapping_add(1);
+        self.window = now / Ids::WINDOW;
+        self.given = Ids::MOST - left + 1;
+        Some(id)
     }
 }

@@ -3,17 +3,23 @@
 #![tactic(auto)]
 
 mod due;
+pub mod examples;
 mod exchange;
 mod exchanges;
 mod ids;
+pub mod laws;
+mod lines;
 mod table;
+mod tally;
+mod timer;
 mod waiter;
 mod waiters;
 
 pub use coap_cache::Answer;
-pub use due::Due;
 pub use exchange::{Exchange, ExchangeState, Sending};
 pub use exchanges::Exchanges;
 pub use ids::Ids;
-pub use table::{AdmitError, Table};
-pub use waiter::Waiter;
+pub use table::AdmitError;
+pub use timer::{Fire, Timer};
+pub use waiter::{Waiter, WaiterState};
+pub use waiters::Waiters;

@@ -1,42 +1,343 @@
-//! Tables of waiters: what is due, and which exchanges are awaited.
-ghost use Rattle.std.specs.Prelude.{◌≡◌, option_map};
-ghost use Rattle.coap_exchange.specs.Due.{due_as, waiter_items, least};
-ghost use Rattle.coap_exchange.specs.Waiters.{is_awaited};
+//! Tables of waiters: who waits for which exchange, what is delivered, and what is due.
+ghost use Rattle.std.specs.Prelude.{◌≡◌, ◌+◌, ◌-◌, ◌<◌, ◌≤◌, ◌^◌, ◌↔◌, ℕ, length, nat_eq, if◌then◌else◌, true, false, OnOk, OnErr, IfOk, IfErr, IfSome, IfNone};
+ghost use Rattle.std.specs.Map.{set_value};
+ghost use Rattle.std.specs.Option.{option_copied};
+ghost use Rattle.indexmap.specs.IndexMap.{get};
+ghost use Rattle.coap_exchange.specs.declared.table.AdmitError.TheVariants.{Full};
+ghost use Rattle.coap_exchange.specs.declared.waiter.WaiterState.TheVariants.{Waiting};
+ghost use Rattle.coap_exchange.specs.Due.{due_row, first_due};
+ghost use Rattle.coap_exchange.specs.Table.{empty_table, item_at, admitted_to, without, withdrawn, changed_at, count, first_that, passes, IsTable};
+ghost use Rattle.coap_exchange.specs.Tally.{tally, AreTallied};
+ghost use Rattle.coap_exchange.specs.Waiters.{awaited_by, changed_by, delivered, due_after, fire_at, fired_waiter, is_waiting, waits_for, was_sent_as, CanChange, IsDue};
 
-use crate::due::Due;
+use crate::due::{due_under, sooner};
 use crate::exchanges::Exchanges;
-use crate::table::Table;
-use crate::waiter::Waiter;
+use crate::table::{AdmitError, Table};
+use crate::tally::{count_one, counted, discount_one};
+use crate::timer::{Fire, Timer};
+use crate::waiter::{Waiter, WaiterChange, WaiterState};
+use coap_message::{Kind, OutOfMemory, Pieces, Seq, Token};
+use coap_target::Endpoint;
+use indexmap::IndexMap;
+use std::alloc::Global;
+use std::collections::BTreeMap;
+use std::marker::Model;
+
+/// Waiters in order of number. A contract sees the table. Only `new` and `admit` take memory.
+pub struct Waiters {
+    table: Table<Waiter>,
+    /// How many wait for an exchange.
+    waiting: usize,
+    /// How many wait for the exchange of each number.
+    by_exchange: BTreeMap<u64, usize>,
+    alloc: Global,
+}
+
+impl Drop for Waiters {
+    fn drop(self) {
+        let Waiters {
+            table: _,
+            waiting: _,
+            by_exchange: _,
+            alloc: _,
+        } = self;
+    }
+}
+
+impl Model for Waiters {
+    ghost use Rattle.coap_exchange.specs.declared.waiter.Waiter.{Waiter};
+    ghost use Rattle.coap_exchange.specs.Table.{Table};
+    ghost use Rattle.coap_exchange.specs.Tally.{AreWaiters};
+
+    ghost Value = { Table Waiter };
+
+    ghost view = { λ w. w.table };
+
+    ghost invariant = { λ w. AreWaiters w.table.items w.waiting w.by_exchange };
+}
+
+impl Waiters {
+    /// An empty table with room for so many waiters.
+    pub fn new(alloc: Global, limit: usize) -> Result<Waiters, OutOfMemory>
+        ensures empty { IfOk result (λ waiters. waiters ≡ empty_table limit) }
+    {
+        let table = Table::new(alloc, limit)?;
+        Ok(Waiters {
+            table,
+            waiting: 0,
+            by_exchange: BTreeMap::new(alloc),
+            alloc,
+        })
+    }
+
+    /// The number of waiters, those that wait and those that are delivered to.
+    pub fn len(&self) -> usize
+        ensures exact { result ≡ length self.now.items }
+    {
+        self.table.len()
+    }
+
+    /// How many there ever were.
+    pub fn admitted(&self) -> u64
+        ensures exact { result ≡ self.now.admitted }
+    {
+        self.table.admitted()
+    }
+
+    /// How many wait for an exchange.
+    pub fn waiting(&self) -> usize
+        ensures exact { result ≡ count is_waiting self.now.items }
+    {
+        self.waiting
+    }
+
+    /// How many wait for the exchange of this number.
+    pub fn waiting_for(&self, exchange: u64) -> usize
+        ensures exact { result ≡ count (waits_for exchange) self.now.items }
+    {
+        counted(&self.by_exchange, exchange)
+    }
+
+    /// The waiter of this number.
+    pub fn get(&self, number: u64) -> Option<&Waiter>
+        ensures exact { option_copied result ≡ item_at number self.now.items }
+        ensures sound { IsTable self.now }
+    {
+        self.table.get(number)
+    }
+
+    /// The number of the waiter that was sent its response to this endpoint with this message id,
+    /// less than 247,000 milliseconds before this moment (RFC 7252, 4.4). Of several the first.
+    pub fn sent_as(&self, at: Endpoint, id: u16, now: u64) -> Option<u64>
+        ensures exact { result ≡ first_that (was_sent_as at id now) self.now.items }
+    {
+        self.table.sent_as(at, id, now)
+    }
+
+    /// What is due first, as its moment, in milliseconds, and its number; of what is due at one
+    /// moment what has the least number. A waiter is due at the moment at which the answer of its exchange came, and once the response was sent, at
+    /// the end of the timeout that runs.
+    pub fn due(&self, exchanges: &Exchanges) -> Option<(u64, u64)>
+        ensures exact { result ≡ first_due (due_after exchanges.now.items) self.now.items }
+    {
+        self.table.first_due(exchanges)
+    }
+
+    /// Takes a waiter in after the others, which waits for the exchange of this number. Answers its
+    /// number.
+    ///
+    /// # Errors
+    /// 1. `Full` where the table holds as many as it may. 2. `OutOfMemory`. Nothing is changed
+    /// then.
+    pub fn admit(
+        &mut self,
+        client: Endpoint,
+        kind: Kind,
+        token: Token,
+        tags: Pieces,
+        exchange: u64,
+    ) -> Result<u64, AdmitError>
+        requires { self.old.admitted < 2 ^ 64 - 1 }
+        ensures number { IfOk result (λ number. number ≡ self.old.admitted + 1) }
+        ensures ok { OnOk result
+            (self.new
+            ≡ admitted_to
+            (record {
+              client = client;
+              kind = kind;
+              token = token;
+              tags = tags;
+              state = Waiting exchange;
+            })
+            self.old) }
+        ensures full { IfErr result (λ error.
+            (error ≡ Full) ↔ (length self.old.items ≡ self.old.limit)) }
+        ensures room { OnOk result (length self.old.items < self.old.limit) }
+        ensures err { OnErr result (self.new ≡ self.old) }
+        ensures sound { IsTable self.old }
+    {
+        if self.table.is_full() {
+            return Err(AdmitError::Full);
+        }
+        let Ok(()) = count_one(&mut self.by_exchange, exchange) else {
+            return Err(AdmitError::OutOfMemory);
+        };
+        let waiter = Waiter {
+            client,
+            kind,
+            token,
+            tags,
+            state: WaiterState::Waiting(exchange),
+        };
+        match self.table.admit(waiter) {
+            Ok(number) => {
+                self.waiting += 1;
+                Ok(number)
+            }
+            Err(error) => {
+                discount_one(&mut self.by_exchange, exchange);
+                Err(error)
+            }
+        }
+    }
+
+    /// Undoes an `admit` that was the last change: takes out the waiter of the last number that was
+    /// given, if it is there, and gives that number back.
+    pub fn withdraw(&mut self)
+        ensures exact { self.new ≡ withdrawn self.old }
+        ensures undone { (before : Table Waiter) (item : Waiter)
+            → IsTable before
+            → self.old ≡ admitted_to item before
+            → self.new ≡ before }
+    {
+        let number = self.table.admitted();
+        self.waiting = waiting_without(self.waiting, &self.table, number);
+        stop_waiting(&mut self.by_exchange, &self.table, number);
+        self.table.withdraw();
+    }
+
+    /// Takes the waiter of this number out, if there is one.
+    pub fn close(&mut self, number: u64)
+        ensures closed { self.new ≡ record self.old { items = without number self.old.items } }
+    {
+        self.waiting = waiting_without(self.waiting, &self.table, number);
+        stop_waiting(&mut self.by_exchange, &self.table, number);
+        self.table.close(number);
+    }
+
+    /// The waiter of this number, which waited for an exchange, is sent its response: these bytes,
+    /// which have this message id. Its token and its tags are let go. The timeout of the timer is at
+    /// most 3,000 milliseconds, as the first one is.
+    pub fn deliver(&mut self, number: u64, bytes: Seq<u8>, id: u16, timer: Timer)
+        requires waiting { IfSome (item_at number self.old.items) (λ w. is_waiting w ≡ true) }
+        requires short { timer.timeout ≤ 3000 }
+        ensures delivered { self.new
+            ≡ record self.old {
+              items =
+                  changed_at number (delivered bytes id timer) self.old.items;
+            } }
+    {
+        self.waiting = waiting_without(self.waiting, &self.table, number);
+        stop_waiting(&mut self.by_exchange, &self.table, number);
+        let change = WaiterChange::Deliver { bytes, id, timer };
+        self.table.change(number, change, self.alloc);
+    }
+
+    /// The timer of the waiter of this number, which was sent its response, is due: what is to be
+    /// done. Where the response is to be sent again, the timer counts that. The moment is in
+    /// milliseconds, and at most 2^62.
+    pub fn fire(&mut self, number: u64, now: u64) -> Fire
+        requires due { IfSome (item_at number self.old.items) (IsDue now) }
+        requires now { now ≤ 2 ^ 62 }
+        ensures exact { result ≡ fire_at now (item_at number self.old.items) }
+        ensures fired { self.new
+            ≡ record self.old { items = changed_at number (fired_waiter now) self.old.items } }
+    {
+        let fire = match self.get(number) {
+            Some(waiter) => waiter.fire_of(now),
+            None => Fire::GiveUp,
+        };
+        self.table
+            .change(number, WaiterChange::Fire(now), self.alloc);
+        fire
+    }
+}
 
 impl Table<Waiter> {
-    /// What is due first: of waiters whose exchange has its answer the one whose answer came first,
-    /// of those of one moment the one of the least number.
-    pub fn due(&self, exchanges: &Exchanges) -> Option<Due>
-        ensures exact { result
-            ≡ option_map due_as (least (waiter_items exchanges.now.items self.now.items)) }
+    fn change(&mut self, number: u64, change: WaiterChange, alloc: Global)
+        requires { IfSome (item_at number self.old.items) (CanChange change) }
+        ensures { self.new
+            ≡ record self.old { items = changed_at number (changed_by change) self.old.items } }
+    {
+        change_under(&mut self.items, number, change, alloc);
+    }
+
+    fn sent_as(&self, at: Endpoint, id: u16, now: u64) -> Option<u64>
+        ensures exact { result ≡ first_that (was_sent_as at id now) self.now.items }
+    {
+        for (number, waiter) in self.items.iter() {
+            if waiter.was_sent_as(at, id, now) {
+                return Some(*number);
+            }
+        }
+        None
+    }
+
+    fn first_due(&self, exchanges: &Exchanges) -> Option<(u64, u64)>
+        ensures exact { result ≡ first_due (due_after exchanges.now.items) self.now.items }
     {
         let mut first = None;
         for (number, waiter) in self.items.iter() {
-            if let Some(answer) = exchanges.answer_of(waiter.exchange) {
-                let due = Due {
-                    at: answer.got,
-                    number: *number,
-                };
-                first = Some(due.or_earlier(first));
-            }
+            let due = due_at(*number, waiter, exchanges);
+            first = sooner(first, due);
         }
         first
     }
+}
 
-    /// Whether a client waits for the exchange of this number.
-    pub fn is_awaited(&self, exchange: u64) -> bool
-        ensures exact { result ≡ is_awaited exchange self.now.items }
-    {
-        for (_, waiter) in self.items.iter() {
-            if waiter.exchange == exchange {
-                return true;
-            }
-        }
-        false
+/// When a waiter is due, under its number.
+fn due_at(number: u64, waiter: &Waiter, exchanges: &Exchanges) -> Option<(u64, u64)>
+    ensures exact { result ≡ due_row (due_after exchanges.now.items) (number, waiter.now) }
+{
+    match &waiter.state {
+        WaiterState::Waiting(exchange) => match exchanges.answer_of(*exchange) {
+            Some(answer) => due_under(number, Some(answer.got)),
+            None => None,
+        },
+        WaiterState::Delivering { timer, .. } => due_under(number, Some(timer.due)),
+    }
+}
+
+fn change_under(
+    waiters: &mut IndexMap<u64, Waiter>,
+    number: u64,
+    change: WaiterChange,
+    alloc: Global,
+)
+    requires { IfSome (get nat_eq waiters.old number) (CanChange change) }
+    ensures found { IfSome (get nat_eq waiters.old number) (λ w.
+        waiters.new.entries ≡ set_value (nat_eq number) waiters.old.entries (changed_by change w)) }
+    ensures missing { IfNone (get nat_eq waiters.old number)
+        (waiters.new.entries ≡ waiters.old.entries) }
+{
+    if let Some(waiter) = waiters.get_mut(&number) {
+        waiter.change(change, alloc);
+    }
+}
+
+/// How many wait for an exchange, once the waiter of this number no longer does.
+fn waiting_without(waiting: usize, waiters: &Table<Waiter>, number: u64) -> usize
+    requires { waiting ≡ count is_waiting waiters.now.items }
+    ensures fewer { result + (if passes is_waiting (item_at number waiters.now.items) then 1 else 0)
+        ≡ waiting }
+    ensures sound { IsTable waiters.now }
+{
+    match waiters.get(number) {
+        Some(waiter) if waiter.is_waiting() => waiting - 1,
+        _ => waiting,
+    }
+}
+
+/// The exchange for which the waiter of this number waits, if it does.
+fn awaited_by(waiters: &Table<Waiter>, number: u64) -> Option<u64>
+    ensures exact { result ≡ awaited_by (item_at number waiters.now.items) }
+    ensures sound { IsTable waiters.now }
+{
+    match waiters.get(number) {
+        Some(waiter) => waiter.exchange(),
+        None => None,
+    }
+}
+
+/// The waiter of this number is counted no more for the exchange for which it waits.
+fn stop_waiting(by_exchange: &mut BTreeMap<u64, usize>, waiters: &Table<Waiter>, number: u64)
+    requires { AreTallied waiters.now.items by_exchange.old }
+    ensures fewer { (e : ℕ)
+        → tally by_exchange.new e
+        + (if passes (waits_for e) (item_at number waiters.now.items) then 1 else 0)
+        ≡ tally by_exchange.old e }
+{
+    if let Some(exchange) = awaited_by(waiters, number) {
+        discount_one(by_exchange, exchange);
     }
 }

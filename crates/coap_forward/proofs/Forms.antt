@@ -10,7 +10,7 @@ use Rattle.coap_message.specs.declared.options.Opt.{Opt}
 use Rattle.coap_message.specs.Codes.{is_code}
 use Rattle.coap_message.specs.Options.{AreOptions, option_of}
 use Rattle.coap_message.specs.Message.{Message}
-use Rattle.coap_message.specs.Spelling.{IsMessage, spelling}
+use Rattle.coap_message.specs.Spelling.{IsMessage, spelling, with_id}
 use Rattle.coap_option.specs.declared.side.Side.TheVariants.{Request}
 use Rattle.coap_option.specs.Classes.{is_unsafe, is_no_cache_key}
 use Rattle.coap_option.specs.Places.{PlacedOption, places, places_behind, is_recognised_at}
@@ -21,7 +21,7 @@ use Rattle.coap_target.specs.declared.target.Target.{Target}
 use Rattle.coap_target.specs.Target.{IsShort, IsTarget}
 use Rattle.coap_target.proofs.Lists.{All-weaken}
 use Rattle.coap_cache.proofs.Picked.{AreOptions-filter, AreOptions-weaken}
-use Rattle.coap_forward.specs.Forms.{is_used_up, goes_on, host_options, put_in, merged, target_options, forwarded, with_id}
+use Rattle.coap_forward.specs.Forms.{is_used_up, goes_on, host_options, put_in, merged, target_options, forwarded}
 
 -- ---- which options are sent on, by the option alone
 

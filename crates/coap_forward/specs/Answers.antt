@@ -3,7 +3,7 @@ use Rattle.std.specs.Prelude.{ℕ, ◌-◌, ◌==◌, ◌&&◌, Bool, true, fals
 use Rattle.std.specs.Int.{div_ceil}
 use Rattle.coap_message.specs.declared.kind.Kind.{Kind}
 use Rattle.coap_message.specs.declared.kind.Kind.TheVariants.{Non}
-use Rattle.coap_message.specs.declared.code.TheConstants.Code.{VALID, BAD_GATEWAY}
+use Rattle.coap_message.specs.declared.code.TheConstants.Code.{VALID, BAD_GATEWAY, GATEWAY_TIMEOUT}
 use Rattle.coap_message.specs.Codes.{is_code}
 use Rattle.coap_message.specs.Message.{Message}
 use Rattle.coap_message.specs.Spelling.{spelling}
@@ -52,12 +52,21 @@ abbrev pub bad_gateway : Message
 bad_gateway =
     record { kind = Non; code = BAD_GATEWAY; id = 0; token = []; options = []; payload = [] }
 
+-- 5.04, where no answer came in time (RFC 7252, 5.7.1)
+abbrev pub gateway_timeout : Message
+gateway_timeout =
+    record { kind = Non; code = GATEWAY_TIMEOUT; id = 0; token = []; options = []; payload = [] }
+
+-- an answer of the proxy's own, made at a moment
+abbrev pub own_answer : ℕ → Message → Answer
+own_answer now m = record { message = m; got = now; own = true }
+
 -- the answer that a response gives, got at a moment
 unfoldable pub answer_of : ℕ → ℕ → Message → Answer
 answer_of most now m =
     if is_passed_on most m
     then record { message = without_observe m; got = now; own = false }
-    else record { message = bad_gateway; got = now; own = true }
+    else own_answer now bad_gateway
 
 -- It may be stored: a 2.05 or an error of class 4 or 5 that an origin sent, with a Max-Age above 0
 -- (RFC 7252, 5.6.1 and 5.9); never a reply of the proxy's own.

@@ -1,5 +1,5 @@
 -- The request that is sent on to an origin.
-use Rattle.std.specs.Prelude.{ℕ, ◌/◌, ◌%◌, ◌==◌, ◌&&◌, ◌||◌, Bool, not, nat_le, if◌then◌else◌, List, [], ◌∷◌, ◌++◌, length, map, Option, Some, None}
+use Rattle.std.specs.Prelude.{ℕ, ◌==◌, ◌&&◌, ◌||◌, Bool, not, nat_le, if◌then◌else◌, List, [], ◌∷◌, ◌++◌, length, map, Option, Some, None}
 use Rattle.std.specs.List.{list_any}
 use Rattle.coap_message.specs.declared.kind.Kind.TheVariants.{Con}
 use Rattle.coap_message.specs.declared.code.Code.{Code}
@@ -63,11 +63,3 @@ forwarded token t others id =
       options = merged (target_options t) others;
       payload = [];
     }
-
--- a form with a message id in place of its own
-unfoldable pub with_id : ℕ → List ℕ → List ℕ
-with_id id [] = []
-with_id id (a ∷ []) = a ∷ []
-with_id id (a ∷ b ∷ []) = a ∷ b ∷ []
-with_id id (a ∷ b ∷ c ∷ []) = a ∷ b ∷ c ∷ []
-with_id id (a ∷ b ∷ c ∷ d ∷ rest) = a ∷ b ∷ id / 256 ∷ id % 256 ∷ rest

@@ -1,9 +1,10 @@
 //! What a proxy makes of a response: the answer that it keeps, and how long that is fresh.
-ghost use Rattle.std.specs.Prelude.{◌≡◌, ◌≤◌, ◌==◌, true, not, filter, IfOk};
+ghost use Rattle.std.specs.Prelude.{◌≡◌, ◌≤◌, ◌==◌, true, not, [], filter, IfOk};
 ghost use Rattle.std.specs.List.{list_any};
 ghost use Rattle.coap_message.specs.declared.code.Code.{Code};
+ghost use Rattle.coap_message.specs.declared.kind.Kind.TheVariants.{Non};
 ghost use Rattle.coap_option.specs.declared.numbers.TheConstants.{OBSERVE};
-ghost use Rattle.coap_forward.specs.Answers.{is_storable, without_observe, fits, answer_of, left_of, left_told, bad_gateway};
+ghost use Rattle.coap_forward.specs.Answers.{is_storable, without_observe, fits, answer_of, left_of, left_told, bad_gateway, gateway_timeout, own_answer};
 
 use coap_cache::{Answer, put_aged, tells_age};
 use coap_message::{
@@ -74,14 +75,16 @@ fn fits(message: &Message, most: usize, out: &mut Datagram) -> bool
     put_aged(message, head, &token, GREATEST_MAX_AGE, out, most).is_ok()
 }
 
-/// 5.02, in place of a response that can't be passed on (RFC 7252, 5.9.3.3).
-fn bad_gateway(alloc: Global, now: u64) -> Answer
-    ensures { result ≡ record { message = bad_gateway; got = now; own = true } }
+/// An answer of the proxy's own, with this code and nothing more. It takes no memory.
+fn own_answer(alloc: Global, now: u64, code: Code) -> Answer
+    ensures { result
+        ≡ own_answer now
+        (record { kind = Non; code = code; id = 0; token = []; options = []; payload = [] }) }
 {
     Answer {
         message: Message {
             kind: Kind::Non,
-            code: Code::BAD_GATEWAY,
+            code,
             id: 0,
             token: Token::empty(),
             options: OptionList::new(alloc),
@@ -90,6 +93,20 @@ fn bad_gateway(alloc: Global, now: u64) -> Answer
         got: now,
         own: true,
     }
+}
+
+/// 5.02, in place of a response that can't be passed on (RFC 7252, 5.9.3.3).
+fn bad_gateway(alloc: Global, now: u64) -> Answer
+    ensures { result ≡ own_answer now bad_gateway }
+{
+    own_answer(alloc, now, Code::BAD_GATEWAY)
+}
+
+/// 5.04, where no answer came in time (RFC 7252, 5.7.1). It takes no memory.
+pub fn gateway_timeout(alloc: Global, now: u64) -> Answer
+    ensures exact { result ≡ own_answer now gateway_timeout }
+{
+    own_answer(alloc, now, Code::GATEWAY_TIMEOUT)
 }
 
 /// The answer that a response gives. What may be passed on is copied here.

@@ -11,7 +11,6 @@ ghost use Rattle.coap_option.specs.Screening.{first_refused};
 ghost use Rattle.coap_option.specs.Selection.{sent_on};
 ghost use Rattle.coap_target.specs.Target.{IsTarget, IsShort};
 ghost use Rattle.coap_forward.specs.Forms.{merged, target_options, forwarded, goes_on};
-ghost use Rattle.coap_forward.specs.Forms.{with_id};
 ghost use Rattle.coap_forward.specs.Gaps.{end_of, floor_of, is_in, others_in, values_left};
 
 use crate::part::{PartValues, host_of};
@@ -213,21 +212,4 @@ pub fn put_forwarded(
     };
     put_head(out, room, head, token)?;
     put_form_options(out, room, request, target)
-}
-
-/// Writes a form with a message id in place of its own.
-#[tactic(auto, unfolding(crate::specs::Forms::with_id))]
-pub fn put_with_id(out: &mut Datagram, form: &[u8], id: u16)
-    requires { length form.now ≤ out.old.room }
-    ensures { out.new ≡ holding out.old (with_id id form.now) }
-{
-    out.clear();
-    match form {
-        [a, b, _, _, rest @ ..] => {
-            let [high, low] = id.to_be_bytes();
-            out.put(&[*a, *b, high, low]);
-            out.put(rest);
-        }
-        _ => out.put(form),
-    }
 }

@@ -143,7 +143,7 @@ impl Default for LimitValues {
     }
 }
 
-/// The limits of a proxy, each within its range. `nstart` and `exchange_ms` limit nothing yet.
+/// The limits of a proxy, each within its range.
 #[derive(Clone, Copy, Debug, PartialEq, Eq)]
 pub struct Limits {
     values: LimitValues,

@@ -116,6 +116,14 @@ head_spelling head token = header_spelling head (length token) ++ token
 unfoldable pub spelling : Message → List ℕ
 spelling m = header m ++ (m.token ++ (options_spelling 0 m.options ++ payload_spelling m.payload))
 
+-- a form with a message id in place of its own
+unfoldable pub with_id : ℕ → List ℕ → List ℕ
+with_id id [] = []
+with_id id (a ∷ []) = a ∷ []
+with_id id (a ∷ b ∷ []) = a ∷ b ∷ []
+with_id id (a ∷ b ∷ c ∷ []) = a ∷ b ∷ c ∷ []
+with_id id (a ∷ b ∷ c ∷ d ∷ rest) = a ∷ b ∷ id / 256 ∷ id % 256 ∷ rest
+
 -- ---- how many bytes that is
 
 abbrev pub more_length : ℕ → ℕ

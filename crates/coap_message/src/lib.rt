@@ -28,4 +28,6 @@ pub use pieces::{PieceRefs, Pieces};
 pub use reading::{decode, head_of};
 pub use seq::Seq;
 pub use token::Token;
-pub use writing::{encode_into, put_head, put_message, put_option, put_options, put_payload};
+pub use writing::{
+    encode_into, put_head, put_message, put_option, put_options, put_payload, set_id,
+};

@@ -3,13 +3,14 @@ ghost use Rattle.std.specs.Prelude.{◌≡◌, ◌<◌, ◌≤◌, ◌↔◌, []
 ghost use Rattle.coap_message.specs.Datagram.{Appends, holding};
 ghost use Rattle.coap_message.specs.Message.{message_of};
 ghost use Rattle.coap_message.specs.Options.{option_of};
-ghost use Rattle.coap_message.specs.Spelling.{Spells, bits_of, more_of, header_spelling, head_spelling, option_spelling, options_spelling, payload_spelling, spelling};
+ghost use Rattle.coap_message.specs.Spelling.{Spells, bits_of, more_of, header_spelling, head_spelling, option_spelling, options_spelling, payload_spelling, spelling, with_id};
 
 use crate::datagram::Datagram;
 use crate::error::Full;
 use crate::message::{Head, Message};
 use crate::options::Options;
 use crate::reading::PAYLOAD_MARKER;
+use crate::seq::Seq;
 use crate::token::Token;
 
 /// Adds bytes, if at most `room` bytes are held then.
@@ -166,4 +167,18 @@ pub fn encode_into(message: &Message, out: &mut Datagram, room: usize) -> Result
         return Err(full);
     }
     Ok(())
+}
+
+/// Writes a message id in place of the one that a form has: its two bytes, the high one first (RFC
+/// 7252, 3). A form of fewer than four bytes stays as it is. It takes no memory.
+#[tactic(auto, unfolding(crate::specs::Spelling::with_id))]
+pub fn set_id(form: &mut Seq<u8>, id: u16)
+    ensures { form.new ≡ with_id id form.old }
+{
+    if form.len() < 4 {
+        return;
+    }
+    let [high, low] = id.to_be_bytes();
+    form.set(2, high);
+    form.set(3, low);
 }

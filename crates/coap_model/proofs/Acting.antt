@@ -1,431 +1,509 @@
 -- What is due by the tables is what is due by the history, and it is done in the same order.
-use Rattle.std.proofs.Common.{◌≡◌, ◌⊎◌, inl, inr, ⊎_elim, ℕ, ◌<◌, ◌≤◌, Bool, true, false, cond, leb, List, [], ◌∷◌, ◌++◌, Option, Some, None, refl, sym, ap, ◌∙◌, subst, arith}
-use Rattle.std.specs.Prelude.{option_map}
+use Rattle.std.proofs.Common.{◌≡◌, ◌⊎◌, inl, inr, ⊎_elim, ℕ, ◌+◌, ◌<◌, ◌≤◌, min, Bool, true, false, cond, leb, List, [], ◌∷◌, Option, Some, None, refl, sym, ap, ◌∙◌, subst, arith}
+use Rattle.std.specs.Prelude.{◌==◌, option_map, find}
 use Rattle.std.specs.List.{AllByRecursion}
+use Rattle.std.proofs.lemmas.Bool.{leb-true, leb-false, cases_lt}
 use Rattle.std.proofs.lemmas.Option.{same_Some}
-use Rattle.std.proofs.lemmas.Bool.{eq-eqb, ne_eqb, leb-true, leb-false}
-use Rattle.coap_message.specs.Message.{Message}
-use Rattle.coap_cache.specs.declared.key.CacheKey.{CacheKey}
-use Rattle.coap_target.proofs.Lists.{All-append, All-weaken}
 use Rattle.coap_cache.specs.declared.answer.Answer.{Answer}
-use Rattle.coap_exchange.specs.declared.exchange.ExchangeState.{ExchangeState}
-use Rattle.coap_exchange.specs.declared.exchange.ExchangeState.TheVariants.{Queued, Sent, Done}
+use Rattle.coap_cache.specs.declared.key.CacheKey.{CacheKey}
 use Rattle.coap_exchange.specs.declared.exchange.Exchange.{Exchange}
+use Rattle.coap_exchange.specs.declared.exchange.ExchangeState.{ExchangeState}
+use Rattle.coap_exchange.specs.declared.exchange.ExchangeState.TheVariants.{Queued, Sent, Acked, Done}
+use Rattle.coap_exchange.specs.declared.exchange.Sending.{Sending}
+use Rattle.coap_exchange.specs.declared.timer.Timer.{Timer}
 use Rattle.coap_exchange.specs.declared.waiter.Waiter.{Waiter}
-use Rattle.coap_exchange.specs.Table.{Numbered, IsRising}
-use Rattle.coap_exchange.specs.Exchanges.{is_queued}
-use Rattle.coap_exchange.specs.Due.{Item, sending, serving, due_of, exchange_items, answer_at, answer_in, with_item, waiter_items, earlier, least}
-use Rattle.coap_model.specs.declared.report.Outcome.{Outcome}
-use Rattle.coap_model.specs.declared.report.Outcome.TheVariants.{Answered}
-use Rattle.coap_model.specs.declared.report.Storing.TheVariants.{Kept, TooLarge, NoMemory, NotStored}
-use Rattle.coap_model.specs.Setting.{Setting}
+use Rattle.coap_exchange.specs.declared.waiter.WaiterState.{WaiterState}
+use Rattle.coap_exchange.specs.declared.waiter.WaiterState.TheVariants.{Waiting, Delivering}
+use Rattle.coap_exchange.specs.Exchanges.{is_sent_to, deadline, timer_or, due_in, due_among, is_blocked, answer_in_state, answer_of, answer_in}
+use Rattle.coap_exchange.specs.Waiters as waiters
+use Rattle.coap_exchange.specs.Waiters.{due_after, moment_of}
+use Rattle.coap_exchange.specs.Table.{Numbered, item_at, count}
+use Rattle.coap_model.specs.declared.due.DueItem.{DueItem}
+use Rattle.coap_model.specs.declared.due.DueItem.TheVariants.{OfExchange, OfWaiter}
 use Rattle.coap_model.specs.Events.{tick}
-use Rattle.coap_forward.specs.Answers.{without_observe, is_passed_on, bad_gateway, answer_of}
+use Rattle.coap_model.specs.Setting.{Setting}
+use Rattle.coap_model.specs.Verdicts.{may_ask}
 use Rattle.coap_model.specs.World.{World}
-use Rattle.coap_model.specs.Ticks.{items_of, if_due, next_due}
-use Rattle.coap_model.specs.History.{Act, no_item, admits, moves, serves, Deed, Place, IsPlaceOf, Never, Somewhere, opened_in, Opens, Sends, takes, Gets, Serves}
-use Rattle.coap_model.specs.Due.{IsToSend, IsToServe, IsDueAt, ComesBefore, IsSooner, IsNextDue}
-use Rattle.coap_model.specs.Justified.{IsActing, IsAnswer, JustifiedBy, AllJustified}
-use Rattle.coap_model.specs.Carries.{IsState, IsExchangeOf, IsWaiterOf, ArePaired, HasNumber, Bears}
-use Rattle.coap_model.proofs.Lists.{Has, Has-all, All-both}
-use Rattle.coap_model.proofs.Places.{same_moves, first-once, place-before, justified-at, Never-at, Opens-number, Opens-unique}
-use Rattle.coap_model.proofs.Tables.{IsDueOf, items-are, least-holds, if_due-is, answer-holds, HasNumber-paired}
-use Rattle.coap_model.proofs.Awaiting.{served-got, at-number}
+use Rattle.coap_model.specs.Ticks as ticks
+use Rattle.coap_model.specs.Ticks.{exchange_due, waiter_due, first_item, item_due, if_due, next_due}
+use Rattle.coap_model.specs.Standing.{Stage, Open, queued, sent, stage_of}
+use Rattle.coap_model.specs.Schedules.{sends_by, next_send}
+use Rattle.coap_model.specs.Due.{IsToSend, IsToRepeat, IsToEnd, IsExchangeDue, to_send, to_repeat, to_end, IsToServe, IsDueAt, ComesBefore, IsSooner, IsNextDue}
+use Rattle.coap_model.specs.Justified.{IsActing, verdict_on}
+use Rattle.coap_model.specs.History.{Entry, Act, no_item, admits, moves, serves, Deed, Place, Never, Ends}
+use Rattle.coap_model.specs.Carries.{HasNumber, stage_at, exchange_in, IsTimer, IsState, IsExchangeOf, IsWaiterIn, IsWaiterOf, Bears}
+use Rattle.coap_model.proofs.FirstDue.{Due, NotBefore, IsNotBefore, first_due-holds, first_due-none, first_due-least}
+use Rattle.coap_model.proofs.Lists.{Has, Has-holds, All-there}
+use Rattle.coap_model.proofs.Once.{ended-once}
+use Rattle.coap_model.proofs.Places.{Never-at, one-opened, one-admitted}
+use Rattle.coap_model.proofs.Room.{sent-count}
+use Rattle.coap_model.proofs.Seen.{stage-found, found-stage}
+use Rattle.coap_model.proofs.Tables.{Has-item, Has-number, at-number, item-holds, one-item}
 
 -- what an item is in the history
-abbrev pub act_of : Item → Act
-act_of (sending x) = moves x.0
-act_of (serving v a) = serves v.0
+abbrev pub act_of : DueItem → Act
+act_of (OfExchange at number) = moves number
+act_of (OfWaiter at number) = serves number
 
--- ---- the least item is the first
+-- when an exchange of a world is due
+abbrev pub due_of : World → Exchange → Option ℕ
+due_of w = due_among w.setting.limits.nstart w.setting.limits.exchange_ms w.exchanges
 
--- of two acts one comes before the other only
-before-other : (a b : Act) → ComesBefore a b → ComesBefore b a → ⊥
-before-other no_item b p q = p
-before-other (admits v x) b p q = p
-before-other (moves x) no_item p q = p
-before-other (moves x) (admits v y) p q = p
-before-other (moves x) (moves y) p q = omega (arith, p, q)
-before-other (moves x) (serves v) p q = q
-before-other (serves v) no_item p q = p
-before-other (serves v) (admits u y) p q = p
-before-other (serves v) (moves y) p q = p
-before-other (serves v) (serves u) p q = omega (arith, p, q)
+-- ---- small facts
 
--- the first of the two comes no later than the second
-abbrev pub IsFirst : Item → Item → Type 0
-IsFirst i j = ¬ IsSooner (act_of j) (due_of j) (act_of i) (due_of i)
+-- the end of the timeout that runs is when the message is to be sent again
+pub timer-due : (t : Timer) (es : List Entry) → IsTimer t es → t.due ≡ next_send es
+timer-due t [] h = absurd h
+timer-due t (e ∷ es) h = h.3 ∙ ap (λ (n : ℕ). e.now + n) h.2
 
--- what is first is due no later
-first-no_later : (i j : Item) → IsFirst i j → due_of i ≤ due_of j
-first-no_later i j first = go (leb (due_of i) (due_of j)) refl
-  where
-    go : (b : Bool) → leb (due_of i) (due_of j) ≡ b → due_of i ≤ due_of j
-    go true t = leb-true _ _ t
-    go false t = let later = leb-false _ _ t in absurd (first (inl later))
+-- the lesser of two is one of them
+pub min-cases : (a b at : ℕ) → min a b ≡ at → (at ≡ a) ⊎ (at ≡ b)
+min-cases a b at e = ⊎_elim (λ (lt : a < b). inl (omega (arith, e, lt))) (λ (le : b ≤ a). inr (omega (arith, e, le))) (cases_lt a b)
 
--- each item comes before all that follow
-abbrev IsOrdered : List Item → Type 0
-IsOrdered [] = Unit {0}
-IsOrdered (i ∷ items) = AllByRecursion (λ j. ComesBefore (act_of i) (act_of j)) items × IsOrdered items
+-- what may be asked for has one key
+one_key : {a b : CacheKey} → may_ask a ≡ may_ask b → a ≡ b
+one_key e = cc
 
--- where there are items, one is least
-least-some : (j : Item) (items : List Item) → least (j ∷ items) ≡ None → ⊥
-least-some j items e = go (least items) e
-  where
-    go : (o : Option Item) → earlier j o ≡ None → ⊥
-    go None f = absurd cc
-    go (Some k) f = test (leb (due_of j) (due_of k)) f
-      where
-        test : (b : Bool) → cond b (Some j) (Some k) ≡ None → ⊥
-        test true g = absurd cc
-        test false g = absurd cc
+-- ---- the stage of an exchange
 
--- where none is least, there are no items
-none-least : (P : Item → Type 0) (items : List Item) → least items ≡ None → AllByRecursion P items
-none-least P [] e = tt
-none-least P (j ∷ items) e = absurd (least-some j items e)
+-- the history has each exchange at its stage
+pub stage-is : (w : World) (history : List Deed) → Bears history w → (x : Numbered Exchange) → Has x w.exchanges → stage_of x.0 history ≡ Some (stage_at x.1.key.target.at x.1.state)
+stage-is w history c x there = ap (λ (os : List Open). option_map (λ (o : Open). o.stage) (find (λ (o : Open). o.number == x.0) os)) (sym c.whole.exchanges) ∙ stage-found x.0 w.exchanges x.1 (Has-item 0 w.exchanges x c.whole.rising there)
 
--- the least item of an ordered list comes before all others
-least-first : (items : List Item) (i : Item) → IsOrdered items → least items ≡ Some i → AllByRecursion (IsFirst i) items
-least-first [] i ordered e = tt
-least-first (j ∷ items) i ordered e = go (least items) refl (λ k f. least-first items k ordered.1 f) e
-  where
-    self : IsFirst j j
-    self sooner = ⊎_elim (λ (lt : due_of j < due_of j). omega (arith, lt)) (λ (s : (due_of j ≡ due_of j) × ComesBefore (act_of j) (act_of j)). before-other (act_of j) (act_of j) s.1 s.1) sooner
-
-    behind : (k m : Item) → due_of j ≤ due_of k → IsFirst k m → ComesBefore (act_of j) (act_of m) → IsFirst j m
-    behind k m le first before sooner =
-        ⊎_elim
-        (λ (lt : due_of m < due_of j). let no_later = first-no_later k m first in omega (arith, lt, le, no_later))
-        (λ (s : (due_of m ≡ due_of j) × ComesBefore (act_of m) (act_of j)). before-other (act_of j) (act_of m) before s.1)
-        sooner
-
-    later : (k : Item) → due_of k < due_of j → IsFirst k j
-    later k lt sooner = ⊎_elim (λ (less : due_of j < due_of k). omega (arith, lt, less)) (λ (s : (due_of j ≡ due_of k) × ComesBefore (act_of j) (act_of k)). let same = s.0 in omega (arith, lt, same)) sooner
-
-    go : (o : Option Item) → least items ≡ o → ((k : Item) → least items ≡ Some k → AllByRecursion (IsFirst k) items) → earlier j o ≡ Some i → AllByRecursion (IsFirst i) (j ∷ items)
-    go None is rest f = subst (λ (k : Item). AllByRecursion (IsFirst k) (j ∷ items)) (same_Some j i f) (self, none-least (IsFirst j) items is)
-    go (Some k) is rest f = test (leb (due_of j) (due_of k)) refl f
-      where
-        test : (b : Bool) → leb (due_of j) (due_of k) ≡ b → cond b (Some j) (Some k) ≡ Some i → AllByRecursion (IsFirst i) (j ∷ items)
-        test true t g =
-            let le = leb-true _ _ t in
-            let both = All-both (IsFirst k) (λ m. ComesBefore (act_of j) (act_of m)) items (rest k is) ordered.0 in
-            subst (λ (n : Item). AllByRecursion (IsFirst n) (j ∷ items)) (same_Some j i g) (self, All-weaken (λ m. IsFirst k m × ComesBefore (act_of j) (act_of m)) (IsFirst j) items (λ m h. behind k m le h.0 h.1) both)
-        test false t g = subst (λ (n : Item). AllByRecursion (IsFirst n) (j ∷ items)) (same_Some k i g) (later k (leb-false _ _ t), rest k is)
-
--- ---- the items are in order
-
--- exchanges above a number come after it
-exchanges-above : (low n : ℕ) (xs : List (Numbered Exchange)) → IsRising low xs → n ≤ low → AllByRecursion (λ j. ComesBefore (moves n) (act_of j)) (exchange_items xs)
-exchanges-above low n [] r le = tt
-exchanges-above low n (x ∷ xs) r le = let first = r.0 in go (is_queued x.1.state) (omega (arith, first, le)) (exchanges-above x.0 n xs r.1 (omega (arith, first, le)))
-  where
-    go : (b : Bool) → n < x.0 → AllByRecursion (λ j. ComesBefore (moves n) (act_of j)) (exchange_items xs) → AllByRecursion (λ j. ComesBefore (moves n) (act_of j)) (cond b (sending x ∷ exchange_items xs) (exchange_items xs))
-    go true lt rest = (lt, rest)
-    go false lt rest = rest
-
--- waiters come after exchanges
-waiters-behind : (n : ℕ) (all : List (Numbered Exchange)) (vs : List (Numbered Waiter)) → AllByRecursion (λ j. ComesBefore (moves n) (act_of j)) (waiter_items all vs)
-waiters-behind n all [] = tt
-waiters-behind n all (v ∷ vs) = go (answer_in v.1.exchange all) (waiters-behind n all vs)
-  where
-    go : (o : Option Answer) → AllByRecursion (λ j. ComesBefore (moves n) (act_of j)) (waiter_items all vs) → AllByRecursion (λ j. ComesBefore (moves n) (act_of j)) (with_item v o (waiter_items all vs))
-    go None rest = rest
-    go (Some a) rest = (tt, rest)
-
--- waiters above a number come after it
-waiters-above : (low n : ℕ) (all : List (Numbered Exchange)) (vs : List (Numbered Waiter)) → IsRising low vs → n ≤ low → AllByRecursion (λ j. ComesBefore (serves n) (act_of j)) (waiter_items all vs)
-waiters-above low n all [] r le = tt
-waiters-above low n all (v ∷ vs) r le = let first = r.0 in go (answer_in v.1.exchange all) (omega (arith, first, le)) (waiters-above v.0 n all vs r.1 (omega (arith, first, le)))
-  where
-    go : (o : Option Answer) → n < v.0 → AllByRecursion (λ j. ComesBefore (serves n) (act_of j)) (waiter_items all vs) → AllByRecursion (λ j. ComesBefore (serves n) (act_of j)) (with_item v o (waiter_items all vs))
-    go None lt rest = rest
-    go (Some a) lt rest = (lt, rest)
-
--- waiters are in order
-waiters-ordered : (low : ℕ) (all : List (Numbered Exchange)) (vs : List (Numbered Waiter)) → IsRising low vs → IsOrdered (waiter_items all vs)
-waiters-ordered low all [] r = tt
-waiters-ordered low all (v ∷ vs) r = go (answer_in v.1.exchange all) (waiters-ordered v.0 all vs r.1)
-  where
-    go : (o : Option Answer) → IsOrdered (waiter_items all vs) → IsOrdered (with_item v o (waiter_items all vs))
-    go None rest = rest
-    go (Some a) rest = (waiters-above v.0 v.0 all vs r.1 (omega arith), rest)
-
--- exchanges and waiters are
-all-ordered : (low : ℕ) (all xs : List (Numbered Exchange)) (vs : List (Numbered Waiter)) → IsRising low xs → IsRising 0 vs → IsOrdered (exchange_items xs ++ waiter_items all vs)
-all-ordered low all [] vs r s = waiters-ordered 0 all vs s
-all-ordered low all (x ∷ xs) vs r s = go (is_queued x.1.state) (all-ordered x.0 all xs vs r.1 s)
-  where
-    go : (b : Bool) → IsOrdered (exchange_items xs ++ waiter_items all vs) → IsOrdered (cond b (sending x ∷ exchange_items xs) (exchange_items xs) ++ waiter_items all vs)
-    go true rest = (All-append (λ j. ComesBefore (moves x.0) (act_of j)) (exchange_items xs) (waiter_items all vs) (exchanges-above x.0 x.0 xs r.1 (omega arith)) (waiters-behind x.0 all vs), rest)
-    go false rest = rest
-
--- waiters rise as their exchanges do
-pub rising-paired : (low : ℕ) (xs : List (Numbered Exchange)) (vs : List (Numbered Waiter)) → IsRising low xs → ArePaired xs vs → IsRising low vs
-rising-paired low [] [] r p = tt
-rising-paired low [] (v ∷ vs) r p = absurd p
-rising-paired low (x ∷ xs) [] r p = tt
-rising-paired low (x ∷ xs) (v ∷ vs) r p = (omega (arith, r.0, p.0), rising-paired v.0 xs vs (subst (λ (n : ℕ). IsRising n xs) p.0 r.1) p.1)
-
--- so the items of a world are in order
-items-ordered : (w : World) (history : List Deed) → Bears history w → IsOrdered (items_of w)
-items-ordered w history c = all-ordered 0 w.exchanges w.exchanges w.waiters c.whole.rising (rising-paired 0 w.exchanges w.waiters c.whole.rising c.whole.paired)
+-- where the history has a stage, there is the exchange
+pub staged-there : (w : World) (history : List Deed) → Bears history w → (n : ℕ) (stage : Stage) → stage_of n history ≡ Some stage → HasNumber n w.exchanges
+staged-there w history c n stage is = found-stage n w.exchanges (λ none. let e = sym none ∙ ap (λ (os : List Open). option_map (λ (o : Open). o.stage) (find (λ (o : Open). o.number == n) os)) c.whole.exchanges ∙ is in cc)
 
 -- ---- what is due by the tables is due by the history
 
--- an answer is got at the moment of its response
-pub got-is : (most now : ℕ) (m : Message) → (answer_of most now m).got ≡ now
-unfolding answer_of
-got-is most now m = go (is_passed_on most m)
+-- an exchange that is due is to be sent, to be sent again, or to end
+pub exchange-due : (w : World) (history : List Deed) → Bears history w → (x : Numbered Exchange) → Has x w.exchanges → IsExchangeOf w.setting history x → (at : ℕ) → due_of w x.1 ≡ Some at → IsDueAt w.setting history (moves x.0) at
+exchange-due w history c x there f at due = go x.1.state refl f.state due
   where
-    go : (b : Bool) → (cond {A = Answer} b (record { message = without_observe m; got = now; own = false }) (record { message = bad_gateway; got = now; own = true })).got ≡ now
-    go true = refl
-    go false = refl
+    last : ℕ
+    last = deadline w.setting.limits.exchange_ms x.1
 
--- what is queued was never sent
-queued-unsent : (setting : Setting) (history : List Deed) (x : ℕ) (k : CacheKey) (s : ExchangeState) → IsState setting history x k s → is_queued s ≡ true → Never (Sends setting.salt x) history
-queued-unsent setting history x t Queued state e = state.0
-queued-unsent setting history x t (Sent s) state e = absurd cc
-queued-unsent setting history x t (Done a) state e = absurd cc
+    blocked : Bool
+    blocked = is_blocked w.setting.limits.nstart w.exchanges x.1
 
--- an item of the tables is due by the history
-item-due : (w : World) (history : List Deed) (c : Bears history w) (i : Item) → IsDueOf (IsExchangeOf w.setting history) (IsWaiterOf w.setting history) w.exchanges i → IsDueAt w.setting history (act_of i) (due_of i)
-item-due w history c (sending x) d = let f = d.0 in let o = f.opened in record { opening = o.opening; was_opened = o.was_opened; opens = o.opens; unsent = queued-unsent w.setting history x.0 x.1.key x.1.state f.state d.1; at_is = f.since }
-item-due w history c (serving v a) d =
-    let g = d.0 in
-    let found = answer-holds (IsExchangeOf w.setting history) w.exchanges v.1.exchange a c.exchanges d.1 in
-    let x = found.0 in
-    let state = subst (IsState w.setting history x.0 x.1.key) found.3 found.1.state in
-    record {
-      admission = g.opened.opening;
-      was_admitted = g.opened.was_opened;
-      opens = g.opened.opens;
-      getting = state.getting;
-      was_got = state.was_got;
-      gets = subst (λ (n : ℕ). Gets w.setting n state.getting) (found.2 ∙ g.exchange) state.gets;
-      unserved = g.unserved;
-      at_is = ap (λ (b : Answer). b.got) state.answer_is ∙ got-is w.setting.limits.datagram state.getting.deed.entry.now state.gets.meets.response;
-    }
+    ending : Never (Ends x.0) history → at ≡ last → IsExchangeDue w.setting history x.0 at
+    ending unended e = to_end (record { opened = f.opened; unended = unended; at_is = e ∙ ap (λ (n : ℕ). n + w.setting.limits.exchange_ms) f.admitted })
 
--- ---- what is due by the history is due by the tables
+    turn : x.1.state ≡ Queued → Never (Ends x.0) history → (b : Bool) → blocked ≡ b → Some (cond b last x.1.admitted) ≡ Some at → IsExchangeDue w.setting history x.0 at
+    turn is unended true t e = ending unended (sym (same_Some last at e))
+    turn is unended false t e =
+        let free = leb-false _ _ t in
+        let as_many = sent-count x.1.key.target.at history w c in
+        to_send (record {
+          opened = f.opened;
+          key = x.1.key;
+          verdict = f.verdict;
+          stage = stage-is w history c x there ∙ ap (λ (s : ExchangeState). Some (stage_at x.1.key.target.at s)) is;
+          free = omega (arith, free, as_many);
+          at_is = sym (same_Some x.1.admitted at e) ∙ f.admitted;
+        })
 
--- an act that is due is an item of the tables, due at the same moment
-pub record IsItem (items : List Item) (a : Act) (at : ℕ) : Type 0 where
-  pub item : Item
-  pub there : Has item items
-  pub act : act_of item ≡ a
-  pub due : due_of item ≡ at
+    go : (s : ExchangeState) → x.1.state ≡ s → IsState w.setting history x s → due_in s blocked w.setting.limits.exchange_ms x.1 ≡ Some at → IsExchangeDue w.setting history x.0 at
+    go Queued is state e = turn is state.unended blocked refl e
+    go Sent is state e =
+        let s = state.sending in
+        let lesser : min s.timer.due last ≡ at = ap (timer_or last) (sym state.sending_is) ∙ same_Some (timer_or last x.1.sending) at e in
+        ⊎_elim
+        (λ (timer : at ≡ s.timer.due). to_repeat (record { to = x.1.key.target.at; stage = stage-is w history c x there ∙ ap (λ (s : ExchangeState). Some (stage_at x.1.key.target.at s)) is; at_is = timer ∙ timer-due s.timer _ state.asked.timer }))
+        (λ (end : at ≡ last). ending state.unended end)
+        (min-cases s.timer.due last at lesser)
+    go Acked is state e = absurd state
+    go (Done a) is state e = absurd cc
 
--- what is in the first list is in both
-Has-left : (i : Item) (xs ys : List Item) → Has i xs → Has i (xs ++ ys)
-Has-left i [] ys h = absurd h
-Has-left i (x ∷ xs) ys h = ⊎_elim (λ (e : i ≡ x). inl e) (λ (t : Has i xs). inr (Has-left i xs ys t)) h
-
--- what is in the second list is in both
-Has-right : (i : Item) (xs ys : List Item) → Has i ys → Has i (xs ++ ys)
-Has-right i [] ys h = h
-Has-right i (x ∷ xs) ys h = inr (Has-right i xs ys h)
-
--- a queued exchange is an item
-sending-there : (x : Numbered Exchange) (xs : List (Numbered Exchange)) → Has x xs → is_queued x.1.state ≡ true → Has (sending x) (exchange_items xs)
-sending-there x [] h q = absurd h
-sending-there x (y ∷ ys) h q = go (is_queued y.1.state) refl h (λ t. sending-there x ys t q)
+-- what the answer of a number says of its exchange
+pub answer-of : (P : Numbered Exchange → Type 0) (n : ℕ) (xs : List (Numbered Exchange)) (a : Answer) → AllByRecursion P xs → answer_in n xs ≡ Some a → (x : Exchange) × P (n, x) × (x.state ≡ Done a) × (item_at n xs ≡ Some x)
+answer-of P n xs a all e = go (item_at n xs) refl e
   where
-    go : (b : Bool) → is_queued y.1.state ≡ b → (x ≡ y) ⊎ Has x ys → (Has x ys → Has (sending x) (exchange_items ys)) → Has (sending x) (cond b (sending y ∷ exchange_items ys) (exchange_items ys))
-    go true e at rest = ⊎_elim (λ (same : x ≡ y). inl (ap sending same)) (λ (t : Has x ys). inr (rest t)) at
-    go false e at rest = ⊎_elim (λ (same : x ≡ y). absurd (let f : true ≡ false = sym q ∙ ap (λ (z : Numbered Exchange). is_queued z.1.state) same ∙ e in cc)) rest at
+    state : (x : Exchange) (s : ExchangeState) → x.state ≡ s → answer_in_state s ≡ Some a → x.state ≡ Done a
+    state x Queued is f = absurd cc
+    state x Sent is f = absurd cc
+    state x Acked is f = absurd cc
+    state x (Done b) is f = is ∙ ap Done (same_Some b a f)
 
--- a waiter whose exchange has its answer is an item
-serving-there : (v : Numbered Waiter) (a : Answer) (all : List (Numbered Exchange)) (vs : List (Numbered Waiter)) → Has v vs → answer_in v.1.exchange all ≡ Some a → Has (serving v a) (waiter_items all vs)
-serving-there v a all [] h e = absurd h
-serving-there v a all (u ∷ us) h e = go (answer_in u.1.exchange all) refl h (λ t. serving-there v a all us t e)
-  where
-    answer : (o : Option Answer) → answer_in u.1.exchange all ≡ o → v ≡ u → Some a ≡ o
-    answer o is same = sym e ∙ ap (λ (z : Numbered Waiter). answer_in z.1.exchange all) same ∙ is
-
-    go : (o : Option Answer) → answer_in u.1.exchange all ≡ o → (v ≡ u) ⊎ Has v us → (Has v us → Has (serving v a) (waiter_items all us)) → Has (serving v a) (with_item u o (waiter_items all us))
-    go None is at rest = ⊎_elim (λ (same : v ≡ u). absurd (let f = answer None is same in cc)) rest at
-    go (Some b) is at rest = ⊎_elim (λ (same : v ≡ u). inl (let f = same_Some a b (answer (Some b) is same) in cc)) (λ (t : Has v us). inr (rest t)) at
-
--- what was never sent is queued
-unsent-queued : (setting : Setting) (history : List Deed) (x : ℕ) (k : CacheKey) (s : ExchangeState) → IsState setting history x k s → Never (Sends setting.salt x) history → is_queued s ≡ true
-unsent-queued setting history x t Queued state unsent = refl
-unsent-queued setting history x t (Sent s) state unsent = absurd (Never-at (Sends setting.salt x) history state.0.asking unsent state.0.was_asked state.0.asks.sends)
-unsent-queued setting history x t (Done a) state unsent = absurd (Never-at (Sends setting.salt x) history state.gets.meets.asking unsent (place-before history state.getting state.gets.meets.asking state.was_got state.gets.meets.was_asked) state.gets.meets.asks.sends)
-
--- an exchange that is to be sent is an item
-send-item : (w : World) (history : List Deed) (c : Bears history w) (x at : ℕ) → IsToSend w.setting history x at → IsItem (items_of w) (moves x) at
-send-item w history c x at d = ⊎_elim in_table was_served (c.whole.complete x number.0 number.1)
-  where
-    number : (0 < x) × (x ≤ opened_in history)
-    number = Opens-number history d.opening x d.was_opened d.opens
-
-    was_served : Somewhere (Serves x) history → IsItem (items_of w) (moves x) at
-    was_served s =
-        let g = served-got w.setting history c.past x s in
-        absurd (Never-at (Sends w.setting.salt x) history g.holds.meets.asking d.unsent (place-before history g.place g.holds.meets.asking g.is_there g.holds.meets.was_asked) g.holds.meets.asks.sends)
-
-    in_table : HasNumber x w.exchanges → IsItem (items_of w) (moves x) at
-    in_table there =
-        let f = at-number (IsExchangeOf w.setting history) (λ y. Has y w.exchanges) x w.exchanges there c.exchanges (Has-all w.exchanges) in
-        let y = f.0 in
-        let unsent = subst (λ (n : ℕ). Never (Sends w.setting.salt n) history) f.1 d.unsent in
-        let queued = unsent-queued w.setting history y.0 y.1.key y.1.state f.2.state unsent in
-        let o = f.2.opened in
-        let place = Opens-unique history o.opening d.opening x o.was_opened d.was_opened (subst (λ (n : ℕ). Opens n o.opening) (sym f.1) o.opens) d.opens in
-        record { item = sending y; there = Has-left (sending y) (exchange_items w.exchanges) (waiter_items w.exchanges w.waiters) (sending-there y w.exchanges f.3 queued); act = ap moves (sym f.1); due = f.2.since ∙ ap (λ (p : Place). p.deed.entry.now) place ∙ sym d.at_is }
-
--- an answer that is taken is justified
-taken : (o : Outcome) (setting : Setting) (past : List Deed) (d : Deed) → takes o ≡ true → JustifiedBy o setting past d → IsAnswer setting past d
-taken (Answered NotStored) setting past d takes_one j = j.answer
-taken (Answered Kept) setting past d takes_one j = j.answer
-taken (Answered TooLarge) setting past d takes_one j = j.answer
-taken (Answered NoMemory) setting past d takes_one j = j.answer
-taken _ setting past d takes_one j = absurd cc
-
--- an exchange is got at one place
-pub got-first : (setting : Setting) (history : List Deed) (x : ℕ) (p : Place) → AllJustified setting history → IsPlaceOf history p → Gets setting x p → Never (Gets setting x) p.before
-got-first setting history x p all at g =
-    let j = taken p.deed.entry.report.outcome setting p.before p.deed g.outcome (justified-at setting history p p.deed.entry.report.outcome all at refl) in
-    subst (λ (n : ℕ). Never (Gets setting n) p.before) (same_moves j.exchange x (sym j.gets.act ∙ g.act)) j.first
-
--- all numbers are above the least
-all-above : (low : ℕ) (xs : List (Numbered Exchange)) → IsRising low xs → AllByRecursion (λ x. low < x.0) xs
-all-above low [] r = tt
-all-above low (x ∷ xs) r = (r.0, All-weaken (λ y. x.0 < y.0) (λ y. low < y.0) xs (λ y above. let first = r.0 in omega (arith, above)) (all-above x.0 xs r.1))
-
--- the answer under an exchange's number is its own
-answers-own : (low : ℕ) (xs : List (Numbered Exchange)) → IsRising low xs → AllByRecursion (λ x. answer_in x.0 xs ≡ answer_at x.1.state) xs
-answers-own low [] r = tt
-answers-own low (x ∷ xs) r = (rw (eq-eqb x.0 x.0 refl) refl, behind xs (all-above x.0 xs r.1) (answers-own x.0 xs r.1))
-  where
-    behind : (ys : List (Numbered Exchange)) → AllByRecursion (λ y. x.0 < y.0) ys → AllByRecursion (λ y. answer_in y.0 xs ≡ answer_at y.1.state) ys → AllByRecursion (λ y. answer_in y.0 (x ∷ xs) ≡ answer_at y.1.state) ys
-    behind [] above own = tt
-    behind (y ∷ ys) above own = (rw (ne_eqb x.0 y.0 (λ e. let lt = above.0 in omega arith)) own.0, behind ys above.1 own.1)
-
--- a waiter that is to be served is an item
-serve-item : (w : World) (history : List Deed) (c : Bears history w) (v at : ℕ) → IsToServe w.setting history v at → IsItem (items_of w) (serves v) at
-serve-item w history c v at d = ⊎_elim in_table was_served (c.whole.complete v number.0 number.1)
-  where
-    number : (0 < v) × (v ≤ opened_in history)
-    number = Opens-number history d.admission v d.was_admitted d.opens
-
-    was_served : Somewhere (Serves v) history → IsItem (items_of w) (serves v) at
-    was_served s = absurd (Never-at (Serves v) history s.place d.unserved s.is_there s.holds)
-
-    with_answer : (u : Numbered Waiter) → v ≡ u.0 → IsWaiterOf w.setting history u → Has u w.waiters → (key : CacheKey) (s : ExchangeState) → IsState w.setting history v key s → answer_in v w.exchanges ≡ answer_at s → IsItem (items_of w) (serves v) at
-    with_answer u same g there key Queued state own = absurd (Never-at (Gets w.setting v) history d.getting state.1 d.was_got d.gets)
-    with_answer u same g there key (Sent s) state own = absurd (Never-at (Gets w.setting v) history d.getting state.1 d.was_got d.gets)
-    with_answer u same g there key (Done a) state own =
-        let answer : answer_in u.1.exchange w.exchanges ≡ Some a = ap (λ (n : ℕ). answer_in n w.exchanges) (g.exchange ∙ sym same) ∙ own in
-        let place = first-once (Gets w.setting v) history state.getting d.getting state.was_got d.was_got state.gets d.gets (got-first w.setting history v state.getting c.past state.was_got state.gets) (got-first w.setting history v d.getting c.past d.was_got d.gets) in
-        record {
-          item = serving u a;
-          there = Has-right (serving u a) (exchange_items w.exchanges) (waiter_items w.exchanges w.waiters) (serving-there u a w.exchanges w.waiters there answer);
-          act = ap serves (sym same);
-          due = ap (λ (b : Answer). b.got) state.answer_is ∙ got-is w.setting.limits.datagram state.getting.deed.entry.now state.gets.meets.response ∙ ap (λ (p : Place). p.deed.entry.now) place ∙ sym d.at_is;
-        }
-
-    in_table : HasNumber v w.exchanges → IsItem (items_of w) (serves v) at
-    in_table there =
-        let f = at-number (IsExchangeOf w.setting history) (λ y. answer_in y.0 w.exchanges ≡ answer_at y.1.state) v w.exchanges there c.exchanges (answers-own 0 w.exchanges c.whole.rising) in
-        let y = f.0 in
-        let g = at-number (IsWaiterOf w.setting history) (λ u. Has u w.waiters) v w.waiters (HasNumber-paired v w.exchanges w.waiters c.whole.paired there) c.waiters (Has-all w.waiters) in
-        with_answer g.0 g.1 g.2 g.3 y.1.key y.1.state (subst (λ (n : ℕ). IsState w.setting history n y.1.key y.1.state) (sym f.1) f.2.state) (ap (λ (n : ℕ). answer_in n w.exchanges) f.1 ∙ f.3)
-
--- whatever is due by the history is an item
-item-of : (w : World) (history : List Deed) (c : Bears history w) (a : Act) (at : ℕ) → IsDueAt w.setting history a at → IsItem (items_of w) a at
-item-of w history c no_item at d = absurd d
-item-of w history c (admits v x) at d = absurd d
-item-of w history c (moves x) at d = send-item w history c x at d
-item-of w history c (serves v) at d = serve-item w history c v at d
-
--- ---- what is done
-
--- what holds of each item holds of one that is there
-Has-holds : (P : Item → Type 0) (items : List Item) (i : Item) → AllByRecursion P items → Has i items → P i
-Has-holds P [] i all h = absurd h
-Has-holds P (j ∷ items) i all h = ⊎_elim (λ (same : i ≡ j). subst P (sym same) all.0) (λ (t : Has i items). Has-holds P items i all.1 t) h
-
--- the least item is due, and nothing is due before it
-pub least-due : (w : World) (history : List Deed) → Bears history w → (i : Item) → least (items_of w) ≡ Some i → IsDueAt w.setting history (act_of i) (due_of i)
-least-due w history c i e = item-due w history c i (least-holds (IsDueOf (IsExchangeOf w.setting history) (IsWaiterOf w.setting history) w.exchanges) (items_of w) i (items-are (IsExchangeOf w.setting history) (IsWaiterOf w.setting history) w.exchanges w.waiters c.exchanges c.waiters) e)
-
--- nothing is due before the least item
-pub none-sooner : (w : World) (history : List Deed) → Bears history w → (i : Item) → least (items_of w) ≡ Some i → (a : Act) (m : ℕ) → IsDueAt w.setting history a m → ¬ IsSooner a m (act_of i) (due_of i)
-none-sooner w history c i e a m d sooner =
-    let t = item-of w history c a m d in
-    let first = Has-holds (IsFirst i) (items_of w) t.item (least-first (items_of w) i (items-ordered w history c) e) t.there in
-    first (subst (λ (b : Act). IsSooner b (due_of t.item) (act_of i) (due_of i)) (sym t.act) (subst (λ (n : ℕ). IsSooner a n (act_of i) (due_of i)) (sym t.due) sooner))
-
--- a tick that does the least item does what is due first
-pub acting : (w : World) (history : List Deed) → Bears history w → (now : ℕ) (i : Item) → if_due now (least (items_of w)) ≡ Some i → (d : Deed) → d.act ≡ act_of i → d.entry.event ≡ tick → d.entry.now ≡ now → IsActing w.setting history d
-acting w history c now i due d act ticked moment =
-    let first = if_due-is now (least (items_of w)) i due in
-    record {
-      ticked = ticked;
-      at = due_of i;
-      due = subst (λ (a : Act). IsDueAt w.setting history a (due_of i)) (sym act) (least-due w history c i first.0);
-      come = let le = first.1 in omega (arith, le, moment);
-      first = λ a m e sooner. none-sooner w history c i first.0 a m e (subst (λ (b : Act). IsSooner a m b (due_of i)) act sooner);
-    }
-
--- ---- where nothing is due
-
--- where no item is least, none is there
-none-there : (items : List Item) (i : Item) → least items ≡ None → Has i items → ⊥
-none-there [] i e h = h
-none-there (j ∷ items) i e h = least-some j items e
-
--- and nothing is due by the history
-pub nothing-due : (w : World) (history : List Deed) → Bears history w → least (items_of w) ≡ None → (a : Act) (m : ℕ) → ¬ IsDueAt w.setting history a m
-nothing-due w history c e a m d = let t = item-of w history c a m d in none-there (items_of w) t.item e t.there
-
--- the least item is due no later than anything
-pub due-no_later : (w : World) (history : List Deed) → Bears history w → (i : Item) → least (items_of w) ≡ Some i → (a : Act) (m : ℕ) → IsDueAt w.setting history a m → due_of i ≤ m
-due-no_later w history c i e a m d = go (leb (due_of i) m) refl
-  where
-    go : (b : Bool) → leb (due_of i) m ≡ b → due_of i ≤ m
-    go true t = leb-true _ _ t
-    go false t = absurd (none-sooner w history c i e a m d (inl (leb-false _ _ t)))
-
--- where no item is due yet, nothing is
-pub idling-due : (w : World) (history : List Deed) → Bears history w → (now : ℕ) → if_due now (least (items_of w)) ≡ None → (a : Act) (m : ℕ) → IsDueAt w.setting history a m → now < m
-idling-due w history c now nothing a m d = go (least (items_of w)) refl nothing
-  where
-    later : (i : Item) (b : Bool) → leb (due_of i) now ≡ b → cond b (Some i) None ≡ None → now < due_of i
-    later i true t f = absurd cc
-    later i false t f = leb-false _ _ t
-
-    go : (o : Option Item) → least (items_of w) ≡ o → if_due now o ≡ None → now < m
-    go None is f = absurd (nothing-due w history c is a m d)
-    go (Some i) is f = let lt = later i (leb (due_of i) now) refl f in let le = due-no_later w history c i is a m d in omega (arith, lt, le)
-
--- ---- when a tick is wanted
-
--- the least moment at which something is due
-pub next-is : (w : World) (history : List Deed) → Bears history w → (at : ℕ) → next_due w ≡ Some at → IsNextDue w.setting history at
-next-is w history c at e = go (least (items_of w)) refl e
-  where
-    go : (o : Option Item) → least (items_of w) ≡ o → option_map due_of o ≡ Some at → IsNextDue w.setting history at
+    go : (o : Option Exchange) → item_at n xs ≡ o → answer_of o ≡ Some a → (x : Exchange) × P (n, x) × (x.state ≡ Done a) × (item_at n xs ≡ Some x)
     go None is f = absurd cc
-    go (Some i) is f =
-        let same : due_of i ≡ at = cc in
+    go (Some x) is f = (x, item-holds P n xs x all is, state x x.state refl f, is)
+
+-- a client that is due is to be served
+pub client-due : (w : World) (history : List Deed) → Bears history w → (v : Numbered Waiter) → IsWaiterOf w.setting history v → (at : ℕ) → due_after w.exchanges v.1 ≡ Some at → IsDueAt w.setting history (serves v.0) at
+client-due w history c v f at due = go v.1.state f due
+  where
+    moment : (exchange : ℕ) → IsWaiterIn w.setting history v (Waiting exchange) → (o : Option Answer) → answer_in exchange w.exchanges ≡ o → moment_of o ≡ Some at → IsToServe w.setting history v.0 at
+    moment exchange g None is e = absurd cc
+    moment exchange g (Some a) is e =
+        let found = answer-of (IsExchangeOf w.setting history) exchange w.exchanges a c.exchanges is in
+        let state = subst (IsState w.setting history (exchange, found.0)) found.2 found.1.state in
         record {
-          act = act_of i;
-          due = subst (λ (n : ℕ). IsDueAt w.setting history (act_of i) n) same (least-due w history c i is);
-          least = λ a m d. subst (λ (n : ℕ). n ≤ m) same (due-no_later w history c i is a m d);
+          admitted = g.admitted;
+          unserved = g.unserved;
+          ending = state.ending;
+          was_ended = state.was_ended;
+          ends = subst (λ (n : ℕ). Ends n state.ending) (sym g.exchange_is) state.ends;
+          at_is = sym (same_Some a.got at e) ∙ state.got;
         }
 
--- where no tick is wanted, nothing is due
-pub no-next : (w : World) (history : List Deed) → Bears history w → next_due w ≡ None → (a : Act) (m : ℕ) → ¬ IsDueAt w.setting history a m
-no-next w history c e a m d = go (least (items_of w)) refl e
+    go : (s : WaiterState) → IsWaiterIn w.setting history v s → waiters.due_in s w.exchanges ≡ Some at → IsToServe w.setting history v.0 at
+    go (Waiting exchange) g e = moment exchange g (answer_in exchange w.exchanges) refl e
+    go (Delivering bytes id timer) g e = absurd g
+
+-- ---- what is due by the history is due by the tables, or was due before
+
+pub data IsListed (w : World) (a : Act) (m : ℕ) : Type 0 where
+  of_exchange : (x : Numbered Exchange) (k : ℕ) → Has x w.exchanges → moves x.0 ≡ a → due_of w x.1 ≡ Some k → k ≤ m → IsListed w a m
+  of_client : (v : Numbered Waiter) (k : ℕ) → Has v w.waiters → serves v.0 ≡ a → due_after w.exchanges v.1 ≡ Some k → k ≤ m → IsListed w a m
+
+-- an exchange of the history's is in the table, as the history says it
+record IsThere (w : World) (history : List Deed) (x : ℕ) : Type 0 where
+  pub y : Numbered Exchange
+  pub number : x ≡ y.0
+  pub is : IsExchangeOf w.setting history y
+  pub there : Has y w.exchanges
+
+is-there : (w : World) (history : List Deed) → Bears history w → (x : ℕ) → HasNumber x w.exchanges → IsThere w history x
+is-there w history c x has = let f = at-number (IsExchangeOf w.setting history) x w.exchanges has c.exchanges in record { y = f.0; number = f.1; is = f.2; there = f.3 }
+
+-- a request that is to be sent is due by the tables
+send-listed : (w : World) (history : List Deed) → Bears history w → (x at : ℕ) → IsToSend w.setting history x at → IsListed w (moves x) at
+send-listed w history c x at d = go y.1.state refl
   where
-    go : (o : Option Item) → least (items_of w) ≡ o → option_map due_of o ≡ None → ⊥
-    go None is f = nothing-due w history c is a m d
-    go (Some i) is f = absurd cc
+    t : IsThere w history x
+    t = is-there w history c x (staged-there w history c x queued d.stage)
+
+    y : Numbered Exchange
+    y = t.y
+
+    stage : Some (stage_at y.1.key.target.at y.1.state) ≡ Some queued
+    stage = sym (stage-is w history c y t.there) ∙ ap (λ (n : ℕ). stage_of n history) (sym t.number) ∙ d.stage
+
+    key : d.key ≡ y.1.key
+    key = one_key (sym d.verdict ∙ ap (verdict_on w.setting) (one-opened t.number d.opened t.is.opened).2 ∙ t.is.verdict)
+
+    free : is_blocked w.setting.limits.nstart w.exchanges y.1 ≡ false
+    free =
+        let few = d.free in
+        let as_many = sent-count d.key.target.at history w c in
+        let less : count (is_sent_to y.1.key.target.at) w.exchanges < w.setting.limits.nstart = subst (λ (k : CacheKey). count (is_sent_to k.target.at) w.exchanges < w.setting.limits.nstart) key (omega (arith, few, as_many)) in
+        lt-leb-false _ _ less
+      where
+        lt-leb-false : (m n : ℕ) → n < m → leb m n ≡ false
+        lt-leb-false m n less = go (leb m n) refl
+          where
+            go : (b : Bool) → leb m n ≡ b → b ≡ false
+            go true e = let le = leb-true m n e in absurd (omega (arith, le, less))
+            go false e = refl
+
+    moment : y.1.admitted ≡ at
+    moment = t.is.admitted ∙ ap (λ (p : Place). p.deed.entry.now) (sym (one-opened t.number d.opened t.is.opened).0) ∙ sym d.at_is
+
+    go : (s : ExchangeState) → y.1.state ≡ s → IsListed w (moves x) at
+    go Queued is = of_exchange y y.1.admitted t.there (ap moves (sym t.number)) (ap (λ (s : ExchangeState). due_in s (is_blocked w.setting.limits.nstart w.exchanges y.1) w.setting.limits.exchange_ms y.1) is ∙ rw free refl) (let e = moment in omega (arith, e))
+    go Sent is = absurd (let e = ap (λ (s : ExchangeState). Some (stage_at y.1.key.target.at s)) (sym is) ∙ stage in cc)
+    go Acked is = absurd (let e = ap (λ (s : ExchangeState). Some (stage_at y.1.key.target.at s)) (sym is) ∙ stage in cc)
+    go (Done a) is = absurd (let e = ap (λ (s : ExchangeState). Some (stage_at y.1.key.target.at s)) (sym is) ∙ stage in cc)
+
+-- when one that was sent is due: at the end of the timeout that runs, or at its deadline
+sent-due : (w : World) (history : List Deed) (y : Numbered Exchange) → y.1.state ≡ Sent → (s : Sending) → y.1.sending ≡ Some s → due_of w y.1 ≡ Some (min s.timer.due (deadline w.setting.limits.exchange_ms y.1))
+sent-due w history y is s sending = ap (λ (t : ExchangeState). due_in t (is_blocked w.setting.limits.nstart w.exchanges y.1) w.setting.limits.exchange_ms y.1) is ∙ ap (λ (o : Option Sending). Some (timer_or (deadline w.setting.limits.exchange_ms y.1) o)) sending
+
+-- one that is to be sent again is due by the tables
+repeat-listed : (w : World) (history : List Deed) → Bears history w → (x at : ℕ) → IsToRepeat w.setting history x at → IsListed w (moves x) at
+repeat-listed w history c x at d = go y.1.state refl t.is.state
+  where
+    t : IsThere w history x
+    t = is-there w history c x (staged-there w history c x (sent d.to) d.stage)
+
+    y : Numbered Exchange
+    y = t.y
+
+    stage : Some (stage_at y.1.key.target.at y.1.state) ≡ Some (sent d.to)
+    stage = sym (stage-is w history c y t.there) ∙ ap (λ (n : ℕ). stage_of n history) (sym t.number) ∙ d.stage
+
+    go : (s : ExchangeState) → y.1.state ≡ s → IsState w.setting history y s → IsListed w (moves x) at
+    go Queued is state = absurd (let e = ap (λ (s : ExchangeState). Some (stage_at y.1.key.target.at s)) (sym is) ∙ stage in cc)
+    go Sent is state =
+        let moment : state.sending.timer.due ≡ at = timer-due state.sending.timer _ state.asked.timer ∙ ap (λ (n : ℕ). next_send (sends_by (moves n) history)) (sym t.number) ∙ sym d.at_is in
+        of_exchange y _ t.there (ap moves (sym t.number)) (sent-due w history y is state.sending state.sending_is) (omega (arith, moment))
+    go Acked is state = absurd state
+    go (Done a) is state = absurd (let e = ap (λ (s : ExchangeState). Some (stage_at y.1.key.target.at s)) (sym is) ∙ stage in cc)
+
+-- and so is one that is to end
+end-listed : (w : World) (history : List Deed) → Bears history w → (x at : ℕ) → IsToEnd w.setting history x at → IsListed w (moves x) at
+end-listed w history c x at d = go y.1.state refl t.is.state
+  where
+    t : IsThere w history x
+    t = is-there w history c x (c.whole.unended x (record { place = d.opened.opening; is_there = d.opened.was_opened; holds = d.opened.opens }) d.unended)
+
+    y : Numbered Exchange
+    y = t.y
+
+    last : deadline w.setting.limits.exchange_ms y.1 ≡ at
+    last = ap (λ (n : ℕ). n + w.setting.limits.exchange_ms) (t.is.admitted ∙ ap (λ (p : Place). p.deed.entry.now) (sym (one-opened t.number d.opened t.is.opened).0)) ∙ sym d.at_is
+
+    blocked : y.1.state ≡ Queued → (b : Bool) → is_blocked w.setting.limits.nstart w.exchanges y.1 ≡ b → IsListed w (moves x) at
+    blocked is true e = of_exchange y (deadline w.setting.limits.exchange_ms y.1) t.there (ap moves (sym t.number)) (ap (λ (s : ExchangeState). due_in s (is_blocked w.setting.limits.nstart w.exchanges y.1) w.setting.limits.exchange_ms y.1) is ∙ rw e refl) (let l = last in omega (arith, l))
+    blocked is false e = of_exchange y y.1.admitted t.there (ap moves (sym t.number)) (ap (λ (s : ExchangeState). due_in s (is_blocked w.setting.limits.nstart w.exchanges y.1) w.setting.limits.exchange_ms y.1) is ∙ rw e refl) (let l = last in omega (arith, l))
+
+    go : (s : ExchangeState) → y.1.state ≡ s → IsState w.setting history y s → IsListed w (moves x) at
+    go Queued is state = blocked is (is_blocked w.setting.limits.nstart w.exchanges y.1) refl
+    go Sent is state = of_exchange y _ t.there (ap moves (sym t.number)) (sent-due w history y is state.sending state.sending_is) (let l = last in omega (arith, l))
+    go Acked is state = absurd state
+    go (Done a) is state = absurd (Never-at (Ends x) history state.ending d.unended state.was_ended (subst (λ (n : ℕ). Ends n state.ending) (sym t.number) state.ends))
+
+-- a client that is to be served is due by the tables
+serve-listed : (w : World) (history : List Deed) → Bears history w → (v at : ℕ) → IsToServe w.setting history v at → IsListed w (serves v) at
+serve-listed w history c v at d = go u.1.state refl t.2
+  where
+    t : (u : Numbered Waiter) × (v ≡ u.0) × IsWaiterOf w.setting history u × Has u w.waiters
+    t = at-number (IsWaiterOf w.setting history) v w.waiters (c.whole.unserved v d.admitted.exchange (record { place = d.admitted.admission; is_there = d.admitted.was_admitted; holds = d.admitted.admits }) d.unserved) c.waiters
+
+    u : Numbered Waiter
+    u = t.0
+
+    answered : (exchange : ℕ) → u.1.state ≡ Waiting exchange → IsWaiterIn w.setting history u (Waiting exchange) → HasNumber exchange w.exchanges → IsListed w (serves v) at
+    answered exchange waits g has = by_state y.1.state refl there.is.state
+      where
+        there : IsThere w history exchange
+        there = is-there w history c exchange has
+
+        y : Numbered Exchange
+        y = there.y
+
+        ends : Ends y.0 d.ending
+        ends = subst (λ (n : ℕ). Ends n d.ending) ((one-admitted t.1 d.admitted g.admitted).3 ∙ g.exchange_is ∙ there.number) d.ends
+
+        found : item_at exchange w.exchanges ≡ Some y.1
+        found = ap (λ (n : ℕ). item_at n w.exchanges) there.number ∙ Has-item 0 w.exchanges y c.whole.rising there.there
+
+        by_state : (s : ExchangeState) → y.1.state ≡ s → IsState w.setting history y s → IsListed w (serves v) at
+        by_state Queued is state = absurd (Never-at (Ends y.0) history d.ending state.unended d.was_ended ends)
+        by_state Sent is state = absurd (Never-at (Ends y.0) history d.ending state.unended d.was_ended ends)
+        by_state Acked is state = absurd state
+        by_state (Done a) is state =
+            let place = ended-once w.setting history y.0 state.ending d.ending c.past state.was_ended d.was_ended state.ends ends in
+            let answer : answer_in exchange w.exchanges ≡ Some a = ap answer_of found ∙ ap answer_in_state is in
+            let moment : a.got ≡ at = state.got ∙ ap (λ (p : Place). p.deed.entry.now) place ∙ sym d.at_is in
+            of_client u a.got t.3 (ap serves (sym t.1)) (ap (λ (s : WaiterState). waiters.due_in s w.exchanges) waits ∙ ap moment_of answer) (omega (arith, moment))
+
+    go : (s : WaiterState) → u.1.state ≡ s → IsWaiterIn w.setting history u s → IsListed w (serves v) at
+    go (Waiting exchange) is g =
+        let has = (at-number (λ z. HasNumber (exchange_in z.1.state) w.exchanges) u.0 w.waiters (Has-number w.waiters u t.3) c.whole.awaited) in
+        let same = one-item 0 w.waiters has.0 u c.whole.waiters_rise has.3 t.3 (sym has.1) in
+        answered exchange is g (subst (λ (s : WaiterState). HasNumber (exchange_in s) w.exchanges) is (subst (λ (a : Waiter). HasNumber (exchange_in a.state) w.exchanges) same has.2))
+    go (Delivering bytes id timer) is g = absurd g
+
+-- whatever is due by the history is due by the tables
+pub listed : (w : World) (history : List Deed) → Bears history w → (a : Act) (at : ℕ) → IsDueAt w.setting history a at → IsListed w a at
+listed w history c no_item at d = absurd d
+listed w history c (admits v x) at d = absurd d
+listed w history c (moves x) at (to_send d) = send-listed w history c x at d
+listed w history c (moves x) at (to_repeat d) = repeat-listed w history c x at d
+listed w history c (moves x) at (to_end d) = end-listed w history c x at d
+listed w history c (serves v) at d = serve-listed w history c v at d
+
+-- ---- what is due first
+
+-- which of the two tables has what is due first
+data IsChosen (o p : Option Due) (i : DueItem) : Type 0 where
+  an_exchange : (x : Due) → o ≡ Some x → i ≡ OfExchange x.0 x.1 → ((v : Due) → p ≡ Some v → x.0 ≤ v.0) → IsChosen o p i
+  a_client : (v : Due) → p ≡ Some v → i ≡ OfWaiter v.0 v.1 → ((x : Due) → o ≡ Some x → v.0 < x.0) → IsChosen o p i
+
+chosen : (o p : Option Due) (i : DueItem) → first_item o p ≡ Some i → IsChosen o p i
+chosen None None i e = absurd cc
+chosen None (Some v) i e = a_client v refl (sym (same_Some (OfWaiter v.0 v.1) i e)) (λ x f. absurd cc)
+chosen (Some x) None i e = an_exchange x refl (sym (same_Some (OfExchange x.0 x.1) i e)) (λ v f. absurd cc)
+chosen (Some x) (Some v) i e = go (leb x.0 v.0) refl e
+  where
+    go : (b : Bool) → leb x.0 v.0 ≡ b → cond b (Some (OfExchange x.0 x.1)) (Some (OfWaiter v.0 v.1)) ≡ Some i → IsChosen (Some x) (Some v) i
+    go true t f = an_exchange x refl (sym (same_Some (OfExchange x.0 x.1) i f)) (λ u g. subst (λ (z : Due). x.0 ≤ z.0) (same_Some v u g) (leb-true _ _ t))
+    go false t f = a_client v refl (sym (same_Some (OfWaiter v.0 v.1) i f)) (λ y g. subst (λ (z : Due). v.0 < z.0) (same_Some x y g) (leb-false _ _ t))
+
+-- an item has one moment and one number
+exchange_parts : (a b m n : ℕ) → OfExchange a m ≡ OfExchange b n → ◌≡◌ {A = Due} (b, n) (a, m)
+exchange_parts a b m n e = let p : a ≡ b = cc in let q : m ≡ n = cc in λ i. (sym p i, sym q i)
+
+client_parts : (a b m n : ℕ) → OfWaiter a m ≡ OfWaiter b n → ◌≡◌ {A = Due} (b, n) (a, m)
+client_parts a b m n e = let p : a ≡ b = cc in let q : m ≡ n = cc in λ i. (sym p i, sym q i)
+
+module _ (w : World) (history : List Deed) (c : Bears history w) where
+  -- what is due first of the exchanges is due by the history
+  exchange-first : (d : Due) → exchange_due w ≡ Some d → IsDueAt w.setting history (moves d.1) d.0
+  exchange-first d e =
+      let f = first_due-holds (λ y. IsExchangeOf w.setting history y × Has y w.exchanges) (due_of w) w.exchanges d (All-there (IsExchangeOf w.setting history) w.exchanges c.exchanges) e in
+      subst (λ (n : ℕ). IsDueAt w.setting history (moves n) d.0) f.2 (exchange-due w history c f.0 f.1.1 f.1.0 d.0 f.3)
+
+  client-first : (d : Due) → waiter_due w ≡ Some d → IsDueAt w.setting history (serves d.1) d.0
+  client-first d e =
+      let f = first_due-holds (IsWaiterOf w.setting history) (due_after w.exchanges) w.waiters d c.waiters e in
+      subst (λ (n : ℕ). IsDueAt w.setting history (serves n) d.0) f.2 (client-due w history c f.0 f.1 d.0 f.3)
+
+  -- what is due first is due by the history
+  pub least-due : (i : DueItem) → item_due w ≡ Some i → IsDueAt w.setting history (act_of i) (ticks.moment_of i)
+  least-due i e = go (chosen (exchange_due w) (waiter_due w) i e)
+    where
+      go : IsChosen (exchange_due w) (waiter_due w) i → IsDueAt w.setting history (act_of i) (ticks.moment_of i)
+      go (an_exchange x due is first) = subst (λ (j : DueItem). IsDueAt w.setting history (act_of j) (ticks.moment_of j)) (sym is) (exchange-first x due)
+      go (a_client v due is first) = subst (λ (j : DueItem). IsDueAt w.setting history (act_of j) (ticks.moment_of j)) (sym is) (client-first v due)
+
+  -- what is due first of both is due first of its table
+  pub exchange-turn : (at number : ℕ) → item_due w ≡ Some (OfExchange at number) → exchange_due w ≡ Some (at, number)
+  exchange-turn at number e = go (chosen (exchange_due w) (waiter_due w) (OfExchange at number) e)
+    where
+      go : IsChosen (exchange_due w) (waiter_due w) (OfExchange at number) → exchange_due w ≡ Some (at, number)
+      go (an_exchange x due is first) = due ∙ (λ i. Some (exchange_parts at x.0 number x.1 is i))
+      go (a_client v due is first) = absurd cc
+
+  pub client-turn : (at number : ℕ) → item_due w ≡ Some (OfWaiter at number) → waiter_due w ≡ Some (at, number)
+  client-turn at number e = go (chosen (exchange_due w) (waiter_due w) (OfWaiter at number) e)
+    where
+      go : IsChosen (exchange_due w) (waiter_due w) (OfWaiter at number) → waiter_due w ≡ Some (at, number)
+      go (an_exchange x due is first) = absurd cc
+      go (a_client v due is first) = due ∙ (λ i. Some (client_parts at v.0 number v.1 is i))
+
+  -- an exchange isn't due before the first of them
+  exchange-later : (d : Due) → exchange_due w ≡ Some d → (x : Numbered Exchange) (k : ℕ) → Has x w.exchanges → due_of w x.1 ≡ Some k → NotBefore d (k, x.0)
+  exchange-later d e x k there due = Has-holds (IsNotBefore (due_of w) d) w.exchanges x (first_due-least (due_of w) w.exchanges d e) there k due
+
+  client-later : (d : Due) → waiter_due w ≡ Some d → (v : Numbered Waiter) (k : ℕ) → Has v w.waiters → due_after w.exchanges v.1 ≡ Some k → NotBefore d (k, v.0)
+  client-later d e v k there due = Has-holds (IsNotBefore (due_after w.exchanges) d) w.waiters v (first_due-least (due_after w.exchanges) w.waiters d e) there k due
+
+  -- and some is first where one is due
+  exchange-some : (x : Numbered Exchange) (k : ℕ) → Has x w.exchanges → due_of w x.1 ≡ Some k → (d : Due) × (exchange_due w ≡ Some d)
+  exchange-some x k there due = go (exchange_due w) refl
+    where
+      go : (o : Option Due) → exchange_due w ≡ o → (d : Due) × (exchange_due w ≡ Some d)
+      go None e = absurd (let none = Has-holds (λ y. due_of w y.1 ≡ None) w.exchanges x (first_due-none (due_of w) w.exchanges e) there in let f = sym none ∙ due in cc)
+      go (Some d) e = (d, e)
+
+  client-some : (v : Numbered Waiter) (k : ℕ) → Has v w.waiters → due_after w.exchanges v.1 ≡ Some k → (d : Due) × (waiter_due w ≡ Some d)
+  client-some v k there due = go (waiter_due w) refl
+    where
+      go : (o : Option Due) → waiter_due w ≡ o → (d : Due) × (waiter_due w ≡ Some d)
+      go None e = absurd (let none = Has-holds (λ y. due_after w.exchanges y.1 ≡ None) w.waiters v (first_due-none (due_after w.exchanges) w.waiters e) there in let f = sym none ∙ due in cc)
+      go (Some d) e = (d, e)
+
+  -- nothing is due before what is due first
+  pub none-sooner : (i : DueItem) → item_due w ≡ Some i → (a : Act) (m : ℕ) → IsDueAt w.setting history a m → ¬ IsSooner a m (act_of i) (ticks.moment_of i)
+  none-sooner i e a m d = go (chosen (exchange_due w) (waiter_due w) i e) (listed w history c a m d)
+    where
+      exchanges : (x : Due) → exchange_due w ≡ Some x → (y : Numbered Exchange) (k : ℕ) → Has y w.exchanges → due_of w y.1 ≡ Some k → k ≤ m → ¬ IsSooner (moves y.0) m (moves x.1) x.0
+      exchanges x due y k there is le sooner =
+          let not = exchange-later x due y k there is in
+          let later = not.moment in
+          let number = not.number in
+          ⊎_elim (λ (less : m < x.0). omega (arith, less)) (λ (same : (m ≡ x.0) × ComesBefore (moves y.0) (moves x.1)). let at = same.0 in let lower = same.1 in omega arith) sooner
+
+      clients : (x : Due) → waiter_due w ≡ Some x → (y : Numbered Waiter) (k : ℕ) → Has y w.waiters → due_after w.exchanges y.1 ≡ Some k → k ≤ m → ¬ IsSooner (serves y.0) m (serves x.1) x.0
+      clients x due y k there is le sooner =
+          let not = client-later x due y k there is in
+          let later = not.moment in
+          let number = not.number in
+          ⊎_elim (λ (less : m < x.0). omega (arith, less)) (λ (same : (m ≡ x.0) × ComesBefore (serves y.0) (serves x.1)). let at = same.0 in let lower = same.1 in omega arith) sooner
+
+      client-exchange : (x : Due) → ((v : Due) → waiter_due w ≡ Some v → x.0 ≤ v.0) → (y : Numbered Waiter) (k : ℕ) → Has y w.waiters → due_after w.exchanges y.1 ≡ Some k → k ≤ m → ¬ IsSooner (serves y.0) m (moves x.1) x.0
+      client-exchange x first y k there is le sooner =
+          let some = client-some y k there is in
+          let no_later = first some.0 some.1 in
+          let later = (client-later some.0 some.1 y k there is).moment in
+          ⊎_elim (λ (less : m < x.0). omega (arith, less)) (λ (same : (m ≡ x.0) × ComesBefore (serves y.0) (moves x.1)). same.1) sooner
+
+      exchange-client : (v : Due) → ((x : Due) → exchange_due w ≡ Some x → v.0 < x.0) → (y : Numbered Exchange) (k : ℕ) → Has y w.exchanges → due_of w y.1 ≡ Some k → k ≤ m → ¬ IsSooner (moves y.0) m (serves v.1) v.0
+      exchange-client v first y k there is le sooner =
+          let some = exchange-some y k there is in
+          let before = first some.0 some.1 in
+          let later = (exchange-later some.0 some.1 y k there is).moment in
+          ⊎_elim (λ (less : m < v.0). omega (arith, less)) (λ (same : (m ≡ v.0) × ComesBefore (moves y.0) (serves v.1)). let at = same.0 in omega arith) sooner
+
+      go : IsChosen (exchange_due w) (waiter_due w) i → IsListed w a m → ¬ IsSooner a m (act_of i) (ticks.moment_of i)
+      go (an_exchange x due is first) (of_exchange y k there act when le) = subst (λ (j : DueItem). ¬ IsSooner a m (act_of j) (ticks.moment_of j)) (sym is) (subst (λ (b : Act). ¬ IsSooner b m (moves x.1) x.0) act (exchanges x due y k there when le))
+      go (an_exchange x due is first) (of_client y k there act when le) = subst (λ (j : DueItem). ¬ IsSooner a m (act_of j) (ticks.moment_of j)) (sym is) (subst (λ (b : Act). ¬ IsSooner b m (moves x.1) x.0) act (client-exchange x first y k there when le))
+      go (a_client v due is first) (of_exchange y k there act when le) = subst (λ (j : DueItem). ¬ IsSooner a m (act_of j) (ticks.moment_of j)) (sym is) (subst (λ (b : Act). ¬ IsSooner b m (serves v.1) v.0) act (exchange-client v first y k there when le))
+      go (a_client v due is first) (of_client y k there act when le) = subst (λ (j : DueItem). ¬ IsSooner a m (act_of j) (ticks.moment_of j)) (sym is) (subst (λ (b : Act). ¬ IsSooner b m (serves v.1) v.0) act (clients v due y k there when le))
+
+  -- where nothing is due first, nothing is due
+  pub nothing-due : item_due w ≡ None → (a : Act) (m : ℕ) → ¬ IsDueAt w.setting history a m
+  nothing-due e a m d = go (listed w history c a m d) (exchange_due w) refl (waiter_due w) refl e
+    where
+      go : IsListed w a m → (o : Option Due) → exchange_due w ≡ o → (p : Option Due) → waiter_due w ≡ p → first_item o p ≡ None → ⊥
+      go (of_exchange y k there act when le) None f p g none = let some = exchange-some y k there when in absurd (let h = sym f ∙ some.1 in cc)
+      go (of_client y k there act when le) None f None g none = let some = client-some y k there when in absurd (let h = sym g ∙ some.1 in cc)
+      go l None f (Some v) g none = absurd cc
+      go l (Some x) f None g none = absurd cc
+      go l (Some x) f (Some v) g none = both (leb x.0 v.0) none
+        where
+          both : (b : Bool) → cond b (Some (OfExchange x.0 x.1)) (Some (OfWaiter v.0 v.1)) ≡ None → ⊥
+          both true h = absurd cc
+          both false h = absurd cc
+
+  -- the first item is due no later than anything
+  pub due-no_later : (i : DueItem) → item_due w ≡ Some i → (a : Act) (m : ℕ) → IsDueAt w.setting history a m → ticks.moment_of i ≤ m
+  due-no_later i e a m d = go (leb (ticks.moment_of i) m) refl
+    where
+      go : (b : Bool) → leb (ticks.moment_of i) m ≡ b → ticks.moment_of i ≤ m
+      go true t = leb-true _ _ t
+      go false t = absurd (none-sooner i e a m d (inl (leb-false _ _ t)))
+
+  -- what is due at a moment is what is due first, and its moment has come
+  pub turn-is : (now : ℕ) (i : DueItem) → if_due now (item_due w) ≡ Some i → (item_due w ≡ Some i) × (ticks.moment_of i ≤ now)
+  turn-is now i e = go (item_due w) refl e
+    where
+      test : (j : DueItem) (b : Bool) → leb (ticks.moment_of j) now ≡ b → cond b (Some j) None ≡ Some i → (j ≡ i) × (ticks.moment_of i ≤ now)
+      test j true t f = let same : j ≡ i = same_Some j i f in (same, subst (λ (k : DueItem). ticks.moment_of k ≤ now) same (leb-true _ _ t))
+      test j false t f = absurd cc
+
+      go : (o : Option DueItem) → item_due w ≡ o → if_due now o ≡ Some i → (item_due w ≡ Some i) × (ticks.moment_of i ≤ now)
+      go None is f = absurd cc
+      go (Some j) is f = let h = test j (leb (ticks.moment_of j) now) refl f in (is ∙ ap (λ (k : DueItem). Some k) h.0, h.1)
+
+  -- a tick that does what is due does what is due first
+  abbrev pub acting : (now : ℕ) (i : DueItem) → if_due now (item_due w) ≡ Some i → (d : Deed) → d.act ≡ act_of i → d.entry.event ≡ tick → d.entry.now ≡ now → IsActing w.setting history d
+  acting now i due d act ticked moment =
+      let first = turn-is now i due in
+      record {
+        ticked = ticked;
+        at = ticks.moment_of i;
+        due = subst (λ (a : Act). IsDueAt w.setting history a (ticks.moment_of i)) (sym act) (least-due i first.0);
+        come = let le = first.1 in omega (arith, le, moment);
+        first = λ a m e sooner. none-sooner i first.0 a m e (subst (λ (b : Act). IsSooner a m b (ticks.moment_of i)) act sooner);
+      }
+
+  -- where nothing is due yet by the tables, nothing is by the history
+  pub idling-due : (now : ℕ) → if_due now (item_due w) ≡ None → (a : Act) (m : ℕ) → IsDueAt w.setting history a m → now < m
+  idling-due now nothing a m d = go (item_due w) refl nothing
+    where
+      later : (i : DueItem) (b : Bool) → leb (ticks.moment_of i) now ≡ b → cond b (Some i) None ≡ None → now < ticks.moment_of i
+      later i true t f = absurd cc
+      later i false t f = leb-false _ _ t
+
+      go : (o : Option DueItem) → item_due w ≡ o → if_due now o ≡ None → now < m
+      go None is f = absurd (nothing-due is a m d)
+      go (Some i) is f = let lt = later i (leb (ticks.moment_of i) now) refl f in let le = due-no_later i is a m d in omega (arith, lt, le)
+
+  -- the least moment at which something is due
+  pub next-is : (at : ℕ) → next_due w ≡ Some at → IsNextDue w.setting history at
+  next-is at e = go (item_due w) refl e
+    where
+      go : (o : Option DueItem) → item_due w ≡ o → option_map ticks.moment_of o ≡ Some at → IsNextDue w.setting history at
+      go None is f = absurd cc
+      go (Some i) is f =
+          let same : ticks.moment_of i ≡ at = same_Some (ticks.moment_of i) at f in
+          record {
+            act = act_of i;
+            due = subst (λ (n : ℕ). IsDueAt w.setting history (act_of i) n) same (least-due i is);
+            least = λ a m d. subst (λ (n : ℕ). n ≤ m) same (due-no_later i is a m d);
+          }
+
+  -- where no tick is wanted, nothing is due
+  pub no-next : next_due w ≡ None → (a : Act) (m : ℕ) → ¬ IsDueAt w.setting history a m
+  no-next e a m d = go (item_due w) refl e
+    where
+      go : (o : Option DueItem) → item_due w ≡ o → option_map ticks.moment_of o ≡ None → ⊥
+      go None is f = nothing-due is a m d
+      go (Some i) is f = absurd cc
 
 -- what is due first is due at one moment
 pub one-next : (setting : Setting) (past : List Deed) (a b : ℕ) → IsNextDue setting past a → IsNextDue setting past b → a ≡ b

@@ -11,8 +11,7 @@ use Rattle.coap_model.specs.Events.{Event, arrival, tick}
 use Rattle.std.specs.Option.{option_map_or}
 use Rattle.coap_model.specs.Setting.{Setting}
 use Rattle.coap_forward.specs.Messages.{is_con}
-use Rattle.coap_model.specs.History.{Brings, comes_con}
-use Rattle.coap_model.specs.Justified.{IsRequestOf}
+use Rattle.coap_model.specs.History.{Brings, comes_con, IsRequestOf}
 use Rattle.coap_model.proofs.Places.{arrival-same, one-brought}
 
 -- an arrival is no tick

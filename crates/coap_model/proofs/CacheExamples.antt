@@ -141,13 +141,18 @@ pub cache_kept : IsCacheOf setting kept_past (first_entry ∷ [])
 cache_kept = kept (answered 5 1 1 (Answered Kept)) key_of_temp (content_for 1 1) (here (opened ∷ []) asked) refl (first_obtained Kept) cache_asked
 
 -- the request of another client
-abbrev get_read : Message
+abbrev pub get_read : Message
 get_read = record { kind = Non; code = GET; id = 7; token = []; options = option_of URI_PATH (codes "t") ∷ []; payload = [] }
+
+-- which is spelled so
+pub get_spelled : Spells (get_t []) get_read
+unfolding read_message body_at options_within option_at extended
+get_spelled = read_is (get_t []) get_read (are-bytes (get_t []) refl) refl
 
 -- it is that of a client who is shown it
 pub cache_hit : IsCacheOf setting hit_past (first_entry ∷ [])
-unfolding mapped_target request_target read_message body_at options_within option_at extended
-cache_hit = hit hits (client 2) get_read key_of_temp.target first_entry refl (record { bytes = get_t []; came = refl; spells = read_is (get_t []) get_read (are-bytes (get_t []) refl) refl; short = omega arith }) refl refl cache_kept
+unfolding mapped_target request_target
+cache_hit = hit hits (client 2) get_read key_of_temp.target first_entry refl (record { bytes = get_t []; came = refl; spells = get_spelled; short = omega arith }) refl refl cache_kept
 
 -- asking anew leaves it
 pub cache_asked_again : IsCacheOf setting asked_past (first_entry ∷ [])

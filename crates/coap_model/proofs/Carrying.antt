@@ -1,17 +1,19 @@
 -- Each step of a proxy that carries a history leaves one that carries the history with the step's entry.
-use Rattle.std.proofs.Common.{ℕ, Bool, ◌+◌, ◌≤◌, List, [], ◌∷◌, refl, ap, arith}
+use Rattle.std.proofs.Common.{◌≡◌, ℕ, Bool, true, false, cond, eqb, ◌+◌, ◌≤◌, List, [], ◌∷◌, refl, ap, arith}
+use Rattle.std.specs.Prelude.{◌/◌}
 use Rattle.coap_routes.specs.Routes.{AreRoutes}
 use Rattle.coap_model.specs.Setting.{Setting}
 use Rattle.coap_model.specs.Events.{Event, IsEvent}
 use Rattle.coap_model.specs.World.{World, Step, new_world}
 use Rattle.coap_model.specs.Step.{step_of}
-use Rattle.coap_model.specs.History.{Entry, Act, no_item, admits, moves, serves, Deed, opened_in}
+use Rattle.coap_model.specs.History.{Entry, Act, no_item, admits, moves, serves, Deed, opened_in, admitted_in}
 use Rattle.coap_model.specs.Runs.{entry_of}
-use Rattle.coap_model.specs.Carries.{Bears, Carries}
-use Rattle.coap_model.proofs.Rules.{Rule, refusing, lacking, overloading, hitting, opening, repeating, forgetting, answering, rejecting, ignoring, forwarding, delivering, idling, rule_of}
+use Rattle.coap_model.specs.Carries.{Ids, Bears, Carries}
+use Rattle.coap_model.proofs.Rules.{Rule, refusing, lacking, overloading, hitting, opening, repeating, forgetting, answering, rejecting, ignoring, forwarding, resending, giving_up, delivering, idling, stuck, rule_of}
 use Rattle.coap_model.proofs.Replying.{keeps_refusing, keeps_overloading, keeps_lacking, keeps_repeating, keeps_forgetting, keeps_rejecting, keeps_ignoring}
 use Rattle.coap_model.proofs.Places.{doing}
-use Rattle.coap_model.proofs.Idling.{keeps_idling}
+use Rattle.coap_model.proofs.Idling.{keeps_idling, not-stuck}
+use Rattle.coap_model.proofs.Repeating.{keeps_resending, keeps_giving_up}
 use Rattle.coap_model.proofs.Opening.{keeps_opening}
 use Rattle.coap_model.proofs.Hitting.{keeps_hitting}
 use Rattle.coap_model.proofs.Stores.{store-empty}
@@ -30,15 +32,18 @@ keeps_rule {w = w} {now = now} {draw = draw} history c onward (refusing client b
 keeps_rule {w = w} {now = now} {draw = draw} history c onward (lacking client bytes m first free) = record { act = no_item; bears = keeps_lacking w history c now draw client bytes m onward first free }
 keeps_rule {w = w} {now = now} {draw = draw} history c onward (overloading client bytes m key first verdict none short full free) = record { act = no_item; bears = keeps_overloading w history c now draw client bytes m onward first key verdict none short full free }
 keeps_rule {w = w} {now = now} {draw = draw} history c onward (hitting client bytes m key entry first verdict found usable free) = record { act = no_item; bears = keeps_hitting w history c now draw client bytes m key entry onward first verdict found usable free }
-keeps_rule {w = w} {now = now} {draw = draw} history c onward (opening client bytes m key first verdict none short room) = record { act = admits (opened_in history + 1) (opened_in history + 1); bears = keeps_opening w history c now draw client bytes m key onward first verdict none short room }
+keeps_rule {w = w} {now = now} {draw = draw} history c onward (opening client bytes m key first verdict none short room) = record { act = admits (admitted_in history + 1) (opened_in history + 1); bears = keeps_opening w history c now draw client bytes m key onward first verdict none short room }
 keeps_rule {w = w} {now = now} {draw = draw} history c onward (repeating client bytes m known fits asked found) = record { act = no_item; bears = keeps_repeating w history c now draw client bytes m known onward fits asked found }
 keeps_rule {w = w} {now = now} {draw = draw} history c onward (forgetting client bytes m fits asked unknown full) = record { act = no_item; bears = keeps_forgetting w history c now draw client bytes m onward fits asked unknown full }
 keeps_rule {w = w} {now = now} {draw = draw} {grown = grown} history c onward (answering source bytes m x storing store fits read response found stored) = record { act = moves x.0; bears = keeps_answering w history c now draw source bytes grown m x storing store onward fits read response found stored }
 keeps_rule {w = w} {now = now} {draw = draw} history c onward (rejecting source bytes head is con none) = record { act = no_item; bears = keeps_rejecting w history c now draw source bytes head onward is con none }
 keeps_rule {w = w} {now = now} {draw = draw} history c onward (ignoring source bytes quiet none) = record { act = no_item; bears = keeps_ignoring w history c now draw source bytes onward quiet none }
-keeps_rule {w = w} {now = now} {draw = draw} history c onward (forwarding x due) = record { act = moves x.0; bears = keeps_forwarding w history c now draw x onward due }
-keeps_rule {w = w} {now = now} {draw = draw} history c onward (delivering v a due) = record { act = serves v.0; bears = keeps_delivering w history c now draw v a onward due }
+keeps_rule {w = w} {now = now} {draw = draw} history c onward (forwarding at number x turn is early) = record { act = moves number; bears = keeps_forwarding w history c now draw at number x onward turn is early }
+keeps_rule {w = w} {now = now} {draw = draw} history c onward (resending at number x turn is early fire) = record { act = moves number; bears = keeps_resending w history c now draw at number x onward turn is early fire }
+keeps_rule {w = w} {now = now} {draw = draw} history c onward (giving_up at number x turn over) = record { act = moves number; bears = keeps_giving_up w history c now draw at number x onward turn over }
+keeps_rule {w = w} {now = now} {draw = draw} history c onward (delivering at number exchange v a due found waits answer) = record { act = serves number; bears = keeps_delivering w history c now draw at number exchange v a onward due found waits answer }
 keeps_rule {w = w} {now = now} {draw = draw} history c onward (idling nothing) = record { act = no_item; bears = keeps_idling w history c now draw onward nothing }
+keeps_rule {w = w} {now = now} {draw = draw} history c onward (stuck s) = not-stuck w history c now s
 
 -- a step goes on from what was done before
 pub keeps_deeds : (w : World) (history : List Deed) (now draw : ℕ) (grown : Bool) (event : Event) → Bears history w → w.last ≤ now → IsEvent event → IsKept history (entry_of now draw event (step_of w now draw grown event)) (step_of w now draw grown event).world
@@ -51,6 +56,14 @@ keeps_step w history now draw grown event c onward fits =
     let k = keeps_deeds w c.deeds now draw grown event c.bears onward fits in
     record { deeds = doing k.act e ∷ c.deeds; told = ap (λ (past : List Entry). e ∷ past) c.told; bears = k.bears }
 
+-- of ids a new proxy has given none
+new_ids-are : (setting : Setting) → Ids [] (new_world setting)
+new_ids-are setting = record { following = omega arith; given = λ now later. none (eqb 0 (now / 247000)); windows = λ v. omega arith; are_ids = tt }
+  where
+    none : (b : Bool) → ◌≡◌ {A = ℕ} (cond b 0 0) 0
+    none true = refl
+    none false = refl
+
 -- a new proxy carries the empty history
 pub starts : (setting : Setting) → AreRoutes setting.routes → Carries [] (new_world setting)
 starts setting are =
@@ -60,16 +73,17 @@ starts setting are =
       bears = record {
         routes = are;
         clock = record { events = refl; last = refl; in_order = tt };
-        numbers = record { opened = refl; admitted = refl; given = refl };
-        ids = tt;
-        fresh = λ x above. (tt, tt);
+        numbers = record { opened = refl; admitted = refl };
+        ids = new_ids-are setting;
+        unused = record { exchanges = λ x above. (tt, tt); sends = λ x above. refl; waiters = λ v above. tt; deliveries = λ v above. refl };
+        schedules = λ act. record { few = omega arith; spaced = tt };
+        whole = record { exchanges = refl; waiters = refl; rising = tt; waiters_rise = tt; awaited = tt; waited = tt; unended = λ x was never. absurd was.is_there; unserved = λ v x was never. absurd was.is_there };
         exchanges = tt;
         waiters = tt;
         store = store-empty setting;
         con_records = record { same = λ now later. refl; limit = refl; lifetime = refl; are = record { within = omega arith; in_order = tt; apart = tt }; until = tt; short = λ most wide long. tt };
         non_records = record { same = λ now later. refl; limit = refl; lifetime = refl; are = record { within = omega arith; in_order = tt; apart = tt }; until = tt; short = λ most wide long. tt };
-        whole = record { rising = tt; paired = tt; complete = λ n positive le. absurd (omega arith); under_way = refl; unsent = refl };
-        within = record { exchanges = omega arith; waiters = omega arith; ids = omega arith };
+        within = record { exchanges = omega arith; waiters = omega arith; pace = λ to. omega arith; ids = λ now later. let none = (new_ids-are setting).given now later in omega arith };
         past = tt;
       };
     }

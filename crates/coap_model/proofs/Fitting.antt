@@ -11,11 +11,14 @@ use Rattle.coap_forward.specs.Messages.{reset}
 use Rattle.coap_forward.specs.Answers.{shown}
 use Rattle.coap_model.specs.World.{World, Step, next_id, records_of}
 use Rattle.coap_model.specs.Step.{step_of}
-use Rattle.coap_model.specs.History.{Entry, Deed}
-use Rattle.coap_model.specs.Carries.{IsExchangeOf, IsWaiterOf, Bears, Carries}
+use Rattle.coap_model.specs.History.{Entry, Deed, Place}
+use Rattle.coap_model.specs.Carries.{Bears, Carries}
 use Rattle.coap_model.proofs.Showing.{answer-fits}
-use Rattle.coap_model.proofs.Rules.{Rule, refusing, lacking, overloading, hitting, opening, repeating, forgetting, answering, rejecting, ignoring, forwarding, delivering, idling, rule_of}
-use Rattle.coap_model.proofs.Tables.{due-sending}
+use Rattle.coap_model.proofs.Rules.{Rule, refusing, lacking, overloading, hitting, opening, repeating, forgetting, answering, rejecting, ignoring, forwarding, resending, giving_up, delivering, idling, stuck, rule_of}
+use Rattle.coap_model.proofs.Turns.{turn-exchange}
+use Rattle.coap_model.proofs.Getting.{timeout-fits}
+use Rattle.coap_cache.specs.declared.key.CacheKey.{CacheKey}
+use Rattle.coap_model.specs.Justified.{EndsWith, got, given_up}
 use Rattle.coap_model.proofs.Replying.{request-came}
 use Rattle.coap_model.proofs.Delivering.{served}
 use Rattle.coap_model.proofs.OwnReplies.{own-short, busy-short}
@@ -36,6 +39,16 @@ use Rattle.coap_option.specs.Selection.{tags_of}
 -- a Reset is short
 reset-short : (id : ℕ) → length (spelling (reset id)) ≤ 128
 reset-short id = omega (arith, spelling-length (reset id))
+
+-- ---- what clients are given
+
+-- what is shown of what an exchange ends with fits
+ending-fits : (w : World) (now id x : ℕ) (key : CacheKey) (p : Place) (a : Answer) (token : List ℕ) (tags : List (List ℕ)) → 128 ≤ w.setting.limits.datagram → EndsWith w.setting x key p a → length token ≤ 8 → length (spelling (shown now a id token tags)) ≤ w.setting.limits.datagram
+ending-fits w now id x key p a token tags wide (got gets asked is) short =
+    let m = gets.meets in
+    subst (λ (b : Answer). length (spelling (shown now b id token tags)) ≤ w.setting.limits.datagram) (sym is) (answer-fits w.setting.limits.datagram w.setting.limits.datagram now p.deed.entry.now id m.brings.bytes m.response token tags wide (omega arith) gets.bytes m.brings.spells short)
+ending-fits w now id x key p a token tags wide (given_up gives is) short =
+    subst (λ (b : Answer). length (spelling (shown now b id token tags)) ≤ w.setting.limits.datagram) (sym is) (timeout-fits now p.deed.entry.now id w.setting.limits.datagram token tags short wide)
 
 -- ---- each case
 
@@ -67,16 +80,14 @@ rule_fits {w = w} history c are (forgetting client bytes m fits asked unknown fu
 rule_fits {w = w} history c are (answering source bytes m x storing store fit read response found stored) = omega arith
 rule_fits {w = w} history c are (rejecting source bytes head is con none) = omega (arith, (are Datagram).0, reset-short head.id)
 rule_fits {w = w} history c are (ignoring source bytes quiet none) = omega arith
-rule_fits {w = w} {now = now} history c are (forwarding x due) =
-    let f = due-sending (IsExchangeOf w.setting history) (IsWaiterOf w.setting history) w.exchanges w.waiters now x c.exchanges c.waiters due in
-    omega (arith, length-with_id (next_id w) x.1.form, f.0.form_short)
-rule_fits {w = w} {now = now} history c are (delivering v a due) =
-    let s = served w history c now v a due in
-    let g = s.got.gets in
-    let short : length v.1.token ≤ 8 = subst (λ (t : List ℕ). length t ≤ 8) (sym s.waiter.token_is) s.waiter.opened.asked.brings.spells.message.token in
-    let fit = answer-fits w.setting.limits.datagram w.setting.limits.datagram now s.got.getting.deed.entry.now (next_id w) g.meets.brings.bytes g.meets.response v.1.token v.1.tags (are Datagram).0 (omega arith) g.bytes g.meets.brings.spells short in
-    subst (λ (b : Answer). length (spelling (shown now b (next_id w) v.1.token v.1.tags)) ≤ w.setting.limits.datagram) (sym s.got.answer_is) fit
+rule_fits {w = w} {now = now} history c are (forwarding at number x turn is early) = omega (arith, length-with_id (next_id w) x.form, (turn-exchange w history c now at number x turn).form_short)
+rule_fits {w = w} {now = now} history c are (resending at number x turn is early fire) = (turn-exchange w history c now at number x turn).form_short
+rule_fits {w = w} history c are (giving_up at number x turn over) = omega arith
+rule_fits {w = w} {now = now} history c are (delivering at number exchange v a due found waits answer) =
+    let s = served w history c number exchange v a found waits answer in
+    ending-fits w now (next_id w) exchange s.x.key s.done.ending a v.token v.tags (are Datagram).0 s.done.with s.short
 rule_fits {w = w} history c are (idling nothing) = omega arith
+rule_fits {w = w} history c are (stuck s) = omega arith
 
 -- so each datagram fits
 pub datagrams_fit : (w : World) (history : List Entry) (now draw : ℕ) (grown : Bool) (event : Event) → Carries history w → AreLimits w.setting.limits → IsEvent event → length (step_of w now draw grown event).bytes ≤ w.setting.limits.datagram

@@ -1,5 +1,5 @@
 -- Forged deliveries.
-use Rattle.std.proofs.Common.{◌≡◌, ◌≢◌, inl, inr, ⊎_elim, ℕ, List, [], ◌∷◌, Some, Result, Ok, Err, refl, sym, ap, ◌∙◌, subst, length, arith}
+use Rattle.std.proofs.Common.{◌≡◌, inl, inr, ⊎_elim, ℕ, false, List, [], ◌∷◌, Some, Result, Ok, Err, refl, sym, ap, ◌∙◌, subst, length, arith}
 use Rattle.std.proofs.lemmas.Option.{same_Some}
 use Rattle.coap_message.specs.declared.error.ReadError.{ReadError}
 use Rattle.coap_target.specs.declared.endpoint.Endpoint.{Endpoint}
@@ -11,25 +11,26 @@ use Rattle.coap_message.proofs.WholeMessages.{read_again}
 use Rattle.coap_option.specs.Selection.{tags_of, max_age_of}
 use Rattle.coap_forward.specs.Answers.{answer_of, shown}
 use Rattle.coap_model.specs.Examples.{origin, client, get_t, get_temp, content, content_for_client}
-use Rattle.coap_model.specs.History.{no_item, moves, serves, Deed, Sends, Place, IsPlaceOf, Opens, takes, Gets}
-use Rattle.coap_model.specs.declared.report.Outcome.TheVariants.{Answered, SentRequest}
-use Rattle.coap_model.specs.Due.{IsToServe, IsSooner}
-use Rattle.coap_model.specs.Justified.{IsDelivery}
-use Rattle.coap_model.specs.Forged.{setting, opened, asked, answered, past, asked_elsewhere, past_elsewhere, delivery, right, at_an_arrival}
-use Rattle.coap_routes.specs.declared.error.TargetError.{TargetError}
+use Rattle.coap_cache.specs.declared.answer.Answer.{Answer}
+use Rattle.coap_model.specs.Verdicts.{Verdict, may_ask, refused_with, verdict_of}
+use Rattle.coap_model.specs.History.{no_item, moves, serves, Deed, Sends, Place, IsPlaceOf, admits_one, Admits, ends, Ends, GivesUp}
+use Rattle.coap_model.specs.declared.report.Outcome.TheVariants.{Answered}
+use Rattle.coap_model.specs.Due.{to_send}
+use Rattle.coap_model.specs.Justified.{EndsWith, got, given_up, IsDelivery}
+use Rattle.coap_model.specs.Forged.{setting, opened, opened_too, asked, answered, past, asked_elsewhere, past_elsewhere, delivery, right, at_an_arrival}
 use Rattle.coap_routes.specs.Routes.{mapped_target}
 use Rattle.coap_routes.specs.Request.{request_target}
-use Rattle.coap_target.specs.declared.target.Target.{Target}
 use Rattle.coap_cache.specs.declared.key.CacheKey.{CacheKey}
 use Rattle.coap_model.specs.Keys.{key_sent, target_sent}
 use Rattle.coap_model.specs.Cached.{IsOfOrigin, WasObtained}
 use Rattle.std.specs.List.{sum_by}
 use Rattle.coap_model.specs.CacheExamples as cached
 use Rattle.coap_model.specs.CacheExamples.{content_for, first_entry}
-use Rattle.coap_model.specs.LimitExamples.{got}
+use Rattle.coap_model.specs.LimitExamples as limited
 use Rattle.coap_model.specs.OptionExamples.{key_of_temp}
 use Rattle.coap_model.specs.declared.report.Storing.TheVariants.{Kept}
-use Rattle.coap_model.proofs.Places.{here, same_moves, same_serves, arrival-same, opened-number, place-before}
+use Rattle.coap_model.proofs.Places.{here, same_serves, arrival-same, admitted-number, place-before}
+use Rattle.coap_model.proofs.CacheExamples.{get_read, get_spelled}
 
 -- the waiter that is served is that of the act
 pub for_nobody : ¬ IsDelivery setting past (delivery (client 1) (content_for_client 7) no_item)
@@ -39,62 +40,73 @@ for_nobody s = let e = s.act in absurd cc
 pub for_another : ¬ IsDelivery setting past (delivery (client 1) (content_for_client 7) (serves 2))
 for_another s =
     let same = same_serves 2 s.waiter s.act in
-    let i = opened-number s.opened in
+    let i = admitted-number s.to_serve.admitted in
     omega (arith, same, i.1)
 
 -- it wasn't served
 pub again : ¬ IsDelivery setting (right ∷ past) right
-again s = s.acting.due.unserved.0 (record { act = refl; outcome = refl })
+again s = s.to_serve.unserved.0 (record { act = s.act; outcome = refl })
+
+-- what is no end of an exchange
+no_end : (d : Deed) (before : List Deed) (p : Place) (x : ℕ) → ends d.entry.report.outcome ≡ false → here before d ≡ p → Ends x p → ⊥
+no_end d before p x not same e = let o = sym not ∙ ap (λ (q : Place). ends q.deed.entry.report.outcome) same ∙ e.outcome in cc
 
 -- its exchange was got
 pub nothing_got : ¬ IsDelivery setting (asked ∷ opened ∷ []) right
 nothing_got s =
+    let p = s.to_serve in
     ⊎_elim
-    (λ (e : here (opened ∷ []) asked ≡ s.getting). let o = ap (λ (p : Place). takes p.deed.entry.report.outcome) e ∙ s.gets.outcome in cc)
-    (λ (t : IsPlaceOf (opened ∷ []) s.getting). ⊎_elim (λ (e : here [] opened ≡ s.getting). let o = ap (λ (p : Place). takes p.deed.entry.report.outcome) e ∙ s.gets.outcome in cc) (λ (h : ⊥). h) t)
-    s.was_got
+    (λ (e : here (opened ∷ []) asked ≡ p.ending). no_end asked (opened ∷ []) p.ending p.admitted.exchange refl e p.ends)
+    (λ (t : IsPlaceOf (opened ∷ []) p.ending). ⊎_elim (λ (e : here [] opened ≡ p.ending). no_end opened [] p.ending p.admitted.exchange refl e p.ends) (λ (h : ⊥). h) t)
+    p.was_ended
+
+-- what is no admission
+no_admission : (d : Deed) (before : List Deed) (p : Place) (v x : ℕ) → admits_one d.entry.report.outcome ≡ 0 → here before d ≡ p → Admits v x p → ⊥
+no_admission d before p v x not same a = let o : 0 ≡ 1 = sym not ∙ ap (λ (q : Place). admits_one q.deed.entry.report.outcome) same ∙ a.outcome in omega (arith, o)
 
 -- what was got before its client asked is no answer to it
 pub early : ¬ IsDelivery setting (opened ∷ answered ∷ asked ∷ []) right
 early s =
+    let p = s.to_serve in
     ⊎_elim
-    (λ (e : here (answered ∷ asked ∷ []) opened ≡ s.getting). let o = ap (λ (p : Place). takes p.deed.entry.report.outcome) e ∙ s.gets.outcome in cc)
-    (λ (t : IsPlaceOf (answered ∷ asked ∷ []) s.getting). ⊎_elim
-    (λ (e : here (asked ∷ []) answered ≡ s.getting). unopened (subst (λ (p : Place). IsPlaceOf p.before s.opened.opening) (sym e) s.got_later))
-    (λ (u : IsPlaceOf (asked ∷ []) s.getting). ⊎_elim (λ (e : here [] asked ≡ s.getting). let o = ap (λ (p : Place). takes p.deed.entry.report.outcome) e ∙ s.gets.outcome in cc) (λ (h : ⊥). h) u)
+    (λ (e : here (answered ∷ asked ∷ []) opened ≡ p.ending). no_end opened (answered ∷ asked ∷ []) p.ending p.admitted.exchange refl e p.ends)
+    (λ (t : IsPlaceOf (answered ∷ asked ∷ []) p.ending). ⊎_elim
+    (λ (e : here (asked ∷ []) answered ≡ p.ending). unadmitted (subst (λ (q : Place). IsPlaceOf q.before p.admitted.admission) (sym e) s.later))
+    (λ (u : IsPlaceOf (asked ∷ []) p.ending). ⊎_elim (λ (e : here [] asked ≡ p.ending). no_end asked [] p.ending p.admitted.exchange refl e p.ends) (λ (h : ⊥). h) u)
     t)
-    s.was_got
+    p.was_ended
   where
-    unopened : IsPlaceOf (asked ∷ []) s.opened.opening → ⊥
-    unopened at = ⊎_elim (λ (e : here [] asked ≡ s.opened.opening). let o = ap (λ (p : Place). p.deed.entry.report.outcome) e ∙ s.opened.opens.0 in cc) (λ (h : ⊥). h) at
+    unadmitted : IsPlaceOf (asked ∷ []) s.to_serve.admitted.admission → ⊥
+    unadmitted at = ⊎_elim (λ (e : here [] asked ≡ s.to_serve.admitted.admission). no_admission asked [] s.to_serve.admitted.admission s.waiter s.to_serve.admitted.exchange refl e s.to_serve.admitted.admits) (λ (h : ⊥). h) at
 
--- what was opened and got in this past
-one_opening : (p : Place) (x : ℕ) → IsPlaceOf past p → Opens x p → p ≡ here [] opened
-one_opening p x at o =
+-- who was admitted in a past of three, whatever was asked
+one_admission : (d : Deed) (p : Place) (v x : ℕ) → admits_one d.entry.report.outcome ≡ 0 → IsPlaceOf (answered ∷ d ∷ opened ∷ []) p → Admits v x p → p ≡ here [] opened
+one_admission d p v x not at a =
     ⊎_elim
-    (λ (e : here (asked ∷ opened ∷ []) answered ≡ p). absurd (let f = ap (λ (q : Place). q.deed.entry.report.outcome) e ∙ o.0 in cc))
-    (λ (t : IsPlaceOf (asked ∷ opened ∷ []) p). ⊎_elim
-    (λ (e : here (opened ∷ []) asked ≡ p). absurd (let f = ap (λ (q : Place). q.deed.entry.report.outcome) e ∙ o.0 in cc))
+    (λ (e : here (d ∷ opened ∷ []) answered ≡ p). absurd (no_admission answered (d ∷ opened ∷ []) p v x refl e a))
+    (λ (t : IsPlaceOf (d ∷ opened ∷ []) p). ⊎_elim
+    (λ (e : here (opened ∷ []) d ≡ p). absurd (no_admission d (opened ∷ []) p v x not e a))
     (λ (u : IsPlaceOf (opened ∷ []) p). ⊎_elim (λ (e : here [] opened ≡ p). sym e) (λ (h : ⊥). absurd h) u)
     t)
     at
 
--- and what was got
-one_getting : (p : Place) (x : ℕ) → IsPlaceOf past p → Gets setting x p → p ≡ here (asked ∷ opened ∷ []) answered
-one_getting p x at g =
+-- and what ended in this past
+one_end : (p : Place) (x : ℕ) → IsPlaceOf past p → Ends x p → p ≡ here (asked ∷ opened ∷ []) answered
+one_end p x at e =
     ⊎_elim
-    (λ (e : here (asked ∷ opened ∷ []) answered ≡ p). sym e)
+    (λ (same : here (asked ∷ opened ∷ []) answered ≡ p). sym same)
     (λ (t : IsPlaceOf (asked ∷ opened ∷ []) p). ⊎_elim
-    (λ (e : here (opened ∷ []) asked ≡ p). absurd (let f = ap (λ (q : Place). takes q.deed.entry.report.outcome) e ∙ g.outcome in cc))
-    (λ (u : IsPlaceOf (opened ∷ []) p). ⊎_elim (λ (e : here [] opened ≡ p). absurd (let f = ap (λ (q : Place). takes q.deed.entry.report.outcome) e ∙ g.outcome in cc)) (λ (h : ⊥). absurd h) u)
+    (λ (same : here (opened ∷ []) asked ≡ p). absurd (no_end asked (opened ∷ []) p x refl same e))
+    (λ (u : IsPlaceOf (opened ∷ []) p). ⊎_elim (λ (same : here [] opened ≡ p). absurd (no_end opened [] p x refl same e)) (λ (h : ⊥). absurd h) u)
     t)
     at
 
 -- the client is the one that asked
 pub to_another : ¬ IsDelivery setting past (delivery (client 2) (content_for_client 7) (serves 1))
 to_another s =
-    let place = one_opening s.opened.opening s.waiter s.opened.was_opened s.opened.opens in
-    let same = arrival-same s.opened.client (client 1) s.opened.asked.brings.bytes _ (sym s.opened.asked.brings.came ∙ ap (λ (p : Place). p.deed.entry.event) place) in
+    let a = s.to_serve.admitted in
+    let place = one_admission asked a.admission s.waiter a.exchange refl a.was_admitted a.admits in
+    let same = arrival-same a.client (client 1) a.asked.brings.bytes _ (sym a.asked.brings.came ∙ ap (λ (p : Place). p.deed.entry.event) place) in
     let to = same_Some (client 2) (client 1) (s.tells.sent ∙ ap Some same.0) in
     let port = ap (λ (e : Endpoint). e.port) to in
     omega (arith, port)
@@ -104,21 +116,30 @@ pub untimely : ¬ IsDelivery setting past (at_an_arrival right)
 untimely s = let e = s.acting.ticked in absurd cc
 
 -- what is due before it was done before it
-pub out_of_turn : ¬ IsDelivery setting (opened ∷ past) right
-out_of_turn s = s.acting.first (moves 2) 0 (record { opening = here past opened; was_opened = inl refl; opens = (refl, refl); unsent = (unopened opened (λ e. cc) past, (unopened answered (λ e. cc) (asked ∷ opened ∷ []), (other, (unopened opened (λ e. cc) [], tt)))); at_is = refl }) (sooner s.acting.due)
+pub out_of_turn : ¬ IsDelivery setting (opened_too ∷ past) right
+unfolding verdict_of request_target mapped_target
+out_of_turn s =
+    s.acting.first (moves 2) 0
+    (to_send (record {
+      opened = record {
+        opening = here past opened_too;
+        client = client 1;
+        request = get_read;
+        was_opened = inl refl;
+        opens = (refl, refl);
+        asked = record { brings = record { bytes = get_t []; came = refl; spells = get_spelled; short = omega arith }; kind = refl; method = refl };
+      };
+      key = key_of_temp;
+      verdict = refl;
+      stage = refl;
+      free = omega arith;
+      at_is = refl;
+    }))
+    (inr (sym (moment s.to_serve.ending s.to_serve.was_ended s.to_serve.ends s.to_serve.at_is), tt))
   where
-    unopened : (d : Deed) → d.entry.report.outcome ≢ SentRequest → (before : List Deed) → ¬ Sends 0 2 (here before d)
-    unopened d not before s = not s.outcome
-
-    other : ¬ Sends 0 2 (here (opened ∷ []) asked)
-    other s = let e = same_moves 1 2 s.act in omega (arith, e)
-
-    moment : (p : Place) → IsPlaceOf (opened ∷ past) p → Gets setting 1 p → s.acting.at ≡ p.deed.entry.now → s.acting.at ≡ 0
-    moment p at g is =
-        ⊎_elim (λ (e : here past opened ≡ p). is ∙ sym (ap (λ (q : Place). q.deed.entry.now) e)) (λ (t : IsPlaceOf past p). is ∙ ap (λ (q : Place). q.deed.entry.now) (one_getting p 1 t g)) at
-
-    sooner : IsToServe setting (opened ∷ past) 1 s.acting.at → IsSooner (moves 2) 0 (serves 1) s.acting.at
-    sooner d = inr (sym (moment d.getting d.was_got d.gets d.at_is), tt)
+    moment : (p : Place) → IsPlaceOf (opened_too ∷ past) p → Ends s.to_serve.admitted.exchange p → s.acting.at ≡ p.deed.entry.now → s.acting.at ≡ 0
+    moment p at e is =
+        ⊎_elim (λ (same : here past opened_too ≡ p). is ∙ sym (ap (λ (q : Place). q.deed.entry.now) same)) (λ (t : IsPlaceOf past p). is ∙ ap (λ (q : Place). q.deed.entry.now) (one_end p s.to_serve.admitted.exchange t e)) at
 
 -- the Max-Age that a message tells
 abbrev told_by : Result Message ReadError → ℕ
@@ -130,17 +151,25 @@ abbrev owed_by : ℕ → Message → Result Message ReadError → ℕ
 owed_by id request (Ok m) = max_age_of (shown 2500 (answer_of 1500 0 m) id request.token (tags_of request))
 owed_by id request (Err e) = 0
 
+-- what was got there is an answer, and its Max-Age is that of what came
+got_age : (x : ℕ) (key : CacheKey) (p : Place) (answer : Answer) (id : ℕ) (request : Message) → p ≡ here (asked ∷ opened ∷ []) answered → EndsWith setting x key p answer → max_age_of (shown 2500 answer id request.token (tags_of request)) ≡ 7
+unfolding read_message body_at options_within option_at extended answer_of spelling option_spelling uint_spelling
+got_age x key p answer id request place (got gets asked_key is) =
+    let m = gets.meets in
+    let same = arrival-same m.asks.sends.to _ m.brings.bytes content (sym m.brings.came ∙ ap (λ (q : Place). q.deed.entry.event) place) in
+    let read = ap read_message (sym same.1) ∙ read_again m.brings.bytes m.response m.brings.spells in
+    let answer_is : answer ≡ answer_of 1500 0 m.response = is ∙ ap (λ (q : Place). answer_of 1500 q.deed.entry.now m.response) place in
+    ap (λ (a : Answer). max_age_of (shown 2500 a id request.token (tags_of request))) answer_is ∙ sym (ap (owed_by id request) read)
+got_age x key p answer id request place (given_up gives is) = absurd (let e = ap (λ (q : Place). q.deed.entry.report.outcome) (sym place) ∙ gives.outcome in cc)
+
 -- the Max-Age that is told is what is left: seven seconds, and not ten
 pub another_age : ¬ IsDelivery setting past (delivery (client 1) (content_for_client 10) (serves 1))
-unfolding read_message body_at options_within option_at extended uint_spelling answer_of spelling option_spelling
+unfolding read_message body_at options_within option_at extended
 another_age s =
-    let place = one_getting s.getting s.waiter s.was_got s.gets in
-    let m = s.gets.meets in
-    let same = arrival-same m.asks.sends.to _ m.brings.bytes content (sym m.brings.came ∙ ap (λ (p : Place). p.deed.entry.event) place) in
-    let read = ap read_message (sym same.1) ∙ read_again m.brings.bytes m.response m.brings.spells in
-    let told = read_again (content_for_client 10) (shown 2500 (answer_of 1500 s.getting.deed.entry.now m.response) s.id s.opened.request.token (tags_of s.opened.request)) s.tells.spells in
-    let moment = ap (λ (p : Place). max_age_of (shown 2500 (answer_of 1500 p.deed.entry.now m.response) s.id s.opened.request.token (tags_of s.opened.request))) place in
-    let ten : 10 ≡ 7 = ap told_by told ∙ moment ∙ sym (ap (owed_by s.id s.opened.request) read) in
+    let p = s.to_serve in
+    let place = one_end p.ending p.admitted.exchange p.was_ended p.ends in
+    let told = read_again (content_for_client 10) (shown 2500 s.answer s.id p.admitted.request.token (tags_of p.admitted.request)) s.tells.spells in
+    let ten : 10 ≡ 7 = ap told_by told ∙ got_age p.admitted.exchange s.key p.ending s.answer s.id p.admitted.request place s.ended in
     omega (arith, ten)
 
 -- ---- the key that was asked for
@@ -150,26 +179,15 @@ abbrev segments_sent : Result Message ReadError → ℕ
 segments_sent (Ok m) = length (key_sent origin m).target.path
 segments_sent (Err e) = 0
 
--- the segments of a target
-abbrev segments_of : Result Target TargetError → ℕ
-segments_of (Ok t) = length t.path
-segments_of (Err e) = 0
+-- the segments of the target of what may be asked for
+abbrev segments_of : Verdict → ℕ
+segments_of (may_ask key) = length key.target.path
+segments_of (refused_with code) = 0
 
 -- those of the target of a request
 abbrev segments_aimed : Result Message ReadError → ℕ
-segments_aimed (Ok m) = segments_of (request_target setting.routes m)
+segments_aimed (Ok m) = segments_of (verdict_of setting.routes m)
 segments_aimed (Err e) = 0
-
--- where this was opened
-elsewhere_opened : (p : Place) (x : ℕ) → IsPlaceOf past_elsewhere p → Opens x p → p ≡ here [] opened
-elsewhere_opened p x at o =
-    ⊎_elim
-    (λ (e : here (asked_elsewhere ∷ opened ∷ []) answered ≡ p). absurd (let f = ap (λ (q : Place). q.deed.entry.report.outcome) e ∙ o.0 in cc))
-    (λ (t : IsPlaceOf (asked_elsewhere ∷ opened ∷ []) p). ⊎_elim
-    (λ (e : here (opened ∷ []) asked_elsewhere ≡ p). absurd (let f = ap (λ (q : Place). q.deed.entry.report.outcome) e ∙ o.0 in cc))
-    (λ (u : IsPlaceOf (opened ∷ []) p). ⊎_elim (λ (e : here [] opened ≡ p). sym e) (λ (h : ⊥). absurd h) u)
-    t)
-    at
 
 -- where anything was sent
 elsewhere_sent : (p : Place) (x : ℕ) → IsPlaceOf past_elsewhere p → Sends 0 x p → p ≡ here (opened ∷ []) asked_elsewhere
@@ -182,21 +200,42 @@ elsewhere_sent p x at s =
     t)
     at
 
+-- nothing was given up there
+elsewhere_kept : (p : Place) (x : ℕ) → IsPlaceOf past_elsewhere p → GivesUp x p → ⊥
+elsewhere_kept p x at g =
+    ⊎_elim
+    (λ (e : here (asked_elsewhere ∷ opened ∷ []) answered ≡ p). let f = ap (λ (q : Place). q.deed.entry.report.outcome) e ∙ g.outcome in cc)
+    (λ (t : IsPlaceOf (asked_elsewhere ∷ opened ∷ []) p). ⊎_elim
+    (λ (e : here (opened ∷ []) asked_elsewhere ≡ p). let f = ap (λ (q : Place). q.deed.entry.report.outcome) e ∙ g.outcome in cc)
+    (λ (u : IsPlaceOf (opened ∷ []) p). ⊎_elim (λ (e : here [] opened ≡ p). let f = ap (λ (q : Place). q.deed.entry.report.outcome) e ∙ g.outcome in cc) (λ (h : ⊥). h) u)
+    t)
+    at
+
+-- the answer to it is for the key of that
+key_elsewhere : (x : ℕ) (key : CacheKey) (p : Place) (answer : Answer) → IsPlaceOf past_elsewhere p → EndsWith setting x key p answer → 2 ≡ length key.target.path
+unfolding read_message body_at options_within option_at extended key_sent target_sent
+key_elsewhere x key p answer at (got gets asked_key is) =
+    let m = gets.meets in
+    let sends = m.asks.sends in
+    let place = elsewhere_sent m.asking x (place-before past_elsewhere p m.asking at m.was_asked) sends in
+    let sent = read_again m.asking.deed.entry.bytes sends.message sends.spells in
+    let to : sends.to ≡ origin = same_Some sends.to origin (sym sends.sent ∙ ap (λ (q : Place). q.deed.entry.report.send) place) in
+    let told : 2 ≡ length (key_sent sends.to sends.message).target.path = ap (λ (q : Place). segments_sent (read_message q.deed.entry.bytes)) (sym place) ∙ ap segments_sent sent in
+    told ∙ ap (λ (k : CacheKey). length k.target.path) asked_key
+key_elsewhere x key p answer at (given_up gives is) = absurd (elsewhere_kept p x at gives)
+
 -- the request that was sent for it has the key of the client's
 pub elsewhere : ¬ IsDelivery setting past_elsewhere right
-unfolding read_message body_at options_within option_at extended request_target mapped_target key_sent target_sent
+unfolding read_message body_at options_within option_at extended verdict_of request_target mapped_target
 elsewhere s =
-    let m = s.gets.meets in
-    let sends = m.asks.sends in
-    let place = elsewhere_sent m.asking s.waiter (place-before past_elsewhere s.getting m.asking s.was_got m.was_asked) sends in
-    let sent = read_again m.asking.deed.entry.bytes sends.message sends.spells in
-    let told : 2 ≡ length (key_sent sends.to sends.message).target.path = ap (λ (p : Place). segments_sent (read_message p.deed.entry.bytes)) (sym place) ∙ ap segments_sent sent in
-    let opening = elsewhere_opened s.opened.opening s.waiter s.opened.was_opened s.opened.opens in
-    let came = arrival-same s.opened.client (client 1) s.opened.asked.brings.bytes (get_t []) (sym s.opened.asked.brings.came ∙ ap (λ (p : Place). p.deed.entry.event) opening) in
-    let read = ap read_message (sym came.1) ∙ read_again s.opened.asked.brings.bytes s.opened.request s.opened.asked.brings.spells in
-    let aimed : 1 ≡ length s.target.path = ap segments_aimed read ∙ ap segments_of s.target_is in
-    let same = ap (λ (k : CacheKey). length k.target.path) s.asked_key in
-    omega (arith, told, aimed, same)
+    let p = s.to_serve in
+    let a = p.admitted in
+    let told = key_elsewhere a.exchange s.key p.ending s.answer p.was_ended s.ended in
+    let place = one_admission asked_elsewhere a.admission s.waiter a.exchange refl a.was_admitted a.admits in
+    let came = arrival-same a.client (client 1) a.asked.brings.bytes (get_t []) (sym a.asked.brings.came ∙ ap (λ (q : Place). q.deed.entry.event) place) in
+    let read = ap read_message (sym came.1) ∙ read_again a.asked.brings.bytes a.request a.asked.brings.spells in
+    let aimed : 1 ≡ length s.key.target.path = ap segments_aimed read ∙ ap segments_of s.verdict in
+    omega (arith, told, aimed)
 
 -- ---- entries
 
@@ -217,7 +256,7 @@ token_told (Err e) = 0
 pub not_its_answer : ¬ IsOfOrigin setting key_of_temp (content_for 1 2) (here (opened ∷ []) asked) (here (asked ∷ opened ∷ []) (cached.answered 5 1 2 (Answered Kept)))
 unfolding read_message body_at options_within option_at extended
 not_its_answer o =
-    let same = arrival-same o.origin origin o.brings.bytes (got 1 2) (sym o.brings.came) in
+    let same = arrival-same o.origin origin o.brings.bytes (limited.got 1 2) (sym o.brings.came) in
     let told : 2 ≡ sum_by (λ b. b) o.came.token = ap token_told (ap read_message (sym same.1) ∙ read_again o.brings.bytes o.came o.brings.spells) in
     let sent : 1 ≡ sum_by (λ b. b) o.request.token = ap token_told (read_again (get_temp []) o.request o.spells) in
     let token = ap (λ (t : List ℕ). sum_by (λ b. b) t) o.matches.same_token in

@@ -1,132 +1,138 @@
 -- Sending a request on keeps what is carried.
-use Rattle.std.proofs.Common.{◌≡◌, inl, inr, ⊎_elim, ℕ, ◌≤◌, true, List, ◌∷◌, Some, refl, sym, ap, ◌∙◌, subst, arith}
-use Rattle.coap_message.specs.Spelling.{Spells, spelling}
+use Rattle.std.proofs.Common.{◌≡◌, inl, ℕ, ◌+◌, ◌<◌, ◌≤◌, List, [], ◌∷◌, Bool, true, false, Option, refl, sym, ap, ◌∙◌, subst, arith}
+use Rattle.std.specs.Prelude.{◌&&◌}
+use Rattle.coap_message.specs.Spelling.{Spells, spelling, with_id}
 use Rattle.coap_message.proofs.Spellings.{spelled}
 use Rattle.coap_option.specs.Selection.{sent_on}
-use Rattle.coap_cache.specs.declared.key.CacheKey.{CacheKey}
-use Rattle.coap_exchange.specs.declared.exchange.ExchangeState.{ExchangeState}
-use Rattle.coap_exchange.specs.declared.exchange.ExchangeState.TheVariants.{Queued, Sent, Done}
+use Rattle.coap_target.specs.declared.endpoint.Endpoint.{Endpoint}
+use Rattle.coap_target.specs.Endpoint.{same_endpoint}
+use Rattle.coap_target.proofs.Equality.{Tells-endpoint}
+use Rattle.coap_target.proofs.Lists.{All-weaken}
 use Rattle.coap_exchange.specs.declared.exchange.Exchange.{Exchange}
-use Rattle.coap_exchange.specs.Exchanges.{moved, is_queued}
-use Rattle.coap_exchange.specs.Table.{Numbered}
-use Rattle.coap_exchange.proofs.Counts.{one_if}
-use Rattle.coap_exchange.proofs.States.{moved-cases, length-with_state, IsRising-with_state}
-use Rattle.coap_model.specs.Events.{tick}
+use Rattle.coap_exchange.specs.declared.exchange.ExchangeState.{ExchangeState}
+use Rattle.coap_exchange.specs.declared.exchange.ExchangeState.TheVariants.{Queued}
+use Rattle.coap_exchange.specs.declared.exchange.Sending.{Sending}
+use Rattle.coap_exchange.specs.Exchanges.{is_queued, is_queued_state, is_sent_state, is_sent_to, deadline, sent}
+use Rattle.coap_exchange.specs.Ids.{called}
+use Rattle.coap_exchange.specs.Table.{item_at, changed_at, count, passes}
+use Rattle.coap_exchange.specs.Timers.{started}
+use Rattle.coap_exchange.specs.Waiters.{is_waiting}
+use Rattle.coap_exchange.proofs.Counts.{one_if, count-moved}
+use Rattle.coap_forward.specs.Forms.{forwarded}
 use Rattle.coap_forward.specs.Messages.{token_of}
-use Rattle.coap_forward.specs.Forms.{forwarded, with_id}
-use Rattle.coap_model.specs.Verdicts.{may_ask}
-use Rattle.coap_model.specs.World.{World, next_id}
-use Rattle.coap_exchange.specs.Due.{sending, least}
-use Rattle.coap_model.specs.Ticks.{items_of, if_due, sends}
-use Rattle.coap_model.specs.History.{moves, Deed, Sends, Gets}
-use Rattle.coap_model.specs.Justified.{verdict_on}
-use Rattle.coap_model.specs.Runs.{entry_of}
-use Rattle.coap_model.specs.Carries.{IsState, IsExchangeOf, IsWaiterOf, Bears}
-use Rattle.coap_model.proofs.Lists.{All-map, Has, All-there}
-use Rattle.coap_model.proofs.Quiet.{remembered-still}
-use Rattle.coap_model.proofs.Places.{here, doing, same_moves, opened-number, one-opened}
-use Rattle.coap_forward.proofs.Forms.{forwarded-is, with_id-forwarded}
-use Rattle.coap_model.proofs.Keys.{key-forwarded}
+use Rattle.coap_forward.proofs.Forms.{forwarded-is, with_id-forwarded, length-with_id}
 use Rattle.coap_forward.proofs.Tokens.{length-token_of}
-use Rattle.coap_model.proofs.Verdicts.{askable}
-use Rattle.coap_model.proofs.Tables.{due-sending, ArePaired-with_state, HasNumber-with_state, count-moved}
-use Rattle.coap_model.proofs.Frames.{clock_frame, numbers_frame, exchange_moved, exchange_frame, waiters_frame, fresh_frame, later_served, gets-not, serves-not}
+use Rattle.coap_model.specs.declared.due.DueItem.TheVariants.{OfExchange}
+use Rattle.coap_model.specs.Events.{tick}
+use Rattle.coap_model.specs.World.{World, next_id}
+use Rattle.coap_model.specs.Ticks.{sends}
+use Rattle.coap_model.specs.Runs.{entry_of}
+use Rattle.coap_model.specs.History.{Entry, moves, Deed}
+use Rattle.coap_model.specs.Standing as stages
+use Rattle.coap_model.specs.Schedules.{IsSchedule, sends_by}
+use Rattle.coap_model.specs.Carries.{IsTimer, AreOfBytes, IsState, form_id, Bears}
 use Rattle.coap_model.proofs.Acting.{acting}
-use Rattle.coap_model.proofs.Stores.{store-otherwise}
+use Rattle.coap_model.proofs.Frames.{same_act-self, sends-grow, schedules_with}
+use Rattle.coap_model.proofs.Giving.{ids-given, room-called}
+use Rattle.coap_model.proofs.Keys.{key-forwarded}
+use Rattle.coap_model.proofs.Lists.{Has, Has-all}
+use Rattle.coap_model.proofs.Moving.{keeps_moving}
+use Rattle.coap_model.proofs.Places.{here, doing, opened-later}
 use Rattle.coap_model.proofs.Replying.{id-same}
+use Rattle.coap_model.proofs.Rules.{IsTurnOf}
+use Rattle.coap_model.proofs.Seen.{staged-seen}
+use Rattle.coap_model.proofs.Stores.{store-otherwise}
+use Rattle.coap_model.proofs.Tables.{one-item}
+use Rattle.coap_model.proofs.Turns.{turn-there, turn-exchange, turn-in_time, turn-few, turn-to_send}
+use Rattle.coap_model.proofs.Verdicts.{askable}
 
--- what tests as queued is queued
-queued_state : (s : ExchangeState) → is_queued s ≡ true → s ≡ Queued
-queued_state Queued e = refl
-queued_state (Sent s) e = absurd cc
-queued_state (Done a) e = absurd cc
+-- ---- timers
 
--- what may be asked for has one key
-one_key : {a b : CacheKey} → may_ask a ≡ may_ask b → a ≡ b
-one_key e = cc
+-- a timer that was started now is that of one sending
+started-is : (e : Entry) → IsTimer (started e.now e.draw) (e ∷ [])
+started-is e = (refl, refl, omega arith, refl)
 
--- exchanges of one number have one key
-pub same_key : (w : World) (history : List Deed) (x y : Numbered Exchange) → (f : IsExchangeOf w.setting history x) (g : IsExchangeOf w.setting history y) → x.0 ≡ y.0
-    → x.1.key ≡ y.1.key
-same_key w history x y f g same =
-    let request = (one-opened same f.opened g.opened).2 in
-    one_key (sym f.verdict ∙ ap (verdict_on w.setting) request ∙ g.verdict)
+-- ---- the rule
 
 -- sending a request on keeps what is carried
-pub keeps_forwarding : (w : World) (history : List Deed) (c : Bears history w) → (now draw : ℕ) (x : Numbered Exchange) → w.last ≤ now → if_due now (least (items_of w)) ≡ Some (sending x)
-    → Bears (doing (moves x.0) (entry_of now draw tick (sends w now x)) ∷ history) (sends w now x).world
-keeps_forwarding w history c now draw x onward due =
-    let e = doing (moves x.0) (entry_of now draw tick (sends w now x)) in
+pub keeps_forwarding : (w : World) (history : List Deed) (c : Bears history w) → (now draw at number : ℕ) (x : Exchange) → w.last ≤ now → IsTurnOf w now at number x → x.state ≡ Queued → now < deadline w.setting.limits.exchange_ms x
+    → Bears (doing (moves number) (entry_of now draw tick (sends w now draw number x)) ∷ history) (sends w now draw number x).world
+keeps_forwarding w history c now draw at number x onward turn queued early =
+    let e = doing (moves number) (entry_of now draw tick (sends w now draw number x)) in
     let p = here history e in
     let salt = w.setting.salt in
     let id = next_id w in
-    let found = due-sending (λ y. IsExchangeOf w.setting history y × Has y w.exchanges) (IsWaiterOf w.setting history) w.exchanges w.waiters now x (All-there (IsExchangeOf w.setting history) w.exchanges c.exchanges) c.waiters due in
-    let f = found.0.0 in
-    let there = found.0.1 in
-    let queued = queued_state x.1.state found.1 in
+    let f = turn-exchange w history c now at number x turn in
     let asked = f.opened.request in
-    let key = x.1.key in
-    let may = askable w.setting.routes asked c.routes x.1.key f.verdict in
-    let state : IsState w.setting history x.0 key Queued = subst (IsState w.setting history x.0 key) queued f.state in
-    let request = forwarded (token_of salt x.0) x.1.key.target (sent_on asked) id in
-    let is = forwarded-is (token_of salt x.0) x.1.key.target asked id may.sound f.opened.asked.brings.spells.message.options may.screened (omega (arith, length-token_of salt x.0)) in
-    let bytes_are : e.entry.bytes ≡ spelling request = ap (with_id id) f.form_is ∙ with_id-forwarded id (token_of salt x.0) x.1.key.target (sent_on asked) in
-    let spells : Spells e.entry.bytes request = subst (λ (b : List ℕ). Spells b request) (sym bytes_are) (spelled request is) in
-    let ungot : (n : ℕ) → Gets w.setting n p → ⊥ = gets-not w.setting history e (λ o. cc) in
-    let number : (n : ℕ) → Sends salt n p → n ≡ x.0 = λ n s. same_moves n x.0 (sym s.act) in
-    let next : ExchangeState = Sent (record { asked = w.events; id = id }) in
-    let fewer_queued = count-moved is_queued x 0 next w.exchanges c.whole.rising there in
-    let was_queued : one_if (is_queued x.1.state) ≡ 1 = ap one_if found.1 in
-    let first_is : Sends salt x.0 p = record { act = refl; outcome = refl; to = x.1.key.target.at; sent = refl; message = request; spells = spells; token = refl } in
-    record {
-      routes = c.routes;
-      clock = clock_frame c.clock onward refl refl;
-      numbers = numbers_frame c.numbers (omega arith) (omega arith) (omega arith);
-      ids = ((λ g. record { gives = refl; message = request; spells = spells; id_is = id-same w history c }), c.ids);
-      fresh = fresh_frame w.setting history e (λ n above s. let i = number n s in let j = opened-number f.opened in omega (arith, j.1)) (λ n above g. ungot n g) c.fresh;
-      exchanges =
-          All-map (IsExchangeOf w.setting history) (IsExchangeOf w.setting (e ∷ history)) (moved x.0 next) w.exchanges
-          (λ y g.
-          moved-cases (IsExchangeOf w.setting (e ∷ history)) x.0 next y
-          (λ same. exchange_moved w.setting history e y next g (
-          subst (λ (n : ℕ). IsState w.setting (e ∷ history) n y.1.key next) (sym same) (
-            record {
-              asking = p;
-              was_asked = inl refl;
-              asks = record { sends = first_is; first = state.0 };
-              asked_key = key-forwarded (token_of salt x.0) x.1.key.target asked id may.screened may.get ∙ sym may.key_is ∙ same_key w history x y f g (sym same);
-              to = ap (λ (k : CacheKey). k.target.at) (same_key w history x y f g (sym same));
-              id_is = refl;
-              number = c.clock.events;
-            },
-            (ungot x.0, state.1),
-          )
-          ))
-          (λ other. exchange_frame w.setting history e y (λ s. other (number y.0 s)) (ungot y.0) g))
-          c.exchanges;
-      waiters = waiters_frame w.setting history e w.waiters (serves-not history e (λ o. cc)) c.waiters;
-      whole = record {
-        rising = IsRising-with_state x.0 0 next w.exchanges c.whole.rising;
-        paired = ArePaired-with_state x.0 next w.exchanges w.waiters c.whole.paired;
-        complete = λ n positive le. ⊎_elim (λ here. inl (HasNumber-with_state x.0 n next w.exchanges here)) (λ s. inr s) (later_served history e w.exchanges n (c.whole.complete n positive (omega arith)));
-        under_way = let h = c.whole.under_way in let l = length-with_state x.0 next w.exchanges in omega arith;
-        unsent = let h = c.whole.unsent in omega arith;
+    let may = askable w.setting.routes asked c.routes x.key f.verdict in
+    let state : IsState w.setting history (number, x) Queued = subst (IsState w.setting history (number, x)) queued f.state in
+    let request = forwarded (token_of salt number) x.key.target (sent_on asked) id in
+    let is = forwarded-is (token_of salt number) x.key.target asked id may.sound f.opened.asked.brings.spells.message.options may.screened (omega (arith, length-token_of salt number)) in
+    let form : x.form ≡ spelling (forwarded (token_of salt number) x.key.target (sent_on asked) 0) = f.form_is ∙ ap (λ (o : Option Sending). spelling (forwarded (token_of salt number) x.key.target (sent_on asked) (form_id o))) state.unsent in
+    let bytes_are : with_id id x.form ≡ spelling request = ap (with_id id) form ∙ with_id-forwarded id (token_of salt number) x.key.target (sent_on asked) in
+    let spells : Spells (with_id id x.form) request = subst (λ (b : List ℕ). Spells b request) (sym bytes_are) (spelled request is) in
+    let sending : Sending = record { asked = w.events; id = id; timer = started now draw } in
+    let grown : sends_by (moves number) (e ∷ history) ≡ e.entry ∷ [] = sends-grow (moves number) history e (same_act-self number) refl ∙ ap (λ (es : List Entry). e.entry ∷ es) state.no_sends in
+    let passes_queued : passes is_queued (item_at number w.exchanges) ≡ true = ap (passes is_queued) turn.found ∙ ap is_queued_state queued in
+    let passes_sent : passes (λ a. is_queued (sent sending a)) (item_at number w.exchanges) ≡ false = ap (passes (λ a. is_queued (sent sending a))) turn.found in
+    let fewer : count is_queued (changed_at number (sent sending) w.exchanges) + 1 ≡ count is_queued w.exchanges =
+    less (count is_queued (changed_at number (sent sending) w.exchanges)) (count is_queued w.exchanges) _ _ passes_queued passes_sent (count-moved is_queued number 0 (sent sending) w.exchanges c.whole.rising) in
+    let within = c.within.ids now onward in
+    keeps_moving w history c e number x (sent sending) (called now w.ids) w.store
+    (record { act = refl; opens = refl; admits = refl; unremembered = refl; stands = λ standing. refl })
+    turn.found onward
+    (record {
+      opened = opened-later e f.opened;
+      admitted = f.admitted;
+      verdict = f.verdict;
+      form_is = bytes_are;
+      form_short = let short = f.form_short in omega (arith, short, length-with_id id x.form);
+      state = record {
+        sending = sending;
+        sending_is = refl;
+        asked = record {
+          asking = p;
+          was_asked = inl refl;
+          asks = record { sends = record { act = refl; outcome = refl; to = x.key.target.at; sent = refl; message = request; spells = spells; token = refl }; first = state.never_sent };
+          asked_key = key-forwarded (token_of salt number) x.key.target asked id may.screened may.get ∙ sym may.key_is;
+          to = refl;
+          id_is = refl;
+          number = c.clock.events;
+          timer = subst (IsTimer (started now draw)) (sym grown) (started-is e.entry);
+          bytes = subst (AreOfBytes x.key.target.at (with_id id x.form)) (sym grown) ((refl, refl), tt);
+        };
+        unended = ((λ h. let g = h.outcome in cc), state.unended);
       };
-      store = store-otherwise w.setting history w.store e refl c.store;
-      con_records = (remembered-still w history c e onward refl).0;
-      non_records = (remembered-still w history c e onward refl).1;
-      within = record { exchanges = let h = c.within.exchanges in let l = length-with_state x.0 next w.exchanges in omega arith; waiters = c.within.waiters; ids = let h = c.within.ids in omega arith };
-      past = (
-        record {
-          exchange = x.0;
-          act = refl;
-          opened = f.opened;
-          target = x.1.key.target;
-          id = id;
-          target_is = may.target_is;
-          acting = acting w history c now (sending x) due e refl refl refl;
-          tells = record { sent = refl; spells = spells };
-        },
-        c.past,
-      );
-    }
+    })
+    (staged-seen number (sent sending) (stages.sent x.key.target.at) w.exchanges (All-weaken (λ y. Has y w.exchanges) (λ y. y.0 ≡ number → stages.sent y.1.key.target.at ≡ stages.sent x.key.target.at) w.exchanges (λ y there same. ap (λ (a : Exchange). stages.sent a.key.target.at) (one-item 0 w.exchanges y (number, x) c.whole.rising there (turn-there w history c now at number x turn) same)) (Has-all w.exchanges)))
+    (ids-given history w _ e c.clock c.ids onward refl refl refl (omega arith) (record { gives = refl; message = request; spells = spells; id_is = id-same w history c }))
+    (schedules_with history e (subst IsSchedule (sym grown) (record { few = omega arith; spaced = tt })) c.schedules)
+    (λ to. paced to sending (count-moved (is_sent_to to) number 0 (sent sending) w.exchanges c.whole.rising) (same_endpoint x.key.target.at to) refl (ap (passes (is_sent_to to)) turn.found ∙ ap (λ (s : ExchangeState). is_sent_state s && same_endpoint x.key.target.at to) queued) (ap (passes (λ a. is_sent_to to (sent sending a))) turn.found))
+    (λ n later. room-called w.ids now (count is_waiting w.waiters + count is_queued (changed_at number (sent sending) w.exchanges)) (omega arith) n)
+    (store-otherwise w.setting history w.store e refl c.store) (
+      record {
+        exchange = number;
+        act = refl;
+        acting = acting w history c now (OfExchange at number) turn.due e refl refl refl;
+        to_send = turn-to_send w history c now at number x turn queued early;
+        in_time = turn-in_time w history c now at number x turn early;
+        id = id;
+        tells = record { sent = refl; spells = spells };
+      },
+      c.past,
+    )
+  where
+    less : (a b : ℕ) (before after : Bool) → before ≡ true → after ≡ false → a + one_if before ≡ b + one_if after → a + 1 ≡ b
+    less a b before after yes_before no_after e = let one : one_if before ≡ 1 = ap one_if yes_before in let none : one_if after ≡ 0 = ap one_if no_after in omega arith
+
+    paced : (to : Endpoint) (sending : Sending) → count (is_sent_to to) (changed_at number (sent sending) w.exchanges) + one_if (passes (is_sent_to to) (item_at number w.exchanges)) ≡ count (is_sent_to to) w.exchanges + one_if (passes (λ a. is_sent_to to (sent sending a)) (item_at number w.exchanges))
+        → (b : Bool) → same_endpoint x.key.target.at to ≡ b → passes (is_sent_to to) (item_at number w.exchanges) ≡ false → passes (λ a. is_sent_to to (sent sending a)) (item_at number w.exchanges) ≡ same_endpoint x.key.target.at to → count (is_sent_to to) (changed_at number (sent sending) w.exchanges) ≤ w.setting.limits.nstart
+    paced to sending moved true same before after =
+        let one : one_if (passes (λ a. is_sent_to to (sent sending a)) (item_at number w.exchanges)) ≡ 1 = ap one_if (after ∙ same) in
+        let none : one_if (passes (is_sent_to to) (item_at number w.exchanges)) ≡ 0 = ap one_if before in
+        let few : count (is_sent_to to) w.exchanges < w.setting.limits.nstart = subst (λ (t : Endpoint). count (is_sent_to t) w.exchanges < w.setting.limits.nstart) (Tells-endpoint.only x.key.target.at to same) (turn-few w history c now at number x turn queued early) in
+        omega arith
+    paced to sending moved false same before after =
+        let none : one_if (passes (λ a. is_sent_to to (sent sending a)) (item_at number w.exchanges)) ≡ 0 = ap one_if (after ∙ same) in
+        let pace = c.within.pace to in
+        omega arith

@@ -1,105 +1,218 @@
 -- What stays as the history grows by an entry.
-use Rattle.std.proofs.Common.{◌≡◌, ◌≢◌, ◌⊎◌, ⊎_elim, inl, inr, ℕ, ◌+◌, ◌<◌, ◌≤◌, Bool, true, List, [], ◌∷◌, arith}
+use Rattle.std.proofs.Common.{◌≡◌, ◌≢◌, ⊎_elim, inr, ℕ, ◌+◌, ◌<◌, ◌≤◌, Bool, true, false, List, [], ◌∷◌, length, refl, sym, ap, ◌∙◌, subst, arith}
+use Rattle.std.specs.Prelude.{◌&&◌}
 use Rattle.std.specs.List.{AllByRecursion}
-use Rattle.coap_cache.specs.declared.key.CacheKey.{CacheKey}
+use Rattle.std.proofs.lemmas.Bool.{eqb-true, eq-eqb}
 use Rattle.coap_target.proofs.Lists.{All-weaken}
 use Rattle.coap_exchange.specs.declared.exchange.ExchangeState.{ExchangeState}
-use Rattle.coap_exchange.specs.declared.exchange.ExchangeState.TheVariants.{Queued, Sent, Done}
+use Rattle.coap_exchange.specs.declared.exchange.ExchangeState.TheVariants.{Queued, Sent, Acked, Done}
 use Rattle.coap_exchange.specs.declared.exchange.Exchange.{Exchange}
 use Rattle.coap_exchange.specs.declared.waiter.Waiter.{Waiter}
+use Rattle.coap_exchange.specs.declared.waiter.WaiterState.{WaiterState}
+use Rattle.coap_exchange.specs.declared.waiter.WaiterState.TheVariants.{Waiting, Delivering}
 use Rattle.coap_exchange.specs.Table.{Numbered}
 use Rattle.coap_model.specs.declared.report.Outcome.{Outcome}
-use Rattle.coap_model.specs.declared.report.Outcome.TheVariants.{SentRequest, Delivered}
+use Rattle.coap_model.specs.declared.report.Outcome.TheVariants.{Opened, Joined}
 use Rattle.coap_model.specs.Setting.{Setting}
 use Rattle.coap_model.specs.World.{World}
-use Rattle.coap_model.specs.History.{Deed, Somewhere, opens_one, serves_one, comes_con, ids_given, gives_id, opened_in, served_in, ids_in, Sends, takes, Gets, Serves}
-use Rattle.coap_model.specs.Carries.{Clock, Numbers, IsState, IsExchangeOf, IsWaiterOf, HasNumber, IsFresh, Bears}
-use Rattle.coap_model.proofs.Places.{here, opened-later}
-use Rattle.coap_model.proofs.Tables.{length-paired}
+use Rattle.coap_model.specs.History.{Act, no_item, admits, moves, serves, Deed, Somewhere, opens_one, admits_one, opened_in, admitted_in, Opens, Admits}
+use Rattle.coap_model.specs.Schedules.{same_act, is_sending, sends_for, sends_by, IsSchedule}
+use Rattle.coap_model.specs.Carries.{Clock, Numbers, IsTimer, AreOfBytes, IsState, IsExchangeOf, IsWaiterIn, IsWaiterOf, AreUnused, AreSchedules}
+use Rattle.coap_model.proofs.Places.{here, opened-later, admitted-later}
+
+-- ---- the clock and the numbers
 
 -- the clock goes on by an entry
 pub clock_frame : {history : List Deed} {w v : World} {e : Deed} → Clock history w → w.last ≤ e.entry.now → v.events ≡ w.events + 1 → v.last ≡ e.entry.now → Clock (e ∷ history) v
 clock_frame c onward events last = record { events = let h = c.events in omega arith; last = last; in_order = (let h = c.last in omega arith, c.in_order) }
 
 -- the numbers count what an entry does
-pub numbers_frame : {history : List Deed} {w v : World} {e : Deed} → Numbers history w → v.opened ≡ w.opened + opens_one e.entry.report.outcome → v.admitted ≡ w.admitted + opens_one e.entry.report.outcome → v.given ≡ w.given + gives_id e.entry → Numbers (e ∷ history) v
-numbers_frame n opened admitted given = record { opened = let h = n.opened in omega arith; admitted = let h = n.admitted in omega arith; given = let h = n.given in omega arith }
+pub numbers_frame : {history : List Deed} {w v : World} {e : Deed} → Numbers history w → v.opened ≡ w.opened + opens_one e.entry.report.outcome → v.admitted ≡ w.admitted + admits_one e.entry.report.outcome → Numbers (e ∷ history) v
+numbers_frame n opened admitted = record { opened = let h = n.opened in omega arith; admitted = let h = n.admitted in omega arith }
 
--- a state stays where nothing is sent or got for the exchange
-state_frame : (setting : Setting) (history : List Deed) (e : Deed) (x : ℕ) (key : CacheKey) (s : ExchangeState) → ¬ Sends setting.salt x (here history e) → ¬ Gets setting x (here history e) → IsState setting history x key s → IsState setting (e ∷ history) x key s
-state_frame setting history e x key Queued unsent ungot s = ((unsent, s.0), (ungot, s.1))
-state_frame setting history e x key (Sent sending) unsent ungot s =
-    let a = s.0 in
-    (record { asking = a.asking; was_asked = inr a.was_asked; asks = a.asks; asked_key = a.asked_key; to = a.to; id_is = a.id_is; number = a.number }, (ungot, s.1))
-state_frame setting history e x key (Done answer) unsent ungot s =
-    record { getting = s.getting; was_got = inr s.was_got; gets = s.gets; asked_key = s.asked_key; answer_is = s.answer_is }
-
--- an exchange comes to another state, which is how far the history brought it
-pub exchange_moved : (setting : Setting) (history : List Deed) (e : Deed) (x : Numbered Exchange) (next : ExchangeState) (f : IsExchangeOf setting history x) → IsState setting (e ∷ history) x.0 x.1.key next → IsExchangeOf setting (e ∷ history) (x.0, record { key = x.1.key; form = x.1.form; since = x.1.since; state = next })
-exchange_moved setting history e x next f state =
-    record { opened = opened-later e f.opened; since = f.since; verdict = f.verdict; form_is = f.form_is; form_short = f.form_short; state = state }
-
--- an exchange stays for which nothing is sent or got
-pub exchange_frame : (setting : Setting) (history : List Deed) (e : Deed) (x : Numbered Exchange) → ¬ Sends setting.salt x.0 (here history e) → ¬ Gets setting x.0 (here history e) → IsExchangeOf setting history x → IsExchangeOf setting (e ∷ history) x
-exchange_frame setting history e x unsent ungot f =
-    exchange_moved setting history e x x.1.state f (state_frame setting history e x.0 x.1.key x.1.state unsent ungot f.state)
-
--- all exchanges stay where nothing is sent or got
-pub exchanges_frame : (setting : Setting) (history : List Deed) (e : Deed) (xs : List (Numbered Exchange)) → ((x : ℕ) → ¬ Sends setting.salt x (here history e)) → ((x : ℕ) → ¬ Gets setting x (here history e))
-    → AllByRecursion (IsExchangeOf setting history) xs → AllByRecursion (IsExchangeOf setting (e ∷ history)) xs
-exchanges_frame setting history e xs unsent ungot all =
-    All-weaken (IsExchangeOf setting history) (IsExchangeOf setting (e ∷ history)) xs (λ x f. exchange_frame setting history e x (unsent x.0) (ungot x.0) f) all
-
--- a waiter stays that isn't served
-pub waiter_frame : (setting : Setting) (history : List Deed) (e : Deed) (v : Numbered Waiter) → ¬ Serves v.0 (here history e) → IsWaiterOf setting history v → IsWaiterOf setting (e ∷ history) v
-waiter_frame setting history e v unserved f =
-    record { opened = opened-later e f.opened; exchange = f.exchange; client_is = f.client_is; token_is = f.token_is; tags_are = f.tags_are; ungot = f.ungot; unserved = (unserved, f.unserved) }
-
--- what was served stays served
-pub later_served : (history : List Deed) (e : Deed) (xs : List (Numbered Exchange)) (n : ℕ) → HasNumber n xs ⊎ Somewhere (Serves n) history → HasNumber n xs ⊎ Somewhere (Serves n) (e ∷ history)
-later_served history e xs n h = ⊎_elim (λ (there : HasNumber n xs). inl there) (λ (s : Somewhere (Serves n) history). inr (record { place = s.place; is_there = inr s.is_there; holds = s.holds })) h
-
--- all waiters stay where none is served
-pub waiters_frame : (setting : Setting) (history : List Deed) (e : Deed) (vs : List (Numbered Waiter)) → ((v : ℕ) → ¬ Serves v (here history e)) → AllByRecursion (IsWaiterOf setting history) vs → AllByRecursion (IsWaiterOf setting (e ∷ history)) vs
-waiters_frame setting history e vs unserved all =
-    All-weaken (IsWaiterOf setting history) (IsWaiterOf setting (e ∷ history)) vs (λ v f. waiter_frame setting history e v (unserved v.0) f) all
-
--- what isn't opened wasn't sent or got, as before
-pub fresh_frame : (setting : Setting) (history : List Deed) (e : Deed) → ((x : ℕ) → opened_in history < x → ¬ Sends setting.salt x (here history e)) → ((x : ℕ) → opened_in history < x → ¬ Gets setting x (here history e))
-    → IsFresh setting history → IsFresh setting (e ∷ history)
-fresh_frame setting history e unsent ungot fresh x above =
-    let below : opened_in history < x = omega arith in
-    let f = fresh x below in
-    ((unsent x below, f.0), (ungot x below, f.1))
-
--- an entry with another outcome sends no request, and gets no answer
-pub sends-not : (setting : Setting) (history : List Deed) (e : Deed) → e.entry.report.outcome ≢ SentRequest → (x : ℕ) → ¬ Sends setting.salt x (here history e)
-sends-not setting history e other x s = other s.outcome
-
--- nor gets an answer
-pub gets-not : (setting : Setting) (history : List Deed) (e : Deed) → takes e.entry.report.outcome ≢ true → (x : ℕ) → ¬ Gets setting x (here history e)
-gets-not setting history e other x g = other g.outcome
-
--- an entry with another outcome serves no waiter
-pub serves-not : (history : List Deed) (e : Deed) → e.entry.report.outcome ≢ Delivered → (v : ℕ) → ¬ Serves v (here history e)
-serves-not history e other v s = other s.outcome
-
--- ---- numbers are few
-
--- what was served was given an id
-served-ids : (history : List Deed) → served_in history ≤ ids_in history
-served-ids [] = omega arith
-served-ids (e ∷ past) = let i = served-ids past in let j = one_at_most (comes_con e.entry.event) e.entry.report.outcome in omega arith
+-- no more is opened than was done
+pub opened-few : (history : List Deed) → opened_in history ≤ length history
+opened-few [] = omega arith
+opened-few (e ∷ past) = let i = opened-few past in let one = at_most_one e.entry.report.outcome in omega arith
   where
-    one_at_most : (con : Bool) (o : Outcome) → serves_one o ≤ ids_given con o
-    one_at_most con Delivered = omega arith
-    one_at_most con _ = omega arith
+    at_most_one : (o : Outcome) → opens_one o ≤ 1
+    at_most_one Opened = omega arith
+    at_most_one _ = omega arith
 
--- ids are kept for what is opened, so no more is opened than there are ids
-pub opened-few : (history : List Deed) (w : World) → Bears history w → opened_in history ≤ 32768
-opened-few history w c =
-    let pairs = length-paired w.exchanges w.waiters c.whole.paired in
-    let under_way = c.whole.under_way in
-    let given = c.numbers.given in
-    let ids = c.within.ids in
-    omega (arith, served-ids history)
+-- and no more is admitted
+pub admitted-few : (history : List Deed) → admitted_in history ≤ length history
+admitted-few [] = omega arith
+admitted-few (e ∷ past) = let i = admitted-few past in let one = at_most_one e.entry.report.outcome in omega arith
+  where
+    at_most_one : (o : Outcome) → admits_one o ≤ 1
+    at_most_one Opened = omega arith
+    at_most_one Joined = omega arith
+    at_most_one _ = omega arith
+
+-- ---- acts
+
+-- an act is the same as itself alone
+pub same_act-true : (a b : Act) → same_act a b ≡ true → a ≡ b
+same_act-true (moves x) (moves y) e = ap moves (eqb-true x y e)
+same_act-true (serves v) (serves u) e = ap serves (eqb-true v u e)
+same_act-true (moves x) no_item e = absurd cc
+same_act-true (moves x) (admits v y) e = absurd cc
+same_act-true (moves x) (serves v) e = absurd cc
+same_act-true (serves v) no_item e = absurd cc
+same_act-true (serves v) (admits u y) e = absurd cc
+same_act-true (serves v) (moves y) e = absurd cc
+same_act-true no_item b e = absurd cc
+same_act-true (admits v x) b e = absurd cc
+
+pub same_act-self : (x : ℕ) → same_act (moves x) (moves x) ≡ true
+same_act-self x = eq-eqb x x refl
+
+pub same_act-client : (v : ℕ) → same_act (serves v) (serves v) ≡ true
+same_act-client v = eq-eqb v v refl
+
+-- an entry that acts on another sends nothing for this
+not-for : (a : Act) (d : Deed) → d.act ≢ a → sends_for a d ≡ false
+not-for a d other = go (same_act a d.act) refl
+  where
+    go : (b : Bool) → same_act a d.act ≡ b → (b && is_sending d.entry.report.outcome) ≡ false
+    go true t = absurd (other (sym (same_act-true a d.act t)))
+    go false t = refl
+
+-- so the sendings stay
+pub sends-stay : (a : Act) (history : List Deed) (d : Deed) → d.act ≢ a → sends_by a (d ∷ history) ≡ sends_by a history
+sends-stay a history d other = rw (not-for a d other) refl
+
+-- as they do where nothing is sent
+pub sends-quiet : (a : Act) (history : List Deed) (d : Deed) → is_sending d.entry.report.outcome ≡ false → sends_by a (d ∷ history) ≡ sends_by a history
+sends-quiet a history d quiet = let none : sends_for a d ≡ false = go (same_act a d.act) in rw none refl
+  where
+    go : (b : Bool) → (b && is_sending d.entry.report.outcome) ≡ false
+    go true = quiet
+    go false = refl
+
+-- and they grow where it acts on this and sends
+pub sends-grow : (a : Act) (history : List Deed) (d : Deed) → same_act a d.act ≡ true → is_sending d.entry.report.outcome ≡ true → sends_by a (d ∷ history) ≡ d.entry ∷ sends_by a history
+sends-grow a history d same sending = let one : sends_for a d ≡ true = rw (same, sending) refl in rw one refl
+
+-- ---- exchanges
+
+-- a state stays at an entry that acts on another
+state_frame : (setting : Setting) (history : List Deed) (e : Deed) (x : Numbered Exchange) (s : ExchangeState) → e.act ≢ moves x.0 → IsState setting history x s → IsState setting (e ∷ history) x s
+state_frame setting history e x Queued other s =
+    record {
+      unsent = s.unsent;
+      never_sent = ((λ h. other h.act), s.never_sent);
+      no_sends = sends-stay (moves x.0) history e other ∙ s.no_sends;
+      unended = ((λ h. other h.act), s.unended);
+    }
+state_frame setting history e x Sent other s =
+    let a = s.asked in
+    record {
+      sending = s.sending;
+      sending_is = s.sending_is;
+      asked = record {
+        asking = a.asking;
+        was_asked = inr a.was_asked;
+        asks = a.asks;
+        asked_key = a.asked_key;
+        to = a.to;
+        id_is = a.id_is;
+        number = a.number;
+        timer = subst (IsTimer s.sending.timer) (sym (sends-stay (moves x.0) history e other)) a.timer;
+        bytes = subst (AreOfBytes x.1.key.target.at x.1.form) (sym (sends-stay (moves x.0) history e other)) a.bytes;
+      };
+      unended = ((λ h. other h.act), s.unended);
+    }
+state_frame setting history e x Acked other s = absurd s
+state_frame setting history e x (Done answer) other s = record { ending = s.ending; was_ended = inr s.was_ended; ends = s.ends; with = s.with; got = s.got }
+
+-- an exchange stays at an entry that acts on another
+pub exchange_frame : (setting : Setting) (history : List Deed) (e : Deed) (x : Numbered Exchange) → e.act ≢ moves x.0 → IsExchangeOf setting history x → IsExchangeOf setting (e ∷ history) x
+exchange_frame setting history e x other f =
+    record {
+      opened = opened-later e f.opened;
+      admitted = f.admitted;
+      verdict = f.verdict;
+      form_is = f.form_is;
+      form_short = f.form_short;
+      state = state_frame setting history e x x.1.state other f.state;
+    }
+
+-- all stay at an entry that acts on none
+pub exchanges_frame : (setting : Setting) (history : List Deed) (e : Deed) (xs : List (Numbered Exchange)) → ((x : ℕ) → e.act ≢ moves x)
+    → AllByRecursion (IsExchangeOf setting history) xs → AllByRecursion (IsExchangeOf setting (e ∷ history)) xs
+exchanges_frame setting history e xs other all =
+    All-weaken (IsExchangeOf setting history) (IsExchangeOf setting (e ∷ history)) xs (λ x f. exchange_frame setting history e x (other x.0) f) all
+
+-- ---- clients
+
+-- a client stays at an entry that doesn't serve it
+pub waiter_frame : (setting : Setting) (history : List Deed) (e : Deed) (v : Numbered Waiter) → e.act ≢ serves v.0 → IsWaiterOf setting history v → IsWaiterOf setting (e ∷ history) v
+waiter_frame setting history e v other f = go v.1.state f
+  where
+    go : (s : WaiterState) → IsWaiterIn setting history v s → IsWaiterIn setting (e ∷ history) v s
+    go (Waiting exchange) g =
+        record {
+          admitted = admitted-later e g.admitted;
+          exchange_is = g.exchange_is;
+          client_is = g.client_is;
+          token_is = g.token_is;
+          tags_are = g.tags_are;
+          unended = g.unended;
+          unserved = ((λ h. other h.act), g.unserved);
+          no_sends = sends-stay (serves v.0) history e other ∙ g.no_sends;
+          opened = opened-later e g.opened;
+          verdict = g.verdict;
+        }
+    go (Delivering bytes id timer) g = g
+
+pub waiters_frame : (setting : Setting) (history : List Deed) (e : Deed) (vs : List (Numbered Waiter)) → ((v : ℕ) → e.act ≢ serves v) → AllByRecursion (IsWaiterOf setting history) vs → AllByRecursion (IsWaiterOf setting (e ∷ history)) vs
+waiters_frame setting history e vs other all =
+    All-weaken (IsWaiterOf setting history) (IsWaiterOf setting (e ∷ history)) vs (λ v f. waiter_frame setting history e v (other v.0) f) all
+
+-- ---- numbers that weren't given
+
+-- what wasn't given stays unused at an entry that acts on none of it
+pub unused_frame : (setting : Setting) (history : List Deed) (e : Deed) → ((x : ℕ) → opened_in history < x → e.act ≢ moves x) → ((v : ℕ) → admitted_in history < v → e.act ≢ serves v) → AreUnused setting history → AreUnused setting (e ∷ history)
+unused_frame setting history e exchanges clients u =
+    record {
+      exchanges = λ x above.
+          let below : opened_in history < x = omega arith in
+          let other = exchanges x below in
+          let f = u.exchanges x below in
+          (((λ h. other h.act), f.0), ((λ h. other h.act), f.1));
+      sends = λ x above. let below : opened_in history < x = omega arith in sends-stay (moves x) history e (exchanges x below) ∙ u.sends x below;
+      waiters = λ v above. let below : admitted_in history < v = omega arith in let other = clients v below in ((λ h. other h.act), u.waiters v below);
+      deliveries = λ v above. let below : admitted_in history < v = omega arith in sends-stay (serves v) history e (clients v below) ∙ u.deliveries v below;
+    }
+
+-- ---- schedules
+
+-- schedules stay where nothing is sent
+pub schedules_frame : (history : List Deed) (e : Deed) → is_sending e.entry.report.outcome ≡ false → AreSchedules history → AreSchedules (e ∷ history)
+schedules_frame history e quiet s act = subst IsSchedule (sym (sends-quiet act history e quiet)) (s act)
+
+-- and where the schedule of what is sent goes on
+pub schedules_with : (history : List Deed) (e : Deed) → IsSchedule (sends_by e.act (e ∷ history)) → AreSchedules history → AreSchedules (e ∷ history)
+schedules_with history e grown s act = go (same_act act e.act) refl
+  where
+    go : (b : Bool) → same_act act e.act ≡ b → IsSchedule (sends_by act (e ∷ history))
+    go true t = subst (λ (a : Act). IsSchedule (sends_by a (e ∷ history))) (sym (same_act-true act e.act t)) grown
+    go false t = let none : sends_for act e ≡ false = rw t refl in rw none (s act)
+
+-- ---- what was opened and what was admitted
+
+-- it was so before an entry that opens nothing
+pub opened-before : (history : List Deed) (e : Deed) (x : ℕ) → opens_one e.entry.report.outcome ≡ 0 → Somewhere (Opens x) (e ∷ history) → Somewhere (Opens x) history
+opened-before history e x none s =
+    ⊎_elim
+    (λ (same : here history e ≡ s.place). let h = subst (Opens x) (sym same) s.holds in let one = ap opens_one h.0 in absurd (omega arith))
+    (λ there. record { place = s.place; is_there = there; holds = s.holds })
+    s.is_there
+
+pub admitted-before : (history : List Deed) (e : Deed) (v x : ℕ) → admits_one e.entry.report.outcome ≡ 0 → Somewhere (Admits v x) (e ∷ history) → Somewhere (Admits v x) history
+admitted-before history e v x none s =
+    ⊎_elim
+    (λ (same : here history e ≡ s.place). let h = subst (Admits v x) (sym same) s.holds in let one = h.outcome in absurd (omega arith))
+    (λ there. record { place = s.place; is_there = there; holds = s.holds })
+    s.is_there

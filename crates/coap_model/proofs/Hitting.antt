@@ -1,5 +1,5 @@
 -- A hit keeps what is carried: the client is shown the entry of its key in the cache of the history.
-use Rattle.std.proofs.Common.{◌≡◌, ℕ, ◌+◌, ◌≤◌, Bool, true, false, length, List, ◌∷◌, Some, refl, sym, ap, ◌∙◌, subst, arith}
+use Rattle.std.proofs.Common.{◌≡◌, ℕ, ◌≤◌, Bool, true, false, length, List, ◌∷◌, Some, refl, sym, ap, ◌∙◌, subst}
 use Rattle.std.specs.Prelude.{if◌then◌else◌, ◌&&◌, not}
 use Rattle.std.proofs.lemmas.Bool.{and_parts}
 use Rattle.coap_message.specs.Message.{Message}
@@ -16,19 +16,19 @@ use Rattle.coap_model.specs.Setting.{Setting}
 use Rattle.coap_model.specs.Events.{arrival}
 use Rattle.coap_forward.specs.Answers.{answer_of, stored_answer, shown}
 use Rattle.coap_model.specs.Verdicts.{may_ask}
-use Rattle.coap_forward.specs.Messages.{at_once}
-use Rattle.coap_model.specs.World.{World, next_id, can_reply, ids_to_reply}
+use Rattle.coap_forward.specs.Messages.{is_con, at_once}
+use Rattle.coap_model.specs.World.{World, next_id, can_reply}
 use Rattle.coap_model.specs.Requests.{hits, remembers}
 use Rattle.coap_model.specs.History.{gives_id, no_item, Deed}
 use Rattle.coap_model.specs.Cached.{Cached, entry_of_cached, IsObtained, IsStoreOf, IsEntryOf}
 use Rattle.coap_model.specs.Runs.{entry_of}
 use Rattle.coap_model.specs.Carries.{Bears}
-use Rattle.coap_model.proofs.Acting.{got-is}
+use Rattle.coap_model.proofs.Getting.{got-is}
 use Rattle.coap_model.proofs.Places.{doing}
 use Rattle.coap_model.proofs.Quiet.{keeps_still}
-use Rattle.coap_model.proofs.OwnReplies.{at_once-is, at_once-long, free-reply}
+use Rattle.coap_model.proofs.OwnReplies.{at_once-is, at_once-long}
 use Rattle.coap_model.proofs.Remembering.{first-new, first-remembered}
-use Rattle.coap_model.proofs.Replying.{request-came, takes-ids, has-id, gives-due}
+use Rattle.coap_model.proofs.Replying.{request-came, takes-ids, has-id, ids_after, reply-ids, reply-room}
 use Rattle.coap_model.proofs.Rules.{IsFirst, verdict_in}
 use Rattle.coap_model.proofs.Showing.{shown-is, answer-fits}
 use Rattle.coap_model.proofs.Stores.{found-cached, store-hit}
@@ -82,7 +82,7 @@ fresh-at : (b m : Bool) → (b && m) ≡ true → b ≡ true
 fresh-at b m e = (and_parts b m e).0
 
 -- a hit keeps what is carried
-pub keeps_hitting : (w : World) (history : List Deed) (c : Bears history w) (now draw : ℕ) (client : Endpoint) (bytes : List ℕ) (m : Message) (key : CacheKey) (entry : Entry) → w.last ≤ now → IsFirst w now client bytes m → verdict_in w m ≡ may_ask key → of_key entry_key key w.store ≡ Some entry → is_usable now entry.1 ≡ true → can_reply w m.kind ≡ true
+pub keeps_hitting : (w : World) (history : List Deed) (c : Bears history w) (now draw : ℕ) (client : Endpoint) (bytes : List ℕ) (m : Message) (key : CacheKey) (entry : Entry) → w.last ≤ now → IsFirst w now client bytes m → verdict_in w m ≡ may_ask key → of_key entry_key key w.store ≡ Some entry → is_usable now entry.1 ≡ true → can_reply w now m.kind ≡ true
     → Bears (doing no_item (entry_of now draw (arrival client bytes) (hits w now client m key entry.1)) ∷ history) (remembers now client m (hits w now client m key entry.1)).world
 keeps_hitting w history c now draw client bytes m key entry onward first verdict found usable free =
     let s = hits w now client m key entry.1 in
@@ -92,13 +92,13 @@ keeps_hitting w history c now draw client bytes m key entry onward first verdict
     let f = cached-entry w history c key entry found in
     let reply = shown now (stored_answer entry.1) (next_id w) m.token (tags_of m) in
     let spells : Spells s.bytes (at_once m reply) = spelled (at_once m reply) (at_once-is m reply (hit-is w history c key entry found now (next_id w) m.token (tags_of m) came.brings.spells.message.token)) in
-    let ids : gives_id e.entry ≡ ids_to_reply m.kind = ap (λ (b : Bool). if b then 0 else 1) (takes-ids w history c now draw client bytes m onward first) in
+    let gives : gives_id e.entry ≡ (if is_con m.kind then 0 else 1) = ap (λ (b : Bool). if b then 0 else 1) (takes-ids w history c now draw client bytes m onward first) in
     let stored : IsStoreOf w.setting (e ∷ history) (used entry_key key w.store) =
     subst (λ (k : CacheKey). IsStoreOf w.setting (e ∷ history) (used entry_key k w.store)) (sym may.key_is)
     (store-hit w.setting history w.store e client m key.target entry refl came.brings may.target_is (subst (λ (k : CacheKey). of_key entry_key k w.store ≡ Some entry) may.key_is found) c.store)
     in
-    keeps_still w history c e (w.given + ids_to_reply m.kind) (used entry_key key w.store) _ _ (record { opens = refl; sends = refl; serves = refl; unsent = λ o. cc; ungot = λ o. cc; unserved = λ o. cc }) onward (omega (arith, ids))
-    (gives-due w history c now draw client bytes m onward first (ids_to_reply m.kind) e.entry reply refl ids spells refl) (free-reply w m.kind c.within.ids free) stored
+    keeps_still w history c e (ids_after w history c now draw client bytes m onward first) (used entry_key key w.store) _ _ (record { act = refl; opens = refl; admits = refl; sends = refl; leaves_open = λ standing xs. refl; stands = λ standing. refl }) onward
+    (reply-ids w history c now draw client bytes m onward first e _ reply refl gives spells refl free refl refl) (reply-room w history c now draw client bytes m onward first free) stored
     (first-remembered w history c now client bytes m onward draw no_item s first refl (λ most wide long. hit-fits w history c key entry found most now m (next_id w) m.token (tags_of m) wide long came.brings.spells.message.token)) (
       record {
         act = refl;

@@ -1,5 +1,5 @@
 -- The bytes that a proxy holds are within its bound.
-use Rattle.std.proofs.Common.{◌≡◌, ℕ, ◌+◌, ◌*◌, ◌/◌, ◌≤◌, Bool, true, false, cond, leb, ltb, List, [], ◌∷◌, ◌++◌, map, length, Option, Some, None, refl, sym, ap, subst, arith}
+use Rattle.std.proofs.Common.{◌≡◌, ℕ, ◌+◌, ◌*◌, ◌/◌, ◌≤◌, Bool, true, false, cond, leb, ltb, List, [], ◌∷◌, ◌++◌, map, length, Option, Some, None, refl, sym, ap, ◌∙◌, subst, arith}
 use Rattle.std.specs.Prelude.{◌&&◌, ◌==◌, not, filter}
 use Rattle.std.specs.List.{AllByRecursion, sum_by}
 use Rattle.std.proofs.lemmas.Bool.{eqb-true, leb-true, ltb-true, and_parts}
@@ -20,9 +20,11 @@ use Rattle.coap_cache.specs.declared.key.CacheKey.{CacheKey}
 use Rattle.coap_target.proofs.Lists.{All-weaken}
 use Rattle.coap_cache.specs.declared.answer.Answer.{Answer}
 use Rattle.coap_exchange.specs.declared.exchange.ExchangeState.{ExchangeState}
-use Rattle.coap_exchange.specs.declared.exchange.ExchangeState.TheVariants.{Queued, Sent, Done}
+use Rattle.coap_exchange.specs.declared.exchange.ExchangeState.TheVariants.{Queued, Sent, Acked, Done}
 use Rattle.coap_exchange.specs.declared.exchange.Exchange.{Exchange}
 use Rattle.coap_exchange.specs.declared.waiter.Waiter.{Waiter}
+use Rattle.coap_exchange.specs.declared.waiter.WaiterState.{WaiterState}
+use Rattle.coap_exchange.specs.declared.waiter.WaiterState.TheVariants.{Waiting, Delivering}
 use Rattle.coap_exchange.specs.Table.{Numbered}
 use Rattle.coap_model.specs.Setting.{Setting}
 use Rattle.coap_message.specs.Codes.{is_code}
@@ -39,10 +41,12 @@ use Rattle.coap_forward.specs.Forms.{host_options, target_options, merged, forwa
 use Rattle.coap_model.specs.Keys.{says_target}
 use Rattle.coap_forward.specs.Answers.{is_screened, without_observe, widest, fits, bad_gateway, is_passed_on, answer_of}
 use Rattle.coap_model.specs.World.{World}
-use Rattle.coap_model.specs.History.{Deed}
-use Rattle.coap_model.specs.Carries.{IsState, IsExchangeOf, IsWaiterOf, Bears}
+use Rattle.coap_model.specs.History.{Deed, Place}
+use Rattle.coap_model.specs.Justified.{EndsWith, got, given_up}
+use Rattle.coap_model.specs.Carries.{form_id, IsState, IsExchangeOf, IsWaiterIn, IsWaiterOf, Bears}
 use Rattle.coap_target.specs.Target.{IsShort, IsTarget}
-use Rattle.coap_forward.proofs.Forms.{AreUnused, in_key, key-screened, sent-unused, AreOptions-merged, target-options, sent-options}
+use Rattle.coap_forward.proofs.Forms.{AreUnused, in_key, key-screened, sent-unused, AreOptions-merged, target-options, sent-options, with_id-forwarded, length-with_id}
+use Rattle.coap_forward.specs.Messages.{token_of}
 use Rattle.coap_model.proofs.Keys.{target-kept}
 use Rattle.coap_model.proofs.Verdicts.{IsAskable, askable}
 use Rattle.coap_model.proofs.OptionLengths.{filter-length}
@@ -164,8 +168,10 @@ exchange-held setting history routes x f = go x.1.state f.state
 
     target : target_bytes x.1.key.target ≤ length x.1.form
     target =
-        subst (λ (form : List ℕ). target_bytes x.1.key.target ≤ length form) (sym f.form_is)
-        (form-holds _ x.1.key.target (sent_on request) may.sound (sent-options request options may.screened) (sent-unused request may.screened))
+        let form = spelling (forwarded (token_of setting.salt x.0) x.1.key.target (sent_on request) 0) in
+        let id = form_id x.1.sending in
+        let same : length x.1.form ≡ length form = ap length (f.form_is ∙ sym (with_id-forwarded id (token_of setting.salt x.0) x.1.key.target (sent_on request))) ∙ length-with_id id form in
+        omega (arith, same, form-holds (token_of setting.salt x.0) x.1.key.target (sent_on request) may.sound (sent-options request options may.screened) (sent-unused request may.screened))
 
     key : length (options_spelling 0 x.1.key.options) ≤ setting.limits.datagram
     key =
@@ -175,21 +181,30 @@ exchange-held setting history routes x f = go x.1.state f.state
         let is : length (options_spelling 0 x.1.key.options) ≡ length (options_spelling 0 (key_of request)) = ap (λ (k : CacheKey). length (options_spelling 0 k.options)) may.key_is in
         omega (arith, is, less, spelled, spelling-length request, b.short)
 
-    go : (s : ExchangeState) → IsState setting history x.0 x.1.key s → length x.1.form + key_bytes x.1.key + state_bytes s ≤ 4 * setting.limits.datagram + 256
+    ended : (a : Answer) (p : Place) → EndsWith setting x.0 x.1.key p a → response_bytes a.message ≤ setting.limits.datagram
+    ended a p (got gets asked is) =
+        let short = answer-short setting.limits.datagram p.deed.entry.now gets.meets.response gets.meets.brings.spells.message.options in
+        subst (λ (b : Answer). response_bytes b.message ≤ setting.limits.datagram) (sym is) short
+    ended a p (given_up gives is) = subst (λ (b : Answer). response_bytes b.message ≤ setting.limits.datagram) (sym is) (omega arith)
+
+    go : (s : ExchangeState) → IsState setting history x s → length x.1.form + key_bytes x.1.key + state_bytes s ≤ 4 * setting.limits.datagram + 256
     go Queued state = omega (arith, target, key, f.form_short)
-    go (Sent s) state = omega (arith, target, key, f.form_short)
-    go (Done a) state =
-        let short = answer-short setting.limits.datagram state.getting.deed.entry.now state.gets.meets.response state.gets.meets.brings.spells.message.options in
-        omega (arith, target, key, f.form_short, subst (λ (b : Answer). response_bytes b.message ≤ setting.limits.datagram) (sym state.answer_is) short)
+    go Sent state = omega (arith, target, key, f.form_short)
+    go Acked state = absurd state
+    go (Done a) state = omega (arith, target, key, f.form_short, ended a state.ending state.with)
 
 -- what a waiter holds is within its part
 waiter-held : (setting : Setting) (history : List Deed) (v : Numbered Waiter) → IsWaiterOf setting history v → waiter_bytes v ≤ setting.limits.datagram + 256
-waiter-held setting history v f =
-    let m = f.opened.request in
-    let b = f.opened.asked.brings in
-    let tags : length (pieces_spelling v.1.tags) ≤ options_length 0 m.options = rw f.tags_are (tags-held (side_of m.code) 0 [] m.options) in
-    let spelled : length b.bytes ≡ length (spelling m) = ap length (spelled_once b.bytes m b.spells) in
-    omega (arith, ap length f.token_is, b.spells.message.token, tags, spelled, spelling-length m, b.short)
+waiter-held setting history v f = go v.1.state f
+  where
+    go : (s : WaiterState) → IsWaiterIn setting history v s → waiter_bytes v ≤ setting.limits.datagram + 256
+    go (Waiting exchange) g =
+        let m = g.admitted.request in
+        let b = g.admitted.asked.brings in
+        let tags : length (pieces_spelling v.1.tags) ≤ options_length 0 m.options = rw g.tags_are (tags-held (side_of m.code) 0 [] m.options) in
+        let spelled : length b.bytes ≡ length (spelling m) = ap length (spelled_once b.bytes m b.spells) in
+        omega (arith, ap length g.token_is, b.spells.message.token, tags, spelled, spelling-length m, b.short)
+    go (Delivering bytes id timer) g = absurd g
 
 -- so what is held is within the bound
 pub within-bound : (history : List Deed) (w : World) → Bears history w → held w ≤ most_held w.setting.limits

@@ -1,5 +1,5 @@
 -- Lists of which each element has a property.
-use Rattle.std.proofs.Common.{◌≡◌, ◌⊎◌, inl, inr, List, [], ◌∷◌, map, Bool, true, false, Some, refl, subst, cond}
+use Rattle.std.proofs.Common.{◌≡◌, ◌⊎◌, ⊎_elim, inl, inr, List, [], ◌∷◌, map, Bool, true, false, Some, refl, sym, subst, cond}
 use Rattle.std.specs.Prelude.{filter}
 use Rattle.std.specs.List.{AllByRecursion, find}
 use Rattle.coap_target.proofs.Lists.{All-weaken}
@@ -47,3 +47,8 @@ Has-all (x ∷ xs) = (inl refl, All-weaken (λ y. Has y xs) (λ y. Has y (x ∷ 
 -- what holds of each holds of each beside that it is there
 pub All-there : {X : Type 0} (P : X → Type 0) (xs : List X) → AllByRecursion P xs → AllByRecursion (λ x. P x × Has x xs) xs
 All-there P xs p = All-both P (λ x. Has x xs) xs p (Has-all xs)
+
+-- what holds of each holds of one that is there
+pub Has-holds : {X : Type 0} (P : X → Type 0) (xs : List X) (x : X) → AllByRecursion P xs → Has x xs → P x
+Has-holds P [] x all h = absurd h
+Has-holds {X} P (y ∷ ys) x all h = ⊎_elim (λ (same : x ≡ y). subst P (sym same) all.0) (λ (t : Has x ys). Has-holds P ys x all.1 t) h

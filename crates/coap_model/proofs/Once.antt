@@ -1,36 +1,54 @@
 -- What is done at one place alone.
-use Rattle.std.proofs.Common.{◌≡◌, ℕ, List, subst}
-use Rattle.coap_model.specs.declared.report.Outcome.TheVariants.{SentRequest, Delivered}
+use Rattle.std.proofs.Common.{◌≡◌, ℕ, true, List, refl, sym, ◌∙◌, subst}
+use Rattle.coap_model.specs.declared.report.Outcome.{Outcome}
+use Rattle.coap_model.specs.declared.report.Outcome.TheVariants.{Answered, SentRequest, GaveUp, Delivered}
 use Rattle.coap_model.specs.Setting.{Setting}
-use Rattle.coap_model.specs.Due.{IsDueAt}
-use Rattle.coap_model.specs.History.{Act, Deed, Place, IsPlaceOf, Never, Sends, Gets, Serves}
-use Rattle.coap_model.specs.Justified.{IsForwarding, IsDelivery, AllJustified}
-use Rattle.coap_model.proofs.Acting.{got-first}
-use Rattle.coap_model.proofs.Places.{first-once, justified-at}
+use Rattle.coap_model.specs.History.{moves, Deed, Place, IsPlaceOf, Never, ends, Sends, Ends, Serves}
+use Rattle.coap_model.specs.Justified.{IsForwarding, IsDelivery, IsGivingUp, overdue, unheard, JustifiedBy, AllJustified}
+use Rattle.coap_model.proofs.Owing.{taken-so}
+use Rattle.coap_model.proofs.Places.{first-once, same_moves, same_serves, justified-at}
+use Rattle.coap_model.proofs.Stages.{all-before, queued-unsent}
 
--- an exchange was never sent on before the place where it is
-sent-first : (setting : Setting) (history : List Deed) (x : ℕ) (p : Place) → AllJustified setting history → IsPlaceOf history p → Sends setting.salt x p → Never (Sends setting.salt x) p.before
+-- an exchange was never sent before the place where its request is
+pub sent-first : (setting : Setting) (history : List Deed) (x : ℕ) (p : Place) → AllJustified setting history → IsPlaceOf history p → Sends setting.salt x p → Never (Sends setting.salt x) p.before
 sent-first setting history x p all at s =
     let j : IsForwarding setting p.before p.deed = justified-at setting history p SentRequest all at s.outcome in
-    (subst (λ (a : Act). IsDueAt setting p.before a j.acting.at) s.act j.acting.due).unsent
+    let same = same_moves j.exchange x (sym j.act ∙ s.act) in
+    subst (λ (n : ℕ). Never (Sends setting.salt n) p.before) same (queued-unsent setting p.before j.exchange (all-before setting history p all at) j.to_send.stage)
+
+-- what is given up has not ended
+given_up-first : (setting : Setting) (past : List Deed) (d : Deed) (x : ℕ) → IsGivingUp setting past d → d.act ≡ moves x → Never (Ends x) past
+given_up-first setting past d x (overdue y m acting act to_end come silent) is = subst (λ (n : ℕ). Never (Ends n) past) (same_moves y x (sym act ∙ is)) to_end.unended
+given_up-first setting past d x (unheard y m acting act to_repeat first come stops silent) is = subst (λ (n : ℕ). Never (Ends n) past) (same_moves y x (sym act ∙ is)) first
+
+-- an exchange has not ended before the place where it does
+pub ended-first : (setting : Setting) (history : List Deed) (x : ℕ) (p : Place) → AllJustified setting history → IsPlaceOf history p → Ends x p → Never (Ends x) p.before
+ended-first setting history x p all at e = go p.deed.entry.report.outcome e.outcome (justified-at setting history p p.deed.entry.report.outcome all at refl)
+  where
+    go : (o : Outcome) → ends o ≡ true → JustifiedBy o setting p.before p.deed → Never (Ends x) p.before
+    go (Answered s) is j =
+        let a = taken-so s setting p.before p.deed j in
+        subst (λ (n : ℕ). Never (Ends n) p.before) (same_moves a.exchange x (sym a.gets.act ∙ e.act)) a.first
+    go GaveUp is j = given_up-first setting p.before p.deed x j e.act
+    go _ is j = absurd cc
 
 -- a client was never served before the place where it is
-served-first : (setting : Setting) (history : List Deed) (v : ℕ) (p : Place) → AllJustified setting history → IsPlaceOf history p → Serves v p → Never (Serves v) p.before
+pub served-first : (setting : Setting) (history : List Deed) (v : ℕ) (p : Place) → AllJustified setting history → IsPlaceOf history p → Serves v p → Never (Serves v) p.before
 served-first setting history v p all at s =
     let j : IsDelivery setting p.before p.deed = justified-at setting history p Delivered all at s.outcome in
-    (subst (λ (a : Act). IsDueAt setting p.before a j.acting.at) s.act j.acting.due).unserved
+    subst (λ (n : ℕ). Never (Serves n) p.before) (same_serves j.waiter v (sym j.act ∙ s.act)) j.to_serve.unserved
 
--- the request of an exchange is sent at one place
+-- the request of an exchange is sent for the first time at one place
 pub sent-once : (setting : Setting) (history : List Deed) (x : ℕ) (a b : Place) → AllJustified setting history → IsPlaceOf history a → IsPlaceOf history b → Sends setting.salt x a → Sends setting.salt x b → a ≡ b
 sent-once setting history x a b all at_a at_b sends_a sends_b =
     first-once (Sends setting.salt x) history a b at_a at_b sends_a sends_b (sent-first setting history x a all at_a sends_a) (sent-first setting history x b all at_b sends_b)
 
--- its answer is got at one place
-pub got-once : (setting : Setting) (history : List Deed) (x : ℕ) (a b : Place) → AllJustified setting history → IsPlaceOf history a → IsPlaceOf history b → Gets setting x a → Gets setting x b → a ≡ b
-got-once setting history x a b all at_a at_b gets_a gets_b =
-    first-once (Gets setting x) history a b at_a at_b gets_a gets_b (got-first setting history x a all at_a gets_a) (got-first setting history x b all at_b gets_b)
+-- an exchange is got or given up at one place
+pub ended-once : (setting : Setting) (history : List Deed) (x : ℕ) (a b : Place) → AllJustified setting history → IsPlaceOf history a → IsPlaceOf history b → Ends x a → Ends x b → a ≡ b
+ended-once setting history x a b all at_a at_b ends_a ends_b =
+    first-once (Ends x) history a b at_a at_b ends_a ends_b (ended-first setting history x a all at_a ends_a) (ended-first setting history x b all at_b ends_b)
 
--- a waiter is served at one place
+-- a client is served at one place
 pub served-once : (setting : Setting) (history : List Deed) (v : ℕ) (a b : Place) → AllJustified setting history → IsPlaceOf history a → IsPlaceOf history b → Serves v a → Serves v b → a ≡ b
 served-once setting history v a b all at_a at_b serves_a serves_b =
     first-once (Serves v) history a b at_a at_b serves_a serves_b (served-first setting history v a all at_a serves_a) (served-first setting history v b all at_b serves_b)

@@ -1,7 +1,8 @@
--- What may follow deeds at a turn is one answer, and it is that of the step.
-use Rattle.std.proofs.Common.{◌≡◌, ◌⊎◌, inl, inr, ⊎_elim, ℕ, Bool, ◌+◌, ◌%◌, ◌<◌, ◌≤◌, true, false, List, [], ◌∷◌, length, Option, Some, None, Result, Ok, refl, sym, ap, ◌∙◌, subst, arith}
+-- What may follow deeds at a turn is one answer.
+use Rattle.std.proofs.Common.{◌≡◌, ◌⊎◌, inl, inr, ⊎_elim, ℕ, Bool, ◌+◌, ◌%◌, ◌^◌, ◌<◌, ◌≤◌, true, false, List, [], ◌∷◌, length, Option, Some, None, refl, sym, ap, ◌∙◌, subst, arith}
 use Rattle.std.proofs.lemmas.Option.{same_Some}
 use Rattle.std.proofs.lemmas.Bool.{cases_lt}
+use Rattle.coap_message.specs.declared.kind.Kind.TheVariants.{Non}
 use Rattle.coap_message.specs.declared.message.Head.{Head}
 use Rattle.coap_message.specs.Message.{Message}
 use Rattle.coap_message.specs.Reading.{head_at}
@@ -11,39 +12,34 @@ use Rattle.coap_message.proofs.WholeMessages.{one_message}
 use Rattle.coap_target.specs.declared.endpoint.Endpoint.{Endpoint}
 use Rattle.coap_target.specs.declared.target.Target.{Target}
 use Rattle.coap_option.specs.Selection.{sent_on, tags_of}
-use Rattle.coap_routes.specs.declared.error.TargetError.{TargetError}
-use Rattle.coap_routes.specs.Request.{request_target}
 use Rattle.coap_model.specs.declared.report.Outcome.{Outcome}
-use Rattle.coap_model.specs.declared.report.Outcome.TheVariants.{Ignored, Rejected, Again, NoRecordRoom, Refused, Hit, Opened, Overloaded, NoId, Answered, SentRequest, Delivered, Idle}
+use Rattle.coap_model.specs.declared.report.Outcome.TheVariants.{Ignored, Rejected, Again, NoRecordRoom, Refused, Hit, Opened, Overloaded, NoId, Answered, SentRequest, Resent, GaveUp, Delivered, Idle}
 use Rattle.coap_model.specs.declared.report.Storing.{Storing}
 use Rattle.coap_model.specs.Setting.{Setting}
-use Rattle.coap_model.specs.Events.{IsEvent}
 use Rattle.coap_dedup.specs.declared.record.Record.{Record}
 use Rattle.coap_dedup.specs.Lists.{record_of}
 use Rattle.coap_forward.specs.Messages.{is_con, reset, own_reply, busy_reply, at_once, reply_kind, reply_id, token_of}
 use Rattle.coap_model.specs.Remembered.{most_remembered, remembered_at}
 use Rattle.coap_forward.specs.Forms.{forwarded}
-use Rattle.coap_forward.specs.Answers.{answer_of, stored_answer, shown}
-use Rattle.coap_model.specs.World.{World}
-use Rattle.coap_model.specs.Step.{step_of}
-use Rattle.coap_model.specs.History.{Entry, Act, no_item, admits, moves, serves, Deed, Place, ids_in, comes_con, ids_given, takes, Brings, Sends, Gets, Gives, AreIds}
-use Rattle.coap_model.specs.Due.{IsDueAt, ComesBefore}
-use Rattle.coap_model.specs.Justified.{IsMiss, Deserves, HaveOneMemory, is_fresh_at, verdict_on, IsRequestOf, IsNew, SaysAgain, Tells, IsSilent, IsAwaited, IsActing, IsForwarding, IsDelivery, IsUnprocessable, JustifiedBy, AllJustified, MayFollow, AreOfOneTurn}
-use Rattle.coap_model.specs.Runs.{entry_of}
-use Rattle.coap_model.specs.Promised.{IdsDiffer}
-use Rattle.coap_model.specs.Carries.{Carries}
-use Rattle.coap_model.proofs.Places.{here, doing, same_moves, same_serves, arrival-same, one-brought, request-unique, first-once, one-opened}
-use Rattle.coap_model.proofs.Acting.{got-first}
-use Rattle.coap_model.proofs.Carrying.{keeps_deeds}
-use Rattle.coap_model.proofs.Promising.{ids-differ}
-use Rattle.coap_model.proofs.Running.{setting_stays}
+use Rattle.coap_forward.specs.Answers.{answer_of, own_answer, gateway_timeout, stored_answer, shown}
+use Rattle.coap_model.specs.History.{Entry, Act, no_item, admits, moves, serves, Deed, Place, ids_in, opened_in, comes_con, ids_given, takes, Brings, Gets, Ends, Gives, IsRequestOf}
+use Rattle.coap_model.specs.Standing.{HasIds, HasRoomToOpen, queued, stage_of}
+use Rattle.coap_model.specs.Schedules.{sends_by, MayGoOn, SaysAsBefore}
+use Rattle.coap_model.specs.Due.{IsToEnd, IsToRepeat, IsDueAt, ComesBefore}
+use Rattle.coap_model.specs.Verdicts.{verdict_of}
+use Rattle.coap_cache.specs.declared.answer.Answer.{Answer}
+use Rattle.coap_model.specs.Justified.{IsMiss, Deserves, HaveOneMemory, is_fresh_at, verdict_on, IsNew, HasIdFor, SaysAgain, Tells, IsSilent, IsAwaited, IsActing, InTime, IsForwarding, IsResending, IsGivingUp, overdue, unheard, EndsWith, got, given_up as was_given_up, IsDelivery, IsUnprocessable, JustifiedBy, AllJustified, MayFollow, AreOfOneTurn}
+use Rattle.coap_model.proofs.Places.{here, same_moves, same_serves, arrival-same, one-brought, request-unique, one-opened, one-admitted}
+use Rattle.coap_model.proofs.Once.{ended-once}
+use Rattle.coap_model.proofs.Stages.{opened-before, sent-number}
+use Rattle.coap_forward.proofs.Tokens.{token-same}
 use Rattle.coap_model.proofs.Cached.{cache-unique}
 use Rattle.coap_model.proofs.OneStoring.{one-storing}
 use Rattle.coap_cache.specs.declared.key.CacheKey.{CacheKey}
 use Rattle.coap_cache.specs.Lists.{of_key}
 use Rattle.coap_model.specs.Cached.{cached_key, entry_of_cached}
 use Rattle.coap_model.proofs.Arrivals.{request_con}
-use Rattle.coap_model.proofs.Owing.{one_key, taken-so, given_again, given_forgotten, given_hit, given_refused, given_overloaded, given_no_id, given_opened, given_answered, given_rejected, given_ignored, OnTick, sent, delivered, idle, on-tick}
+use Rattle.coap_model.proofs.Owing.{one_key, taken-so, given_again, given_forgotten, given_hit, given_refused, given_overloaded, given_no_id, given_opened, given_answered, given_rejected, given_ignored, given_up-so, OnTick, sent as sending, resent, given_up, delivered, idle, on-tick}
 
 -- ---- what is said
 
@@ -69,6 +65,11 @@ again-same : (d e : Entry) (client : Endpoint) (reply : Option (List ℕ)) → S
 again-same d e client None s t = silent-same d e s t
 again-same d e client (Some reply) s t = record { send = s.0 ∙ sym t.0; bytes = s.1 ∙ sym t.1 }
 
+-- what is sent again is what was sent before
+before-same : (d e : Entry) (es : List Entry) → SaysAsBefore es d → SaysAsBefore es e → SayTheSame d e
+before-same d e [] s t = absurd s
+before-same d e (before ∷ es) s t = record { send = s.0 ∙ sym t.0; bytes = s.1 ∙ sym t.1 }
+
 -- replies to one request of one content are one, where they have one id
 at_once-same : (r s reply other : Message) → r.kind ≡ s.kind → reply.code ≡ other.code → reply.token ≡ other.token → reply.options ≡ other.options → reply.payload ≡ other.payload → reply_id r reply.id ≡ reply_id s other.id → at_once r reply ≡ at_once s other
 at_once-same r s reply other kind code token options payload id =
@@ -78,9 +79,9 @@ at_once-same r s reply other kind code token options payload id =
 forwarded-same : (salt x y : ℕ) (a b : Target) (m n : Message) (i k : ℕ) → x ≡ y → a ≡ b → m ≡ n → i ≡ k → forwarded (token_of salt x) a (sent_on m) i ≡ forwarded (token_of salt y) b (sent_on n) k
 forwarded-same salt x y a b m n i k number target request id = rw (number, target, request, id) refl
 
--- and so is what is shown for one request at one moment of one response, got at one moment
-shown-same : (most now later got again : ℕ) (m n : Message) (i k : ℕ) (r s : Message) → now ≡ later → got ≡ again → m ≡ n → i ≡ k → r ≡ s → shown now (answer_of most got m) i r.token (tags_of r) ≡ shown later (answer_of most again n) k s.token (tags_of s)
-shown-same most now later got again m n i k r s moment getting response id request = rw (moment, getting, response, id, request) refl
+-- and so is what is shown for one request at one moment of one answer
+shown-same : (now later : ℕ) (a b : Answer) (i k : ℕ) (r s : Message) → now ≡ later → a ≡ b → i ≡ k → r ≡ s → shown now a i r.token (tags_of r) ≡ shown later b k s.token (tags_of s)
+shown-same now later a b i k r s moment answer id request = rw (moment, answer, id, request) refl
 
 -- what is told has the id that is given
 id-told : (e : Entry) (id : ℕ) (to : Endpoint) (m : Message) → Gives id e → Tells to m e → m.id ≡ id
@@ -131,48 +132,96 @@ one-response setting x y p q e g h =
     let m = g.meets in
     (one-brought (subst (λ (r : Place). Brings setting.limits.datagram m.asks.sends.to m.response r.deed.entry.event) e m.brings) h.meets.brings).1
 
--- one target is told
-same_Ok : (a b : Target) → ◌≡◌ {A = Result Target TargetError} (Ok a) (Ok b) → a ≡ b
-same_Ok a b e = cc
+-- an exchange ends with one answer at a place
+one-ending : (setting : Setting) (x y : ℕ) (k l : CacheKey) (p q : Place) (a b : Answer) → p ≡ q → EndsWith setting x k p a → EndsWith setting y l q b → a ≡ b
+one-ending setting x y k l p q a b same (got g key is) (got h other also) =
+    let response = one-response setting x y p q same g h in
+    is ∙ (λ i. answer_of setting.limits.datagram (same i).deed.entry.now (response i)) ∙ sym also
+one-ending setting x y k l p q a b same (got g key is) (was_given_up h also) = absurd (let e = sym g.outcome ∙ ap (λ (r : Place). takes r.deed.entry.report.outcome) same ∙ ap takes h.outcome in cc)
+one-ending setting x y k l p q a b same (was_given_up g is) (got h other also) = absurd (let e = sym h.outcome ∙ ap (λ (r : Place). takes r.deed.entry.report.outcome) (sym same) ∙ ap takes g.outcome in cc)
+one-ending setting x y k l p q a b same (was_given_up g is) (was_given_up h also) = is ∙ ap (λ (r : Place). own_answer r.deed.entry.now gateway_timeout) same ∙ sym also
 
 -- for one exchange one request is sent
 one-forwarding : (setting : Setting) (past : List Deed) (d e : Deed) (id : ℕ) → Gives id d.entry → Gives id e.entry → IsForwarding setting past d → IsForwarding setting past e → d.act ≡ e.act → SayTheSame d.entry e.entry
 one-forwarding setting past d e id g h j k act =
+    let p = j.to_send in
+    let q = k.to_send in
     let number = same_moves j.exchange k.exchange (sym j.act ∙ act ∙ k.act) in
-    let request = (one-opened number j.opened k.opened).2 in
-    let target = same_Ok j.target k.target (sym j.target_is ∙ ap (request_target setting.routes) request ∙ k.target_is) in
-    let sent_id = id-told d.entry id j.target.at (forwarded (token_of setting.salt j.exchange) j.target (sent_on j.opened.request) j.id) g j.tells in
-    let other_id = id-told e.entry id k.target.at (forwarded (token_of setting.salt k.exchange) k.target (sent_on k.opened.request) k.id) h k.tells in
-    let same = forwarded-same setting.salt j.exchange k.exchange j.target k.target j.opened.request k.opened.request j.id k.id number target request (sent_id ∙ sym other_id) in
-    told-same d.entry e.entry j.target.at k.target.at _ _ j.tells k.tells (ap (λ (t : Target). t.at) target) same
+    let request = (one-opened number p.opened q.opened).2 in
+    let target = ap (λ (c : CacheKey). c.target) (one_key (sym p.verdict ∙ ap (verdict_of setting.routes) request ∙ q.verdict)) in
+    let sent_id = id-told d.entry id p.key.target.at (forwarded (token_of setting.salt j.exchange) p.key.target (sent_on p.opened.request) j.id) g j.tells in
+    let other_id = id-told e.entry id q.key.target.at (forwarded (token_of setting.salt k.exchange) q.key.target (sent_on q.opened.request) k.id) h k.tells in
+    let same = forwarded-same setting.salt j.exchange k.exchange p.key.target q.key.target p.opened.request q.opened.request j.id k.id number target request (sent_id ∙ sym other_id) in
+    told-same d.entry e.entry p.key.target.at q.key.target.at _ _ j.tells k.tells (ap (λ (t : Target). t.at) target) same
 
--- a response is of one exchange: the requests of two were sent with different ids
-one-exchange : (setting : Setting) (past : List Deed) → IdsDiffer past → (x y : ℕ) (d e : Deed) → d.entry.event ≡ e.entry.event → Gets setting x (here past d) → Gets setting y (here past e) → d.act ≡ e.act
-one-exchange setting past ids x y d e event g h =
+-- the exchange of a response has one of the numbers that were given
+gets-number : (setting : Setting) (past : List Deed) (x : ℕ) (d : Deed) → AllJustified setting past → Gets setting x (here past d) → x ≤ opened_in past
+gets-number setting past x d all g =
+    let m = g.meets in
+    omega (arith, sent-number setting past m.asking x all m.was_asked m.asks.sends, opened-before past m.asking m.was_asked)
+
+-- a response is of one exchange: the requests of two were sent with different tokens
+one-exchange : (setting : Setting) (past : List Deed) → AllJustified setting past → opened_in past < 2 ^ 64 → (x y : ℕ) (d e : Deed) → d.entry.event ≡ e.entry.event → Gets setting x (here past d) → Gets setting y (here past e) → d.act ≡ e.act
+one-exchange setting past all few x y d e event g h =
     let p = g.meets in
     let q = h.meets in
     let response = (one-brought (subst (Brings setting.limits.datagram p.asks.sends.to p.response) event p.brings) q.brings).1 in
-    let id : p.asks.sends.message.id ≡ q.asks.sends.message.id = sym p.matches.same_id ∙ ap (λ (m : Message). m.id) response ∙ q.matches.same_id in
-    let place = ids p.asking q.asking q.asks.sends.message.id p.was_asked q.was_asked (sending-gives setting x p.asking q.asks.sends.message.id p.asks.sends id) (sending-gives setting y q.asking q.asks.sends.message.id q.asks.sends refl) in
-    g.act ∙ sym p.asks.sends.act ∙ ap (λ (r : Place). r.deed.act) place ∙ q.asks.sends.act ∙ sym h.act
-  where
-    sending-gives : (setting : Setting) (n : ℕ) (r : Place) (id : ℕ) (s : Sends setting.salt n r) → s.message.id ≡ id → Gives id r.deed.entry
-    sending-gives setting n r id s is = record { gives = ap (ids_given (comes_con r.deed.entry.event)) s.outcome; message = s.message; spells = s.spells; id_is = is }
+    let token : token_of setting.salt x ≡ token_of setting.salt y = sym p.matches.same_token ∙ ap (λ (m : Message). m.token) response ∙ q.matches.same_token in
+    let small_x = gets-number setting past x d all g in
+    let small_y = gets-number setting past y e all h in
+    let number = token-same setting.salt x y (omega (arith, few, small_x)) (omega (arith, few, small_y)) token in
+    g.act ∙ ap moves number ∙ sym h.act
 
--- to one waiter one answer is told
+-- to one client one answer is told
 one-delivery : (setting : Setting) (past : List Deed) → AllJustified setting past → (d e : Deed) (id : ℕ) → Gives id d.entry → Gives id e.entry → IsDelivery setting past d → IsDelivery setting past e → d.act ≡ e.act → d.entry.now ≡ e.entry.now → SayTheSame d.entry e.entry
 one-delivery setting past all d e id g h j k act now =
-    let most = setting.limits.datagram in
+    let p = j.to_serve in
+    let q = k.to_serve in
     let number = same_serves j.waiter k.waiter (sym j.act ∙ act ∙ k.act) in
-    let one = one-opened number j.opened k.opened in
-    let gets = subst (λ (n : ℕ). Gets setting n j.getting) number j.gets in
-    let getting = first-once (Gets setting k.waiter) past j.getting k.getting j.was_got k.was_got gets k.gets (got-first setting past k.waiter j.getting all j.was_got gets) (got-first setting past k.waiter k.getting all k.was_got k.gets) in
-    let response = one-response setting j.waiter k.waiter j.getting k.getting getting j.gets k.gets in
-    let moment : j.getting.deed.entry.now ≡ k.getting.deed.entry.now = ap (λ (p : Place). p.deed.entry.now) getting in
-    let said_id = id-told d.entry id j.opened.client (shown d.entry.now (answer_of most j.getting.deed.entry.now j.gets.meets.response) j.id j.opened.request.token (tags_of j.opened.request)) g j.tells in
-    let other_id = id-told e.entry id k.opened.client (shown e.entry.now (answer_of most k.getting.deed.entry.now k.gets.meets.response) k.id k.opened.request.token (tags_of k.opened.request)) h k.tells in
-    let same = shown-same most d.entry.now e.entry.now j.getting.deed.entry.now k.getting.deed.entry.now j.gets.meets.response k.gets.meets.response j.id k.id j.opened.request k.opened.request now moment response (said_id ∙ sym other_id) one.2 in
-    told-same d.entry e.entry j.opened.client k.opened.client _ _ j.tells k.tells one.1 same
+    let one = one-admitted number p.admitted q.admitted in
+    let ends = subst (λ (n : ℕ). Ends n p.ending) one.3 p.ends in
+    let ending = ended-once setting past q.admitted.exchange p.ending q.ending all p.was_ended q.was_ended ends q.ends in
+    let answer = one-ending setting p.admitted.exchange q.admitted.exchange j.key k.key p.ending q.ending j.answer k.answer ending j.ended k.ended in
+    let said_id = id-told d.entry id p.admitted.client (shown d.entry.now j.answer j.id p.admitted.request.token (tags_of p.admitted.request)) g j.tells in
+    let other_id = id-told e.entry id q.admitted.client (shown e.entry.now k.answer k.id q.admitted.request.token (tags_of q.admitted.request)) h k.tells in
+    let same = shown-same d.entry.now e.entry.now j.answer k.answer j.id k.id p.admitted.request q.admitted.request now answer (said_id ∙ sym other_id) one.2 in
+    told-same d.entry e.entry p.admitted.client q.admitted.client _ _ j.tells k.tells one.1 same
+
+-- ---- what an exchange may do
+
+-- one that waits for its turn doesn't wait for an acknowledgement
+not-both : {A : Type 0} {setting : Setting} {past : List Deed} {x y m : ℕ} → x ≡ y → stage_of x past ≡ Some queued → IsToRepeat setting past y m → A
+not-both {past = past} same stage r = absurd (let e = sym stage ∙ ap (λ (n : ℕ). stage_of n past) same ∙ r.stage in cc)
+
+-- one that is in time isn't overdue
+not-late : {A : Type 0} (setting : Setting) (past : List Deed) (x y now later at : ℕ) → x ≡ y → now ≡ later → InTime setting past x now → IsToEnd setting past y at → at ≤ later → A
+not-late setting past x y now later at same moment timely end come =
+    absurd (let before = timely at (subst (λ (n : ℕ). IsToEnd setting past n at) (sym same) end) in omega (arith, before, moment, come))
+
+-- one that is sent isn't given up
+sent-kept : {A : Type 0} (setting : Setting) (past : List Deed) (d e : Deed) → IsForwarding setting past d → IsGivingUp setting past e → d.act ≡ e.act → d.entry.now ≡ e.entry.now → A
+sent-kept setting past d e j (overdue y at acting is end come silent) act now = not-late setting past j.exchange y d.entry.now e.entry.now at (same_moves j.exchange y (sym j.act ∙ act ∙ is)) now j.in_time end come
+sent-kept setting past d e j (unheard y at acting is repeat first come stops silent) act now = not-both (same_moves j.exchange y (sym j.act ∙ act ∙ is)) j.to_send.stage repeat
+
+-- nor is one that is sent again
+resent-kept : {A : Type 0} (setting : Setting) (past : List Deed) (d e : Deed) → IsResending setting past d → IsGivingUp setting past e → d.act ≡ e.act → d.entry.now ≡ e.entry.now → A
+resent-kept setting past d e j (overdue y at acting is end come silent) act now = not-late setting past j.exchange y d.entry.now e.entry.now at (same_moves j.exchange y (sym j.act ∙ act ∙ is)) now j.in_time end come
+resent-kept setting past d e j (unheard y at acting is repeat first come stops silent) act now =
+    absurd (stops (subst (λ (a : Act). MayGoOn e.entry.now (sends_by a past)) act (subst (λ (n : ℕ). MayGoOn n (sends_by d.act past)) now j.goes_on)))
+
+-- what is given up is given up in silence
+given_up-silent : (setting : Setting) (past : List Deed) (d : Deed) → IsGivingUp setting past d → IsSilent d.entry
+given_up-silent setting past d (overdue y at acting is end come silent) = silent
+given_up-silent setting past d (unheard y at acting is repeat first come stops silent) = silent
+
+-- it is an exchange
+record IsMoved (d : Deed) : Type 0 where
+  pub exchange : ℕ
+  pub act : d.act ≡ moves exchange
+
+given_up-moves : (setting : Setting) (past : List Deed) (d : Deed) → IsGivingUp setting past d → IsMoved d
+given_up-moves setting past d (overdue y at acting is end come silent) = record { exchange = y; act = is }
+given_up-moves setting past d (unheard y at acting is repeat first come stops silent) = record { exchange = y; act = is }
 
 -- ---- one answer
 
@@ -195,8 +244,8 @@ taken-some (Answered s) e = (s, refl)
 taken-some _ e = absurd cc
 
 -- what may follow the same deeds at one turn is one deed
-pub one-answer : (setting : Setting) (past : List Deed) (d e : Deed) → AllJustified setting past → IdsDiffer past → MayFollow setting past d → MayFollow setting past e → AreOfOneTurn d.entry e.entry → d ≡ e
-one-answer setting past d e all ids f g turn =
+pub one-answer : (setting : Setting) (past : List Deed) (d e : Deed) → AllJustified setting past → opened_in past < 2 ^ 64 → MayFollow setting past d → MayFollow setting past e → AreOfOneTurn d.entry e.entry → d ≡ e
+one-answer setting past d e all few f g turn =
     let alike = by_outcome d.entry.report.outcome refl f.justified in
     same-deed d e (same-entry d.entry e.entry turn alike.outcome alike.say) alike.act
   where
@@ -235,8 +284,13 @@ one-answer setting past d e all ids f g turn =
     same_miss : (key : CacheKey) → IsMiss setting past key d.entry.now → IsMiss setting past key e.entry.now
     same_miss key miss = subst (IsMiss setting past key) turn.now miss
 
+    same_ids : (request : Message) → HasIdFor request d.entry.now past → HasIdFor request e.entry.now past
+    same_ids request ids = subst (λ (n : ℕ). HasIdFor request n past) turn.now ids
+
     acting : {o : Outcome} → OnTick setting past e o → IsActing setting past d → d.act ≡ e.act
-    acting (sent k) a = one-act setting past d e a k.acting
+    acting (sending k) a = one-act setting past d e a k.acting
+    acting (resent k) a = one-act setting past d e a k.acting
+    acting (given_up k) a = one-act setting past d e a (given_up-so setting past e k)
     acting (delivered k) a = one-act setting past d e a k.acting
     acting (idle k) a = let now = turn.now in let later = k.nothing d.act a.at a.due in let come = a.come in absurd (omega (arith, now, later, come))
 
@@ -253,7 +307,7 @@ one-answer setting past d e all ids f g turn =
         record { outcome = is ∙ sym o; act = j.act ∙ sym k.act; say = told-same d.entry e.entry j.source k.source (reset j.head.id) (reset k.head.id) j.tells k.tells came.0 (ap (λ (h : Head). reset h.id) head) }
     by_outcome (Refused code) is j =
         let r = same_request j.client j.request j.asked in
-        let o = given_refused e.entry.report.outcome setting past e j.client j.request g.justified r (new_too j.client j.request j.new) code (subst (λ (n : ℕ). Deserves setting past n j.request code) turn.now j.deserved) j.ids in
+        let o = given_refused e.entry.report.outcome setting past e j.client j.request g.justified r (new_too j.client j.request j.new) code (subst (λ (n : ℕ). Deserves setting past n j.request code) turn.now j.deserved) (same_ids j.request j.ids) in
         let k = holds (Refused code) o in
         let one = request-unique setting e.entry.event j.client k.client j.request k.request r k.asked in
         let token : j.request.token ≡ k.request.token = ap (λ (m : Message). m.token) one.1 in
@@ -262,7 +316,7 @@ one-answer setting past d e all ids f g turn =
         record { outcome = is ∙ sym o; act = j.act ∙ sym k.act; say = told-same d.entry e.entry j.client k.client _ _ j.tells k.tells one.0 same }
     by_outcome Overloaded is j =
         let r = same_request j.client j.request j.asked in
-        let o = given_overloaded e.entry.report.outcome setting past e j.client j.request g.justified r (new_too j.client j.request j.new) j.key j.verdict (same_miss j.key j.miss) j.fits j.no_room j.ids in
+        let o = given_overloaded e.entry.report.outcome setting past e j.client j.request g.justified r (new_too j.client j.request j.new) j.key j.verdict (same_miss j.key j.miss) j.fits (subst (λ (n : ℕ). j.request.kind ≡ Non → ¬ HasRoomToOpen setting.limits n past) turn.now j.no_room) (same_ids j.request j.ids) in
         let k = holds Overloaded o in
         let one = request-unique setting e.entry.event j.client k.client j.request k.request r k.asked in
         let token : j.request.token ≡ k.request.token = ap (λ (m : Message). m.token) one.1 in
@@ -271,16 +325,16 @@ one-answer setting past d e all ids f g turn =
         let same = at_once-same j.request k.request (busy_reply retry j.id j.request.token) (busy_reply retry k.id k.request.token) (ap (λ (m : Message). m.kind) one.1) refl token refl refl id in
         record { outcome = is ∙ sym o; act = j.act ∙ sym k.act; say = told-same d.entry e.entry j.client k.client _ _ j.tells k.tells one.0 same }
     by_outcome NoId is j =
-        let o = given_no_id e.entry.report.outcome setting past e j.client j.request g.justified (same_request j.client j.request j.asked) (new_too j.client j.request j.new) j.kind j.no_ids in
+        let o = given_no_id e.entry.report.outcome setting past e j.client j.request g.justified (same_request j.client j.request j.asked) (new_too j.client j.request j.new) j.kind (subst (λ (n : ℕ). ¬ HasIds 1 n past) turn.now j.no_ids) in
         let k = holds NoId o in
         record { outcome = is ∙ sym o; act = j.act ∙ sym k.act; say = silent-same d.entry e.entry j.silent k.silent }
     by_outcome Opened is j =
-        let o = given_opened e.entry.report.outcome setting past e j.client j.request g.justified (same_request j.client j.request j.asked) (new_too j.client j.request j.new) j.kind j.key j.verdict (same_miss j.key j.miss) j.fits j.room in
+        let o = given_opened e.entry.report.outcome setting past e j.client j.request g.justified (same_request j.client j.request j.asked) (new_too j.client j.request j.new) j.kind j.key j.verdict (same_miss j.key j.miss) j.fits (subst (λ (n : ℕ). HasRoomToOpen setting.limits n past) turn.now j.room) in
         let k = holds Opened o in
         record { outcome = is ∙ sym o; act = j.act ∙ sym k.act; say = silent-same d.entry e.entry j.silent k.silent }
     by_outcome Hit is j =
         let r = same_request j.client j.request j.asked in
-        let o = given_hit e.entry.report.outcome setting past e j.client j.request g.justified r (new_too j.client j.request j.new) j.key j.cached j.entry j.verdict j.is_cache j.found (subst (λ (n : ℕ). is_fresh_at n j.entry ≡ true) turn.now j.fresh) j.ids in
+        let o = given_hit e.entry.report.outcome setting past e j.client j.request g.justified r (new_too j.client j.request j.new) j.key j.cached j.entry j.verdict j.is_cache j.found (subst (λ (n : ℕ). is_fresh_at n j.entry ≡ true) turn.now j.fresh) (same_ids j.request j.ids) in
         let k = holds Hit o in
         let one = request-unique setting e.entry.event j.client k.client j.request k.request r k.asked in
         let key = one_key (sym j.verdict ∙ ap (verdict_on setting) one.1 ∙ k.verdict) in
@@ -309,24 +363,53 @@ one-answer setting past d e all ids f g turn =
         record { outcome = is ∙ sym o; act = j.act ∙ sym k.act; say = silent-same d.entry e.entry j.silent k.silent }
     by_outcome (Answered s) is j =
         let a = taken-so s setting past d j in
-        let awaited : IsAwaited setting past a.exchange d.entry.event = record { meets = a.gets.meets; ungot = a.first } in
+        let awaited : IsAwaited setting past a.exchange d.entry.event = record { meets = a.gets.meets; unended = a.first } in
         let some = taken-some e.entry.report.outcome (given_answered e.entry.report.outcome setting past e a.exchange g.justified (subst (IsAwaited setting past a.exchange) turn.event awaited)) in
         let k = holds (Answered some.0) some.1 in
         let b = taken-so some.0 setting past e k in
-        let act = one-exchange setting past ids a.exchange b.exchange d e turn.event a.gets b.gets in
+        let act = one-exchange setting past all few a.exchange b.exchange d e turn.event a.gets b.gets in
         let memory = subst (λ (o : Outcome). HaveOneMemory o (Answered some.0)) is (subst (HaveOneMemory d.entry.report.outcome) some.1 turn.memory) in
         let storing = one-storing setting past d e turn.event turn.now act s some.0 j k memory in
         record { outcome = is ∙ ap Answered storing ∙ sym some.1; act = act; say = silent-same d.entry e.entry a.silent b.silent }
     by_outcome SentRequest is j = go refl (on-tick e.entry.report.outcome setting past e g.justified (sym turn.event ∙ j.acting.ticked))
       where
         go : {o : Outcome} → e.entry.report.outcome ≡ o → OnTick setting past e o → DoTheSame d e
-        go o (sent k) = let act = acting (sent k) j.acting in record { outcome = is ∙ sym o; act = act; say = one-forwarding setting past d e due (f.id (ap (ids_given (comes_con d.entry.event)) is)) (g.id (ap (ids_given (comes_con e.entry.event)) o)) j k act }
+        go o (sending k) = let act = acting (sending k) j.acting in record { outcome = is ∙ sym o; act = act; say = one-forwarding setting past d e due (f.id (ap (ids_given (comes_con d.entry.event)) is)) (g.id (ap (ids_given (comes_con e.entry.event)) o)) j k act }
+        go o (resent k) = not-both (same_moves j.exchange k.exchange (sym j.act ∙ acting (resent k) j.acting ∙ k.act)) j.to_send.stage k.to_repeat
+        go o (given_up k) = sent-kept setting past d e j k (acting (given_up k) j.acting) turn.now
         go o (delivered k) = absurd (let act = sym j.act ∙ acting (delivered k) j.acting ∙ k.act in cc)
         go o (idle k) = absurd (let act = sym j.act ∙ acting (idle k) j.acting ∙ k.act in cc)
+    by_outcome Resent is j = go refl (on-tick e.entry.report.outcome setting past e g.justified (sym turn.event ∙ j.acting.ticked))
+      where
+        go : {o : Outcome} → e.entry.report.outcome ≡ o → OnTick setting past e o → DoTheSame d e
+        go o (sending k) = not-both (same_moves k.exchange j.exchange (sym k.act ∙ sym (acting (sending k) j.acting) ∙ j.act)) k.to_send.stage j.to_repeat
+        go o (resent k) =
+            let act = acting (resent k) j.acting in
+            let same = subst (λ (a : Act). SaysAsBefore (sends_by a past) d.entry) act j.same in
+            record { outcome = is ∙ sym o; act = act; say = before-same d.entry e.entry (sends_by e.act past) same k.same }
+        go o (given_up k) = resent-kept setting past d e j k (acting (given_up k) j.acting) turn.now
+        go o (delivered k) = absurd (let act = sym j.act ∙ acting (delivered k) j.acting ∙ k.act in cc)
+        go o (idle k) = absurd (let act = sym j.act ∙ acting (idle k) j.acting ∙ k.act in cc)
+    by_outcome GaveUp is j = go refl (on-tick e.entry.report.outcome setting past e g.justified (sym turn.event ∙ (given_up-so setting past d j).ticked))
+      where
+        a : IsActing setting past d
+        a = given_up-so setting past d j
+
+        moved : IsMoved d
+        moved = given_up-moves setting past d j
+
+        go : {o : Outcome} → e.entry.report.outcome ≡ o → OnTick setting past e o → DoTheSame d e
+        go o (sending k) = sent-kept setting past e d k j (sym (acting (sending k) a)) (sym turn.now)
+        go o (resent k) = resent-kept setting past e d k j (sym (acting (resent k) a)) (sym turn.now)
+        go o (given_up k) = record { outcome = is ∙ sym o; act = acting (given_up k) a; say = silent-same d.entry e.entry (given_up-silent setting past d j) (given_up-silent setting past e k) }
+        go o (delivered k) = absurd (let act = sym moved.act ∙ acting (delivered k) a ∙ k.act in cc)
+        go o (idle k) = absurd (let act = sym moved.act ∙ acting (idle k) a ∙ k.act in cc)
     by_outcome Delivered is j = go refl (on-tick e.entry.report.outcome setting past e g.justified (sym turn.event ∙ j.acting.ticked))
       where
         go : {o : Outcome} → e.entry.report.outcome ≡ o → OnTick setting past e o → DoTheSame d e
-        go o (sent k) = absurd (let act = sym j.act ∙ acting (sent k) j.acting ∙ k.act in cc)
+        go o (sending k) = absurd (let act = sym j.act ∙ acting (sending k) j.acting ∙ k.act in cc)
+        go o (resent k) = absurd (let act = sym j.act ∙ acting (resent k) j.acting ∙ k.act in cc)
+        go o (given_up k) = absurd (let act = sym j.act ∙ acting (given_up k) j.acting ∙ (given_up-moves setting past e k).act in cc)
         go o (delivered k) = let act = acting (delivered k) j.acting in record { outcome = is ∙ sym o; act = act; say = one-delivery setting past all d e due (f.id (ap (ids_given (comes_con d.entry.event)) is)) (g.id (ap (ids_given (comes_con e.entry.event)) o)) j k act turn.now }
         go o (idle k) = absurd (let act = sym j.act ∙ acting (idle k) j.acting ∙ k.act in cc)
     by_outcome Idle is j = go refl (on-tick e.entry.report.outcome setting past e g.justified (sym turn.event ∙ j.ticked))
@@ -335,22 +418,9 @@ one-answer setting past d e all ids f g turn =
         later a = let now = turn.now in let not_yet = j.nothing e.act a.at a.due in let come = a.come in omega (arith, now, not_yet, come)
 
         go : {o : Outcome} → e.entry.report.outcome ≡ o → OnTick setting past e o → DoTheSame d e
-        go o (sent k) = absurd (later k.acting)
+        go o (sending k) = absurd (later k.acting)
+        go o (resent k) = absurd (later k.acting)
+        go o (given_up k) = absurd (later (given_up-so setting past e k))
         go o (delivered k) = absurd (later k.acting)
         go o (idle k) = record { outcome = is ∙ sym o; act = j.act ∙ sym k.act; say = silent-same d.entry e.entry j.silent k.silent }
     by_outcome _ is j = absurd j
-
--- ---- the step's answer
-
--- what may follow is what the step answers, with the same memory
-pub step-answer : (w : World) (history : List Entry) (c : Carries history w) (d : Deed) (grown : Bool) → w.last ≤ d.entry.now → IsEvent d.entry.event → MayFollow w.setting c.deeds d → HaveOneMemory d.entry.report.outcome (step_of w d.entry.now d.entry.draw grown d.entry.event).report.outcome → d.entry ≡ entry_of d.entry.now d.entry.draw d.entry.event (step_of w d.entry.now d.entry.draw grown d.entry.event)
-step-answer w history c d grown onward fits f memory =
-    let now = d.entry.now in
-    let draw = d.entry.draw in
-    let event = d.entry.event in
-    let s = step_of w now draw grown event in
-    let k = keeps_deeds w c.deeds now draw grown event c.bears onward fits in
-    let kept = setting_stays w now draw grown event fits in
-    let ids = subst (λ (t : Setting). AreIds t.first_id (doing k.act (entry_of now draw event s) ∷ c.deeds)) kept k.bears.ids in
-    let past = subst (λ (t : Setting). AllJustified t (doing k.act (entry_of now draw event s) ∷ c.deeds)) kept k.bears.past in
-    ap (λ (e : Deed). e.entry) (one-answer w.setting c.deeds d (doing k.act (entry_of now draw event s)) c.bears.past (ids-differ c.deeds w c.bears) f (record { justified = past.0; id = ids.0 }) (record { now = refl; draw = refl; event = refl; memory = memory }))

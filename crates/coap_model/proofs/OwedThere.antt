@@ -8,8 +8,8 @@ use Rattle.coap_model.specs.declared.report.Outcome.TheVariants.{Again}
 use Rattle.coap_model.specs.Setting.{Setting}
 use Rattle.coap_model.specs.Remembered.{remembered_at}
 use Rattle.coap_model.specs.Duplicates.{Repeats}
-use Rattle.coap_model.specs.History.{Deed, Place, IsPlaceOf}
-use Rattle.coap_model.specs.Justified.{IsRequestOf, IsOwed, AllOwed}
+use Rattle.coap_model.specs.History.{Deed, Place, IsPlaceOf, IsRequestOf}
+use Rattle.coap_model.specs.Justified.{IsOwed, AllOwed}
 use Rattle.coap_model.proofs.Duplicates.{place-known}
 
 -- at each place it was given

@@ -8,7 +8,7 @@ use Rattle.coap_message.specs.Reading.{head_at}
 use Rattle.coap_target.specs.declared.endpoint.Endpoint.{Endpoint}
 use Rattle.coap_cache.specs.declared.key.CacheKey.{CacheKey}
 use Rattle.coap_model.specs.declared.report.Outcome.{Outcome}
-use Rattle.coap_model.specs.declared.report.Outcome.TheVariants.{Ignored, Rejected, Again, NoRecordRoom, Refused, Hit, Opened, Overloaded, NoId, Answered, SentRequest, Delivered, Idle}
+use Rattle.coap_model.specs.declared.report.Outcome.TheVariants.{Ignored, Rejected, Again, NoRecordRoom, Refused, Hit, Opened, Overloaded, NoId, Answered, SentRequest, Resent, GaveUp, Delivered, Idle}
 use Rattle.coap_model.specs.declared.report.Storing.{Storing}
 use Rattle.coap_model.specs.declared.report.Storing.TheVariants.{Kept, TooLarge, NoMemory, NotStored}
 use Rattle.coap_model.specs.Setting.{Setting}
@@ -18,12 +18,13 @@ use Rattle.coap_model.specs.Events.{Event, arrival, tick}
 use Rattle.coap_forward.specs.Messages.{brings_requests}
 use Rattle.coap_model.specs.Remembered.{most_remembered, remembered_at}
 use Rattle.coap_model.specs.Verdicts.{may_ask}
-use Rattle.coap_model.specs.History.{Act, Deed, takes, HasIds, HasRoom, Brings}
+use Rattle.coap_model.specs.Standing.{HasIds, HasRoomToOpen}
+use Rattle.coap_model.specs.History.{Act, Deed, takes, Brings, IsRequestOf}
 use Rattle.coap_cache.specs.Lists.{of_key}
 use Rattle.coap_model.specs.Cached.{Cached, cached_key, IsCacheOf}
 use Rattle.coap_model.proofs.Cached.{cache-unique}
 use Rattle.coap_model.specs.Due.{IsDueAt}
-use Rattle.coap_model.specs.Justified.{IsRequestOf, IsNew, HasIdFor, IsRepetition, IsForgotten, verdict_on, fits_on, Deserves, by_verdict, by_length, IsMiss, is_fresh_at, IsRefusal, IsHit, IsAnswer, IsOverload, IsLack, IsOpening, IsAwaited, IsForwarding, IsDelivery, IsIdle, IsUnprocessable, IsActing, JustifiedBy}
+use Rattle.coap_model.specs.Justified.{IsNew, HasIdFor, IsRepetition, IsForgotten, verdict_on, fits_on, Deserves, by_verdict, by_length, IsMiss, is_fresh_at, IsRefusal, IsHit, IsAnswer, IsOverload, IsLack, IsOpening, IsAwaited, IsForwarding, IsResending, IsGivingUp, overdue, unheard, IsDelivery, IsIdle, IsUnprocessable, IsActing, JustifiedBy}
 use Rattle.coap_model.proofs.Arrivals.{no_tick, one_kind, head_kind, kinds}
 use Rattle.coap_model.proofs.Places.{arrival-same, request-unique}
 
@@ -39,6 +40,11 @@ taken-so Kept setting past d j = j.answer
 taken-so TooLarge setting past d j = j.answer
 taken-so NoMemory setting past d j = j.answer
 taken-so NotStored setting past d j = j.answer
+
+-- what is given up is due
+pub given_up-so : (setting : Setting) (past : List Deed) (d : Deed) → IsGivingUp setting past d → IsActing setting past d
+given_up-so setting past d (overdue exchange at acting act to_end come silent) = acting
+given_up-so setting past d (unheard exchange at acting act to_repeat first come stops silent) = acting
 
 -- what becomes of a request
 data OnRequest (setting : Setting) (past : List Deed) (d : Deed) : Outcome → Type 0 where
@@ -64,6 +70,8 @@ on-request Again setting past d client request j r = repeated j
 on-request NoRecordRoom setting past d client request j r = forgotten j
 on-request (Answered s) setting past d client request j r = let m = (taken-so s setting past d j).gets.meets in no_answer m.brings m.matches.kind r.brings r.kind
 on-request SentRequest setting past d client request j r = no_tick r.brings.came j.acting.ticked
+on-request Resent setting past d client request j r = no_tick r.brings.came j.acting.ticked
+on-request GaveUp setting past d client request j r = no_tick r.brings.came (given_up-so setting past d j).ticked
 on-request Delivered setting past d client request j r = no_tick r.brings.came j.acting.ticked
 on-request Idle setting past d client request j r = no_tick r.brings.came j.ticked
 on-request _ setting past d client request j r = absurd j
@@ -104,8 +112,8 @@ key-of : (setting : Setting) (d : Deed) (a b : Endpoint) (r s : Message) (k l : 
 key-of setting d a b r s k l asked again p q = one_key (sym p ∙ ap (verdict_on setting) (request-unique setting d.entry.event a b r s asked again).1 ∙ q)
 
 -- where two ids are free, one is
-fewer_ids : (past : List Deed) → HasIds 2 past → HasIds 1 past
-fewer_ids past h = record { free = let f = h.free in omega arith }
+fewer_ids : (now : ℕ) (past : List Deed) → HasIds 2 now past → HasIds 1 now past
+fewer_ids now past h = record { free = let f = h.free in omega arith }
 
 -- ---- requests that are new
 
@@ -167,7 +175,7 @@ module _ (o : Outcome) (setting : Setting) (past : List Deed) (d : Deed) (client
     not-forgotten k = new-full setting past d client k.client request k.request r k.asked new k.full
 
     -- a request that deserves a code is refused with it
-    pub given_refused : (code : Code) → Deserves setting past d.entry.now request code → HasIdFor request past → o ≡ Refused code
+    pub given_refused : (code : Code) → Deserves setting past d.entry.now request code → HasIdFor request d.entry.now past → o ≡ Refused code
     given_refused code deserved ids = go (on-request o setting past d client request j r)
       where
         go : {p : Outcome} → OnRequest setting past d p → p ≡ Refused code
@@ -180,7 +188,7 @@ module _ (o : Outcome) (setting : Setting) (past : List Deed) (d : Deed) (client
         go (forgotten k) = not-forgotten k
 
     -- one whose key has a fresh entry is answered from the cache
-    pub given_hit : (key : CacheKey) (cached : List Cached) (entry : Cached) → verdict_on setting request ≡ may_ask key → IsCacheOf setting past cached → of_key cached_key key cached ≡ Some entry → is_fresh_at d.entry.now entry ≡ true → HasIdFor request past → o ≡ Hit
+    pub given_hit : (key : CacheKey) (cached : List Cached) (entry : Cached) → verdict_on setting request ≡ may_ask key → IsCacheOf setting past cached → of_key cached_key key cached ≡ Some entry → is_fresh_at d.entry.now entry ≡ true → HasIdFor request d.entry.now past → o ≡ Hit
     given_hit key cached entry verdict is found fresh ids = go (on-request o setting past d client request j r)
       where
         go : {p : Outcome} → OnRequest setting past d p → p ≡ Hit
@@ -193,7 +201,7 @@ module _ (o : Outcome) (setting : Setting) (past : List Deed) (d : Deed) (client
         go (forgotten k) = not-forgotten k
 
     -- one that is missed is told to come later where there is no room
-    pub given_overloaded : (key : CacheKey) → verdict_on setting request ≡ may_ask key → IsMiss setting past key d.entry.now → fits_on setting key request ≡ true → (request.kind ≡ Non → ¬ HasRoom setting.limits past) → HasIdFor request past → o ≡ Overloaded
+    pub given_overloaded : (key : CacheKey) → verdict_on setting request ≡ may_ask key → IsMiss setting past key d.entry.now → fits_on setting key request ≡ true → (request.kind ≡ Non → ¬ HasRoomToOpen setting.limits d.entry.now past) → HasIdFor request d.entry.now past → o ≡ Overloaded
     given_overloaded key verdict miss short full ids = go (on-request o setting past d client request j r)
       where
         go : {p : Outcome} → OnRequest setting past d p → p ≡ Overloaded
@@ -210,26 +218,26 @@ module _ (o : Outcome) (setting : Setting) (past : List Deed) (d : Deed) (client
       non other m asked = ap (λ (k : Message). k.kind) (one other m asked) ∙ kind
 
       -- where no id is free, there is silence
-      pub given_no_id : ¬ HasIds 1 past → o ≡ NoId
+      pub given_no_id : ¬ HasIds 1 d.entry.now past → o ≡ NoId
       given_no_id none = go (on-request o setting past d client request j r)
         where
           go : {p : Outcome} → OnRequest setting past d p → p ≡ NoId
           go (refused code k) = absurd (none (k.ids (non k.client k.request k.asked)))
           go (overloaded k) = absurd (none (k.ids (non k.client k.request k.asked)))
           go (lacking k) = refl
-          go (opened k) = absurd (none (fewer_ids past k.room.ids))
+          go (opened k) = absurd (none (fewer_ids d.entry.now past k.room.ids))
           go (hit k) = absurd (none (k.ids (non k.client k.request k.asked)))
           go (repeated k) = not-again k
           go (forgotten k) = not-forgotten k
 
       -- one that is missed, with room, is opened
-      pub given_opened : (key : CacheKey) → verdict_on setting request ≡ may_ask key → IsMiss setting past key d.entry.now → fits_on setting key request ≡ true → HasRoom setting.limits past → o ≡ Opened
+      pub given_opened : (key : CacheKey) → verdict_on setting request ≡ may_ask key → IsMiss setting past key d.entry.now → fits_on setting key request ≡ true → HasRoomToOpen setting.limits d.entry.now past → o ≡ Opened
       given_opened key verdict miss short room = go (on-request o setting past d client request j r)
         where
           go : {p : Outcome} → OnRequest setting past d p → p ≡ Opened
           go (refused code k) = fits_well setting past now request code key (same_deserved setting past now d k.client client k.request request code k.asked r k.deserved) verdict short
           go (overloaded k) = absurd (k.no_room (non k.client k.request k.asked) room)
-          go (lacking k) = absurd (k.no_ids (fewer_ids past room.ids))
+          go (lacking k) = absurd (k.no_ids (fewer_ids d.entry.now past room.ids))
           go (opened k) = refl
           go (hit k) = missed-or-hit setting past now key k.key k.cached k.entry miss (key-of setting d client k.client request k.request key k.key r k.asked verdict k.verdict) k.is_cache k.found k.fresh
           go (repeated k) = not-again k
@@ -250,6 +258,8 @@ given_answered NoRecordRoom setting past d x j a = no_answer a.meets.brings a.me
 given_answered Hit setting past d x j a = no_answer a.meets.brings a.meets.matches.kind j.asked.brings j.asked.kind
 given_answered (Answered s) setting past d x j a = refl
 given_answered SentRequest setting past d x j a = no_tick a.meets.brings.came j.acting.ticked
+given_answered Resent setting past d x j a = no_tick a.meets.brings.came j.acting.ticked
+given_answered GaveUp setting past d x j a = no_tick a.meets.brings.came (given_up-so setting past d j).ticked
 given_answered Delivered setting past d x j a = no_tick a.meets.brings.came j.acting.ticked
 given_answered Idle setting past d x j a = no_tick a.meets.brings.came j.ticked
 given_answered _ setting past d x j a = absurd j
@@ -269,6 +279,8 @@ given_rejected NoRecordRoom setting past d source bytes head j came is con not =
 given_rejected Hit setting past d source bytes head j came is con not = absurd (not.no_request j.client j.request j.asked)
 given_rejected (Answered s) setting past d source bytes head j came is con not = let m = (taken-so s setting past d j).gets.meets in kinds (head_kind m.brings came is) m.matches.kind con (λ e. cc)
 given_rejected SentRequest setting past d source bytes head j came is con not = no_tick came j.acting.ticked
+given_rejected Resent setting past d source bytes head j came is con not = no_tick came j.acting.ticked
+given_rejected GaveUp setting past d source bytes head j came is con not = no_tick came (given_up-so setting past d j).ticked
 given_rejected Delivered setting past d source bytes head j came is con not = no_tick came j.acting.ticked
 given_rejected Idle setting past d source bytes head j came is con not = no_tick came j.ticked
 given_rejected _ setting past d source bytes head j came is con not = absurd j
@@ -284,8 +296,10 @@ given_ignored NoId setting past d source bytes j came no_con not = absurd (not.n
 given_ignored Again setting past d source bytes j came no_con not = absurd (not.no_request j.client j.request j.asked)
 given_ignored NoRecordRoom setting past d source bytes j came no_con not = absurd (not.no_request j.client j.request j.asked)
 given_ignored Hit setting past d source bytes j came no_con not = absurd (not.no_request j.client j.request j.asked)
-given_ignored (Answered s) setting past d source bytes j came no_con not = let a = taken-so s setting past d j in absurd (not.no_answer a.exchange (record { meets = a.gets.meets; ungot = a.first }))
+given_ignored (Answered s) setting past d source bytes j came no_con not = let a = taken-so s setting past d j in absurd (not.no_answer a.exchange (record { meets = a.gets.meets; unended = a.first }))
 given_ignored SentRequest setting past d source bytes j came no_con not = no_tick came j.acting.ticked
+given_ignored Resent setting past d source bytes j came no_con not = no_tick came j.acting.ticked
+given_ignored GaveUp setting past d source bytes j came no_con not = no_tick came (given_up-so setting past d j).ticked
 given_ignored Delivered setting past d source bytes j came no_con not = no_tick came j.acting.ticked
 given_ignored Idle setting past d source bytes j came no_con not = no_tick came j.ticked
 given_ignored _ setting past d source bytes j came no_con not = absurd j
@@ -295,10 +309,12 @@ given_ignored _ setting past d source bytes j came no_con not = absurd j
 -- what becomes of a tick
 pub data OnTick (setting : Setting) (past : List Deed) (d : Deed) : Outcome → Type 0 where
   sent : IsForwarding setting past d → OnTick setting past d SentRequest
+  resent : IsResending setting past d → OnTick setting past d Resent
+  given_up : IsGivingUp setting past d → OnTick setting past d GaveUp
   delivered : IsDelivery setting past d → OnTick setting past d Delivered
   idle : IsIdle setting past d → OnTick setting past d Idle
 
--- a tick sends a request on, serves a waiter or does nothing
+-- a tick sends a request, for the first time or again, gives one up, serves a waiter or does nothing
 pub on-tick : (o : Outcome) (setting : Setting) (past : List Deed) (d : Deed) → JustifiedBy o setting past d → d.entry.event ≡ tick → OnTick setting past d o
 on-tick Ignored setting past d j ticked = no_tick j.came ticked
 on-tick Rejected setting past d j ticked = no_tick j.came ticked
@@ -311,6 +327,8 @@ on-tick NoRecordRoom setting past d j ticked = no_tick j.asked.brings.came ticke
 on-tick Hit setting past d j ticked = no_tick j.asked.brings.came ticked
 on-tick (Answered s) setting past d j ticked = no_tick (taken-so s setting past d j).gets.meets.brings.came ticked
 on-tick SentRequest setting past d j ticked = sent j
+on-tick Resent setting past d j ticked = resent j
+on-tick GaveUp setting past d j ticked = given_up j
 on-tick Delivered setting past d j ticked = delivered j
 on-tick Idle setting past d j ticked = idle j
 on-tick _ setting past d j ticked = absurd j
@@ -321,5 +339,7 @@ given_done o setting past d a at j ticked due come = go (on-tick o setting past 
   where
     go : {p : Outcome} → OnTick setting past d p → IsActing setting past d
     go (sent k) = k.acting
+    go (resent k) = k.acting
+    go (given_up k) = given_up-so setting past d k
     go (delivered k) = k.acting
     go (idle k) = let later = k.nothing a at due in absurd (omega (arith, later, come))

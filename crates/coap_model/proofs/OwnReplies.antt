@@ -1,7 +1,7 @@
 -- Replies that go out at once: they are messages, short, and have the id that is due.
-use Rattle.std.proofs.Common.{◌≡◌, ℕ, ◌+◌, ◌≤◌, Bool, true, false, List, [], length, refl, subst, arith}
-use Rattle.std.specs.Prelude.{◌||◌, if◌then◌else◌}
-use Rattle.std.proofs.lemmas.Bool.{leb-true, lt-ltb}
+use Rattle.std.proofs.Common.{◌≡◌, ℕ, ◌≤◌, true, false, List, [], length, refl, subst, arith}
+use Rattle.std.specs.Prelude.{◌||◌}
+use Rattle.std.proofs.lemmas.Bool.{lt-ltb}
 use Rattle.coap_message.specs.declared.kind.Kind.{Kind}
 use Rattle.coap_message.specs.declared.kind.Kind.TheVariants.{Con, Non, Ack, Rst}
 use Rattle.coap_message.specs.declared.code.Code.{Code}
@@ -10,7 +10,7 @@ use Rattle.coap_message.specs.Spelling.{IsMessage, spelling, more_length}
 use Rattle.coap_message.specs.Uint.{uint_spelling}
 use Rattle.coap_message.proofs.Spellings.{spelling-length}
 use Rattle.coap_forward.specs.Messages.{is_con, is_non, brings_requests, own_reply, busy_reply, at_once, reply_id}
-use Rattle.coap_model.specs.World.{World, reserved, has_ids, can_reply, ids_to_reply}
+use Rattle.coap_model.specs.World.{World, has_ids, can_reply}
 use Rattle.coap_model.proofs.Spelled.{length-uint_spelling}
 
 -- what is a message is one that goes out at once
@@ -47,28 +47,16 @@ busy-short m seconds id token short =
 -- ---- ids
 
 -- a reply that takes an id has the next one
-pub reply-due : (m : Message) (next : ℕ) → ids_to_reply m.kind ≡ 1 → reply_id m next ≡ next
-reply-due m next = go (is_con m.kind)
-  where
-    go : (b : Bool) → ◌≡◌ {A = ℕ} (if b then 0 else 1) 1 → (if b then m.id else next) ≡ next
-    go true e = absurd (omega (arith, e))
-    go false e = refl
-
--- an id that is free may be taken
-pub free-reply : (w : World) (kind : Kind) → w.given + reserved w ≤ 32768 → can_reply w kind ≡ true → w.given + ids_to_reply kind + reserved w ≤ 32768
-free-reply w kind within free = go (is_con kind) free
-  where
-    go : (b : Bool) → (b || has_ids 1 w) ≡ true → w.given + (if b then 0 else 1) + reserved w ≤ 32768
-    go true e = omega (arith, within)
-    go false e = let le = leb-true (w.given + reserved w + 1) 32768 e in omega (arith, le)
+pub reply-due : (m : Message) (next : ℕ) → is_con m.kind ≡ false → reply_id m next ≡ next
+reply-due m next non = rw non refl
 
 -- a Non-confirmable request takes one
-pub free-one : (w : World) (kind : Kind) → can_reply w kind ≡ true → kind ≡ Non → has_ids 1 w ≡ true
-free-one w kind free is = subst (λ (k : Kind). (is_con k || has_ids 1 w) ≡ true) is free
+pub free-one : (w : World) (now : ℕ) (kind : Kind) → can_reply w now kind ≡ true → kind ≡ Non → has_ids 1 w now ≡ true
+free-one w now kind free is = subst (λ (k : Kind). (is_con k || has_ids 1 w now) ≡ true) is free
 
 -- where none may go out, none is free, and the request is Non-confirmable
-pub free-none : (w : World) (kind : Kind) → brings_requests kind ≡ true → can_reply w kind ≡ false → (kind ≡ Non) × (has_ids 1 w ≡ false)
-free-none w Con e free = absurd cc
-free-none w Non e free = (refl, free)
-free-none w Ack e free = absurd cc
-free-none w Rst e free = absurd cc
+pub free-none : (w : World) (now : ℕ) (kind : Kind) → brings_requests kind ≡ true → can_reply w now kind ≡ false → (kind ≡ Non) × (has_ids 1 w now ≡ false)
+free-none w now Con e free = absurd cc
+free-none w now Non e free = (refl, free)
+free-none w now Ack e free = absurd cc
+free-none w now Rst e free = absurd cc

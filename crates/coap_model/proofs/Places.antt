@@ -6,8 +6,8 @@ use Rattle.coap_message.proofs.WholeMessages.{one_message}
 use Rattle.coap_target.specs.declared.endpoint.Endpoint.{Endpoint}
 use Rattle.coap_model.specs.Events.{Event, arrival}
 use Rattle.coap_model.specs.Setting.{Setting}
-use Rattle.coap_model.specs.History.{Entry, Act, moves, serves, Deed, Place, index, IsPlaceOf, Never, opens_one, opened_in, Opens, Brings}
-use Rattle.coap_model.specs.Justified.{IsRequestOf, WasOpened, JustifiedBy, AllJustified}
+use Rattle.coap_model.specs.History.{Entry, Act, admits, moves, serves, Deed, Place, index, IsPlaceOf, Never, count_in, opens_one, opened_in, admits_one, admitted_in, Opens, Admits, Brings, IsRequestOf, WasOpened, WasAdmitted}
+use Rattle.coap_model.specs.Justified.{JustifiedBy, AllJustified}
 use Rattle.coap_model.specs.declared.report.Outcome.{Outcome}
 
 -- the newest place
@@ -89,43 +89,61 @@ pub Never-weaken : (P Q : Place → Type 0) (history : List Deed) → ((p : Plac
 Never-weaken P Q [] less never = tt
 Never-weaken P Q (e ∷ past) less never = ((λ q. never.0 (less _ q)), Never-weaken P Q past less never.1)
 
+-- the n-th entry that is counted
+abbrev pub Nth : (Outcome → ℕ) → ℕ → Place → Type 0
+Nth counts n p = (counts p.deed.entry.report.outcome ≡ 1) × (n ≡ count_in counts p.before + 1)
+
 -- numbers count from 1, and none is above the count
-pub Opens-number : (history : List Deed) (p : Place) (x : ℕ) → IsPlaceOf history p → Opens x p → (0 < x) × (x ≤ opened_in history)
-Opens-number [] p x h o = absurd h
-Opens-number (e ∷ past) p x h o =
+pub nth-number : (counts : Outcome → ℕ) (history : List Deed) (p : Place) (n : ℕ) → IsPlaceOf history p → Nth counts n p → (0 < n) × (n ≤ count_in counts history)
+nth-number counts [] p n h o = absurd h
+nth-number counts (e ∷ past) p n h o =
     ⊎_elim
     (λ (same : record { before = past; deed = e } ≡ p).
-    let at = subst (Opens x) (sym same) o in
-    let one : opens_one e.entry.report.outcome ≡ 1 = ap opens_one at.0 in
-    let n : x ≡ opened_in past + 1 = at.1 in
+    let at = subst (Nth counts n) (sym same) o in
+    let one = at.0 in
+    let is = at.1 in
     (omega arith, omega arith))
-    (λ (there : IsPlaceOf past p). let i = Opens-number past p x there o in (omega (arith, i.0), omega (arith, i.1)))
+    (λ (there : IsPlaceOf past p). let i = nth-number counts past p n there o in (omega (arith, i.0), omega (arith, i.1)))
     h
 
--- each number is opened at one place
-pub Opens-unique : (history : List Deed) (p q : Place) (x : ℕ) → IsPlaceOf history p → IsPlaceOf history q → Opens x p → Opens x q → p ≡ q
-Opens-unique [] p q x at_p at_q opens_p opens_q = absurd at_p
-Opens-unique (e ∷ past) p q x at_p at_q opens_p opens_q =
+-- each number is given at one place
+pub nth-unique : (counts : Outcome → ℕ) (history : List Deed) (p q : Place) (n : ℕ) → IsPlaceOf history p → IsPlaceOf history q → Nth counts n p → Nth counts n q → p ≡ q
+nth-unique counts [] p q n at_p at_q is_p is_q = absurd at_p
+nth-unique counts (e ∷ past) p q n at_p at_q is_p is_q =
     ⊎_elim
     (λ (same_p : record { before = past; deed = e } ≡ p).
     ⊎_elim
     (λ (same_q : record { before = past; deed = e } ≡ q). sym same_p ∙ same_q)
     (λ (there : IsPlaceOf past q).
-    let at = subst (Opens x) (sym same_p) opens_p in
-    let n : x ≡ opened_in past + 1 = at.1 in
-    let i = Opens-number past q x there opens_q in
+    let at = subst (Nth counts n) (sym same_p) is_p in
+    let is = at.1 in
+    let i = nth-number counts past q n there is_q in
     absurd (omega (arith, i.1)))
     at_q)
     (λ (there_p : IsPlaceOf past p).
     ⊎_elim
     (λ (same_q : record { before = past; deed = e } ≡ q).
-    let at = subst (Opens x) (sym same_q) opens_q in
-    let n : x ≡ opened_in past + 1 = at.1 in
-    let i = Opens-number past p x there_p opens_p in
+    let at = subst (Nth counts n) (sym same_q) is_q in
+    let is = at.1 in
+    let i = nth-number counts past p n there_p is_p in
     absurd (omega (arith, i.1)))
-    (λ (there_q : IsPlaceOf past q). Opens-unique past p q x there_p there_q opens_p opens_q)
+    (λ (there_q : IsPlaceOf past q). nth-unique counts past p q n there_p there_q is_p is_q)
     at_q)
     at_p
+
+-- numbers of exchanges
+pub Opens-number : (history : List Deed) (p : Place) (x : ℕ) → IsPlaceOf history p → Opens x p → (0 < x) × (x ≤ opened_in history)
+Opens-number history p x h o = nth-number opens_one history p x h (ap opens_one o.0, o.1)
+
+pub Opens-unique : (history : List Deed) (p q : Place) (x : ℕ) → IsPlaceOf history p → IsPlaceOf history q → Opens x p → Opens x q → p ≡ q
+Opens-unique history p q x at_p at_q o k = nth-unique opens_one history p q x at_p at_q (ap opens_one o.0, o.1) (ap opens_one k.0, k.1)
+
+-- and of clients
+pub Admits-number : (history : List Deed) (p : Place) (v x : ℕ) → IsPlaceOf history p → Admits v x p → (0 < v) × (v ≤ admitted_in history)
+Admits-number history p v x h a = nth-number admits_one history p v h (a.outcome, a.number)
+
+pub Admits-unique : (history : List Deed) (p q : Place) (v x y : ℕ) → IsPlaceOf history p → IsPlaceOf history q → Admits v x p → Admits v y q → p ≡ q
+Admits-unique history p q v x y at_p at_q a b = nth-unique admits_one history p q v at_p at_q (a.outcome, a.number) (b.outcome, b.number)
 
 -- what never was before is at one place
 pub first-once : (P : Place → Type 0) (history : List Deed) (p q : Place) → IsPlaceOf history p → IsPlaceOf history q → P p → P q → Never P p.before → Never P q.before → p ≡ q
@@ -175,3 +193,24 @@ one-opened {setting = setting} {history = history} {y = y} number a b =
     let asked = subst (λ (p : Place). IsRequestOf setting a.client a.request p.deed.entry.event) place a.asked in
     let one = request-unique setting b.opening.deed.entry.event a.client b.client a.request b.request asked b.asked in
     (place, one.0, one.1)
+
+-- ---- what admitted a client
+
+pub admitted-number : {setting : Setting} {history : List Deed} {v : ℕ} → WasAdmitted setting history v → (0 < v) × (v ≤ admitted_in history)
+admitted-number {history = history} {v = v} a = Admits-number history a.admission v a.exchange a.was_admitted a.admits
+
+abbrev pub admitted-later : {setting : Setting} {history : List Deed} {v : ℕ} (e : Deed) → WasAdmitted setting history v → WasAdmitted setting (e ∷ history) v
+admitted-later e a = record { exchange = a.exchange; admission = a.admission; client = a.client; request = a.request; was_admitted = inr a.was_admitted; admits = a.admits; asked = a.asked }
+
+-- an act is of one client and one exchange
+pub same_admits : (v u x y : ℕ) → admits v x ≡ admits u y → (v ≡ u) × (x ≡ y)
+same_admits v u x y e = (cc, cc)
+
+-- a client is admitted at one place, to one exchange, by one request of one endpoint
+pub one-admitted : {setting : Setting} {history : List Deed} {v u : ℕ} → v ≡ u → (a : WasAdmitted setting history v) (b : WasAdmitted setting history u) → (a.admission ≡ b.admission) × (a.client ≡ b.client) × (a.request ≡ b.request) × (a.exchange ≡ b.exchange)
+one-admitted {setting = setting} {history = history} {v = v} {u = u} number a b =
+    let place = Admits-unique history a.admission b.admission u a.exchange b.exchange a.was_admitted b.was_admitted (subst (λ (n : ℕ). Admits n a.exchange a.admission) number a.admits) b.admits in
+    let asked = subst (λ (p : Place). IsRequestOf setting a.client a.request p.deed.entry.event) place a.asked in
+    let one = request-unique setting b.admission.deed.entry.event a.client b.client a.request b.request asked b.asked in
+    let act = sym a.admits.act ∙ ap (λ (p : Place). p.deed.act) place ∙ b.admits.act in
+    (place, one.0, one.1, (same_admits v u a.exchange b.exchange act).1)

@@ -1,62 +1,79 @@
 -- A step that opens, sends, gets and serves nothing keeps what is carried.
-use Rattle.std.proofs.Common.{◌≡◌, ◌≢◌, ℕ, ◌+◌, ◌%◌, ◌≤◌, true, false, List, ◌∷◌, refl, arith}
-use Rattle.coap_model.specs.declared.report.Outcome.TheVariants.{SentRequest, Delivered}
-use Rattle.coap_cache.specs.Entries as cache
-use Rattle.coap_model.specs.Cached.{leaves, IsStoreOf}
-use Rattle.coap_model.proofs.Stores.{store-otherwise}
-use Rattle.coap_model.specs.World.{World, reserved, later}
-use Rattle.coap_model.specs.History.{Deed, opens_one, sends_one, serves_one, gives_id, ids_in, last_of, takes, Gives}
-use Rattle.coap_model.specs.Justified.{AllJustified}
+use Rattle.std.proofs.Common.{◌≡◌, ◌≢◌, ℕ, ◌+◌, ◌≤◌, true, false, List, ◌∷◌, refl, sym, ◌∙◌, arith}
 use Rattle.coap_message.specs.declared.kind.Kind.TheVariants.{Con, Non}
+use Rattle.coap_cache.specs.Entries as cache
 use Rattle.coap_dedup.specs.Records.{Records}
+use Rattle.coap_exchange.specs.declared.ids.Ids.{Ids as Given}
+use Rattle.coap_exchange.specs.Ids.{given_in}
+use Rattle.coap_model.specs.Cached.{leaves, IsStoreOf}
+use Rattle.coap_model.specs.World.{World, reserved, later}
+use Rattle.coap_model.specs.History.{no_item, moves, serves, Deed, opens_one, admits_one, gives_id, last_of}
+use Rattle.coap_model.specs.Standing.{Standing, Open, standing_by, open_by, standing_in, open_in}
+use Rattle.coap_model.specs.Schedules.{is_sending}
+use Rattle.coap_model.specs.Justified.{AllJustified}
 use Rattle.coap_model.specs.Remembered.{is_remembered}
-use Rattle.coap_model.specs.Carries.{AreRemembered, Bears}
+use Rattle.coap_model.specs.Carries.{AreRemembered, Ids, Bears}
+use Rattle.coap_model.proofs.Frames.{clock_frame, numbers_frame, exchanges_frame, waiters_frame, unused_frame, schedules_frame, opened-before, admitted-before}
+use Rattle.coap_model.proofs.Giving.{ids-kept}
 use Rattle.coap_model.proofs.Remembering.{remembered-on, leaves-nothing}
-use Rattle.coap_model.proofs.Frames.{clock_frame, numbers_frame, later_served, exchanges_frame, waiters_frame, fresh_frame, sends-not, gets-not, serves-not}
+use Rattle.coap_model.proofs.Stores.{store-otherwise}
 
--- what an entry must be
+-- what an entry must be: it acts on nothing, and opens, sends and admits nothing
 pub record IsQuiet (e : Deed) : Type 0 where
+  pub act : e.act ≡ no_item
   pub opens : opens_one e.entry.report.outcome ≡ 0
-  pub sends : sends_one e.entry.report.outcome ≡ 0
-  pub serves : serves_one e.entry.report.outcome ≡ 0
-  pub unsent : e.entry.report.outcome ≢ SentRequest
-  pub ungot : takes e.entry.report.outcome ≢ true
-  pub unserved : e.entry.report.outcome ≢ Delivered
+  pub admits : admits_one e.entry.report.outcome ≡ 0
+  pub sends : is_sending e.entry.report.outcome ≡ false
+  pub leaves_open : (standing : List Standing) (xs : List Open) → open_by e.entry.report.outcome e.act e.entry.report.send standing xs ≡ xs
+  pub stands : (standing : List Standing) → standing_by e.entry.report.outcome e.act standing ≡ standing
 
--- the clock goes on, so many ids were given, and this is stored and remembered
-abbrev pub quiet_world : World → ℕ → ℕ → List cache.Entry → Records → Records → World
-quiet_world w now given store con non =
-    record (later w now) { given = given; store = store; con_records = con; non_records = non }
+-- it acts on no exchange and on no client
+pub acts-on-none : (e : Deed) → e.act ≡ no_item → (x : ℕ) → e.act ≢ moves x
+acts-on-none e act x same = let f = sym act ∙ same in cc
 
--- such a step keeps what is carried, whatever moves in the store and is remembered
-pub keeps_still : (w : World) (history : List Deed) (c : Bears history w) (e : Deed) (given : ℕ) (store : List cache.Entry) (con non : Records) → IsQuiet e → w.last ≤ e.entry.now → given ≡ w.given + gives_id e.entry
-    → (gives_id e.entry ≡ 1 → Gives ((w.setting.first_id + ids_in history) % 65536) e.entry) → given + reserved w ≤ 32768
+pub serves-none : (e : Deed) → e.act ≡ no_item → (v : ℕ) → e.act ≢ serves v
+serves-none e act v same = let f = sym act ∙ same in cc
+
+-- the clock goes on, these ids are given, and this is stored and remembered
+abbrev pub quiet_world : World → ℕ → Given → List cache.Entry → Records → Records → World
+quiet_world w now ids store con non =
+    record (later w now) { ids = ids; store = store; con_records = con; non_records = non }
+
+-- such a step keeps what is carried, whatever ids it gives, and whatever moves in the store and is remembered
+pub keeps_still : (w : World) (history : List Deed) (c : Bears history w) (e : Deed) (ids : Given) (store : List cache.Entry) (con non : Records) → IsQuiet e → w.last ≤ e.entry.now
+    → Ids (e ∷ history) (quiet_world w e.entry.now ids store con non)
+    → ((now : ℕ) → e.entry.now ≤ now → given_in now ids + reserved w ≤ 32768)
     → IsStoreOf w.setting (e ∷ history) store
     → AreRemembered w.setting (e ∷ history) Con con × AreRemembered w.setting (e ∷ history) Non non
-    → AllJustified w.setting (e ∷ history) → Bears (e ∷ history) (quiet_world w e.entry.now given store con non)
-keeps_still w history c e given store con non q onward given_is gives room stored remembered past =
+    → AllJustified w.setting (e ∷ history) → Bears (e ∷ history) (quiet_world w e.entry.now ids store con non)
+keeps_still w history c e ids store con non q onward given room stored remembered past =
     let opens = q.opens in
-    let sends = q.sends in
-    let serves = q.serves in
+    let admits = q.admits in
+    let unmoved = acts-on-none e q.act in
+    let unserved = serves-none e q.act in
     record {
       routes = c.routes;
       clock = clock_frame c.clock onward refl refl;
-      numbers = numbers_frame c.numbers (omega arith) (omega arith) (omega arith);
-      ids = (gives, c.ids);
-      fresh = fresh_frame w.setting history e (λ x above. sends-not w.setting history e q.unsent x) (λ x above. gets-not w.setting history e q.ungot x) c.fresh;
-      exchanges = exchanges_frame w.setting history e w.exchanges (sends-not w.setting history e q.unsent) (gets-not w.setting history e q.ungot) c.exchanges;
-      waiters = waiters_frame w.setting history e w.waiters (serves-not history e q.unserved) c.waiters;
+      numbers = numbers_frame c.numbers (omega arith) (omega arith);
+      ids = given;
+      unused = unused_frame w.setting history e (λ x above. unmoved x) (λ v above. unserved v) c.unused;
+      schedules = schedules_frame history e q.sends c.schedules;
       whole = record {
+        exchanges = c.whole.exchanges ∙ sym (q.leaves_open (standing_in (e ∷ history)) (open_in history));
+        waiters = c.whole.waiters ∙ sym (q.stands (standing_in history));
         rising = c.whole.rising;
-        paired = c.whole.paired;
-        complete = λ n positive le. later_served history e w.exchanges n (c.whole.complete n positive (omega arith));
-        under_way = let h = c.whole.under_way in omega arith;
-        unsent = let h = c.whole.unsent in omega arith;
+        waiters_rise = c.whole.waiters_rise;
+        awaited = c.whole.awaited;
+        waited = c.whole.waited;
+        unended = λ x s never. c.whole.unended x (opened-before history e x q.opens s) never.1;
+        unserved = λ v x s never. c.whole.unserved v x (admitted-before history e v x q.admits s) never.1;
       };
+      exchanges = exchanges_frame w.setting history e w.exchanges unmoved c.exchanges;
+      waiters = waiters_frame w.setting history e w.waiters unserved c.waiters;
       store = stored;
       con_records = remembered.0;
       non_records = remembered.1;
-      within = record { exchanges = c.within.exchanges; waiters = c.within.waiters; ids = room };
+      within = record { exchanges = c.within.exchanges; waiters = c.within.waiters; pace = c.within.pace; ids = room };
       past = past;
     }
 
@@ -66,8 +83,12 @@ remembered-still w history c e onward none =
     let since : last_of history ≤ e.entry.now = let h = c.clock.last in omega (arith, h, onward) in
     (remembered-on e since (leaves-nothing Con e none) c.con_records, remembered-on e since (leaves-nothing Non e none) c.non_records)
 
--- so does one that moves and leaves nothing there
-pub keeps_quiet : (w : World) (history : List Deed) (c : Bears history w) (e : Deed) (given : ℕ) → IsQuiet e → leaves e.entry.report.outcome ≡ true → is_remembered e.entry.report.outcome ≡ false → w.last ≤ e.entry.now → given ≡ w.given + gives_id e.entry
-    → (gives_id e.entry ≡ 1 → Gives ((w.setting.first_id + ids_in history) % 65536) e.entry) → given + reserved w ≤ 32768
-    → AllJustified w.setting (e ∷ history) → Bears (e ∷ history) (quiet_world w e.entry.now given w.store w.con_records w.non_records)
-keeps_quiet w history c e given q leaving none onward given_is gives room past = keeps_still w history c e given w.store w.con_records w.non_records q onward given_is gives room (store-otherwise w.setting history w.store e leaving c.store) (remembered-still w history c e onward none) past
+-- what may still be given may be given later
+pub room-still : (w : World) (history : List Deed) (c : Bears history w) (later : ℕ) → w.last ≤ later → (now : ℕ) → later ≤ now → given_in now w.ids + reserved w ≤ 32768
+room-still w history c later onward now after = c.within.ids now (omega arith)
+
+-- so does one that gives no id, and moves and leaves nothing there
+pub keeps_quiet : (w : World) (history : List Deed) (c : Bears history w) (e : Deed) → IsQuiet e → leaves e.entry.report.outcome ≡ true → is_remembered e.entry.report.outcome ≡ false → w.last ≤ e.entry.now → gives_id e.entry ≡ 0
+    → AllJustified w.setting (e ∷ history) → Bears (e ∷ history) (later w e.entry.now)
+keeps_quiet w history c e q leaving none onward gives past =
+    keeps_still w history c e w.ids w.store w.con_records w.non_records q onward (ids-kept history w (later w e.entry.now) e c.clock c.ids onward refl gives refl) (room-still w history c e.entry.now onward) (store-otherwise w.setting history w.store e leaving c.store) (remembered-still w history c e onward none) past

@@ -16,13 +16,13 @@ use Rattle.coap_model.specs.declared.report.Outcome.TheVariants.{Ignored, Reject
 use Rattle.coap_model.specs.Setting.{Setting}
 use Rattle.coap_model.specs.Events.{arrival}
 use Rattle.coap_forward.specs.Messages.{is_con, told_again}
-use Rattle.coap_model.specs.History.{Deed, Place, IsPlaceOf, last_of, IsInOrder}
+use Rattle.coap_model.specs.History.{Deed, Place, IsPlaceOf, last_of, IsInOrder, IsRequestOf}
 use Rattle.coap_model.specs.Remembered.{is_remembered, remembered_at}
 use Rattle.coap_model.specs.Duplicates.{Repeats}
-use Rattle.coap_model.specs.Justified.{IsRequestOf, JustifiedBy, AllJustified}
+use Rattle.coap_model.specs.Justified.{JustifiedBy, AllJustified}
 use Rattle.coap_model.proofs.Duplicates.{known-place, place-known}
 use Rattle.coap_model.proofs.Places.{arrival-same, in-order, justified-at}
-use Rattle.coap_model.proofs.Promising.{not-later}
+use Rattle.coap_model.proofs.Moments.{not-later}
 
 -- something was done with a request that was new, and a Confirmable one was replied to at once
 record IsNewHere (setting : Setting) (past : List Deed) (d : Deed) : Type 0 where
@@ -51,9 +51,9 @@ new-here Joined setting past d j kept = absurd j
 new-here (Answered s) setting past d j kept = absurd cc
 new-here Acked setting past d j kept = absurd j
 new-here SentRequest setting past d j kept = absurd cc
-new-here Resent setting past d j kept = absurd j
+new-here Resent setting past d j kept = absurd cc
 new-here Delivered setting past d j kept = absurd cc
-new-here GaveUp setting past d j kept = absurd j
+new-here GaveUp setting past d j kept = absurd cc
 new-here Idle setting past d j kept = absurd cc
 
 -- a request repeats this one: it has its client, type and id

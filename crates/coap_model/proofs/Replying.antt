@@ -1,8 +1,8 @@
 -- Replies that go out at once, silence and Resets keep what is carried.
-use Rattle.std.proofs.Common.{◌≡◌, ℕ, ◌+◌, ◌%◌, ◌≤◌, Bool, true, false, List, [], ◌∷◌, length, Option, Some, None, Ok, refl, sym, ap, ◌∙◌, subst, arith}
+use Rattle.std.proofs.Common.{◌≡◌, ℕ, ◌+◌, ◌%◌, ◌<◌, ◌≤◌, Bool, true, false, List, [], ◌∷◌, length, Option, Some, None, Ok, refl, sym, ap, ◌∙◌, subst, arith}
 use Rattle.std.specs.Prelude.{◌&&◌, if◌then◌else◌}
 use Rattle.std.specs.Option.{option_map_or}
-use Rattle.std.proofs.lemmas.Bool.{and_parts, and_from, ltb-false}
+use Rattle.std.proofs.lemmas.Bool.{leb-true, and_parts, and_from, ltb-false}
 use Rattle.coap_message.specs.declared.kind.Kind.{Kind}
 use Rattle.coap_message.specs.declared.kind.Kind.TheVariants.{Con, Non, Ack, Rst}
 use Rattle.coap_message.specs.declared.code.Code.{Code}
@@ -22,24 +22,28 @@ use Rattle.coap_message.specs.Codes.{is_request}
 use Rattle.coap_forward.specs.Messages.{is_con, brings_requests, reset, own_reply, busy_reply, at_once, reply_id}
 use Rattle.coap_model.specs.Remembered.{remembered_at}
 use Rattle.coap_model.specs.Verdicts.{may_ask}
-use Rattle.coap_model.specs.World.{World, next_id, has_record_room, can_reply, ids_to_reply, ignores}
+use Rattle.coap_model.specs.World.{World, next_id, has_record_room, reserved, has_ids, can_reply, ignores}
 use Rattle.coap_model.specs.Requests.{lacks_id, refuses, overloads, can_open, known_of, remembers, repeats, forgets}
 use Rattle.coap_model.specs.Step.{rejects, message_in}
-use Rattle.coap_model.specs.History.{Entry, no_item, Deed, comes_con, gives_id, ids_in, HasRoom, Gives}
-use Rattle.coap_model.specs.Justified.{IsRequestOf, IsNew, HasIdFor, SaysAgain, IsUnprocessable}
+use Rattle.coap_model.specs.History.{no_item, Deed, comes_con, gives_id, ids_in, IsRequestOf}
+use Rattle.coap_model.specs.Standing.{HasRoomToOpen}
+use Rattle.coap_exchange.specs.declared.ids.Ids.{Ids as Given}
+use Rattle.coap_exchange.specs.Ids.{given_in, called}
+use Rattle.coap_model.specs.Justified.{IsNew, HasIdFor, SaysAgain, IsUnprocessable}
 use Rattle.coap_model.specs.Runs.{entry_of}
-use Rattle.coap_model.specs.Carries.{Bears}
+use Rattle.coap_model.specs.Carries.{Ids, Bears}
+use Rattle.coap_model.proofs.Giving.{ids-kept, ids-given, room-called}
 use Rattle.coap_model.proofs.Spelled.{reset-is, own_reply-is, busy_reply-is, message_in-is, message_in-again}
 use Rattle.coap_model.proofs.Places.{doing, arrival-same}
 use Rattle.coap_model.proofs.Verdicts.{deserved-code}
 use Rattle.coap_model.proofs.Rules.{Asked, IsFirst, IsNotCon, IsNothing, verdict_in, fits_in, IsMissed, IsDenied, head_of_read}
-use Rattle.coap_model.proofs.OwnReplies.{at_once-is, own-short, busy-short, reply-due, free-reply, free-one, free-none}
+use Rattle.coap_model.proofs.OwnReplies.{at_once-is, own-short, busy-short, reply-due, free-one, free-none}
 use Rattle.coap_model.proofs.Remembering.{request-kind, known-is, limit-is, first-new, first-remembered}
 use Rattle.coap_model.proofs.Missing.{missed, deserves}
 use Rattle.coap_model.proofs.Room.{ids-free, ids-none, room-none}
 use Rattle.coap_model.proofs.Stores.{store-otherwise}
 use Rattle.coap_model.proofs.Awaiting.{not-ignored}
-use Rattle.coap_model.proofs.Quiet.{keeps_still, keeps_quiet}
+use Rattle.coap_model.proofs.Quiet.{room-still, keeps_still, keeps_quiet}
 
 -- ---- what came
 
@@ -59,7 +63,7 @@ request-came w client bytes m fits asked =
 
 -- the next id is the one that is due by the history
 pub id-same : (w : World) (history : List Deed) (c : Bears history w) → next_id w ≡ (w.setting.first_id + ids_in history) % 65536
-id-same w history c = ap (λ (n : ℕ). (w.setting.first_id + n) % 65536) c.numbers.given
+id-same w history c = c.ids.following
 
 -- ---- replies that go out at once
 
@@ -80,21 +84,38 @@ module _ (w : World) (history : List Deed) (c : Bears history w) (now draw : ℕ
   takes-ids = ap (λ (h : Option Head). option_map_or (λ k. is_con k.kind) h false) (head_of_read w bytes m first.fits first.asked.read)
 
   -- and there is one
-  pub has-id : can_reply w m.kind ≡ true → HasIdFor m history
-  has-id free non = ids-free 1 history w c (free-one w m.kind free non)
+  pub has-id : can_reply w now m.kind ≡ true → HasIdFor m now history
+  has-id free non = ids-free 1 now history w c onward (free-one w now m.kind free non)
+
+  -- the ids after a reply
+  abbrev pub ids_after : Given
+  ids_after = if is_con m.kind then w.ids else called now w.ids
 
   -- a reply that takes one has the one that is due
-  pub gives-due : (ids : ℕ) (e : Entry) (reply : Message) → ids ≡ ids_to_reply m.kind → gives_id e ≡ ids → Spells e.bytes (at_once m reply) → reply.id ≡ next_id w → gives_id e ≡ 1 → Gives ((w.setting.first_id + ids_in history) % 65536) e
-  gives-due ids e reply same given spells next one =
-      record {
-        gives = one;
-        message = at_once m reply;
-        spells = spells;
-        id_is = ap (reply_id m) next ∙ reply-due m (next_id w) (sym same ∙ sym given ∙ one) ∙ id-same w history c;
-      }
+  pub reply-ids : (e : Deed) (v : World) (reply : Message) → e.entry.now ≡ now → gives_id e.entry ≡ (if is_con m.kind then 0 else 1) → Spells e.entry.bytes (at_once m reply) → reply.id ≡ next_id w → can_reply w now m.kind ≡ true → v.setting.first_id ≡ w.setting.first_id → v.ids ≡ ids_after → Ids (e ∷ history) v
+  reply-ids e v reply moment gives spells next free first_id is = go (is_con m.kind) refl gives is
+    where
+      go : (b : Bool) → is_con m.kind ≡ b → gives_id e.entry ≡ (if b then 0 else 1) → v.ids ≡ (if b then w.ids else called now w.ids) → Ids (e ∷ history) v
+      go true con none same = ids-kept history w v e c.clock c.ids (omega (arith, moment)) first_id none same
+      go false non one same =
+          let free_one : has_ids 1 w now ≡ true = rw non at free in
+          let room = leb-true (given_in now w.ids + reserved w + 1) 32768 free_one in
+          ids-given history w v e c.clock c.ids (omega (arith, moment)) first_id one (same ∙ ap (λ (n : ℕ). called n w.ids) (sym moment)) (subst (λ (n : ℕ). given_in n w.ids < 32768) (sym moment) (omega arith))
+          (record { gives = one; message = at_once m reply; spells = spells; id_is = ap (reply_id m) next ∙ reply-due m (next_id w) non ∙ id-same w history c })
+
+  -- and what is kept for later can still be given
+  pub reply-room : can_reply w now m.kind ≡ true → (n : ℕ) → now ≤ n → given_in n ids_after + reserved w ≤ 32768
+  reply-room free n later = go (is_con m.kind) refl
+    where
+      go : (b : Bool) → is_con m.kind ≡ b → given_in n (if b then w.ids else called now w.ids) + reserved w ≤ 32768
+      go true con = c.within.ids n (omega arith)
+      go false non =
+          let free_one : has_ids 1 w now ≡ true = rw non at free in
+          let room = leb-true (given_in now w.ids + reserved w + 1) 32768 free_one in
+          room-called w.ids now (reserved w) (omega arith) n
 
   -- a refusal keeps what is carried
-  pub keeps_refusing : (code : Code) → IsDenied w now m code → can_reply w m.kind ≡ true
+  pub keeps_refusing : (code : Code) → IsDenied w now m code → can_reply w now m.kind ≡ true
       → Bears (doing no_item (entry_of now draw (arrival client bytes) (refuses w now client m code)) ∷ history) (remembers now client m (refuses w now client m code)).world
   keeps_refusing code denied free =
       let s = refuses w now client m code in
@@ -103,40 +124,38 @@ module _ (w : World) (history : List Deed) (c : Bears history w) (now draw : ℕ
       let some = deserved-code w.setting history now m c.routes code deserved in
       let reply = own_reply code [] (next_id w) m.token in
       let spells : Spells s.bytes (at_once m reply) = spelled (at_once m reply) (at_once-is m reply (own_reply-is code [] (next_id w) m.token some tt short_token)) in
-      let ids : gives_id e.entry ≡ ids_to_reply m.kind = ap (λ (b : Bool). if b then 0 else 1) takes-ids in
-      keeps_still w history c e (w.given + ids_to_reply m.kind) w.store _ _ (record { opens = refl; sends = refl; serves = refl; unsent = λ o. cc; ungot = λ o. cc; unserved = λ o. cc }) onward (omega (arith, ids))
-      (gives-due (ids_to_reply m.kind) e.entry reply refl ids spells refl) (free-reply w m.kind c.within.ids free)
+      let gives : gives_id e.entry ≡ (if is_con m.kind then 0 else 1) = ap (λ (b : Bool). if b then 0 else 1) takes-ids in
+      keeps_still w history c e ids_after w.store _ _ (record { act = refl; opens = refl; admits = refl; sends = refl; leaves_open = λ standing xs. refl; stands = λ standing. refl }) onward (reply-ids e _ reply refl gives spells refl free refl refl) (reply-room free)
       (store-otherwise w.setting history w.store e refl c.store)
       (first-remembered w history c now client bytes m onward draw no_item s first refl (λ most wide long. omega (arith, wide, own-short m code (next_id w) m.token short_token)))
       (record { act = refl; client = client; request = m; id = next_id w; asked = came; new = is_new; deserved = deserved; ids = has-id free; tells = record { sent = refl; spells = spells } }, c.past)
 
   -- so does 5.03
-  pub keeps_overloading : (key : CacheKey) → verdict_in w m ≡ may_ask key → IsMissed w now key → fits_in w key m ≡ true → can_open w m.kind ≡ false → can_reply w m.kind ≡ true
+  pub keeps_overloading : (key : CacheKey) → verdict_in w m ≡ may_ask key → IsMissed w now key → fits_in w key m ≡ true → can_open w now m.kind ≡ false → can_reply w now m.kind ≡ true
       → Bears (doing no_item (entry_of now draw (arrival client bytes) (overloads w now client m)) ∷ history) (remembers now client m (overloads w now client m)).world
   keeps_overloading key verdict none short full free =
       let s = overloads w now client m in
       let e = doing no_item (entry_of now draw (arrival client bytes) s) in
       let reply = busy_reply w.setting.limits.retry_s (next_id w) m.token in
       let spells : Spells s.bytes (at_once m reply) = spelled (at_once m reply) (at_once-is m reply (busy_reply-is w.setting.limits.retry_s (next_id w) m.token short_token)) in
-      let ids : gives_id e.entry ≡ ids_to_reply m.kind = ap (λ (b : Bool). if b then 0 else 1) takes-ids in
-      let no_room : m.kind ≡ Non → ¬ HasRoom w.setting.limits history = λ non. room-none history w c (subst (λ (k : Kind). can_open w k ≡ false) non full) in
-      keeps_still w history c e (w.given + ids_to_reply m.kind) w.store _ _ (record { opens = refl; sends = refl; serves = refl; unsent = λ o. cc; ungot = λ o. cc; unserved = λ o. cc }) onward (omega (arith, ids))
-      (gives-due (ids_to_reply m.kind) e.entry reply refl ids spells refl) (free-reply w m.kind c.within.ids free)
+      let gives : gives_id e.entry ≡ (if is_con m.kind then 0 else 1) = ap (λ (b : Bool). if b then 0 else 1) takes-ids in
+      let no_room : m.kind ≡ Non → ¬ HasRoomToOpen w.setting.limits now history = λ non. room-none now history w c onward (subst (λ (k : Kind). can_open w now k ≡ false) non full) in
+      keeps_still w history c e ids_after w.store _ _ (record { act = refl; opens = refl; admits = refl; sends = refl; leaves_open = λ standing xs. refl; stands = λ standing. refl }) onward (reply-ids e _ reply refl gives spells refl free refl refl) (reply-room free)
       (store-otherwise w.setting history w.store e refl c.store)
       (first-remembered w history c now client bytes m onward draw no_item s first refl (λ most wide long. omega (arith, wide, busy-short m w.setting.limits.retry_s (next_id w) m.token short_token)))
       (record { act = refl; client = client; request = m; key = key; id = next_id w; asked = came; verdict = verdict; miss = missed w history c now key none; fits = short; no_room = no_room; new = is_new; ids = has-id free; tells = record { sent = refl; spells = spells } }, c.past)
 
   -- and silence for want of an id
-  pub keeps_lacking : can_reply w m.kind ≡ false
+  pub keeps_lacking : can_reply w now m.kind ≡ false
       → Bears (doing no_item (entry_of now draw (arrival client bytes) (lacks_id w now)) ∷ history) (remembers now client m (lacks_id w now)).world
   keeps_lacking free =
       let s = lacks_id w now in
       let e = doing no_item (entry_of now draw (arrival client bytes) s) in
-      let lack = free-none w m.kind came.kind free in
-      keeps_still w history c e w.given w.store _ _ (record { opens = refl; sends = refl; serves = refl; unsent = λ o. cc; ungot = λ o. cc; unserved = λ o. cc }) onward (omega arith) (λ g. absurd (omega arith)) c.within.ids
+      let lack = free-none w now m.kind came.kind free in
+      keeps_still w history c e w.ids w.store _ _ (record { act = refl; opens = refl; admits = refl; sends = refl; leaves_open = λ standing xs. refl; stands = λ standing. refl }) onward (ids-kept history w _ e c.clock c.ids onward refl refl refl) (room-still w history c now onward)
       (store-otherwise w.setting history w.store e refl c.store)
       (first-remembered w history c now client bytes m onward draw no_item s first refl (λ most wide long. omega arith))
-      (record { act = refl; client = client; request = m; asked = came; kind = lack.0; new = is_new; no_ids = ids-none 1 history w c lack.1; silent = record { sent = refl; bytes = refl } }, c.past)
+      (record { act = refl; client = client; request = m; asked = came; kind = lack.0; new = is_new; no_ids = ids-none 1 now history w c onward lack.1; silent = record { sent = refl; bytes = refl } }, c.past)
 
 -- ---- duplicates
 
@@ -151,11 +170,11 @@ keeps_repeating w history c now draw client bytes m known onward fits asked foun
     go : (reply : Option (List ℕ)) → known.reply ≡ reply → Bears (doing no_item (entry_of now draw (arrival client bytes) (repeats w now client reply)) ∷ history) (repeats w now client reply).world
     go None is =
         let e = doing no_item (entry_of now draw (arrival client bytes) (repeats w now client None)) in
-        keeps_quiet w history c e w.given (record { opens = refl; sends = refl; serves = refl; unsent = λ o. cc; ungot = λ o. cc; unserved = λ o. cc }) refl refl onward (omega arith) (λ g. absurd (omega arith)) c.within.ids
+        keeps_quiet w history c e (record { act = refl; opens = refl; admits = refl; sends = refl; leaves_open = λ standing xs. refl; stands = λ standing. refl }) refl refl onward refl
         (record { act = refl; client = client; request = m; known = known; asked = request-came w client bytes m fits asked; found = same; says_again = subst (λ (o : Option (List ℕ)). SaysAgain client o e.entry) (sym is) (record { sent = refl; bytes = refl }) }, c.past)
     go (Some reply) is =
         let e = doing no_item (entry_of now draw (arrival client bytes) (repeats w now client (Some reply))) in
-        keeps_quiet w history c e w.given (record { opens = refl; sends = refl; serves = refl; unsent = λ o. cc; ungot = λ o. cc; unserved = λ o. cc }) refl refl onward (omega arith) (λ g. absurd (omega arith)) c.within.ids
+        keeps_quiet w history c e (record { act = refl; opens = refl; admits = refl; sends = refl; leaves_open = λ standing xs. refl; stands = λ standing. refl }) refl refl onward refl
         (record { act = refl; client = client; request = m; known = known; asked = request-came w client bytes m fits asked; found = same; says_again = subst (λ (o : Option (List ℕ)). SaysAgain client o e.entry) (sym is) (refl, refl) }, c.past)
 
 -- and so does silence where there is no room to remember the request
@@ -167,7 +186,7 @@ keeps_forgetting w history c now draw client bytes m onward fits asked unknown f
     let same = known-is w history c now client bytes m onward m.kind kind in
     let limit = limit-is w history c now client bytes m onward m.kind kind in
     let most = ltb-false _ _ full in
-    keeps_quiet w history c e w.given (record { opens = refl; sends = refl; serves = refl; unsent = λ o. cc; ungot = λ o. cc; unserved = λ o. cc }) refl refl onward (omega arith) (λ g. absurd (omega arith)) c.within.ids
+    keeps_quiet w history c e (record { act = refl; opens = refl; admits = refl; sends = refl; leaves_open = λ standing xs. refl; stands = λ standing. refl }) refl refl onward refl
     (record { act = refl; client = client; request = m; asked = request-came w client bytes m fits asked; unknown = ap (record_of client m.id) (sym same) ∙ unknown; full = omega (arith, ap length same, limit, most); silent = record { sent = refl; bytes = refl } }, c.past)
 
 -- ---- what isn't processed
@@ -193,7 +212,7 @@ pub keeps_rejecting : (w : World) (history : List Deed) (c : Bears history w) (n
     → Bears (doing no_item (entry_of now draw (arrival source bytes) (rejects w now source head.id)) ∷ history) (rejects w now source head.id).world
 keeps_rejecting w history c now draw source bytes head onward is con none =
     let e = doing no_item (entry_of now draw (arrival source bytes) (rejects w now source head.id)) in
-    keeps_quiet w history c e w.given (record { opens = refl; sends = refl; serves = refl; unsent = λ o. cc; ungot = λ o. cc; unserved = λ o. cc }) refl refl onward (omega arith) (λ g. absurd (omega arith)) c.within.ids
+    keeps_quiet w history c e (record { act = refl; opens = refl; admits = refl; sends = refl; leaves_open = λ standing xs. refl; stands = λ standing. refl }) refl refl onward refl
     (record { act = refl; source = source; bytes = bytes; head = head; came = refl; head_is = is; con = con_is head.kind con; unprocessable = unprocessable w history c source bytes none; tells = record { sent = refl; spells = spelled (reset head.id) (reset-is head.id) } }, c.past)
 
 -- and so does doing nothing
@@ -201,5 +220,5 @@ pub keeps_ignoring : (w : World) (history : List Deed) (c : Bears history w) (no
     → Bears (doing no_item (entry_of now draw (arrival source bytes) (ignores w now)) ∷ history) (ignores w now).world
 keeps_ignoring w history c now draw source bytes onward quiet none =
     let e = doing no_item (entry_of now draw (arrival source bytes) (ignores w now)) in
-    keeps_quiet w history c e w.given (record { opens = refl; sends = refl; serves = refl; unsent = λ o. cc; ungot = λ o. cc; unserved = λ o. cc }) refl refl onward (omega arith) (λ g. absurd (omega arith)) c.within.ids
+    keeps_quiet w history c e (record { act = refl; opens = refl; admits = refl; sends = refl; leaves_open = λ standing xs. refl; stands = λ standing. refl }) refl refl onward refl
     (record { act = refl; source = source; bytes = bytes; came = refl; no_con = λ head is con. absurd (let f = quiet head is in let g = sym f ∙ ap is_con con in cc); unprocessable = unprocessable w history c source bytes none; silent = record { sent = refl; bytes = refl } }, c.past)

@@ -23,7 +23,7 @@ use Rattle.coap_forward.specs.Answers.{answer_of, is_storable}
 use Rattle.coap_cache.specs.declared.answer.Answer.{Answer}
 use Rattle.coap_exchange.specs.declared.exchange.Exchange.{Exchange}
 use Rattle.coap_exchange.specs.declared.waiter.Waiter.{Waiter}
-use Rattle.coap_exchange.specs.Table.{Numbered}
+use Rattle.coap_exchange.specs.Table.{Numbered, item_at}
 use Rattle.coap_model.specs.Events.{Event, arrival, tick, IsEvent}
 use Rattle.coap_message.specs.Codes.{is_request, is_response}
 use Rattle.coap_forward.specs.Messages.{is_con, brings_requests, is_ack}
@@ -32,8 +32,17 @@ use Rattle.coap_dedup.specs.declared.record.Record.{Record}
 use Rattle.coap_model.specs.World.{World, Step, has_record_room, can_reply, ignores}
 use Rattle.coap_model.specs.Requests.{lacks_id, refuses, overloads, opens, turns_down, turns_away, hits, can_open, on_miss, on_entry, on_verdict, known_of, remembers, on_new, repeats, forgets, on_known, on_request}
 use Rattle.coap_model.specs.Responses.{awaiting, entry_made, answers_so, keeps_if, stores, answers, on_awaited, on_response}
-use Rattle.coap_exchange.specs.Due.{Item, sending, serving, least}
-use Rattle.coap_model.specs.Ticks.{items_of, if_due, sends, delivers, idles, on_item}
+use Rattle.coap_exchange.specs.declared.exchange.ExchangeState.{ExchangeState}
+use Rattle.coap_exchange.specs.declared.exchange.ExchangeState.TheVariants.{Queued, Sent, Acked, Done}
+use Rattle.coap_exchange.specs.declared.timer.Timer.{Timer}
+use Rattle.coap_exchange.specs.declared.timer.Fire.{Fire}
+use Rattle.coap_exchange.specs.declared.timer.Fire.TheVariants.{Again, GiveUp}
+use Rattle.coap_exchange.specs.declared.waiter.WaiterState.{WaiterState}
+use Rattle.coap_exchange.specs.declared.waiter.WaiterState.TheVariants.{Waiting, Delivering}
+use Rattle.coap_exchange.specs.Exchanges.{deadline, answer_in, fire_of_sending}
+use Rattle.coap_model.specs.declared.due.DueItem.{DueItem}
+use Rattle.coap_model.specs.declared.due.DueItem.TheVariants.{OfExchange, OfWaiter}
+use Rattle.coap_model.specs.Ticks.{item_due, if_due, sends, resends, gives_up, on_fire, in_time, on_exchange, delivers, on_answer, on_waiting, on_waiter, idles, on_item}
 use Rattle.coap_model.specs.Step.{rejects, unprocessed, on_message, message_in, on_read, step_of}
 use Rattle.coap_model.proofs.Spelled.{message_in-is}
 
@@ -82,29 +91,52 @@ pub data IsStoring (w : World) (now : ℕ) (grown : Bool) (x : Numbered Exchange
   no_memory : is_storable a ≡ true → entry_size (entry_made w now x a) ≤ w.setting.limits.cache_bytes → of_key entry_key x.1.key w.store ≡ None → grown ≡ false → IsStoring w now grown x a NoMemory w.store
   not_stored : is_storable a ≡ false → IsStoring w now grown x a NotStored w.store
 
+-- an exchange is due first, and is there
+pub record IsTurnOf (w : World) (now at number : ℕ) (x : Exchange) : Type 0 where
+  pub due : if_due now (item_due w) ≡ Some (OfExchange at number)
+  pub found : item_at number w.exchanges ≡ Some x
+
+-- it lasted as long as it may, or its request was sent as often or for as long as it may be
+pub data IsOver (w : World) (now : ℕ) (x : Exchange) : Type 0 where
+  overdue : deadline w.setting.limits.exchange_ms x ≤ now → IsOver w now x
+  unheard : x.state ≡ Sent → now < deadline w.setting.limits.exchange_ms x → fire_of_sending now x.sending ≡ GiveUp → IsOver w now x
+
+-- something is due that isn't there, or isn't due
+pub data IsStuck (w : World) (now : ℕ) : Type 0 where
+  no_exchange : (at number : ℕ) → if_due now (item_due w) ≡ Some (OfExchange at number) → item_at number w.exchanges ≡ None → IsStuck w now
+  acknowledged : (at number : ℕ) (x : Exchange) → IsTurnOf w now at number x → x.state ≡ Acked → now < deadline w.setting.limits.exchange_ms x → IsStuck w now
+  answered : (at number : ℕ) (x : Exchange) (a : Answer) → IsTurnOf w now at number x → x.state ≡ Done a → IsStuck w now
+  no_waiter : (at number : ℕ) → if_due now (item_due w) ≡ Some (OfWaiter at number) → item_at number w.waiters ≡ None → IsStuck w now
+  unanswered : (at number exchange : ℕ) (v : Waiter) → if_due now (item_due w) ≡ Some (OfWaiter at number) → item_at number w.waiters ≡ Some v → v.state ≡ Waiting exchange → answer_in exchange w.exchanges ≡ None → IsStuck w now
+  served : (at number id : ℕ) (v : Waiter) (bytes : List ℕ) (timer : Timer) → if_due now (item_due w) ≡ Some (OfWaiter at number) → item_at number w.waiters ≡ Some v → v.state ≡ Delivering bytes id timer → IsStuck w now
+
 -- the cases of a step, each with what is known in it
 pub data Rule (w : World) (now draw : ℕ) (grown : Bool) : Event → Step → Type 0 where
-  refusing : (client : Endpoint) (bytes : List ℕ) (m : Message) (code : Code) → IsFirst w now client bytes m → IsDenied w now m code → can_reply w m.kind ≡ true → Rule w now draw grown (arrival client bytes) (remembers now client m (refuses w now client m code))
-  lacking : (client : Endpoint) (bytes : List ℕ) (m : Message) → IsFirst w now client bytes m → can_reply w m.kind ≡ false → Rule w now draw grown (arrival client bytes) (remembers now client m (lacks_id w now))
-  overloading : (client : Endpoint) (bytes : List ℕ) (m : Message) (key : CacheKey) → IsFirst w now client bytes m → verdict_in w m ≡ may_ask key → IsMissed w now key → fits_in w key m ≡ true → can_open w m.kind ≡ false → can_reply w m.kind ≡ true → Rule w now draw grown (arrival client bytes) (remembers now client m (overloads w now client m))
-  opening : (client : Endpoint) (bytes : List ℕ) (m : Message) (key : CacheKey) → IsFirst w now client bytes m → verdict_in w m ≡ may_ask key → IsMissed w now key → fits_in w key m ≡ true → can_open w m.kind ≡ true → Rule w now draw grown (arrival client bytes) (remembers now client m (opens w now client m key))
-  hitting : (client : Endpoint) (bytes : List ℕ) (m : Message) (key : CacheKey) (entry : Entry) → IsFirst w now client bytes m → verdict_in w m ≡ may_ask key → of_key entry_key key w.store ≡ Some entry → is_usable now entry.1 ≡ true → can_reply w m.kind ≡ true → Rule w now draw grown (arrival client bytes) (remembers now client m (hits w now client m key entry.1))
+  refusing : (client : Endpoint) (bytes : List ℕ) (m : Message) (code : Code) → IsFirst w now client bytes m → IsDenied w now m code → can_reply w now m.kind ≡ true → Rule w now draw grown (arrival client bytes) (remembers now client m (refuses w now client m code))
+  lacking : (client : Endpoint) (bytes : List ℕ) (m : Message) → IsFirst w now client bytes m → can_reply w now m.kind ≡ false → Rule w now draw grown (arrival client bytes) (remembers now client m (lacks_id w now))
+  overloading : (client : Endpoint) (bytes : List ℕ) (m : Message) (key : CacheKey) → IsFirst w now client bytes m → verdict_in w m ≡ may_ask key → IsMissed w now key → fits_in w key m ≡ true → can_open w now m.kind ≡ false → can_reply w now m.kind ≡ true → Rule w now draw grown (arrival client bytes) (remembers now client m (overloads w now client m))
+  opening : (client : Endpoint) (bytes : List ℕ) (m : Message) (key : CacheKey) → IsFirst w now client bytes m → verdict_in w m ≡ may_ask key → IsMissed w now key → fits_in w key m ≡ true → can_open w now m.kind ≡ true → Rule w now draw grown (arrival client bytes) (remembers now client m (opens w now client m key))
+  hitting : (client : Endpoint) (bytes : List ℕ) (m : Message) (key : CacheKey) (entry : Entry) → IsFirst w now client bytes m → verdict_in w m ≡ may_ask key → of_key entry_key key w.store ≡ Some entry → is_usable now entry.1 ≡ true → can_reply w now m.kind ≡ true → Rule w now draw grown (arrival client bytes) (remembers now client m (hits w now client m key entry.1))
   repeating : (client : Endpoint) (bytes : List ℕ) (m : Message) (known : Record) → IsBytes bytes → Asked w bytes m → known_of w now client m ≡ Some known → Rule w now draw grown (arrival client bytes) (repeats w now client known.reply)
   forgetting : (client : Endpoint) (bytes : List ℕ) (m : Message) → IsBytes bytes → Asked w bytes m → known_of w now client m ≡ None → has_record_room w now m.kind ≡ false → Rule w now draw grown (arrival client bytes) (forgets w now)
   answering : (source : Endpoint) (bytes : List ℕ) (m : Message) (x : Numbered Exchange) (storing : Storing) (store : List Entry) → IsBytes bytes → message_in w.setting.limits.datagram bytes ≡ Some m → (is_ack m.kind && is_response m.code) ≡ true → awaiting w source m ≡ Some x → IsStoring w now grown x (answer_of w.setting.limits.datagram now m) storing store → Rule w now draw grown (arrival source bytes) (answers_so w now x (answer_of w.setting.limits.datagram now m) storing store)
   rejecting : (source : Endpoint) (bytes : List ℕ) (head : Head) → head_at bytes ≡ Some head → is_con head.kind ≡ true → IsNothing w source bytes → Rule w now draw grown (arrival source bytes) (rejects w now source head.id)
   ignoring : (source : Endpoint) (bytes : List ℕ) → IsNotCon bytes → IsNothing w source bytes → Rule w now draw grown (arrival source bytes) (ignores w now)
-  forwarding : (x : Numbered Exchange) → if_due now (least (items_of w)) ≡ Some (sending x) → Rule w now draw grown tick (sends w now x)
-  delivering : (v : Numbered Waiter) (a : Answer) → if_due now (least (items_of w)) ≡ Some (serving v a) → Rule w now draw grown tick (delivers w now v a)
-  idling : if_due now (least (items_of w)) ≡ None → Rule w now draw grown tick (idles w now)
+  forwarding : (at number : ℕ) (x : Exchange) → IsTurnOf w now at number x → x.state ≡ Queued → now < deadline w.setting.limits.exchange_ms x → Rule w now draw grown tick (sends w now draw number x)
+  resending : (at number : ℕ) (x : Exchange) → IsTurnOf w now at number x → x.state ≡ Sent → now < deadline w.setting.limits.exchange_ms x → fire_of_sending now x.sending ≡ Again → Rule w now draw grown tick (resends w now number x)
+  giving_up : (at number : ℕ) (x : Exchange) → IsTurnOf w now at number x → IsOver w now x → Rule w now draw grown tick (gives_up w now number)
+  delivering : (at number exchange : ℕ) (v : Waiter) (a : Answer) → if_due now (item_due w) ≡ Some (OfWaiter at number) → item_at number w.waiters ≡ Some v → v.state ≡ Waiting exchange → answer_in exchange w.exchanges ≡ Some a → Rule w now draw grown tick (delivers w now number v exchange a)
+  idling : if_due now (item_due w) ≡ None → Rule w now draw grown tick (idles w now)
+  -- what never comes: something is due that isn't there, or isn't due
+  stuck : IsStuck w now → Rule w now draw grown tick (idles w now)
 
 -- ---- requests
 
 -- a request that deserves a code is refused with it, if an id is free
 rule_refusal : (w : World) (now draw : ℕ) (grown : Bool) (client : Endpoint) (bytes : List ℕ) (m : Message) (code : Code) → IsFirst w now client bytes m → IsDenied w now m code → Rule w now draw grown (arrival client bytes) (remembers now client m (turns_down w now client m code))
-rule_refusal w now draw grown client bytes m code first denied = go (can_reply w m.kind) refl
+rule_refusal w now draw grown client bytes m code first denied = go (can_reply w now m.kind) refl
   where
-    go : (b : Bool) → can_reply w m.kind ≡ b → Rule w now draw grown (arrival client bytes) (remembers now client m (cond b (refuses w now client m code) (lacks_id w now)))
+    go : (b : Bool) → can_reply w now m.kind ≡ b → Rule w now draw grown (arrival client bytes) (remembers now client m (cond b (refuses w now client m code) (lacks_id w now)))
     go true free = refusing client bytes m code first denied free
     go false free = lacking client bytes m first free
 
@@ -112,16 +144,16 @@ rule_refusal w now draw grown client bytes m code first denied = go (can_reply w
 rule_miss : (w : World) (now draw : ℕ) (grown : Bool) (client : Endpoint) (bytes : List ℕ) (m : Message) (key : CacheKey) → IsFirst w now client bytes m → verdict_in w m ≡ may_ask key → IsMissed w now key → Rule w now draw grown (arrival client bytes) (remembers now client m (on_miss w now client m key))
 rule_miss w now draw grown client bytes m key first e missed = by_fit (fits_in w key m) refl
   where
-    ids : fits_in w key m ≡ true → can_open w m.kind ≡ false → (b : Bool) → can_reply w m.kind ≡ b → Rule w now draw grown (arrival client bytes) (remembers now client m (cond b (overloads w now client m) (lacks_id w now)))
+    ids : fits_in w key m ≡ true → can_open w now m.kind ≡ false → (b : Bool) → can_reply w now m.kind ≡ b → Rule w now draw grown (arrival client bytes) (remembers now client m (cond b (overloads w now client m) (lacks_id w now)))
     ids short full true free = overloading client bytes m key first e missed short full free
     ids short full false free = lacking client bytes m first free
 
-    room : fits_in w key m ≡ true → (b : Bool) → can_open w m.kind ≡ b → Rule w now draw grown (arrival client bytes) (remembers now client m (cond b (opens w now client m key) (turns_away w now client m)))
+    room : fits_in w key m ≡ true → (b : Bool) → can_open w now m.kind ≡ b → Rule w now draw grown (arrival client bytes) (remembers now client m (cond b (opens w now client m key) (turns_away w now client m)))
     room short true there = opening client bytes m key first e missed short there
-    room short false full = ids short full (can_reply w m.kind) refl
+    room short false full = ids short full (can_reply w now m.kind) refl
 
-    by_fit : (b : Bool) → fits_in w key m ≡ b → Rule w now draw grown (arrival client bytes) (remembers now client m (cond b (cond (can_open w m.kind) (opens w now client m key) (turns_away w now client m)) (turns_down w now client m REQUEST_ENTITY_TOO_LARGE)))
-    by_fit true short = room short (can_open w m.kind) refl
+    by_fit : (b : Bool) → fits_in w key m ≡ b → Rule w now draw grown (arrival client bytes) (remembers now client m (cond b (cond (can_open w now m.kind) (opens w now client m key) (turns_away w now client m)) (turns_down w now client m REQUEST_ENTITY_TOO_LARGE)))
+    by_fit true short = room short (can_open w now m.kind) refl
     by_fit false long = rule_refusal w now draw grown client bytes m REQUEST_ENTITY_TOO_LARGE first (by_length key e missed long refl)
 
 -- a request for a key is a case by the entry of the key
@@ -129,12 +161,12 @@ rule_entry : (w : World) (now draw : ℕ) (grown : Bool) (client : Endpoint) (by
 rule_entry w now draw grown client bytes m key first e None none = rule_miss w now draw grown client bytes m key first e (λ entry found. absurd (let f = sym none ∙ found in cc))
 rule_entry w now draw grown client bytes m key first e (Some entry) found = go (is_usable now entry.1) refl
   where
-    ids : is_usable now entry.1 ≡ true → (b : Bool) → can_reply w m.kind ≡ b → Rule w now draw grown (arrival client bytes) (remembers now client m (cond b (hits w now client m key entry.1) (lacks_id w now)))
+    ids : is_usable now entry.1 ≡ true → (b : Bool) → can_reply w now m.kind ≡ b → Rule w now draw grown (arrival client bytes) (remembers now client m (cond b (hits w now client m key entry.1) (lacks_id w now)))
     ids usable true free = hitting client bytes m key entry first e found usable free
     ids usable false free = lacking client bytes m first free
 
-    go : (b : Bool) → is_usable now entry.1 ≡ b → Rule w now draw grown (arrival client bytes) (remembers now client m (cond b (cond (can_reply w m.kind) (hits w now client m key entry.1) (lacks_id w now)) (on_miss w now client m key)))
-    go true usable = ids usable (can_reply w m.kind) refl
+    go : (b : Bool) → is_usable now entry.1 ≡ b → Rule w now draw grown (arrival client bytes) (remembers now client m (cond b (cond (can_reply w now m.kind) (hits w now client m key entry.1) (lacks_id w now)) (on_miss w now client m key)))
+    go true usable = ids usable (can_reply w now m.kind) refl
     go false stale = rule_miss w now draw grown client bytes m key first e (λ other also. subst (λ (o : Entry). is_usable now o.1 ≡ false) (same_Some entry other (sym found ∙ also)) stale)
 
 -- a request is a case by its verdict
@@ -239,13 +271,48 @@ rule_read w now draw grown source bytes fits (Some head) is (Some m) read = rule
 
 -- ---- ticks
 
+-- an exchange that is due is a case by its deadline, its state and its timer
+rule_exchange : (w : World) (now draw : ℕ) (grown : Bool) (at number : ℕ) → if_due now (item_due w) ≡ Some (OfExchange at number) → (o : Option Exchange) → item_at number w.exchanges ≡ o → Rule w now draw grown tick (on_exchange w now draw number o)
+rule_exchange w now draw grown at number due None e = stuck (no_exchange at number due e)
+rule_exchange w now draw grown at number due (Some x) e = by_deadline (nat_le (deadline w.setting.limits.exchange_ms x) now) refl
+  where
+    turn : IsTurnOf w now at number x
+    turn = record { due = due; found = e }
+
+    by_fire : x.state ≡ Sent → now < deadline w.setting.limits.exchange_ms x → (f : Fire) → fire_of_sending now x.sending ≡ f → Rule w now draw grown tick (on_fire w now number x f)
+    by_fire is early Again f = resending at number x turn is early f
+    by_fire is early GiveUp f = giving_up at number x turn (unheard is early f)
+
+    by_state : now < deadline w.setting.limits.exchange_ms x → (s : ExchangeState) → x.state ≡ s → Rule w now draw grown tick (in_time w now draw number x s)
+    by_state early Queued is = forwarding at number x turn is early
+    by_state early Sent is = by_fire is early (fire_of_sending now x.sending) refl
+    by_state early Acked is = stuck (acknowledged at number x turn is early)
+    by_state early (Done a) is = stuck (answered at number x a turn is)
+
+    by_deadline : (b : Bool) → nat_le (deadline w.setting.limits.exchange_ms x) now ≡ b → Rule w now draw grown tick (cond b (gives_up w now number) (in_time w now draw number x x.state))
+    by_deadline true late = giving_up at number x turn (overdue (leb-true _ _ late))
+    by_deadline false early = by_state (leb-false _ _ early) x.state refl
+
+-- a client that is due is a case by the answer of its exchange
+rule_waiter : (w : World) (now draw : ℕ) (grown : Bool) (at number : ℕ) → if_due now (item_due w) ≡ Some (OfWaiter at number) → (o : Option Waiter) → item_at number w.waiters ≡ o → Rule w now draw grown tick (on_waiter w now number o)
+rule_waiter w now draw grown at number due None e = stuck (no_waiter at number due e)
+rule_waiter w now draw grown at number due (Some v) e = by_state v.state refl
+  where
+    by_answer : (exchange : ℕ) → v.state ≡ Waiting exchange → (o : Option Answer) → answer_in exchange w.exchanges ≡ o → Rule w now draw grown tick (on_answer w now number v exchange o)
+    by_answer exchange is None f = stuck (unanswered at number exchange v due e is f)
+    by_answer exchange is (Some a) f = delivering at number exchange v a due e is f
+
+    by_state : (s : WaiterState) → v.state ≡ s → Rule w now draw grown tick (on_waiting w now number v s)
+    by_state (Waiting exchange) is = by_answer exchange is (answer_in exchange w.exchanges) refl
+    by_state (Delivering bytes id timer) is = stuck (served at number id v bytes timer due e is)
+
 -- a tick is a case by what is due
-rule_item : (w : World) (now draw : ℕ) (grown : Bool) (o : Option Item) → if_due now (least (items_of w)) ≡ o → Rule w now draw grown tick (on_item w now o)
+rule_item : (w : World) (now draw : ℕ) (grown : Bool) (o : Option DueItem) → if_due now (item_due w) ≡ o → Rule w now draw grown tick (on_item w now draw o)
 rule_item w now draw grown None e = idling e
-rule_item w now draw grown (Some (sending x)) e = forwarding x e
-rule_item w now draw grown (Some (serving v a)) e = delivering v a e
+rule_item w now draw grown (Some (OfExchange at number)) e = rule_exchange w now draw grown at number e (item_at number w.exchanges) refl
+rule_item w now draw grown (Some (OfWaiter at number)) e = rule_waiter w now draw grown at number e (item_at number w.waiters) refl
 
 -- a step is one of the cases
 pub rule_of : (w : World) (now draw : ℕ) (grown : Bool) (event : Event) → IsEvent event → Rule w now draw grown event (step_of w now draw grown event)
 rule_of w now draw grown (arrival source bytes) fits = rule_read w now draw grown source bytes fits (head_at bytes) refl (message_in w.setting.limits.datagram bytes) refl
-rule_of w now draw grown tick fits = rule_item w now draw grown (if_due now (least (items_of w))) refl
+rule_of w now draw grown tick fits = rule_item w now draw grown (if_due now (item_due w)) refl

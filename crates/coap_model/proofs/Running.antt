@@ -9,7 +9,7 @@ use Rattle.coap_model.specs.Carries.{Carries}
 use Rattle.coap_model.specs.Promised.{Promised}
 use Rattle.coap_model.specs.Requests.{repeats}
 use Rattle.coap_model.specs.Runs.{Taken, turns_of, AreTurns, Run, new_run, one_turn, run_of}
-use Rattle.coap_model.proofs.Rules.{Rule, refusing, lacking, overloading, hitting, opening, repeating, forgetting, answering, rejecting, ignoring, forwarding, delivering, idling, rule_of}
+use Rattle.coap_model.proofs.Rules.{Rule, refusing, lacking, overloading, hitting, opening, repeating, forgetting, answering, rejecting, ignoring, forwarding, resending, giving_up, delivering, idling, stuck, rule_of}
 use Rattle.coap_model.proofs.Carrying.{keeps_step, starts}
 use Rattle.coap_model.proofs.Promising.{promises}
 
@@ -29,9 +29,12 @@ rule_setting (forgetting client bytes m fits asked unknown full) = refl
 rule_setting (answering source bytes m x storing store fits read response found stored) = refl
 rule_setting (rejecting source bytes head is con none) = refl
 rule_setting (ignoring source bytes quiet none) = refl
-rule_setting (forwarding x due) = refl
-rule_setting (delivering v a due) = refl
+rule_setting (forwarding at number x turn is early) = refl
+rule_setting (resending at number x turn is early fire) = refl
+rule_setting (giving_up at number x turn over) = refl
+rule_setting (delivering at number exchange v a due found waits answer) = refl
 rule_setting (idling nothing) = refl
+rule_setting (stuck s) = refl
 
 -- so no step does
 pub setting_stays : (w : World) (now draw : ℕ) (grown : Bool) (event : Event) → IsEvent event → (step_of w now draw grown event).world.setting ≡ w.setting
@@ -57,9 +60,12 @@ rule_clock (forgetting client bytes m fits asked unknown full) = (refl, refl)
 rule_clock (answering source bytes m x storing store fits read response found stored) = (refl, refl)
 rule_clock (rejecting source bytes head is con none) = (refl, refl)
 rule_clock (ignoring source bytes quiet none) = (refl, refl)
-rule_clock (forwarding x due) = (refl, refl)
-rule_clock (delivering v a due) = (refl, refl)
+rule_clock (forwarding at number x turn is early) = (refl, refl)
+rule_clock (resending at number x turn is early fire) = (refl, refl)
+rule_clock (giving_up at number x turn over) = (refl, refl)
+rule_clock (delivering at number exchange v a due found waits answer) = (refl, refl)
 rule_clock (idling nothing) = (refl, refl)
+rule_clock (stuck s) = (refl, refl)
 
 -- so it does in each step
 pub clock_after : (w : World) (now draw : ℕ) (grown : Bool) (event : Event) → IsEvent event → ((step_of w now draw grown event).world.last ≡ now) × ((step_of w now draw grown event).world.events ≡ w.events + 1)

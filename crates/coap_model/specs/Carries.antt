@@ -1,16 +1,24 @@
 -- A proxy carries a history: each part of its tables is what the history says.
-use Rattle.std.specs.Prelude.{◌≡◌, ◌⊎◌, ℕ, ◌+◌, ◌<◌, ◌≤◌, List, [], ◌∷◌, length}
+use Rattle.std.specs.Prelude.{◌≡◌, ◌⊎◌, ℕ, ◌+◌, ◌*◌, ◌^◌, ◌/◌, ◌%◌, ◌<◌, ◌≤◌, List, [], ◌∷◌, length, map, Option, Some, None}
 use Rattle.std.specs.List.{AllByRecursion}
 use Rattle.coap_message.specs.Spelling.{spelling}
 use Rattle.coap_option.specs.Selection.{sent_on, tags_of}
 use Rattle.coap_routes.specs.Routes.{AreRoutes}
+use Rattle.coap_target.specs.declared.endpoint.Endpoint.{Endpoint}
 use Rattle.coap_cache.specs.declared.key.CacheKey.{CacheKey}
 use Rattle.coap_cache.specs.declared.answer.Answer.{Answer}
 use Rattle.coap_exchange.specs.declared.exchange.ExchangeState.{ExchangeState}
-use Rattle.coap_exchange.specs.declared.exchange.ExchangeState.TheVariants.{Queued, Sent, Done}
+use Rattle.coap_exchange.specs.declared.exchange.ExchangeState.TheVariants.{Queued, Sent, Acked, Done}
 use Rattle.coap_exchange.specs.declared.exchange.Exchange.{Exchange}
+use Rattle.coap_exchange.specs.declared.exchange.Sending.{Sending}
+use Rattle.coap_exchange.specs.declared.timer.Timer.{Timer}
 use Rattle.coap_exchange.specs.declared.waiter.Waiter.{Waiter}
-use Rattle.coap_exchange.specs.Table.{Numbered, IsRising}
+use Rattle.coap_exchange.specs.declared.waiter.WaiterState.{WaiterState}
+use Rattle.coap_exchange.specs.declared.waiter.WaiterState.TheVariants.{Waiting, Delivering}
+use Rattle.coap_exchange.specs.Exchanges.{is_sent_to}
+use Rattle.coap_exchange.specs.Waiters.{waits_for}
+use Rattle.coap_exchange.specs.Ids.{given_in}
+use Rattle.coap_exchange.specs.Table.{Numbered, IsRising, count}
 use Rattle.coap_message.specs.declared.kind.Kind.{Kind}
 use Rattle.coap_message.specs.declared.kind.Kind.TheVariants.{Con, Non}
 use Rattle.coap_dedup.specs.Lists.{AreUpTo, reply_bytes}
@@ -20,13 +28,13 @@ use Rattle.coap_forward.specs.Messages.{token_of}
 use Rattle.coap_forward.specs.Forms.{forwarded}
 use Rattle.coap_model.specs.Keys.{key_sent}
 use Rattle.coap_model.specs.Verdicts.{may_ask}
-use Rattle.coap_forward.specs.Answers.{answer_of}
-use Rattle.coap_exchange.specs.Exchanges.{is_queued, count_where}
 use Rattle.coap_model.specs.World.{World, reserved}
-use Rattle.coap_model.specs.History.{Entry, Deed, told_by, Place, index, IsPlaceOf, Never, Somewhere, opened_in, sent_in, served_in, ids_in, Sends, Asks, Gets, Serves, last_of, IsInOrder, AreIds}
+use Rattle.coap_model.specs.Standing.{Stage, Standing, Open, queued, sent, acked, done, open_in, standing_in, window_ids}
+use Rattle.coap_model.specs.Schedules.{IsSchedule, oldest, sends_by}
+use Rattle.coap_model.specs.History.{Entry, Act, moves, serves, Deed, told_by, Place, index, IsPlaceOf, Never, Somewhere, opened_in, admitted_in, ids_in, Opens, Admits, Sends, Serves, Asks, Ends, WasOpened, WasAdmitted, last_of, IsInOrder, AreIds}
 use Rattle.coap_model.specs.Cached.{IsStoreOf}
 use Rattle.coap_model.specs.Remembered.{most_remembered, remembered_at, remembered_for}
-use Rattle.coap_model.specs.Justified.{WasOpened, verdict_on, AllJustified}
+use Rattle.coap_model.specs.Justified.{verdict_on, EndsWith, AllJustified}
 
 -- ---- the clock, the numbers and the ids
 
@@ -37,97 +45,184 @@ pub record Clock (history : List Deed) (w : World) : Type 0 where
 
 pub record Numbers (history : List Deed) (w : World) : Type 0 where
   pub opened : w.opened ≡ opened_in history
-  pub admitted : w.admitted ≡ opened_in history
-  pub given : w.given ≡ ids_in history
+  pub admitted : w.admitted ≡ admitted_in history
 
--- ---- exchanges
+-- Of ids the table knows the next one, and how many were given in the window of a moment; in no
+-- window more than half of all are given.
+pub record Ids (history : List Deed) (w : World) : Type 0 where
+  pub following : w.ids.following ≡ (w.setting.first_id + ids_in history) % 65536
+  pub given :
+      (now : ℕ)
+      → last_of history ≤ now
+      → given_in now w.ids ≡ window_ids (now / 247000) history
+  pub windows : (v : ℕ) → window_ids v history ≤ 32768
+  pub are_ids : AreIds w.setting.first_id history
 
--- the exchange was asked in the history, with this cache key and this id
+-- ---- numbers and stages
+
+abbrev pub stage_at : Endpoint → ExchangeState → Stage
+stage_at at Queued = queued
+stage_at at Sent = sent at
+stage_at at Acked = acked
+stage_at at (Done a) = done
+
+abbrev pub stage_seen : Numbered Exchange → Open
+stage_seen x = record { number = x.0; stage = stage_at x.1.key.target.at x.1.state }
+
+-- no client that was served is kept yet, so that the second case never comes
+abbrev pub exchange_in : WaiterState → ℕ
+exchange_in (Waiting exchange) = exchange
+exchange_in (Delivering bytes id timer) = 0
+
+abbrev pub standing_seen : Numbered Waiter → Standing
+standing_seen v = record { number = v.0; exchange = exchange_in v.1.state }
+
+abbrev pub HasNumber : {A : Type 0} → ℕ → List (Numbered A) → Type 0
+HasNumber n [] = ⊥
+HasNumber n (x ∷ xs) = (n ≡ x.0) ⊎ HasNumber n xs
+
+-- Nothing is missing in the tables and nothing is there twice.
+pub record AreWhole (history : List Deed) (w : World) : Type 0 where
+  pub exchanges : map stage_seen w.exchanges ≡ open_in history
+  pub waiters : map standing_seen w.waiters ≡ standing_in history
+  pub rising : IsRising 0 w.exchanges
+  pub waiters_rise : IsRising 0 w.waiters
+  -- the exchange that a client waits for is there, and for each that is there a client waits
+  pub awaited : AllByRecursion (λ v. HasNumber (exchange_in v.1.state) w.exchanges) w.waiters
+  pub waited : AllByRecursion (λ x. 0 < count (waits_for x.0) w.waiters) w.exchanges
+  -- one that was opened and never ended is there
+  pub unended :
+      (x : ℕ) → Somewhere (Opens x) history → Never (Ends x) history → HasNumber x w.exchanges
+  -- a client that was admitted and never served is there
+  pub unserved :
+      (v x : ℕ) → Somewhere (Admits v x) history → Never (Serves v) history
+      → HasNumber v w.waiters
+
+-- ---- what is sent
+
+-- the timer that these sends lead to, the last one first
+abbrev pub IsTimer : Timer → List Entry → Type 0
+IsTimer t [] = ⊥
+IsTimer t (e ∷ es) =
+    (t.sends ≡ length es + 1)
+    × (t.started ≡ (oldest e es).now)
+    × (t.timeout ≡ (2000 + (oldest e es).draw) * 2 ^ length es)
+    × (t.due ≡ e.now + t.timeout)
+
+-- and each of them was this datagram, to this endpoint
+abbrev pub AreOfBytes : Endpoint → List ℕ → List Entry → Type 0
+AreOfBytes to bytes es =
+    AllByRecursion (λ e. (e.report.send ≡ Some to) × (e.bytes ≡ bytes)) es
+
+-- the exchange was asked in the history, with this key, and is sent by this schedule
 pub record WasAsked
-    (setting : Setting) (history : List Deed) (x : ℕ) (key : CacheKey) (id asked : ℕ)
+    (setting : Setting) (history : List Deed) (x : ℕ) (key : CacheKey) (form : List ℕ)
+    (s : Sending)
     : Type 0 where
   pub asking : Place
   pub was_asked : IsPlaceOf history asking
   pub asks : Asks setting.salt x asking
   pub asked_key : key_sent asks.sends.to asks.sends.message ≡ key
   pub to : asks.sends.to ≡ key.target.at
-  pub id_is : id ≡ asks.sends.message.id
-  pub number : asked ≡ index asking
+  pub id_is : s.id ≡ asks.sends.message.id
+  pub number : s.asked ≡ index asking
+  pub timer : IsTimer s.timer (sends_by (moves x) history)
+  pub bytes : AreOfBytes key.target.at form (sends_by (moves x) history)
 
--- the exchange was got in the history, with this answer
-pub record WasGot
-    (setting : Setting) (history : List Deed) (x : ℕ) (key : CacheKey) (answer : Answer)
+-- ---- exchanges
+
+pub record IsQueued (setting : Setting) (history : List Deed) (x : Numbered Exchange) : Type 0 where
+  pub unsent : x.1.sending ≡ None
+  pub never_sent : Never (Sends setting.salt x.0) history
+  pub no_sends : sends_by (moves x.0) history ≡ []
+  pub unended : Never (Ends x.0) history
+
+-- an exchange whose request is on its way
+pub record IsInFlight
+    (setting : Setting) (history : List Deed) (x : Numbered Exchange) : Type 0 where
+  pub sending : Sending
+  pub sending_is : x.1.sending ≡ Some sending
+  pub asked : WasAsked setting history x.0 x.1.key x.1.form sending
+  pub unended : Never (Ends x.0) history
+
+-- it ended in the history, with this answer
+pub record IsDone
+    (setting : Setting) (history : List Deed) (x : Numbered Exchange) (answer : Answer)
     : Type 0 where
-  pub getting : Place
-  pub was_got : IsPlaceOf history getting
-  pub gets : Gets setting x getting
-  pub asked_key : key_sent gets.meets.asks.sends.to gets.meets.asks.sends.message ≡ key
-  pub answer_is :
-      answer ≡ answer_of setting.limits.datagram getting.deed.entry.now gets.meets.response
+  pub ending : Place
+  pub was_ended : IsPlaceOf history ending
+  pub ends : Ends x.0 ending
+  pub with : EndsWith setting x.0 x.1.key ending answer
+  pub got : answer.got ≡ ending.deed.entry.now
 
--- the state is how far the history brought the exchange
-abbrev pub IsState : Setting → List Deed → ℕ → CacheKey → ExchangeState → Type 0
-IsState setting history x key Queued =
-    Never (Sends setting.salt x) history × Never (Gets setting x) history
-IsState setting history x key (Sent s) =
-    WasAsked setting history x key s.id s.asked × Never (Gets setting x) history
-IsState setting history x key (Done a) = WasGot setting history x key a
+-- the state is how far the history brought the exchange; none is acknowledged yet
+abbrev pub IsState : Setting → List Deed → Numbered Exchange → ExchangeState → Type 0
+IsState setting history x Queued = IsQueued setting history x
+IsState setting history x Sent = IsInFlight setting history x
+IsState setting history x Acked = ⊥
+IsState setting history x (Done a) = IsDone setting history x a
+
+-- the id of the form: none until it is sent
+abbrev pub form_id : Option Sending → ℕ
+form_id None = 0
+form_id (Some s) = s.id
 
 -- the exchange is the one that the history opened under its number
 pub record IsExchangeOf
     (setting : Setting) (history : List Deed) (x : Numbered Exchange) : Type 0 where
   pub opened : WasOpened setting history x.0
-  pub since : x.1.since ≡ opened.opening.deed.entry.now
+  pub admitted : x.1.admitted ≡ opened.opening.deed.entry.now
   pub verdict : verdict_on setting opened.request ≡ may_ask x.1.key
   pub form_is :
       x.1.form
-      ≡ spelling (forwarded (token_of setting.salt x.0) x.1.key.target (sent_on opened.request) 0)
+      ≡ spelling
+      (forwarded (token_of setting.salt x.0) x.1.key.target (sent_on opened.request)
+      (form_id x.1.sending))
   pub form_short : length x.1.form ≤ setting.limits.datagram
-  pub state : IsState setting history x.0 x.1.key x.1.state
+  pub state : IsState setting history x x.1.state
 
 -- ---- waiters
 
--- the waiter is the one that the history admitted under its number, with an exchange of its own,
--- and wasn't served
-pub record IsWaiterOf (setting : Setting) (history : List Deed) (v : Numbered Waiter) : Type 0 where
-  pub opened : WasOpened setting history v.0
-  pub exchange : v.1.exchange ≡ v.0
-  pub client_is : v.1.client ≡ opened.client
-  pub token_is : v.1.token ≡ opened.request.token
-  pub tags_are : v.1.tags ≡ tags_of opened.request
-  pub ungot : Never (Gets setting v.0) opened.opening.before
+-- a client waits: it was admitted to this exchange, which hadn't ended then
+pub record IsWaiting
+    (setting : Setting) (history : List Deed) (v : Numbered Waiter) (exchange : ℕ)
+    : Type 0 where
+  pub admitted : WasAdmitted setting history v.0
+  pub exchange_is : admitted.exchange ≡ exchange
+  pub client_is : v.1.client ≡ admitted.client
+  pub token_is : v.1.token ≡ admitted.request.token
+  pub tags_are : v.1.tags ≡ tags_of admitted.request
+  pub unended : Never (Ends exchange) admitted.admission.before
   pub unserved : Never (Serves v.0) history
+  pub no_sends : sends_by (serves v.0) history ≡ []
+  -- the exchange was opened for a request of the same verdict
+  pub opened : WasOpened setting history exchange
+  pub verdict : verdict_on setting opened.request ≡ verdict_on setting admitted.request
 
--- ---- the tables as wholes
+-- no client that was served is kept yet
+abbrev pub IsWaiterIn : Setting → List Deed → Numbered Waiter → WaiterState → Type 0
+IsWaiterIn setting history v (Waiting exchange) = IsWaiting setting history v exchange
+IsWaiterIn setting history v (Delivering bytes id timer) = ⊥
 
--- the exchange of each waiter, in the same order
-abbrev pub ArePaired : List (Numbered Exchange) → List (Numbered Waiter) → Type 0
-ArePaired [] [] = Unit {0}
-ArePaired (x ∷ xs) (v ∷ vs) = (x.0 ≡ v.0) × ArePaired xs vs
-ArePaired [] (v ∷ vs) = ⊥
-ArePaired (x ∷ xs) [] = ⊥
+-- the waiter is the one that the history admitted under its number
+abbrev pub IsWaiterOf : Setting → List Deed → Numbered Waiter → Type 0
+IsWaiterOf setting history v = IsWaiterIn setting history v v.1.state
 
-abbrev pub HasNumber : {A : Type 0} → ℕ → List (Numbered A) → Type 0
-HasNumber n [] = ⊥
-HasNumber n (x ∷ xs) = (n ≡ x.0) ⊎ HasNumber n xs
+-- ---- numbers that weren't given
 
--- Nothing is missing and nothing is there twice: what was opened waits or was served, and the
--- lengths are what the history counts.
-pub record AreWhole (history : List Deed) (w : World) : Type 0 where
-  pub rising : IsRising 0 w.exchanges
-  pub paired : ArePaired w.exchanges w.waiters
-  pub complete :
-      (n : ℕ) → 0 < n → n ≤ opened_in history
-      → HasNumber n w.exchanges ⊎ Somewhere (Serves n) history
-  pub under_way : length w.exchanges + served_in history ≡ opened_in history
-  pub unsent : count_where is_queued w.exchanges + sent_in history ≡ opened_in history
+-- no exchange that isn't opened was sent or ended, and no client that isn't admitted was served
+pub record AreUnused (setting : Setting) (history : List Deed) : Type 0 where
+  pub exchanges :
+      (x : ℕ)
+      → opened_in history < x
+      → Never (Sends setting.salt x) history × Never (Ends x) history
+  pub sends : (x : ℕ) → opened_in history < x → sends_by (moves x) history ≡ []
+  pub waiters : (v : ℕ) → admitted_in history < v → Never (Serves v) history
+  pub deliveries : (v : ℕ) → admitted_in history < v → sends_by (serves v) history ≡ []
 
--- no exchange that isn't opened was sent or got
-abbrev pub IsFresh : Setting → List Deed → Type 0
-IsFresh setting history =
-    (x : ℕ)
-    → opened_in history < x
-    → Never (Sends setting.salt x) history × Never (Gets setting x) history
+-- every message is sent by its schedule
+abbrev pub AreSchedules : List Deed → Type 0
+AreSchedules history = (act : Act) → IsSchedule (sends_by act history)
 
 -- ---- the requests that are remembered
 
@@ -155,7 +250,10 @@ pub record AreRemembered
 pub record IsWithin (w : World) : Type 0 where
   pub exchanges : length w.exchanges ≤ w.setting.limits.exchanges
   pub waiters : length w.waiters ≤ w.setting.limits.waiters
-  pub ids : w.given + reserved w ≤ 32768
+  -- at most so many requests to one endpoint are sent and have no answer
+  pub pace : (to : Endpoint) → count (is_sent_to to) w.exchanges ≤ w.setting.limits.nstart
+  -- each id that is kept for later can be given in the window of any moment that comes
+  pub ids : (now : ℕ) → w.last ≤ now → given_in now w.ids + reserved w ≤ 32768
 
 -- ---- all of it
 
@@ -164,11 +262,12 @@ pub record Bears (deeds : List Deed) (w : World) : Type 0 where
   pub routes : AreRoutes w.setting.routes
   pub clock : Clock deeds w
   pub numbers : Numbers deeds w
-  pub ids : AreIds w.setting.first_id deeds
-  pub fresh : IsFresh w.setting deeds
+  pub ids : Ids deeds w
+  pub unused : AreUnused w.setting deeds
+  pub schedules : AreSchedules deeds
+  pub whole : AreWhole deeds w
   pub exchanges : AllByRecursion (IsExchangeOf w.setting deeds) w.exchanges
   pub waiters : AllByRecursion (IsWaiterOf w.setting deeds) w.waiters
-  pub whole : AreWhole deeds w
   pub store : IsStoreOf w.setting deeds w.store
   pub con_records : AreRemembered w.setting deeds Con w.con_records
   pub non_records : AreRemembered w.setting deeds Non w.non_records

@@ -1,30 +1,58 @@
 -- What is due, by the history alone, and what of it first.
-use Rattle.std.specs.Prelude.{◌≡◌, ◌⊎◌, ℕ, ◌<◌, ◌≤◌, List}
+use Rattle.std.specs.Prelude.{◌≡◌, ◌⊎◌, ℕ, ◌+◌, ◌<◌, ◌≤◌, List, Some}
+use Rattle.coap_target.specs.declared.endpoint.Endpoint.{Endpoint}
+use Rattle.coap_cache.specs.declared.key.CacheKey.{CacheKey}
 use Rattle.coap_model.specs.Setting.{Setting}
-use Rattle.coap_model.specs.History.{Act, moves, serves, Deed, Place, IsPlaceOf, Never, Opens, Sends, Gets, Serves}
+use Rattle.coap_model.specs.Verdicts.{may_ask, verdict_of}
+use Rattle.coap_model.specs.Standing.{queued, sent, stage_of, outstanding_to}
+use Rattle.coap_model.specs.Schedules.{sends_by, next_send}
+use Rattle.coap_model.specs.History.{Act, moves, serves, Deed, Place, IsPlaceOf, Never, Ends, Serves, WasOpened, WasAdmitted}
 
--- an exchange that was opened and never sent is to be sent, from its opening on
+-- ---- exchanges
+
+-- A request that waits for its turn is to be sent, from its opening on, where less requests to its
+-- endpoint are outstanding than may be (RFC 7252, 4.7).
 pub record IsToSend (setting : Setting) (past : List Deed) (x at : ℕ) : Type 0 where
-  pub opening : Place
-  pub was_opened : IsPlaceOf past opening
-  pub opens : Opens x opening
-  pub unsent : Never (Sends setting.salt x) past
-  pub at_is : at ≡ opening.deed.entry.now
+  pub opened : WasOpened setting past x
+  pub key : CacheKey
+  pub verdict : verdict_of setting.routes opened.request ≡ may_ask key
+  pub stage : stage_of x past ≡ Some queued
+  pub free : outstanding_to key.target.at past < setting.limits.nstart
+  pub at_is : at ≡ opened.opening.deed.entry.now
 
--- a waiter whose exchange was got, and who wasn't served, is to be served from the answer on
+-- one that was sent, and neither acknowledged nor answered, is to be sent again by its schedule
+pub record IsToRepeat (setting : Setting) (past : List Deed) (x at : ℕ) : Type 0 where
+  pub to : Endpoint
+  pub stage : stage_of x past ≡ Some (sent to)
+  pub at_is : at ≡ next_send (sends_by (moves x) past)
+
+-- an exchange that hasn't ended is to end some time after its opening
+pub record IsToEnd (setting : Setting) (past : List Deed) (x at : ℕ) : Type 0 where
+  pub opened : WasOpened setting past x
+  pub unended : Never (Ends x) past
+  pub at_is : at ≡ opened.opening.deed.entry.now + setting.limits.exchange_ms
+
+pub data IsExchangeDue (setting : Setting) (past : List Deed) (x at : ℕ) : Type 0 where
+  to_send : IsToSend setting past x at → IsExchangeDue setting past x at
+  to_repeat : IsToRepeat setting past x at → IsExchangeDue setting past x at
+  to_end : IsToEnd setting past x at → IsExchangeDue setting past x at
+
+-- ---- clients
+
+-- a client that wasn't served, of an exchange that was got or given up, is to be served, from then on
 pub record IsToServe (setting : Setting) (past : List Deed) (v at : ℕ) : Type 0 where
-  pub admission : Place
-  pub was_admitted : IsPlaceOf past admission
-  pub opens : Opens v admission
-  pub getting : Place
-  pub was_got : IsPlaceOf past getting
-  pub gets : Gets setting v getting
+  pub admitted : WasAdmitted setting past v
   pub unserved : Never (Serves v) past
-  pub at_is : at ≡ getting.deed.entry.now
+  pub ending : Place
+  pub was_ended : IsPlaceOf past ending
+  pub ends : Ends admitted.exchange ending
+  pub at_is : at ≡ ending.deed.entry.now
 
--- the act is due from this moment on
+-- ---- both
+
+-- The act is due from this moment on. It may be due from a later one besides.
 abbrev pub IsDueAt : Setting → List Deed → Act → ℕ → Type 0
-IsDueAt setting past (moves x) at = IsToSend setting past x at
+IsDueAt setting past (moves x) at = IsExchangeDue setting past x at
 IsDueAt setting past (serves v) at = IsToServe setting past v at
 IsDueAt setting past _ at = ⊥
 

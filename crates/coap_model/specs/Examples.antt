@@ -267,10 +267,10 @@ payload_of n = answered_by 0 (answer 0x68 0x45 1 1 (0xFF ∷ replicate n 0x39))
 abbrev pub payload_of_109_sent : List Sent
 payload_of_109_sent = delivered_as (0x50 ∷ 0x45 ∷ 0 ∷ 2 ∷ 0xD1 ∷ 1 ∷ 60 ∷ 0xFF ∷ replicate 109 0x39)
 
--- a proxy that has given all ids but one: with it a client is told to try again, since an exchange
--- needs two; then there is no reply
+-- a proxy that has given all ids of the first 247 seconds but one: with it a client is told to try
+-- again, since an exchange needs two; then there is no reply
 abbrev pub spent_proxy : World
-spent_proxy = record proxy { given = 32767 }
+spent_proxy = record proxy { ids = record { following = 32768; window = 0; given = 32767 } }
 
 abbrev pub last_id : List Turn
 last_id = from 0 (client 1) (get_t []) ∷ from 0 (client 2) (get_t [])

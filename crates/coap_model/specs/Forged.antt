@@ -51,6 +51,10 @@ answered = record {
 abbrev pub past : List Deed
 past = answered ∷ asked ∷ opened ∷ []
 
+-- another exchange is opened at the same moment
+abbrev pub opened_too : Deed
+opened_too = record opened { act = admits 2 2 }
+
 -- the same, where the request that is sent on has one more segment in its path
 abbrev pub asked_elsewhere : Deed
 asked_elsewhere = record asked {

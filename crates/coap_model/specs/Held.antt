@@ -11,7 +11,7 @@ use Rattle.coap_cache.specs.Entries.{entry_size}
 use Rattle.coap_cache.specs.Lists.{total}
 use Rattle.coap_dedup.specs.Lists.{bytes_of}
 use Rattle.coap_exchange.specs.declared.exchange.ExchangeState.{ExchangeState}
-use Rattle.coap_exchange.specs.declared.exchange.ExchangeState.TheVariants.{Queued, Sent, Done}
+use Rattle.coap_exchange.specs.declared.exchange.ExchangeState.TheVariants.{Queued, Sent, Acked, Done}
 use Rattle.coap_exchange.specs.declared.exchange.Exchange.{Exchange}
 use Rattle.coap_exchange.specs.declared.waiter.Waiter.{Waiter}
 use Rattle.coap_exchange.specs.Table.{Numbered}
@@ -34,7 +34,8 @@ response_bytes m = length (options_spelling 0 m.options) + length m.payload
 
 abbrev pub state_bytes : ExchangeState → ℕ
 state_bytes Queued = 0
-state_bytes (Sent s) = 0
+state_bytes Sent = 0
+state_bytes Acked = 0
 state_bytes (Done a) = response_bytes a.message
 
 -- the target, and the options of the key in the bytes that spell them

@@ -1,6 +1,6 @@
 -- What the traffic alone says: which entry of a history opened, asked, got and admitted what. This
 -- file names no table. A history has its newest entry first.
-use Rattle.std.specs.Prelude.{◌≡◌, ◌⊎◌, ℕ, ◌+◌, ◌-◌, ◌%◌, ◌<◌, ◌≤◌, List, [], ◌∷◌, length, map, Bool, true, false, if◌then◌else◌, Some}
+use Rattle.std.specs.Prelude.{◌≡◌, ◌⊎◌, ℕ, ◌+◌, ◌%◌, ◌≤◌, List, [], ◌∷◌, length, map, Bool, true, false, if◌then◌else◌, Some}
 use Rattle.coap_message.specs.declared.kind.Kind.TheVariants.{Ack}
 use Rattle.std.specs.Option.{option_map_or}
 use Rattle.coap_message.specs.Reading.{head_at}
@@ -9,14 +9,13 @@ use Rattle.coap_message.specs.Message.{Message}
 use Rattle.coap_message.specs.Spelling.{Spells}
 use Rattle.coap_target.specs.declared.endpoint.Endpoint.{Endpoint}
 use Rattle.coap_model.specs.declared.report.Outcome.{Outcome}
-use Rattle.coap_model.specs.declared.report.Outcome.TheVariants.{Refused, Hit, Opened, Overloaded, Answered, SentRequest, Delivered}
+use Rattle.coap_model.specs.declared.report.Outcome.TheVariants.{Refused, Hit, Joined, Opened, Overloaded, Answered, SentRequest, GaveUp, Delivered}
 use Rattle.coap_model.specs.declared.report.Storing.TheVariants.{NoMemory}
 use Rattle.coap_model.specs.declared.report.Report.{Report}
-use Rattle.coap_limits.specs.Limits.{Limits}
 use Rattle.coap_model.specs.Setting.{Setting}
 use Rattle.coap_model.specs.Events.{Event, arrival, tick}
-use Rattle.coap_message.specs.Codes.{is_response}
-use Rattle.coap_forward.specs.Messages.{is_con, token_of}
+use Rattle.coap_message.specs.Codes.{is_request, is_response}
+use Rattle.coap_forward.specs.Messages.{is_con, brings_requests, token_of}
 
 -- one step as the outside saw it, with all that the step read
 pub record Entry : Type 0 where
@@ -31,7 +30,7 @@ pub data Act : Type 0 where
   no_item : Act
   -- a waiter was admitted to an exchange
   admits : ℕ → ℕ → Act
-  -- an exchange came to another state
+  -- an exchange came to another state, or its request was sent again
   moves : ℕ → Act
   -- a waiter was served
   serves : ℕ → Act
@@ -80,13 +79,10 @@ abbrev pub opens_one : Outcome → ℕ
 opens_one Opened = 1
 opens_one _ = 0
 
-abbrev pub sends_one : Outcome → ℕ
-sends_one SentRequest = 1
-sends_one _ = 0
-
-abbrev pub serves_one : Outcome → ℕ
-serves_one Delivered = 1
-serves_one _ = 0
+abbrev pub admits_one : Outcome → ℕ
+admits_one Opened = 1
+admits_one Joined = 1
+admits_one _ = 0
 
 -- the datagram that an event brings is confirmable
 abbrev pub comes_con : Event → Bool
@@ -112,42 +108,28 @@ abbrev pub grown_of : Outcome → Bool
 grown_of (Answered NoMemory) = false
 grown_of _ = true
 
--- exchanges that were opened, requests that were sent on, waiters that were served, ids that were
--- given
+-- exchanges that were opened, waiters that were admitted, ids that were given
 abbrev pub opened_in : List Deed → ℕ
 opened_in history = count_in opens_one history
 
-abbrev pub sent_in : List Deed → ℕ
-sent_in history = count_in sends_one history
-
-abbrev pub served_in : List Deed → ℕ
-served_in history = count_in serves_one history
+abbrev pub admitted_in : List Deed → ℕ
+admitted_in history = count_in admits_one history
 
 abbrev pub ids_in : List Deed → ℕ
 ids_in [] = 0
 ids_in (d ∷ past) = ids_in past + gives_id d.entry
 
--- Each exchange is opened for one client, and closed when that client is served.
-abbrev pub under_way : List Deed → ℕ
-under_way history = opened_in history - served_in history
-
--- so many ids are free beside those that were given, and one for each client that waits and each
--- request that is still to be sent
-pub record HasIds (k : ℕ) (history : List Deed) : Type 0 where
-  pub free : ids_in history + under_way history + (opened_in history - sent_in history) + k ≤ 32768
-
--- there is room for an exchange and for its client
-pub record HasRoom (limits : Limits) (history : List Deed) : Type 0 where
-  pub exchange : under_way history < limits.exchanges
-  pub waiter : under_way history < limits.waiters
-  pub ids : HasIds 2 history
-
 -- ---- what an entry did
 
--- the entry opened the exchange of this number, and admitted the waiter of that number: the x-th
--- that opened one
+-- the entry opened the exchange of this number: the x-th that opened one
 abbrev pub Opens : ℕ → Place → Type 0
 Opens x p = (p.deed.entry.report.outcome ≡ Opened) × (x ≡ opened_in p.before + 1)
+
+-- the entry admitted the waiter of this number to an exchange: the v-th that admitted one
+pub record Admits (v x : ℕ) (p : Place) : Type 0 where
+  pub act : p.deed.act ≡ admits v x
+  pub outcome : admits_one p.deed.entry.report.outcome ≡ 1
+  pub number : v ≡ admitted_in p.before + 1
 
 -- an event brings a message of a source, in a datagram that isn't too long
 pub record Brings (most : ℕ) (source : Endpoint) (m : Message) (event : Event) : Type 0 where
@@ -156,7 +138,34 @@ pub record Brings (most : ℕ) (source : Endpoint) (m : Message) (event : Event)
   pub spells : Spells bytes m
   pub short : length bytes ≤ most
 
--- the request of this exchange was sent there: by its token, read off the datagram
+-- a request of a client that is not too long for a datagram
+pub record IsRequestOf
+    (setting : Setting) (client : Endpoint) (request : Message) (event : Event) : Type 0 where
+  pub brings : Brings setting.limits.datagram client request event
+  pub kind : brings_requests request.kind ≡ true
+  pub method : is_request request.code ≡ true
+
+-- the request that opened the exchange of this number
+pub record WasOpened (setting : Setting) (past : List Deed) (x : ℕ) : Type 0 where
+  pub opening : Place
+  pub client : Endpoint
+  pub request : Message
+  pub was_opened : IsPlaceOf past opening
+  pub opens : Opens x opening
+  pub asked : IsRequestOf setting client request opening.deed.entry.event
+
+-- the request that admitted the waiter of this number to an exchange
+pub record WasAdmitted (setting : Setting) (past : List Deed) (v : ℕ) : Type 0 where
+  pub exchange : ℕ
+  pub admission : Place
+  pub client : Endpoint
+  pub request : Message
+  pub was_admitted : IsPlaceOf past admission
+  pub admits : Admits v exchange admission
+  pub asked : IsRequestOf setting client request admission.deed.entry.event
+
+-- the request of this exchange was sent there for the first time: by its token, read off the
+-- datagram
 pub record Sends (salt x : ℕ) (p : Place) : Type 0 where
   pub act : p.deed.act ≡ moves x
   pub outcome : p.deed.entry.report.outcome ≡ SentRequest
@@ -199,6 +208,22 @@ pub record Gets (setting : Setting) (x : ℕ) (p : Place) : Type 0 where
   pub outcome : takes p.deed.entry.report.outcome ≡ true
   pub meets : Meets setting x p.before p.deed.entry.event
   pub bytes : IsBytes meets.brings.bytes
+
+-- the exchange was given up there
+pub record GivesUp (x : ℕ) (p : Place) : Type 0 where
+  pub act : p.deed.act ≡ moves x
+  pub outcome : p.deed.entry.report.outcome ≡ GaveUp
+
+-- either ends an exchange
+abbrev pub ends : Outcome → Bool
+ends (Answered storing) = true
+ends GaveUp = true
+ends _ = false
+
+-- the exchange was got or given up there
+pub record Ends (x : ℕ) (p : Place) : Type 0 where
+  pub act : p.deed.act ≡ moves x
+  pub outcome : ends p.deed.entry.report.outcome ≡ true
 
 -- the waiter was served there
 pub record Serves (v : ℕ) (p : Place) : Type 0 where

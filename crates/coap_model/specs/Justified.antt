@@ -1,5 +1,5 @@
 -- What justifies each entry of a history: the entries before it alone. No table is named.
-use Rattle.std.specs.Prelude.{◌≡◌, ◌≢◌, ◌⊎◌, ℕ, ◌+◌, ◌%◌, ◌<◌, ◌≤◌, Bool, true, false, List, [], ◌∷◌, length, Option, Some, None, Ok}
+use Rattle.std.specs.Prelude.{◌≡◌, ◌≢◌, ◌⊎◌, ℕ, ◌+◌, ◌%◌, ◌<◌, ◌≤◌, Bool, true, false, List, [], ◌∷◌, length, Option, Some, None}
 use Rattle.coap_message.specs.declared.kind.Kind.TheVariants.{Con, Non}
 use Rattle.coap_message.specs.declared.code.Code.{Code}
 use Rattle.coap_message.specs.declared.code.TheConstants.Code.{REQUEST_ENTITY_TOO_LARGE}
@@ -8,38 +8,31 @@ use Rattle.coap_message.specs.Message.{Message}
 use Rattle.coap_message.specs.Reading.{head_at}
 use Rattle.coap_message.specs.Spelling.{Spells}
 use Rattle.coap_target.specs.declared.endpoint.Endpoint.{Endpoint}
-use Rattle.coap_target.specs.declared.target.Target.{Target}
 use Rattle.coap_cache.specs.declared.key.CacheKey.{CacheKey}
 use Rattle.coap_cache.specs.Freshness.{is_fresh}
 use Rattle.coap_dedup.specs.declared.record.Record.{Record}
 use Rattle.coap_dedup.specs.Lists.{record_of}
 use Rattle.coap_cache.specs.Lists.{of_key}
 use Rattle.coap_option.specs.Selection.{sent_on, tags_of}
-use Rattle.coap_routes.specs.Request.{request_target}
 use Rattle.coap_model.specs.declared.report.Outcome.{Outcome}
-use Rattle.coap_model.specs.declared.report.Outcome.TheVariants.{Ignored, Rejected, Again, NoRecordRoom, Refused, Hit, Opened, Overloaded, NoId, Answered, SentRequest, Delivered, Idle}
+use Rattle.coap_model.specs.declared.report.Outcome.TheVariants.{Ignored, Rejected, Again, NoRecordRoom, Refused, Hit, Opened, Overloaded, NoId, Answered, SentRequest, Resent, GaveUp, Delivered, Idle}
 use Rattle.coap_model.specs.declared.report.Storing.TheVariants.{Kept, TooLarge, NoMemory, NotStored}
 use Rattle.coap_model.specs.Setting.{Setting}
 use Rattle.coap_model.specs.Events.{Event, arrival, tick}
-use Rattle.coap_message.specs.Codes.{is_request}
-use Rattle.coap_forward.specs.Messages.{brings_requests, reset, own_reply, busy_reply, at_once, token_of}
+use Rattle.coap_forward.specs.Messages.{reset, own_reply, busy_reply, at_once, token_of}
 use Rattle.coap_model.specs.Remembered.{most_remembered, remembered_at}
 use Rattle.coap_forward.specs.Forms.{forwarded}
-use Rattle.coap_model.specs.Keys.{key_sent, request_key}
+use Rattle.coap_model.specs.Keys.{key_sent}
 use Rattle.coap_model.specs.Verdicts.{Verdict, refused_with, may_ask, verdict_of, form_fits}
-use Rattle.coap_forward.specs.Answers.{answer_of, stored_answer, shown}
+use Rattle.coap_forward.specs.Answers.{answer_of, own_answer, gateway_timeout, stored_answer, shown}
+use Rattle.coap_cache.specs.declared.answer.Answer.{Answer}
 use Rattle.coap_model.specs.Cached.{IsObtained, Cached, cached_key, cached_size, cached_here, entry_of_cached, IsCacheOf}
-use Rattle.coap_model.specs.Due.{IsDueAt, IsSooner}
-use Rattle.coap_model.specs.History.{Entry, Act, no_item, admits, moves, serves, Deed, Place, IsPlaceOf, Never, takes, gives_id, opened_in, ids_in, HasIds, HasRoom, Opens, Brings, Meets, Gets, Gives}
+use Rattle.coap_model.specs.Standing.{HasIds, HasRoomToOpen}
+use Rattle.coap_model.specs.Schedules.{sends_by, MayGoOn, SaysAsBefore}
+use Rattle.coap_model.specs.Due.{IsToSend, IsToRepeat, IsToEnd, IsToServe, IsDueAt, IsSooner}
+use Rattle.coap_model.specs.History.{Entry, Act, no_item, admits, moves, serves, Deed, Place, IsPlaceOf, Never, takes, gives_id, opened_in, admitted_in, ids_in, last_of, IsRequestOf, Meets, Gets, GivesUp, Ends, Gives}
 
 -- ---- requests
-
--- a request of a client that is not too long for a datagram
-pub record IsRequestOf
-    (setting : Setting) (client : Endpoint) (request : Message) (event : Event) : Type 0 where
-  pub brings : Brings setting.limits.datagram client request event
-  pub kind : brings_requests request.kind ≡ true
-  pub method : is_request request.code ≡ true
 
 -- A request is new: no request of this client with its id, in a message of its type, is remembered,
 -- and there is room to remember it.
@@ -51,17 +44,8 @@ pub record IsNew
       length (remembered_at request.kind now past) < most_remembered request.kind setting.limits
 
 -- there is an id for a reply that goes out at once, where it needs one
-abbrev pub HasIdFor : Message → List Deed → Type 0
-HasIdFor request past = request.kind ≡ Non → HasIds 1 past
-
--- the request that opened the exchange of this number, and admitted the waiter of this number
-pub record WasOpened (setting : Setting) (past : List Deed) (number : ℕ) : Type 0 where
-  pub opening : Place
-  pub client : Endpoint
-  pub request : Message
-  pub was_opened : IsPlaceOf past opening
-  pub opens : Opens number opening
-  pub asked : IsRequestOf setting client request opening.deed.entry.event
+abbrev pub HasIdFor : Message → ℕ → List Deed → Type 0
+HasIdFor request now past = request.kind ≡ Non → HasIds 1 now past
 
 -- what becomes of a request, leaving room and what is stored aside
 abbrev pub verdict_on : Setting → Message → Verdict
@@ -116,7 +100,7 @@ pub record IsRefusal (setting : Setting) (past : List Deed) (d : Deed) (code : C
   pub asked : IsRequestOf setting client request d.entry.event
   pub new : IsNew setting past d.entry.now client request
   pub deserved : Deserves setting past d.entry.now request code
-  pub ids : HasIdFor request past
+  pub ids : HasIdFor request d.entry.now past
   pub tells : Tells client (at_once request (own_reply code [] id request.token)) d.entry
 
 -- A reply from the cache: the client is shown the entry of its key in the cache of what was done
@@ -136,7 +120,7 @@ pub record IsHit (setting : Setting) (past : List Deed) (d : Deed) : Type 0 wher
   pub found : of_key cached_key key cached ≡ Some entry
   pub fresh : is_fresh_at d.entry.now entry ≡ true
   pub new : IsNew setting past d.entry.now client request
-  pub ids : HasIdFor request past
+  pub ids : HasIdFor request d.entry.now past
   pub tells :
       Tells client
       (at_once request
@@ -155,9 +139,9 @@ pub record IsOverload (setting : Setting) (past : List Deed) (d : Deed) : Type 0
   pub verdict : verdict_on setting request ≡ may_ask key
   pub miss : IsMiss setting past key d.entry.now
   pub fits : fits_on setting key request ≡ true
-  pub no_room : request.kind ≡ Non → ¬ HasRoom setting.limits past
+  pub no_room : request.kind ≡ Non → ¬ HasRoomToOpen setting.limits d.entry.now past
   pub new : IsNew setting past d.entry.now client request
-  pub ids : HasIdFor request past
+  pub ids : HasIdFor request d.entry.now past
   pub tells :
       Tells client (at_once request (busy_reply setting.limits.retry_s id request.token)) d.entry
 
@@ -169,7 +153,7 @@ pub record IsLack (setting : Setting) (past : List Deed) (d : Deed) : Type 0 whe
   pub asked : IsRequestOf setting client request d.entry.event
   pub kind : request.kind ≡ Non
   pub new : IsNew setting past d.entry.now client request
-  pub no_ids : ¬ HasIds 1 past
+  pub no_ids : ¬ HasIds 1 d.entry.now past
   pub silent : IsSilent d.entry
 
 -- what a duplicate is told: the datagram that is remembered, or nothing
@@ -203,7 +187,7 @@ pub record IsForgotten (setting : Setting) (past : List Deed) (d : Deed) : Type 
 -- an exchange is opened: the request may be asked for, what would be sent on fits, and there is
 -- room
 pub record IsOpening (setting : Setting) (past : List Deed) (d : Deed) : Type 0 where
-  pub act : d.act ≡ admits (opened_in past + 1) (opened_in past + 1)
+  pub act : d.act ≡ admits (admitted_in past + 1) (opened_in past + 1)
   pub client : Endpoint
   pub request : Message
   pub key : CacheKey
@@ -213,7 +197,7 @@ pub record IsOpening (setting : Setting) (past : List Deed) (d : Deed) : Type 0 
   pub fits : fits_on setting key request ≡ true
   pub kind : request.kind ≡ Non
   pub new : IsNew setting past d.entry.now client request
-  pub room : HasRoom setting.limits past
+  pub room : HasRoomToOpen setting.limits d.entry.now past
   pub silent : IsSilent d.entry
 
 -- what a tick did was due, and nothing was due before it
@@ -226,26 +210,62 @@ pub record IsActing (setting : Setting) (past : List Deed) (d : Deed) : Type 0 w
 
 -- ---- what is sent on, and what comes back
 
--- the request that is sent on: for an exchange whose request is due, and so was never sent, the
--- request for the target of the client's request, with what is sent on of its options and with the
--- exchange's token, to the target's endpoint
+-- before its deadline
+abbrev pub InTime : Setting → List Deed → ℕ → ℕ → Type 0
+InTime setting past x now = (at : ℕ) → IsToEnd setting past x at → now < at
+
+-- the request that is sent on: for an exchange that waits for its turn, the request for the target
+-- of the client's request, with what is sent on of its options and with the exchange's token, to the
+-- target's endpoint
 pub record IsForwarding (setting : Setting) (past : List Deed) (d : Deed) : Type 0 where
   pub exchange : ℕ
   pub act : d.act ≡ moves exchange
-  pub opened : WasOpened setting past exchange
-  pub target : Target
-  pub id : ℕ
-  pub target_is : request_target setting.routes opened.request ≡ Ok target
   pub acting : IsActing setting past d
+  pub to_send : IsToSend setting past exchange acting.at
+  pub in_time : InTime setting past exchange d.entry.now
+  pub id : ℕ
   pub tells :
-      Tells target.at
-      (forwarded (token_of setting.salt exchange) target (sent_on opened.request) id) d.entry
+      Tells to_send.key.target.at
+      (forwarded (token_of setting.salt exchange) to_send.key.target
+      (sent_on to_send.opened.request) id) d.entry
+
+-- a request is sent again by its schedule, the same as before, before its exchange ends
+pub record IsResending (setting : Setting) (past : List Deed) (d : Deed) : Type 0 where
+  pub exchange : ℕ
+  pub act : d.act ≡ moves exchange
+  pub acting : IsActing setting past d
+  pub to_repeat : IsToRepeat setting past exchange acting.at
+  pub in_time : InTime setting past exchange d.entry.now
+  pub goes_on : MayGoOn d.entry.now (sends_by d.act past)
+  pub same : SaysAsBefore (sends_by d.act past) d.entry
+
+-- an exchange is given up: one that lasted as long as it may, or one whose request was sent as often
+-- or for as long as it may be
+pub data IsGivingUp (setting : Setting) (past : List Deed) (d : Deed) : Type 0 where
+  overdue :
+      (exchange at : ℕ)
+      → IsActing setting past d
+      → d.act ≡ moves exchange
+      → IsToEnd setting past exchange at
+      → at ≤ d.entry.now
+      → IsSilent d.entry
+      → IsGivingUp setting past d
+  unheard :
+      (exchange at : ℕ)
+      → IsActing setting past d
+      → d.act ≡ moves exchange
+      → IsToRepeat setting past exchange at
+      → Never (Ends exchange) past
+      → at ≤ d.entry.now
+      → ¬ MayGoOn d.entry.now (sends_by d.act past)
+      → IsSilent d.entry
+      → IsGivingUp setting past d
 
 -- an answer is got for an exchange that had none
 pub record IsAnswer (setting : Setting) (past : List Deed) (d : Deed) : Type 0 where
   pub exchange : ℕ
   pub gets : Gets setting exchange (record { before = past; deed = d })
-  pub first : Never (Gets setting exchange) past
+  pub first : Never (Ends exchange) past
   pub silent : IsSilent d.entry
 
 -- ---- what is stored
@@ -290,38 +310,46 @@ pub record IsNotStored (setting : Setting) (past : List Deed) (d : Deed) : Type 
 
 -- ---- what clients are given
 
--- A delivery: the exchange that was opened for this client's request was got after that, the
--- request that was sent for it has the cache key of the client's, and the datagram is what this
--- client is shown of the answer: with what is left of its Max-Age, or as a 2.03 where one of its
--- tags is the answer's.
+-- What an exchange of this key ended with at a place: the answer that was got there, or 5.04 where
+-- it was given up.
+pub data EndsWith (setting : Setting) (x : ℕ) (key : CacheKey) (p : Place) (answer : Answer)
+    : Type 0 where
+  got :
+      (gets : Gets setting x p)
+      → key_sent gets.meets.asks.sends.to gets.meets.asks.sends.message ≡ key
+      → answer ≡ answer_of setting.limits.datagram p.deed.entry.now gets.meets.response
+      → EndsWith setting x key p answer
+  given_up :
+      GivesUp x p
+      → answer ≡ own_answer p.deed.entry.now gateway_timeout
+      → EndsWith setting x key p answer
+
+-- A delivery: the exchange that the client waits for ended after the client had come, and the
+-- datagram is what this client is shown of that: with what is left of its Max-Age, or as a 2.03
+-- where one of its tags is the answer's.
 pub record IsDelivery (setting : Setting) (past : List Deed) (d : Deed) : Type 0 where
   pub waiter : ℕ
   pub act : d.act ≡ serves waiter
-  pub opened : WasOpened setting past waiter
-  pub target : Target
-  pub getting : Place
-  pub id : ℕ
-  pub target_is : request_target setting.routes opened.request ≡ Ok target
-  pub was_got : IsPlaceOf past getting
-  pub gets : Gets setting waiter getting
-  pub got_later : IsPlaceOf getting.before opened.opening
-  pub asked_key :
-      key_sent gets.meets.asks.sends.to gets.meets.asks.sends.message
-      ≡ request_key target opened.request
   pub acting : IsActing setting past d
+  pub to_serve : IsToServe setting past waiter acting.at
+  pub later : IsPlaceOf to_serve.ending.before to_serve.admitted.admission
+  pub key : CacheKey
+  pub verdict : verdict_on setting to_serve.admitted.request ≡ may_ask key
+  pub answer : Answer
+  pub ended : EndsWith setting to_serve.admitted.exchange key to_serve.ending answer
+  pub id : ℕ
   pub tells :
-      Tells opened.client
-      (shown d.entry.now
-      (answer_of setting.limits.datagram getting.deed.entry.now gets.meets.response) id
-      opened.request.token (tags_of opened.request)) d.entry
+      Tells to_serve.admitted.client
+      (shown d.entry.now answer id to_serve.admitted.request.token
+      (tags_of to_serve.admitted.request)) d.entry
 
 -- ---- what isn't processed
 
--- An exchange awaits the response that an event brings: it was asked, and wasn't got.
+-- An exchange awaits the response that an event brings: it was asked, and neither got nor given up.
 pub record IsAwaited
     (setting : Setting) (past : List Deed) (exchange : ℕ) (event : Event) : Type 0 where
   pub meets : Meets setting exchange past event
-  pub ungot : Never (Gets setting exchange) past
+  pub unended : Never (Ends exchange) past
 
 -- What came can't be processed: it is neither a request that would be nor a response that an
 -- exchange awaits.
@@ -377,6 +405,8 @@ JustifiedBy (Answered TooLarge) setting past d = IsTooLarge setting past d
 JustifiedBy (Answered NoMemory) setting past d = IsWithoutMemory setting past d
 JustifiedBy (Answered NotStored) setting past d = IsNotStored setting past d
 JustifiedBy SentRequest setting past d = IsForwarding setting past d
+JustifiedBy Resent setting past d = IsResending setting past d
+JustifiedBy GaveUp setting past d = IsGivingUp setting past d
 JustifiedBy Delivered setting past d = IsDelivery setting past d
 JustifiedBy Idle setting past d = IsIdle setting past d
 JustifiedBy _ setting past d = ⊥
@@ -420,7 +450,7 @@ pub record IsOwed (setting : Setting) (past : List Deed) (d : Deed) : Type 0 whe
       → IsCacheOf setting past cached
       → of_key cached_key key cached ≡ Some entry
       → is_fresh_at d.entry.now entry ≡ true
-      → HasIdFor request past
+      → HasIdFor request d.entry.now past
       → d.entry.report.outcome ≡ Hit
   pub small :
       (o : IsObtainedHere setting past d)
@@ -442,9 +472,10 @@ AllOwed setting (d ∷ past) = IsOwed setting past d × AllOwed setting past
 
 -- ---- one answer
 
--- A deed may follow: the deeds before it justify it, and where it gives an id, it gives the one
--- that is due.
+-- A deed may follow: it isn't done before the last one, the deeds before it justify it, and where it
+-- gives an id, it gives the one that is due.
 pub record MayFollow (setting : Setting) (past : List Deed) (d : Deed) : Type 0 where
+  pub not_before : last_of past ≤ d.entry.now
   pub justified : JustifiedBy d.entry.report.outcome setting past d
   pub id :
       gives_id d.entry ≡ 1 → Gives ((setting.first_id + ids_in past) % 65536) d.entry

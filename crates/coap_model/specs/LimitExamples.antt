@@ -1,6 +1,6 @@
 -- Runs of the step with other limits, another first id and another salt, and where ids run out,
 -- computed on the definitions.
-use Rattle.std.specs.Prelude.{ℕ, List, [], ◌∷◌, ◌++◌, replicate}
+use Rattle.std.specs.Prelude.{ℕ, ◌+◌, List, [], ◌∷◌, ◌++◌, replicate}
 use Rattle.coap_message.specs.declared.code.TheConstants.Code.{NOT_FOUND}
 use Rattle.coap_routes.specs.Routes.{fixed_routes}
 use Rattle.coap_model.specs.declared.report.Outcome.TheVariants.{Ignored, Rejected, Refused, Opened, Overloaded, NoId, Answered, SentRequest, Delivered}
@@ -26,6 +26,10 @@ one_exchange = proxy_of (record default_limits { exchanges = 1 })
 
 abbrev pub one_waiter : World
 one_waiter = proxy_of (record default_limits { waiters = 1 })
+
+-- which sends two requests to one endpoint at once
+abbrev pub two_at_once : World
+two_at_once = proxy_of (record default_limits { nstart = 2 })
 
 -- the request of an exchange, and its answer of ten seconds, with its id and the last byte of its
 -- token
@@ -130,9 +134,10 @@ counted_on_sent =
     ∷ to Delivered (client 1) (0x50 ∷ 0x45 ∷ 0x12 ∷ 0x35 ∷ 0xD1 ∷ 1 ∷ 10 ∷ 0xFF ∷ 0x32 ∷ 0x31 ∷ [])
     ∷ []
 
--- a proxy that has given so many ids of 32,768
+-- a proxy that has given so many ids of 32,768, all of them in the first 247 seconds
 abbrev pub after_ids : ℕ → World
-after_ids count = record proxy { given = count }
+after_ids count =
+    record proxy { ids = record { following = 1 + count; window = 0; given = count } }
 
 -- Where no id is free there is no reply to requests with this id of two clients, but a Reset has
 -- the id of what it rejects.

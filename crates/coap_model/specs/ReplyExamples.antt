@@ -109,7 +109,7 @@ one_left = delivered_as (0x50 ∷ 0x45 ∷ 0 ∷ 2 ∷ 0xD1 ∷ 1 ∷ 1 ∷ [])
 abbrev pub asks_at : ℕ → ℕ → Turn
 asks_at now n = from now (client n) (0x50 ∷ 1 ∷ 0 ∷ 7 ∷ 0xB1 ∷ 0x74 ∷ [])
 
--- two requests of one moment: in order of number
+-- two requests of one moment, where two may be sent at once: in order of number
 abbrev pub of_one_moment : List Turn
 of_one_moment = asks_at 0 1 ∷ asks_at 0 2 ∷ tick_at 0 ∷ tick_at 0 ∷ []
 

@@ -1,5 +1,5 @@
 -- The step of a request (RFC 7252, 5.7.3).
-use Rattle.std.specs.Prelude.{ℕ, ◌+◌, ◌&&◌, Bool, if◌then◌else◌, List, [], ◌∷◌, ◌++◌, Option, Some, None}
+use Rattle.std.specs.Prelude.{ℕ, ◌+◌, ◌&&◌, Bool, true, false, if◌then◌else◌, List, [], ◌∷◌, ◌++◌, Option, Some, None}
 use Rattle.coap_message.specs.declared.kind.Kind.{Kind}
 use Rattle.coap_message.specs.declared.code.Code.{Code}
 use Rattle.coap_message.specs.declared.code.TheConstants.Code.{REQUEST_ENTITY_TOO_LARGE}
@@ -19,16 +19,20 @@ use Rattle.coap_forward.specs.Answers.{shown, stored_answer}
 use Rattle.coap_exchange.specs.declared.exchange.ExchangeState.TheVariants.{Queued}
 use Rattle.coap_exchange.specs.declared.exchange.Exchange.{Exchange}
 use Rattle.coap_exchange.specs.declared.waiter.Waiter.{Waiter}
+use Rattle.coap_exchange.specs.declared.waiter.WaiterState.TheVariants.{Waiting}
+use Rattle.coap_exchange.specs.Ids.{called}
 use Rattle.coap_exchange.specs.Table.{Numbered}
 use Rattle.coap_model.specs.declared.report.Outcome.TheVariants.{Again, NoRecordRoom, Refused, Hit, Overloaded, NoId, Opened}
 use Rattle.coap_forward.specs.Messages.{is_con, is_non, own_reply, busy_reply, at_once, told_again, token_of}
 use Rattle.coap_forward.specs.Forms.{forwarded}
 use Rattle.coap_model.specs.Verdicts.{Verdict, refused_with, may_ask, verdict_of, form_fits}
-use Rattle.coap_model.specs.World.{World, Step, later, silent, says, records_of, has_record_room, next_id, can_reply, ids_to_reply, has_room}
+use Rattle.coap_model.specs.World.{World, Step, later, silent, says, records_of, has_record_room, next_id, can_reply, has_room}
 
 -- the clock, one event on, in which a request was replied to at once
 abbrev pub replied : World → ℕ → Message → World
-replied w now m = record (later w now) { given = w.given + ids_to_reply m.kind }
+replied w now m = record (later w now) {
+  ids = if is_con m.kind then w.ids else called now w.ids;
+}
 
 -- no id is free for a reply: silence
 abbrev pub lacks_id : World → ℕ → Step
@@ -54,8 +58,12 @@ new_exchange w now m key = (
   w.opened + 1,
   record {
     key = key;
+    is_get = true;
     form = spelling (forwarded (next_token w) key.target (sent_on m) 0);
-    since = now;
+    copy = None;
+    admitted = now;
+    sending = None;
+    tainted = false;
     state = Queued;
   },
 )
@@ -65,9 +73,10 @@ new_waiter w client m = (
   w.admitted + 1,
   record {
     client = client;
+    kind = m.kind;
     token = m.token;
     tags = tags_of m;
-    exchange = w.opened + 1;
+    state = Waiting (w.opened + 1);
   },
 )
 
@@ -84,12 +93,12 @@ opens w now client m key =
 -- there is no room for what could be opened
 abbrev pub turns_away : World → ℕ → Endpoint → Message → Step
 turns_away w now client m =
-    if can_reply w m.kind then overloads w now client m else lacks_id w now
+    if can_reply w now m.kind then overloads w now client m else lacks_id w now
 
 -- the client is refused, if an id is free to tell it
 abbrev pub turns_down : World → ℕ → Endpoint → Message → Code → Step
 turns_down w now client m code =
-    if can_reply w m.kind then refuses w now client m code else lacks_id w now
+    if can_reply w now m.kind then refuses w now client m code else lacks_id w now
 
 -- the client is shown what is stored
 abbrev pub shows : World → ℕ → Endpoint → Message → Stored → Step
@@ -105,14 +114,14 @@ hits w now client m key stored =
 
 -- an exchange may be opened for a request that came in a message of this type; a Confirmable one
 -- isn't asked for yet
-abbrev pub can_open : World → Kind → Bool
-can_open w kind = is_non kind && has_room w
+abbrev pub can_open : World → ℕ → Kind → Bool
+can_open w now kind = is_non kind && has_room w now
 
 -- an exchange is wanted for the key
 abbrev pub on_miss : World → ℕ → Endpoint → Message → CacheKey → Step
 on_miss w now client m key =
     if form_fits w.setting.limits.datagram key.target m
-    then (if can_open w m.kind then opens w now client m key else turns_away w now client m)
+    then (if can_open w now m.kind then opens w now client m key else turns_away w now client m)
     else turns_down w now client m REQUEST_ENTITY_TOO_LARGE
 
 -- an entry of the key that is usable answers
@@ -120,7 +129,7 @@ abbrev pub on_entry : World → ℕ → Endpoint → Message → CacheKey → Op
 on_entry w now client m key None = on_miss w now client m key
 on_entry w now client m key (Some entry) =
     if is_usable now entry.1
-    then (if can_reply w m.kind then hits w now client m key entry.1 else lacks_id w now)
+    then (if can_reply w now m.kind then hits w now client m key entry.1 else lacks_id w now)
     else on_miss w now client m key
 
 abbrev pub on_key : World → ℕ → Endpoint → Message → CacheKey → Step

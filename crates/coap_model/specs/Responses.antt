@@ -8,11 +8,10 @@ use Rattle.coap_target.specs.Equality.{same_bytes}
 use Rattle.coap_cache.specs.Entries.{Entry, entry_key, entry_size}
 use Rattle.coap_cache.specs.Lists.{of_key, others, put}
 use Rattle.coap_cache.specs.declared.answer.Answer.{Answer}
-use Rattle.coap_exchange.specs.declared.exchange.ExchangeState.{ExchangeState}
-use Rattle.coap_exchange.specs.declared.exchange.ExchangeState.TheVariants.{Queued, Sent, Done}
 use Rattle.coap_exchange.specs.declared.exchange.Exchange.{Exchange}
-use Rattle.coap_exchange.specs.Exchanges.{with_state}
-use Rattle.coap_exchange.specs.Table.{Numbered}
+use Rattle.coap_exchange.specs.declared.exchange.Sending.{Sending}
+use Rattle.coap_exchange.specs.Exchanges.{is_sent, answered}
+use Rattle.coap_exchange.specs.Table.{Numbered, changed_at}
 use Rattle.coap_model.specs.declared.report.Outcome.TheVariants.{Answered}
 use Rattle.coap_model.specs.declared.report.Storing.{Storing}
 use Rattle.coap_model.specs.declared.report.Storing.TheVariants.{Kept, TooLarge, NoMemory, NotStored}
@@ -20,16 +19,15 @@ use Rattle.coap_forward.specs.Messages.{token_of}
 use Rattle.coap_forward.specs.Answers.{answer_of, is_storable}
 use Rattle.coap_model.specs.World.{World, Step, later, silent, ignores}
 
--- whether it was sent with this id, and no answer has come
-abbrev pub has_id : ℕ → ExchangeState → Bool
-has_id id Queued = false
-has_id id (Sent s) = s.id == id
-has_id id (Done a) = false
+-- whether it was sent with this id
+abbrev pub has_id : ℕ → Option Sending → Bool
+has_id id None = false
+has_id id (Some s) = s.id == id
 
 -- whether the exchange awaits this response of this endpoint: by endpoint, id and token
 abbrev pub awaits : ℕ → Endpoint → Message → Numbered Exchange → Bool
 awaits salt source m x =
-    has_id m.id x.1.state
+    (is_sent x.1 && has_id m.id x.1.sending)
     && (same_endpoint x.1.key.target.at source && same_bytes (token_of salt x.0) m.token)
 
 abbrev pub awaiting : World → Endpoint → Message → Option (Numbered Exchange)
@@ -38,10 +36,9 @@ awaiting w source m = find (awaits w.setting.salt source m) w.exchanges
 -- ---- what becomes of an answer
 
 -- the number of the event in which the request of an exchange was sent
-abbrev pub asked_of : ExchangeState → ℕ
-asked_of Queued = 0
-asked_of (Sent s) = s.asked
-asked_of (Done a) = 0
+abbrev pub asked_of : Option Sending → ℕ
+asked_of None = 0
+asked_of (Some s) = s.asked
 
 -- what is stored of the answer of an exchange
 abbrev pub entry_made : World → ℕ → Numbered Exchange → Answer → Entry
@@ -49,7 +46,7 @@ entry_made w now x a = (
   x.1.key,
   record {
     response = a.message;
-    asked = asked_of x.1.state;
+    asked = asked_of x.1.sending;
     got_no = w.events;
     got = now;
     marked = false;
@@ -60,7 +57,7 @@ entry_made w now x a = (
 abbrev pub answers_so : World → ℕ → Numbered Exchange → Answer → Storing → List Entry → Step
 answers_so w now x a storing store =
     silent (Answered storing) (record (later w now) {
-      exchanges = with_state x.0 (Done a) w.exchanges;
+      exchanges = changed_at x.0 (answered a) w.exchanges;
       store = store;
     })
 

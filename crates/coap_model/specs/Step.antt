@@ -50,8 +50,8 @@ abbrev pub on_datagram : World → ℕ → Bool → Endpoint → List ℕ → St
 on_datagram w now grown source bytes =
     on_read w now grown source (head_at bytes) (message_in w.setting.limits.datagram bytes)
 
--- One step, at a moment, with a draw, which no step reads yet. `grown` is the one choice that is
--- left to the memory: whether there is some for one entry more of the store.
+-- One step, at a moment, with a draw, which says how long a timer runs that is started. `grown` is
+-- the one choice that is left to the memory: whether there is some for one entry more of the store.
 abbrev pub step_of : World → ℕ → ℕ → Bool → Event → Step
 step_of w now draw grown (arrival source bytes) = on_datagram w now grown source bytes
-step_of w now draw grown tick = on_tick w now
+step_of w now draw grown tick = on_tick w now draw

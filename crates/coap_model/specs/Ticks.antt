@@ -1,68 +1,159 @@
--- The step of a tick: what is due is done, one thing at a time.
-use Rattle.std.specs.Prelude.{ℕ, ◌+◌, nat_le, if◌then◌else◌, List, ◌++◌, Option, Some, None, option_map}
+-- The step of a tick: what is due is done, one thing at a time (RFC 7252, 4.2 and 4.7).
+use Rattle.std.specs.Prelude.{ℕ, ◌==◌, nat_le, if◌then◌else◌, List, Option, Some, None, option_map}
 use Rattle.coap_cache.specs.declared.answer.Answer.{Answer}
-use Rattle.coap_exchange.specs.declared.exchange.ExchangeState.TheVariants.{Sent}
+use Rattle.coap_exchange.specs.declared.exchange.ExchangeState.{ExchangeState}
+use Rattle.coap_exchange.specs.declared.exchange.ExchangeState.TheVariants.{Queued, Sent, Acked, Done}
 use Rattle.coap_exchange.specs.declared.exchange.Exchange.{Exchange}
+use Rattle.coap_exchange.specs.declared.timer.Fire.{Fire}
+use Rattle.coap_exchange.specs.declared.timer.Fire.TheVariants.{Again, GiveUp}
 use Rattle.coap_exchange.specs.declared.waiter.Waiter.{Waiter}
-use Rattle.coap_exchange.specs.Exchanges.{with_state}
-use Rattle.coap_exchange.specs.Due.{Item, sending, serving, due_of, exchange_items, waiter_items, least}
-use Rattle.coap_exchange.specs.Table.{Numbered, without}
-use Rattle.coap_exchange.specs.Waiters.{is_awaited}
-use Rattle.coap_model.specs.declared.report.Outcome.TheVariants.{SentRequest, Delivered, Idle}
-use Rattle.coap_forward.specs.Answers.{shown}
-use Rattle.coap_forward.specs.Forms.{with_id}
+use Rattle.coap_exchange.specs.declared.waiter.WaiterState.{WaiterState}
+use Rattle.coap_exchange.specs.declared.waiter.WaiterState.TheVariants.{Waiting, Delivering}
+use Rattle.coap_exchange.specs.Due.{first_due}
+use Rattle.coap_exchange.specs.Exchanges.{deadline, due_among, answer_in, sent, fired_exchange, answered, fire_of_sending}
+use Rattle.coap_exchange.specs.Ids.{called}
+use Rattle.coap_exchange.specs.Table.{Numbered, item_at, changed_at, without, count}
+use Rattle.coap_exchange.specs.Timers.{started}
+use Rattle.coap_exchange.specs.Waiters.{waits_for, due_after}
+use Rattle.coap_message.specs.Spelling.{with_id}
+use Rattle.coap_model.specs.declared.due.DueItem.{DueItem}
+use Rattle.coap_model.specs.declared.due.DueItem.TheVariants.{OfExchange, OfWaiter}
+use Rattle.coap_model.specs.declared.report.Outcome.TheVariants.{SentRequest, Resent, GaveUp, Delivered, Idle}
+use Rattle.coap_forward.specs.Answers.{own_answer, gateway_timeout, shown}
 use Rattle.coap_model.specs.World.{World, Step, later, silent, says, next_id}
 
 -- ---- what is due
 
--- exchanges before waiters, each in order of number
-abbrev pub items_of : World → List Item
-items_of w = exchange_items w.exchanges ++ waiter_items w.exchanges w.waiters
+-- what is due first of the exchanges, and of the clients
+abbrev pub exchange_due : World → Option (ℕ × ℕ)
+exchange_due w =
+    first_due (due_among w.setting.limits.nstart w.setting.limits.exchange_ms w.exchanges)
+    w.exchanges
+
+abbrev pub waiter_due : World → Option (ℕ × ℕ)
+waiter_due w = first_due (due_after w.exchanges) w.waiters
+
+-- what is due first of both; at one moment exchanges come before clients
+abbrev pub first_item : Option (ℕ × ℕ) → Option (ℕ × ℕ) → Option DueItem
+first_item None None = None
+first_item None (Some v) = Some (OfWaiter v.0 v.1)
+first_item (Some x) None = Some (OfExchange x.0 x.1)
+first_item (Some x) (Some v) =
+    if nat_le x.0 v.0 then Some (OfExchange x.0 x.1) else Some (OfWaiter v.0 v.1)
+
+abbrev pub item_due : World → Option DueItem
+item_due w = first_item (exchange_due w) (waiter_due w)
+
+abbrev pub moment_of : DueItem → ℕ
+moment_of (OfExchange at number) = at
+moment_of (OfWaiter at number) = at
 
 abbrev pub next_due : World → Option ℕ
-next_due w = option_map due_of (least (items_of w))
+next_due w = option_map moment_of (item_due w)
 
-abbrev pub if_due : ℕ → Option Item → Option Item
+abbrev pub if_due : ℕ → Option DueItem → Option DueItem
 if_due now None = None
-if_due now (Some i) = if nat_le (due_of i) now then Some i else None
-
--- ---- what is done
-
--- the request is sent to its origin, with a new id
-abbrev pub sends : World → ℕ → Numbered Exchange → Step
-sends w now x =
-    record {
-      report = record { send = Some x.1.key.target.at; outcome = SentRequest };
-      bytes = with_id (next_id w) x.1.form;
-      world = record (later w now) {
-        exchanges = with_state x.0 (Sent (record { asked = w.events; id = next_id w })) w.exchanges;
-        given = w.given + 1;
-      };
-    }
-
--- when nobody waits for an exchange any more, it is closed
-abbrev pub without_idle :
-    ℕ → List (Numbered Waiter) → List (Numbered Exchange) → List (Numbered Exchange)
-without_idle number waiters exchanges =
-    if is_awaited number waiters then exchanges else without number exchanges
-
--- the waiter is given the answer of its exchange, with a new id
-abbrev pub delivers : World → ℕ → Numbered Waiter → Answer → Step
-delivers w now v a =
-    says Delivered v.1.client (shown now a (next_id w) v.1.token v.1.tags) (record (later w now) {
-      waiters = without v.0 w.waiters;
-      exchanges = without_idle v.1.exchange (without v.0 w.waiters) w.exchanges;
-      given = w.given + 1;
-    })
+if_due now (Some i) = if nat_le (moment_of i) now then Some i else None
 
 -- nothing is due
 abbrev pub idles : World → ℕ → Step
 idles w now = silent Idle (later w now)
 
-abbrev pub on_item : World → ℕ → Option Item → Step
-on_item w now None = idles w now
-on_item w now (Some (sending x)) = sends w now x
-on_item w now (Some (serving v a)) = delivers w now v a
+-- ---- requests
 
-abbrev pub on_tick : World → ℕ → Step
-on_tick w now = on_item w now (if_due now (least (items_of w)))
+-- the request is sent to its origin, with a new id, and is to be sent again until it is answered
+abbrev pub sends : World → ℕ → ℕ → ℕ → Exchange → Step
+sends w now draw number x =
+    record {
+      report = record { send = Some x.key.target.at; outcome = SentRequest };
+      bytes = with_id (next_id w) x.form;
+      world = record (later w now) {
+        exchanges =
+            changed_at number
+            (sent (record { asked = w.events; id = next_id w; timer = started now draw }))
+            w.exchanges;
+        ids = called now w.ids;
+      };
+    }
+
+-- it is sent again, the same bytes
+abbrev pub resends : World → ℕ → ℕ → Exchange → Step
+resends w now number x =
+    record {
+      report = record { send = Some x.key.target.at; outcome = Resent };
+      bytes = x.form;
+      world = record (later w now) {
+        exchanges = changed_at number (fired_exchange now) w.exchanges;
+      };
+    }
+
+-- no answer came in time: the proxy makes one (RFC 7252, 5.7.1)
+abbrev pub gives_up : World → ℕ → ℕ → Step
+gives_up w now number =
+    silent GaveUp (record (later w now) {
+      exchanges = changed_at number (answered (own_answer now gateway_timeout)) w.exchanges;
+    })
+
+abbrev pub on_fire : World → ℕ → ℕ → Exchange → Fire → Step
+on_fire w now number x Again = resends w now number x
+on_fire w now number x GiveUp = gives_up w now number
+
+-- Before its deadline a request that waits is sent, and one that was sent is sent again. One that
+-- was acknowledged isn't due before it, and one that has its answer is never due, so that these
+-- cases never come.
+abbrev pub in_time : World → ℕ → ℕ → ℕ → Exchange → ExchangeState → Step
+in_time w now draw number x Queued = sends w now draw number x
+in_time w now draw number x Sent = on_fire w now number x (fire_of_sending now x.sending)
+in_time w now draw number x Acked = idles w now
+in_time w now draw number x (Done a) = idles w now
+
+-- what is due is there, so that the first case never comes
+abbrev pub on_exchange : World → ℕ → ℕ → ℕ → Option Exchange → Step
+on_exchange w now draw number None = idles w now
+on_exchange w now draw number (Some x) =
+    if nat_le (deadline w.setting.limits.exchange_ms x) now
+    then gives_up w now number
+    else in_time w now draw number x x.state
+
+-- ---- clients
+
+-- when nobody waits for an exchange any more, it is closed
+abbrev pub without_idle :
+    ℕ → List (Numbered Waiter) → List (Numbered Exchange) → List (Numbered Exchange)
+without_idle number waiters exchanges =
+    if count (waits_for number) waiters == 0 then without number exchanges else exchanges
+
+-- the client is given the answer of its exchange, with a new id
+abbrev pub delivers : World → ℕ → ℕ → Waiter → ℕ → Answer → Step
+delivers w now number v exchange a =
+    says Delivered v.client (shown now a (next_id w) v.token v.tags) (record (later w now) {
+      waiters = without number w.waiters;
+      exchanges = without_idle exchange (without number w.waiters) w.exchanges;
+      ids = called now w.ids;
+    })
+
+-- a client is due when its exchange has its answer, so that the first case never comes
+abbrev pub on_answer : World → ℕ → ℕ → Waiter → ℕ → Option Answer → Step
+on_answer w now number v exchange None = idles w now
+on_answer w now number v exchange (Some a) = delivers w now number v exchange a
+
+-- no client is asked to acknowledge its answer yet, so that the second case never comes
+abbrev pub on_waiting : World → ℕ → ℕ → Waiter → WaiterState → Step
+on_waiting w now number v (Waiting exchange) =
+    on_answer w now number v exchange (answer_in exchange w.exchanges)
+on_waiting w now number v (Delivering bytes id timer) = idles w now
+
+abbrev pub on_waiter : World → ℕ → ℕ → Option Waiter → Step
+on_waiter w now number None = idles w now
+on_waiter w now number (Some v) = on_waiting w now number v v.state
+
+-- ---- what is done
+
+abbrev pub on_item : World → ℕ → ℕ → Option DueItem → Step
+on_item w now draw None = idles w now
+on_item w now draw (Some (OfExchange at number)) =
+    on_exchange w now draw number (item_at number w.exchanges)
+on_item w now draw (Some (OfWaiter at number)) = on_waiter w now number (item_at number w.waiters)
+
+abbrev pub on_tick : World → ℕ → ℕ → Step
+on_tick w now draw = on_item w now draw (if_due now (item_due w))

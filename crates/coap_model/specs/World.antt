@@ -1,5 +1,5 @@
 -- The tables of a proxy as one value, and what a step makes of them.
-use Rattle.std.specs.Prelude.{ℕ, ◌+◌, ◌&&◌, ◌||◌, Bool, nat_le, nat_lt, if◌then◌else◌, List, [], length, Some, None}
+use Rattle.std.specs.Prelude.{ℕ, ◌+◌, ◌%◌, ◌&&◌, ◌||◌, Bool, nat_le, nat_lt, if◌then◌else◌, List, [], length, Some, None}
 use Rattle.coap_message.specs.Message.{Message}
 use Rattle.coap_message.specs.Spelling.{spelling}
 use Rattle.coap_message.specs.declared.kind.Kind.{Kind}
@@ -10,9 +10,11 @@ use Rattle.coap_cache.specs.Entries.{Entry, entry_size}
 use Rattle.coap_cache.specs.Lists.{total}
 use Rattle.coap_exchange.specs.declared.exchange.Exchange.{Exchange}
 use Rattle.coap_exchange.specs.declared.waiter.Waiter.{Waiter}
-use Rattle.coap_exchange.specs.Exchanges.{is_queued, count_where}
-use Rattle.coap_exchange.specs.Ids.{nth_id}
-use Rattle.coap_exchange.specs.Table.{Numbered}
+use Rattle.coap_exchange.specs.declared.ids.Ids.{Ids}
+use Rattle.coap_exchange.specs.Exchanges.{is_queued}
+use Rattle.coap_exchange.specs.Waiters.{is_waiting}
+use Rattle.coap_exchange.specs.Ids.{new_ids, given_in}
+use Rattle.coap_exchange.specs.Table.{Numbered, count}
 use Rattle.coap_model.specs.declared.report.Outcome.{Outcome}
 use Rattle.coap_model.specs.declared.report.Outcome.TheVariants.{Ignored}
 use Rattle.coap_model.specs.declared.report.Report.{Report}
@@ -33,8 +35,8 @@ pub record World : Type 0 where
   -- how many of each there ever were
   pub opened : ℕ
   pub admitted : ℕ
-  -- how many message ids were given
-  pub given : ℕ
+  -- the message ids that are given
+  pub ids : Ids
   -- the last moment, and the number of events
   pub last : ℕ
   pub events : ℕ
@@ -57,7 +59,7 @@ new_world setting = record {
   non_records = no_records setting.limits.non_records NON_LIFETIME;
   opened = 0;
   admitted = 0;
-  given = 0;
+  ids = new_ids (setting.first_id % 65536);
   last = 0;
   events = 0;
 }
@@ -93,32 +95,29 @@ has_record_room w now kind =
 
 -- the id that is given next (RFC 7252, 4.4)
 abbrev pub next_id : World → ℕ
-next_id w = nth_id w.setting.first_id w.given
+next_id w = w.ids.following
 
--- ids that are kept for exchanges which are still to be sent, and for clients which are still to be
--- served
+-- ids that are kept for clients which are still to be served, and for exchanges which are still to
+-- be sent
 abbrev pub reserved : World → ℕ
-reserved w = length w.waiters + count_where is_queued w.exchanges
+reserved w = count is_waiting w.waiters + count is_queued w.exchanges
 
--- so many ids are free
-abbrev pub has_ids : ℕ → World → Bool
-has_ids k w = nat_le (w.given + reserved w + k) 32768
+-- so many ids are free at a moment, in the window of 247 seconds in which it lies
+abbrev pub has_ids : ℕ → World → ℕ → Bool
+has_ids k w now = nat_le (given_in now w.ids + reserved w + k) 32768
 
 -- a reply may go out at once to a request that came in a message of this type: in an
 -- acknowledgement it needs no id
-abbrev pub can_reply : World → Kind → Bool
-can_reply w kind = is_con kind || has_ids 1 w
-
--- how many ids it takes
-abbrev pub ids_to_reply : Kind → ℕ
-ids_to_reply kind = if is_con kind then 0 else 1
+abbrev pub can_reply : World → ℕ → Kind → Bool
+can_reply w now kind = is_con kind || has_ids 1 w now
 
 -- ---- room
 
-abbrev pub has_room : World → Bool
-has_room w =
+-- an exchange may be opened for a client
+abbrev pub has_room : World → ℕ → Bool
+has_room w now =
     nat_lt (length w.exchanges) w.setting.limits.exchanges
-    && (nat_lt (length w.waiters) w.setting.limits.waiters && has_ids 2 w)
+    && (nat_lt (length w.waiters) w.setting.limits.waiters && has_ids 2 w now)
 
 -- ---- how much a proxy holds
 

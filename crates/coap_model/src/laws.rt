@@ -1,58 +1,59 @@
 //! Laws of the step: public functions that do nothing, whose contracts are the laws.
-ghost use Rattle.std.specs.Prelude.{◌≡◌, ◌≢◌, ℕ, ◌+◌, ◌-◌, ◌*◌, ◌%◌, ◌<◌, ◌≤◌, Bool, true, List, [], ◌∷◌, ◌++◌, filter, length, map, Some, None, false};
-ghost use Rattle.coap_message.specs.declared.kind.Kind.TheVariants.{Con, Non, Ack};
-ghost use Rattle.coap_message.specs.declared.message.Head.{Head};
-ghost use Rattle.coap_message.specs.Message.{Message};
-ghost use Rattle.coap_message.specs.Reading.{head_at};
-ghost use Rattle.coap_message.specs.Spelling.{spelling};
-ghost use Rattle.coap_target.specs.declared.endpoint.Endpoint.{Endpoint};
-ghost use Rattle.coap_cache.specs.declared.key.CacheKey.{CacheKey};
-ghost use Rattle.coap_routes.specs.Routes.{AreRoutes};
-ghost use Rattle.coap_cache.specs.declared.answer.Answer.{Answer};
-ghost use Rattle.coap_limits.specs.Limits.{AreLimits, default_limits};
-ghost use Rattle.coap_model.specs.Setting.{Setting, setting_of};
-ghost use Rattle.coap_model.specs.declared.report.Outcome.{Outcome};
-ghost use Rattle.coap_model.specs.declared.report.Outcome.TheVariants.{Rejected, Again, NoRecordRoom, Hit, Opened, Idle, Refused, Overloaded, NoId, Answered};
-ghost use Rattle.coap_cache.specs.Lists.{of_key, total};
-ghost use Rattle.coap_dedup.specs.declared.record.Record.{Record};
-ghost use Rattle.coap_dedup.specs.Lists.{record_of};
-ghost use Rattle.coap_model.specs.Remembered.{most_remembered, remembered_at};
-ghost use Rattle.coap_model.specs.Cached.{Cached, cached_key, cached_size, IsCacheOf};
+ghost use Rattle.std.specs.Prelude.{◌≡◌, true, [], ◌∷◌, ◌++◌, Some, None, false, ◌≢◌, ℕ, ◌^◌, ◌<◌, ◌≤◌, List, filter, ◌+◌, ◌-◌, ◌*◌, ◌%◌, Bool, length, map};
+ghost use Rattle.coap_message.specs.declared.kind.Kind.TheVariants.{Non, Ack, Con};
+ghost use Rattle.coap_message.specs.Spelling.{spelling, with_id, Spells};
+ghost use Rattle.coap_limits.specs.Limits.{default_limits, AreLimits};
+ghost use Rattle.coap_model.specs.Setting.{setting_of, Setting};
+ghost use Rattle.coap_model.specs.declared.report.Outcome.TheVariants.{Again, NoRecordRoom, Opened, Idle, Refused, Overloaded, NoId, Answered, Rejected, Hit};
 ghost use Rattle.coap_model.specs.declared.report.Storing.TheVariants.{Kept, TooLarge, NoMemory, NotStored};
-ghost use Rattle.coap_option.specs.declared.side.Side.{Side};
-ghost use Rattle.coap_option.specs.Screening.{first_refused};
-ghost use Rattle.coap_option.specs.Selection.{max_age_of, sent_on};
-ghost use Rattle.coap_message.specs.Spelling.{Spells};
+ghost use Rattle.coap_option.specs.Selection.{sent_on, max_age_of};
 ghost use Rattle.coap_forward.specs.Forms.{forwarded, goes_on};
-ghost use Rattle.coap_model.specs.Keys.{key_sent, request_key};
-ghost use Rattle.coap_model.specs.Verdicts.{may_ask, refusal_of};
+ghost use Rattle.coap_model.specs.Keys.{request_key, key_sent};
+ghost use Rattle.coap_model.specs.Verdicts.{refusal_of, may_ask};
 ghost use Rattle.coap_forward.specs.Answers.{bad_gateway, greatest_max_age, left_of};
-ghost use Rattle.coap_model.specs.Events.{Event, arrival, tick, IsEvent};
-ghost use Rattle.coap_model.specs.World.{World, new_world, counts};
+ghost use Rattle.coap_model.specs.Events.{tick, arrival, Event, IsEvent};
+ghost use Rattle.coap_model.specs.World.{counts, World, new_world};
 ghost use Rattle.coap_message.specs.declared.code.TheConstants.Code.{BAD_REQUEST, NOT_FOUND};
 ghost use Rattle.coap_message.specs.Uint.{uint_spelling};
 ghost use Rattle.coap_routes.specs.declared.error.TargetError.TheVariants.{OutOfMemory};
 ghost use Rattle.coap_model.specs.Memory.{takes_memory};
-ghost use Rattle.coap_model.specs.Step.{step_of};
 ghost use Rattle.coap_model.specs.Ticks.{next_due};
-ghost use Rattle.coap_forward.specs.Forms.{with_id};
-ghost use Rattle.coap_model.specs.History.{Entry, Act, no_item, serves, takes, comes_con, grown_of, gives_id, ids_in, under_way, Deed, Place, IsPlaceOf, Somewhere, Sends, Gets, Serves, Gives, HasRoom, last_of, IsInOrder};
-ghost use Rattle.coap_forward.specs.Messages.{brings_requests, eight_zeros, own_reply, reply_kind, told_again};
-ghost use Rattle.coap_model.specs.Duplicates.{IsRememberedAt, Repeats};
-ghost use Rattle.coap_model.specs.Due.{IsDueAt, IsNextDue};
-ghost use Rattle.coap_model.specs.Justified.{IsRequestOf, IsNew, IsUnprocessable, verdict_on, fits_on, is_fresh_at, HasIdFor, IsMiss, IsObtainedHere, size_here, HaveOneMemory, IsAwaited, IsActing, IsDelivery, JustifiedBy, AllJustified, IsOwed, MayFollow, AreOfOneTurn, IsForwarding};
-ghost use Rattle.coap_model.specs.Forged as forged;
-ghost use Rattle.coap_model.specs.Forged.{asked, delivery, right, at_an_arrival};
-ghost use Rattle.coap_model.specs.Carries.{Bears, Carries};
-ghost use Rattle.coap_model.specs.Promised.{IdsDiffer, Promised};
-ghost use Rattle.coap_model.specs.Runs.{Taken, turns_of, AreTurns, new_run, run_of, entry_of, answer_at};
-ghost use Rattle.coap_model.specs.Examples.{nothing, to, get_t, origin, from, tick_at, client, content_for_client, play, proxy, small_proxy, narrow_proxy, first_answer, first_answer_sent, late_answer, late_answer_sent, error, error_sent, fault, fault_sent, changed, changed_sent, valid, replaced_sent, block_in_response, long_max_age, impostor, impostor_sent, refusals, refusals_sent, long_paths, long_paths_sent, long_segments, long_segments_sent, payload_in_get, payload_in_get_sent, full, full_sent, unprocessed_messages, unprocessed_messages_sent, too_long, too_long_sent, payload_of, payload_of_109_sent, spent_proxy, last_id, last_id_sent, wrapping_proxy, wrapping, wrapping_sent};
+ghost use Rattle.coap_model.specs.History.{comes_con, moves, Act, no_item, serves, takes, opened_in, Deed, Place, IsPlaceOf, Somewhere, Sends, Ends, Serves, last_of, IsInOrder, IsRequestOf, Entry, grown_of, gives_id, ids_in, Gives};
+ghost use Rattle.coap_forward.specs.Messages.{eight_zeros, own_reply, reply_kind, told_again, brings_requests};
+ghost use Rattle.coap_model.specs.Justified.{HaveOneMemory, IsNew, IsUnprocessable, verdict_on, fits_on, IsMiss, IsAwaited, IsActing, IsForwarding, IsDelivery, JustifiedBy, AllJustified, IsOwed, MayFollow, AreOfOneTurn, is_fresh_at, HasIdFor, IsObtainedHere, size_here};
+ghost use Rattle.coap_model.specs.Runs.{turns_of, AreTurns, Taken, new_run, run_of, entry_of, answer_at};
+ghost use Rattle.coap_model.specs.Examples.{nothing, to, get_t, origin, from, tick_at, client, play, proxy, small_proxy, narrow_proxy, first_answer, first_answer_sent, late_answer, late_answer_sent, error, error_sent, fault, fault_sent, changed, changed_sent, valid, replaced_sent, block_in_response, long_max_age, impostor, impostor_sent, refusals, refusals_sent, long_paths, long_paths_sent, long_segments, long_segments_sent, payload_in_get, payload_in_get_sent, full, full_sent, unprocessed_messages, unprocessed_messages_sent, too_long, too_long_sent, payload_of, payload_of_109_sent, spent_proxy, last_id, last_id_sent, wrapping_proxy, wrapping, wrapping_sent, content_for_client};
 ghost use Rattle.coap_model.specs.ReplyExamples.{asks_at, with_token, tokens, tokens_sent, two_faults, two_faults_sent, of_class_3, of_class_3_sent, changed_with_age, changed_with_age_sent, two_ages, beside_an_age, beside_an_age_sent, path_in_response, greatest_age, greatest_age_sent, shorter_age, shorter_age_sent, ten_seconds_after, one_left, none_left, of_one_moment, of_one_moment_sent, request_first, request_first_sent, client_first, client_first_sent};
 ghost use Rattle.coap_model.specs.FormExamples.{after, named, named_form, target_in};
 ghost use Rattle.coap_model.specs.OptionExamples.{others, form_with_others, key_in, key_of_others, odd_form, odd_key, form_with_tag, key_of_temp, get_with_others, get_with_tags, with_tag, held_sent, other_tag_sent, accepted, accepted_sent, observed, observed_sent, long_observed, odd_observe, with_unknown, safe_sent, beside_a_tag, beside_a_tag_sent, forward_proxy, refused_targets, refused_targets_sent, long_without_map, long_without_map_sent, to_sensor, to_sensor_sent};
 ghost use Rattle.coap_model.specs.DuplicateExamples.{con_u, con_not_found, twice_until, refused_with, of_one_id, of_one_id_sent, one_record, two_clients, two_clients_sent, con_asks, con_asks_sent, con_hit, con_hits, con_hits_sent, opened_until, hit_until, hit_sent, con_t, con_busy, non_hit, non_busy, busy_until, busy_sent};
+ghost use Rattle.coap_model.specs.ReliableExamples.{hasty_proxy, patient_proxy, silent_origin, longest_waits, silence_sent, late_ticks, late_ticks_sent, first_again_at, again_in_time, too_late, after_the_last, after_the_last_sent, answered_later, answered_later_sent, deadline, deadline_sent, sent_late, never_sent, never_sent_sent, blocked, blocked_sent, turn_of_the_second, turn_of_the_second_sent, after_the_end, after_the_end_sent, one_at_a_time, one_at_a_time_sent, two_at_a_time, two_at_a_time_sent, two_origins, two_origins_sent, next_window, next_window_sent, over_the_edge, over_the_edge_sent, again_without_id, again_without_id_sent, spent_with_cache, hit_without_id, hit_without_id_sent, greatest_id, after_the_greatest, after_the_greatest_sent, sent_twice, then_answered, history_of, two_windows};
+ghost use Rattle.coap_model.specs.Standing.{outstanding_to, queued_in, window_ids, HasRoomToOpen, open_in, standing_in};
+ghost use Rattle.coap_model.specs.Schedules.{sends_by, next_send, IsSchedule};
 ghost use Rattle.coap_model.specs.Held.{target_bytes, held, most_held};
-ghost use Rattle.coap_model.specs.LimitExamples.{get_u, not_found, got, one_exchange, one_waiter, until_served, until_served_sent, retries_after, two_requests, second_is_told, narrow, long_datagrams, long_datagrams_sent, later_proxy, counted_on, counted_on_sent, after_ids, last_refusal, last_refusal_sent, kept_ids, kept_ids_sent};
+ghost use Rattle.coap_model.specs.LimitExamples.{get_u, not_found, got, one_exchange, one_waiter, two_at_once, until_served, until_served_sent, retries_after, two_requests, second_is_told, narrow, long_datagrams, long_datagrams_sent, later_proxy, counted_on, counted_on_sent, after_ids, last_refusal, last_refusal_sent, kept_ids, kept_ids_sent};
+ghost use Rattle.coap_message.specs.declared.message.Head.{Head};
+ghost use Rattle.coap_message.specs.Message.{Message};
+ghost use Rattle.coap_message.specs.Reading.{head_at};
+ghost use Rattle.coap_target.specs.declared.endpoint.Endpoint.{Endpoint};
+ghost use Rattle.coap_cache.specs.declared.key.CacheKey.{CacheKey};
+ghost use Rattle.coap_routes.specs.Routes.{AreRoutes};
+ghost use Rattle.coap_dedup.specs.declared.record.Record.{Record};
+ghost use Rattle.coap_dedup.specs.Lists.{record_of};
+ghost use Rattle.coap_option.specs.declared.side.Side.{Side};
+ghost use Rattle.coap_option.specs.Screening.{first_refused};
+ghost use Rattle.coap_model.specs.Remembered.{remembered_at, most_remembered};
+ghost use Rattle.coap_model.specs.Duplicates.{IsRememberedAt, Repeats};
+ghost use Rattle.coap_model.specs.Due.{IsDueAt, IsNextDue};
+ghost use Rattle.coap_model.specs.Forged as forged;
+ghost use Rattle.coap_model.specs.Forged.{asked, delivery, right, at_an_arrival};
+ghost use Rattle.coap_cache.specs.declared.answer.Answer.{Answer};
+ghost use Rattle.coap_model.specs.declared.report.Outcome.{Outcome};
+ghost use Rattle.coap_cache.specs.Lists.{of_key, total};
+ghost use Rattle.coap_model.specs.Cached.{Cached, cached_key, cached_size, IsCacheOf};
+ghost use Rattle.coap_model.specs.Step.{step_of};
+ghost use Rattle.coap_model.specs.Carries.{Bears, Carries};
+ghost use Rattle.coap_model.specs.Promised.{Promised};
 
 /// Runs of the step, computed on the definitions.
 pub fn examples()
@@ -108,7 +109,7 @@ pub fn examples_of_replies()
     ensures last_second { play proxy (ten_seconds_after 9000) ≡ one_left }
     ensures second_that_began { play proxy (ten_seconds_after 9001) ≡ none_left }
     ensures none_left { play proxy (ten_seconds_after 20000) ≡ none_left }
-    ensures of_one_moment { play proxy of_one_moment ≡ of_one_moment_sent }
+    ensures of_one_moment { play two_at_once of_one_moment ≡ of_one_moment_sent }
     ensures request_first { play proxy request_first ≡ request_first_sent }
     ensures client_first { play proxy client_first ≡ client_first_sent }
 {}
@@ -245,15 +246,51 @@ pub fn examples_of_duplicates()
         } }
 {}
 
+/// Reliability towards origins, computed: when a request is sent again and when it is given up, how
+/// many are sent to one endpoint at once, message ids by windows of 247 seconds, and what the
+/// history says of them.
+pub fn examples_of_reliability()
+    ensures silent_origin { play proxy silent_origin ≡ silence_sent }
+    ensures longest_waits { play proxy longest_waits ≡ silence_sent }
+    ensures late_ticks { play proxy late_ticks ≡ late_ticks_sent }
+    ensures again_in_time { play patient_proxy (first_again_at 92999) ≡ again_in_time }
+    ensures too_late { play patient_proxy (first_again_at 93000) ≡ too_late }
+    ensures after_the_last { play patient_proxy after_the_last ≡ after_the_last_sent }
+    ensures answered_later { play proxy answered_later ≡ answered_later_sent }
+    ensures deadline { play hasty_proxy deadline ≡ deadline_sent }
+    ensures sent_late { play hasty_proxy sent_late ≡ deadline_sent }
+    ensures never_sent { play hasty_proxy never_sent ≡ never_sent_sent }
+    ensures blocked { play hasty_proxy blocked ≡ blocked_sent }
+    ensures turn_of_the_second { play hasty_proxy turn_of_the_second ≡ turn_of_the_second_sent }
+    ensures after_the_end { play hasty_proxy after_the_end ≡ after_the_end_sent }
+    ensures one_at_a_time { play proxy one_at_a_time ≡ one_at_a_time_sent }
+    ensures two_at_a_time { play two_at_once two_at_a_time ≡ two_at_a_time_sent }
+    ensures two_origins { play forward_proxy two_origins ≡ two_origins_sent }
+    ensures next_window { play (after_ids 32768) next_window ≡ next_window_sent }
+    ensures over_the_edge { play (after_ids 32766) over_the_edge ≡ over_the_edge_sent }
+    ensures again_without_id { play (after_ids 32765) again_without_id ≡ again_without_id_sent }
+    ensures hit_without_id { play spent_with_cache hit_without_id ≡ hit_without_id_sent }
+    ensures after_the_greatest { play greatest_id after_the_greatest ≡ after_the_greatest_sent }
+    ensures sent_twice_at { next_send (sends_by (moves 1) (history_of sent_twice)) ≡ 7510 }
+    ensures one_sent { outstanding_to origin (history_of sent_twice) ≡ 1 }
+    ensures one_waits { queued_in (history_of sent_twice) ≡ 1 }
+    ensures second_at { next_send (sends_by (moves 2) (history_of then_answered)) ≡ 5000 }
+    ensures another_sent { outstanding_to origin (history_of then_answered) ≡ 1 }
+    ensures none_waits { queued_in (history_of then_answered) ≡ 0 }
+    ensures none_elsewhere { outstanding_to (client 1) (history_of then_answered) ≡ 0 }
+    ensures ids_of_both { window_ids 0 (history_of then_answered) ≡ 3 }
+    ensures first_window { window_ids 0 (history_of two_windows) ≡ 2 }
+    ensures second_window { window_ids 1 (history_of two_windows) ≡ 1 }
+{}
+
 /// Each request that is sent on has the cache key of the client's request for which it is sent,
 /// read off the bytes that were sent.
 pub fn requests_keep_their_key()
     ensures { (setting : Setting) (past : List Deed) (d : Deed)
         (f : IsForwarding setting past d) (m : Message)
         → AreRoutes setting.routes
-        → AllJustified setting past
         → Spells d.entry.bytes m
-        → key_sent f.target.at m ≡ request_key f.target f.opened.request }
+        → key_sent f.to_send.key.target.at m ≡ f.to_send.key }
 {}
 
 /// Where no option of a request is refused, what is sent on of it shows by each option alone.
@@ -273,7 +310,7 @@ pub fn left_and_age_add_up()
         → 1000 * max_age_of a.message < 1000 * (left_of now a + 1) + (now - a.got) }
 {}
 
-/// A tick does nothing exactly where nothing is due, or only later.
+/// A tick of what a proxy carries does nothing exactly where nothing is due, or only later.
 pub fn ticks_are_idle_where_nothing_is_due()
     ensures none { (w : World) (now draw : ℕ) (grown : Bool)
         → next_due w ≡ None
@@ -282,7 +319,8 @@ pub fn ticks_are_idle_where_nothing_is_due()
         → next_due w ≡ Some at
         → now < at
         → (step_of w now draw grown tick).report.outcome ≡ Idle }
-    ensures due { (w : World) (now draw at : ℕ) (grown : Bool)
+    ensures due { (w : World) (history : List Entry) (now draw at : ℕ) (grown : Bool)
+        → Carries history w
         → next_due w ≡ Some at
         → at ≤ now
         → (step_of w now draw grown tick).report.outcome ≢ Idle }
@@ -299,7 +337,7 @@ pub fn forged_deliveries_are_refused()
     ensures to_another { ¬ IsDelivery forged.setting forged.past
         (delivery (client 2) (content_for_client 7) (serves 1)) }
     ensures untimely { ¬ IsDelivery forged.setting forged.past (at_an_arrival right) }
-    ensures out_of_turn { ¬ IsDelivery forged.setting (forged.opened ∷ forged.past) right }
+    ensures out_of_turn { ¬ IsDelivery forged.setting (forged.opened_too ∷ forged.past) right }
     ensures early { ¬ IsDelivery forged.setting (forged.opened ∷ forged.answered ∷ asked ∷ [])
         right }
     ensures elsewhere { ¬ IsDelivery forged.setting forged.past_elsewhere right }
@@ -344,16 +382,16 @@ pub fn memory_is_told()
     ensures wanting { (outcome : Outcome) → grown_of outcome ≡ false → outcome ≡ Answered NoMemory }
 {}
 
-/// What a proxy counts is what the deeds left of which its tables are made: as many exchanges and
-/// clients as were opened and not served, the entries and bytes of the cache of these deeds, and as
+/// What a proxy counts is what the deeds left of which its tables are made: as many exchanges as are
+/// open and as many clients as wait, the entries and bytes of the cache of these deeds, and as
 /// many records as requests that are still remembered.
 pub fn counts_are_of_the_history()
     ensures exchanges { (deeds : List Deed) (w : World)
         → Bears deeds w
-        → (counts w).exchanges ≡ under_way deeds }
+        → (counts w).exchanges ≡ length (open_in deeds) }
     ensures waiters { (deeds : List Deed) (w : World)
         → Bears deeds w
-        → (counts w).waiters ≡ under_way deeds }
+        → (counts w).waiters ≡ length (standing_in deeds) }
     ensures entries { (deeds : List Deed) (w : World) (cached : List Cached)
         → Bears deeds w
         → IsCacheOf w.setting deeds cached
@@ -371,14 +409,16 @@ pub fn counts_are_of_the_history()
 {}
 
 /// What a proxy carries it promises: each entry is justified by the entries before it, each waiter
-/// is served at most once, message ids count up and none comes back, and exchanges, waiters, what
+/// is served at most once, message ids count up and none comes back within 247 seconds, each request
+/// is sent by its schedule, at most so many to one endpoint as may be, and exchanges, waiters, what
 /// is remembered, what is stored and the bytes held are within their limits.
 pub fn what_is_carried_is_promised()
     ensures promised { (history : List Entry) (w : World) → Carries history w → Promised history w }
 {}
 
 /// What is promised, place by place: each deed is justified by those before it, comes no earlier
-/// than they did, and gives the message id that is due, which no other gave; the history tells of
+/// than they did, and gives the message id that is due, which no other gave within 247 seconds; each request is sent by
+/// its schedule, and at most so many to one endpoint as may be; the history tells of
 /// these deeds and of nothing else; and what the proxy counts and holds is within its limits.
 pub fn what_is_promised_holds_at_each_place()
     ensures justified { (history : List Entry) (w : World) (p : Promised history w) (place : Place)
@@ -399,7 +439,13 @@ pub fn what_is_promised_holds_at_each_place()
         → IsPlaceOf p.deeds b
         → Gives id a.deed.entry
         → Gives id b.deed.entry
+        → a.deed.entry.now ≤ b.deed.entry.now
+        → b.deed.entry.now < a.deed.entry.now + 247000
         → a ≡ b }
+    ensures schedule { (history : List Entry) (w : World) (p : Promised history w) (act : Act)
+        → IsSchedule (sends_by act p.deeds) }
+    ensures pace { (history : List Entry) (w : World) (p : Promised history w) (to : Endpoint)
+        → outstanding_to to p.deeds ≤ w.setting.limits.nstart }
     ensures told { (history : List Entry) (w : World) (p : Promised history w)
         → map (λ d. d.entry) p.deeds ≡ history }
     ensures exchanges { (history : List Entry) (w : World)
@@ -456,7 +502,7 @@ pub fn what_is_owed_is_given_at_each_place()
         → IsCacheOf w.setting place.before cached
         → of_key cached_key key cached ≡ Some entry
         → is_fresh_at place.deed.entry.now entry ≡ true
-        → HasIdFor request place.before
+        → HasIdFor request place.deed.entry.now place.before
         → place.deed.entry.report.outcome ≡ Hit }
     ensures kept { (history : List Entry) (w : World) (p : Promised history w) (place : Place)
         (o : IsObtainedHere w.setting place.before place.deed)
@@ -477,8 +523,9 @@ pub fn what_is_owed_is_given_at_each_place()
         → place.deed.entry.report.outcome ≡ Answered NotStored }
 {}
 
-/// In a justified history nothing is done twice: an exchange is sent on at one place, got at one
-/// place, and its client served at one place.
+/// In a justified history nothing is done twice: the request of an exchange is sent for the first
+/// time at one place, the exchange is got or given up at one place, and a client is served at one
+/// place.
 pub fn nothing_is_done_twice()
     ensures sent { (setting : Setting) (history : List Deed) (exchange : ℕ) (a b : Place)
         → AllJustified setting history
@@ -487,12 +534,12 @@ pub fn nothing_is_done_twice()
         → Sends setting.salt exchange a
         → Sends setting.salt exchange b
         → a ≡ b }
-    ensures got { (setting : Setting) (history : List Deed) (exchange : ℕ) (a b : Place)
+    ensures ended { (setting : Setting) (history : List Deed) (exchange : ℕ) (a b : Place)
         → AllJustified setting history
         → IsPlaceOf history a
         → IsPlaceOf history b
-        → Gets setting exchange a
-        → Gets setting exchange b
+        → Ends exchange a
+        → Ends exchange b
         → a ≡ b }
     ensures served { (setting : Setting) (history : List Deed) (waiter : ℕ) (a b : Place)
         → AllJustified setting history
@@ -523,7 +570,7 @@ pub fn what_is_owed_is_given()
         → verdict_on setting request ≡ may_ask key
         → IsMiss setting past key d.entry.now
         → fits_on setting key request ≡ true
-        → HasRoom setting.limits past
+        → HasRoomToOpen setting.limits d.entry.now past
         → d.entry.report.outcome ≡ Opened }
     ensures answered { (setting : Setting) (past : List Deed) (d : Deed) (exchange : ℕ)
         → JustifiedBy d.entry.report.outcome setting past d
@@ -589,12 +636,13 @@ pub fn duplicates_repeat_a_place()
 {}
 
 /// The histories allow one answer: two deeds that may follow the same deeds, of one event at one
-/// moment with one draw, are one deed; and the entry of what may follow what a proxy carries is
-/// what its step answers. So the traffic alone says all that a proxy does.
+/// moment with one draw, are one deed, where less than 2^64 exchanges were opened; and the entry of
+/// what may follow what a proxy carries is what its step answers. So the traffic alone says all
+/// that a proxy does.
 pub fn one_answer_is_justified()
     ensures one { (setting : Setting) (past : List Deed) (d e : Deed)
         → AllJustified setting past
-        → IdsDiffer past
+        → opened_in past < 2 ^ 64
         → MayFollow setting past d
         → MayFollow setting past e
         → AreOfOneTurn d.entry e.entry
@@ -602,6 +650,7 @@ pub fn one_answer_is_justified()
     ensures of_the_step { (w : World) (history : List Entry) (c : Carries history w) (d : Deed)
         (grown : Bool)
         → w.last ≤ d.entry.now
+        → w.opened < 2 ^ 64
         → IsEvent d.entry.event
         → MayFollow w.setting c.deeds d
         → HaveOneMemory d.entry.report.outcome

@@ -3,8 +3,10 @@
 #![tactic(auto)]
 
 pub mod cache_laws;
+mod due;
 pub mod laws;
 mod report;
 
 pub use coap_limits::{Limit, LimitError, LimitValues, Limits};
+pub use due::DueItem;
 pub use report::{Counts, Outcome, Report, Storing};

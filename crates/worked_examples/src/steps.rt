@@ -141,7 +141,11 @@ fn check_first_answer(rt: &impl Abort, run: &mut Run) -> Result<(), OutOfMemory>
     check_step(rt, run, 10, request, expected)?;
 
     let bytes = b"\x48\x01\x00\x01\x00\x00\x00\x00\x00\x00\x00\x01\xB4temp";
-    let expected = (Outcome::SentRequest, bytes.as_slice(), told(2, 20, None, 1));
+    let expected = (
+        Outcome::SentRequest,
+        bytes.as_slice(),
+        told(2, 20, Some(2020), 1),
+    );
     check_step(rt, run, 20, Event::Tick, expected)?;
 
     let bytes = b"\x68\x45\x00\x01\x00\x00\x00\x00\x00\x00\x00\x01\xD1\x01\x0A\xFF21";
@@ -164,4 +168,53 @@ fn steps_can_be_taken_again(rt: HostRuntime) -> Result<(), Fail> {
     let mut run = insist_on_new(rt.alloc())?;
     assert_eq!(rt; run.seen(), told(0, 0, None, 0));
     Ok(check_first_answer(&rt, &mut run)?)
+}
+
+/// The first answer, which stays in the cache.
+fn store_first_answer(rt: &impl Abort, run: &mut Run) -> Result<(), OutOfMemory> {
+    run.step(rt, 0, arrival(40001, b"\x50\x01\x00\x07\xB1t"))?;
+    run.step(rt, 0, Event::Tick)?;
+    let bytes = b"\x68\x45\x00\x01\x00\x00\x00\x00\x00\x00\x00\x01\xD1\x01\x0A\xFF21";
+    let report = run.step(rt, 0, arrival(5690, bytes))?;
+    let storing = Storing::Kept;
+    assert_eq!(rt; report.outcome, Outcome::Answered { storing });
+    let report = run.step(rt, 0, Event::Tick)?;
+    assert_eq!(rt; report.outcome, Outcome::Delivered);
+    Ok(())
+}
+
+// The first answer takes the ids 1 and 2, and each hit one more. After 32,768 there is none left in
+// the first 247 seconds, but an acknowledgement needs none; then ids go on.
+#[test]
+fn ids_run_out_and_come_again(rt: HostRuntime) -> Result<(), Fail> {
+    let limits = Limits::new(LimitValues {
+        non_records: 65_536,
+        ..LimitValues::default()
+    })?;
+    let mut run = Run::new(rt.alloc(), limits)?;
+    store_first_answer(&rt, &mut run)?;
+    for id in 0u16..32_766 {
+        let [high, low] = id.to_be_bytes();
+        let request = [0x50, 1, high, low, 0xB1, 0x74];
+        let report = run.step(&rt, 0, arrival(40002, &request))?;
+        assert_eq!(rt; report.outcome, Outcome::Hit);
+    }
+    assert_eq!(rt;
+        run.sent(),
+        b"\x50\x45\x80\x00\xD1\x01\x0A\xFF21".as_slice()
+    );
+
+    let report = run.step(&rt, 0, arrival(40002, b"\x50\x01\x7F\xFE\xB1t"))?;
+    assert_eq!(rt; report.outcome, Outcome::NoId);
+    run.step(&rt, 0, arrival(40002, b"\x40\x01\x00\x01\xB1t"))?;
+    assert_eq!(rt;
+        run.sent(),
+        b"\x60\x45\x00\x01\xD1\x01\x0A\xFF21".as_slice()
+    );
+
+    let report = run.step(&rt, 246_999, arrival(40003, b"\x50\x01\x00\x06\xB1u"))?;
+    assert_eq!(rt; report.outcome, Outcome::NoId);
+    run.step(&rt, 247_000, arrival(40003, b"\x50\x01\x00\x07\xB1u"))?;
+    assert_eq!(rt; run.sent(), b"\x50\x84\x80\x01".as_slice());
+    Ok(())
 }

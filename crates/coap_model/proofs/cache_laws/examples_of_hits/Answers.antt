@@ -9,7 +9,7 @@ use Rattle.coap_model.specs.Keys.{target_sent}
 use Rattle.coap_forward.specs.Forms.{target_options}
 use Rattle.coap_model.specs.Verdicts.{verdict_of, form_fits}
 use Rattle.coap_forward.specs.Answers.{answer_of}
-use Rattle.coap_forward.specs.Forms.{with_id}
+use Rattle.coap_message.specs.Spelling.{with_id}
 use Rattle.coap_model.specs.Step.{message_in}
 use Rattle.coap_model.proofs.cache_laws.examples_of_hits.Goals as goal
 

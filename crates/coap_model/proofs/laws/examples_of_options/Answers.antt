@@ -11,7 +11,7 @@ use Rattle.coap_model.specs.Keys.{target_sent, key_sent}
 use Rattle.coap_forward.specs.Forms.{target_options}
 use Rattle.coap_model.specs.Verdicts.{verdict_of, form_fits}
 use Rattle.coap_forward.specs.Answers.{answer_of}
-use Rattle.coap_forward.specs.Forms.{with_id}
+use Rattle.coap_message.specs.Spelling.{with_id}
 use Rattle.coap_model.specs.Step.{message_in}
 use Rattle.coap_model.proofs.laws.examples_of_options.Goals as goal
 

@@ -1,5 +1,5 @@
-use Rattle.coap_model.proofs.Once.{sent-once, got-once, served-once}
+use Rattle.coap_model.proofs.Once.{sent-once, ended-once, served-once}
 use Rattle.coap_model.proofs.laws.nothing_is_done_twice.Goals as goal
 
 pub returns : goal.returns
-returns c = record { sent = sent-once; got = got-once; served = served-once }
+returns c = record { sent = sent-once; ended = ended-once; served = served-once }

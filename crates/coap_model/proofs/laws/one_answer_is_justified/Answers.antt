@@ -1,4 +1,5 @@
-use Rattle.coap_model.proofs.OneAnswer.{one-answer, step-answer}
+use Rattle.coap_model.proofs.OneAnswer.{one-answer}
+use Rattle.coap_model.proofs.OneStep.{step-answer}
 use Rattle.coap_model.proofs.laws.one_answer_is_justified.Goals as goal
 
 pub returns : goal.returns

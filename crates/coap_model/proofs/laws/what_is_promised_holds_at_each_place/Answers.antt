@@ -1,6 +1,7 @@
 use Rattle.std.proofs.Common.{refl}
 use Rattle.coap_model.proofs.Places.{justified-at}
-use Rattle.coap_model.proofs.Promising.{id-at, in-order-at}
+use Rattle.coap_model.proofs.Giving.{id-at}
+use Rattle.coap_model.proofs.Moments.{in-order-at}
 use Rattle.coap_model.proofs.laws.what_is_promised_holds_at_each_place.Goals as goal
 
 pub returns : goal.returns
@@ -10,6 +11,8 @@ returns c =
       in_order = λ history w p place earlier. in-order-at p.deeds place earlier p.in_order;
       id = λ history w p place. id-at w.setting.first_id p.deeds place p.sequence;
       once = λ history w p. p.ids;
+      schedule = λ history w p. p.schedules;
+      pace = λ history w p. p.pace;
       told = λ history w p. p.told;
       exchanges = λ history w p. p.exchanges;
       waiters = λ history w p. p.waiters;

@@ -15,14 +15,14 @@ pub step-requires-clause-fits : goal.step-requires-clause-fits
 step-requires-clause-fits g c =
     let i = c.self.invariant in
     let room = rw (← c.self.view_is) at c.requires.room in
-    let fits = c.datagrams_fit.ensures.fits c.self.inside.world i.1.0 c.args.now 0 true (seen c.args.event) i.1.1 i.0 c.holds_bytes.ensures in
+    let fits = c.datagrams_fit.ensures.fits c.self.inside.world i.1.0 c.args.now c.args.draw true (seen c.args.event) i.1.1 i.0 c.holds_bytes.ensures in
     omega (arith, room, fits)
 
 -- what the step leaves
 leaves : (g : Over) (c : After-step g) → IsLeft c.self.inside.world c.step.new.self
 leaves g c =
     let i = c.self.invariant in
-    is-left c.self.inside.world c.args.now (seen c.args.event) i.1.0 i.1.1 (rw (← c.self.view_is) at c.requires.onward) c.holds_bytes.ensures c.step.result c.args.out.now c.step.new.out c.step.new.self c.step.ensures.exact c.step.ensures.err
+    is-left c.self.inside.world c.args.now c.args.draw (seen c.args.event) i.1.0 i.1.1 (rw (← c.self.view_is) at c.requires.onward) c.holds_bytes.ensures c.step.result c.args.out.now c.step.new.out c.step.new.self c.step.ensures.exact c.step.ensures.err
 
 pub invariant_of-self : goal.invariant_of-self
 invariant_of-self g c =
@@ -55,8 +55,8 @@ returns-clause-short g c =
     let i = c.self.invariant in
     let w = c.self.inside.world in
     let left = leaves g (goal.at.returns-clause-short g c).After-step in
-    let short : (grown : Bool) → length (step_of w c.args.now 0 grown (seen c.args.event)).bytes ≤ w.setting.limits.datagram = λ grown. c.datagrams_fit.ensures.fits w i.1.0 c.args.now 0 grown (seen c.args.event) i.1.1 i.0 c.holds_bytes.ensures in
-    rw left.setting (is-short c.step.result (λ grown. step_of w c.args.now 0 grown (seen c.args.event)) c.args.out.now c.step.new.out c.step.new.self w.setting.limits.datagram short c.step.ensures.exact c.step.ensures.none)
+    let short : (grown : Bool) → length (step_of w c.args.now c.args.draw grown (seen c.args.event)).bytes ≤ w.setting.limits.datagram = λ grown. c.datagrams_fit.ensures.fits w i.1.0 c.args.now c.args.draw grown (seen c.args.event) i.1.1 i.0 c.holds_bytes.ensures in
+    rw left.setting (is-short c.step.result (λ grown. step_of w c.args.now c.args.draw grown (seen c.args.event)) c.args.out.now c.step.new.out c.step.new.self w.setting.limits.datagram short c.step.ensures.exact c.step.ensures.none)
 
 pub returns-clause-entries : goal.returns-clause-entries
 returns-clause-entries g c =

@@ -44,4 +44,4 @@ returns-else-awaits-clause-exact g c =
 pub returns-then-awaits-clause-sent : goal.returns-then-awaits-clause-sent
 returns-then-awaits-clause-sent g c =
     let found : item_at c.in_ok-number.number c.args.self.now.exchanges ≡ Some c.in_ok-exchange.exchange.now = rw (← c.self.view_is) (sym c.in_ok-exchange.ensures.exact) in
-    rw found (sent-with c.args.response.now.id c.in_ok-exchange.exchange.now.state (same_endpoint c.in_ok-exchange.exchange.now.key.target.at c.args.source) (sym (rw (← c.response.view_is) c.if-awaits.ensures)))
+    rw found (sent-with c.args.response.now.id c.in_ok-exchange.exchange.now (same_endpoint c.in_ok-exchange.exchange.now.key.target.at c.args.source) (sym (rw (← c.response.view_is) c.if-awaits.ensures)))

@@ -39,7 +39,7 @@ overload-requires-clause-fits g c =
     let m = c.args.request.now in
     let busy : Step = overloads w c.args.now c.args.client m in
     let missed : Step = on_miss w c.args.now c.args.client m c.args.asked.now.key in
-    let closed : can_open w m.kind ≡ false = rw (← c.request.view_is) (search rules) in
+    let closed : can_open w c.args.now m.kind ≡ false = rw (← c.request.view_is) (search rules) in
     let away : missed ≡ busy = turned-away w c.args.now c.args.client m c.args.asked.now.key c.requires.ids (sym c.if-not-fits.ensures.exact) closed in
     fits-as busy missed c.args.out.now.room c.fits.new.out.room away c.fits.ensures.kept c.requires.fits
 
@@ -49,7 +49,7 @@ returns-then-ne-clause-exact g c =
     let m = c.args.request.now in
     let busy : Step = overloads w c.args.now c.args.client m in
     let missed : Step = on_miss w c.args.now c.args.client m c.args.asked.now.key in
-    let closed : can_open w m.kind ≡ false = rw (← c.request.view_is) (search rules) in
+    let closed : can_open w c.args.now m.kind ≡ false = rw (← c.request.view_is) (search rules) in
     let away : missed ≡ busy = turned-away w c.args.now c.args.client m c.args.asked.now.key c.requires.ids (sym c.if-not-fits.ensures.exact) closed in
     does-as (remembers c.args.now c.args.client m busy) (remembers c.args.now c.args.client m missed) c.overload.result c.args.out.now c.fits.new.out c.overload.new.out c.overload.new.self (ap (remembers c.args.now c.args.client m) away) c.fits.ensures.kept c.overload.ensures.exact
 
@@ -60,6 +60,6 @@ returns-clause-exact g c =
     let key = c.args.asked.now.key in
     let asked : Step = opens w c.args.now c.args.client m key in
     let missed : Step = on_miss w c.args.now c.args.client m key in
-    let free : can_open w m.kind ≡ true = rw (← c.request.view_is) (search rules) in
+    let free : can_open w c.args.now m.kind ≡ true = rw (← c.request.view_is) (search rules) in
     let is : missed ≡ asked = opened w c.args.now c.args.client m key (sym c.if-not-fits.ensures.exact) free in
     does-as (remembers c.args.now c.args.client m asked) (remembers c.args.now c.args.client m missed) c.open.result c.args.out.now c.fits.new.out c.open.new.out c.open.new.self (ap (remembers c.args.now c.args.client m) is) c.fits.ensures.kept (rw c.in_ok-key.ensures at c.open.ensures.exact)

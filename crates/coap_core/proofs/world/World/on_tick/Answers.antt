@@ -1,50 +1,46 @@
-use Rattle.std.proofs.Common.{◌≤◌, length, refl, sym, subst}
+use Rattle.std.proofs.Common.{◌≡◌, ◌≤◌, Some, length, sym, subst}
+use Rattle.coap_model.specs.declared.due.DueItem.TheVariants.{OfExchange, OfWaiter}
 use Rattle.coap_model.specs.World.{Step}
-use Rattle.coap_core.proofs.DueFirst.{IsSendingDue, IsServingDue, sending-due, serving-due}
+use Rattle.coap_model.specs.Ticks.{item_due}
 use Rattle.coap_core.specs.Steps.{Does}
+use Rattle.coap_core.proofs.Ticking.{due-at, of-exchange, of-waiter}
 use Rattle.coap_core.proofs.world.World.on_tick.Given.{Over}
-use Rattle.coap_core.proofs.world.World.on_tick.Goals.{In-Some-ToSend, In-Some-ToServe}
+use Rattle.coap_core.proofs.world.World.on_tick.Goals.{In-Some-OfExchange, In-Some-OfWaiter}
 use Rattle.coap_core.proofs.world.World.on_tick.Goals as goal
 
--- a request is due
-sends : (g : Over) (c : In-Some-ToSend g) → c.in-Some-ToSend.due.at ≤ c.args.now → IsSendingDue c.args.self.now c.args.now c.requires.can.exchanges c.requires.can.waiters c.in-Some-ToSend.due.number
-sends g c = sending-due c.args.self.now c.args.now c.requires.can.exchanges c.requires.can.waiters c.in-Some-ToSend.due (rw c.in-Some-ToSend.field-0-is at c.in-Some-ToSend.ensures)
+-- an exchange is due first
+exchange : (g : Over) (c : In-Some-OfExchange g) → Some (OfExchange c.in-Some-OfExchange.at c.in-Some-OfExchange.number) ≡ item_due c.args.self.now
+exchange g c = rw c.in-Some-OfExchange.field-0-is at c.in-Some-OfExchange.ensures
 
--- a client is due
-serves : (g : Over) (c : In-Some-ToServe g) → c.in-Some-ToServe.due.at ≤ c.args.now → IsServingDue c.args.self.now c.args.now c.requires.can.exchanges c.requires.can.waiters c.in-Some-ToServe.due.number
-serves g c = serving-due c.args.self.now c.args.now c.requires.can.exchanges c.requires.can.waiters c.in-Some-ToServe.due (rw c.in-Some-ToServe.field-0-is at c.in-Some-ToServe.ensures)
+-- a client is due first
+waiter : (g : Over) (c : In-Some-OfWaiter g) → Some (OfWaiter c.in-Some-OfWaiter.at c.in-Some-OfWaiter.number) ≡ item_due c.args.self.now
+waiter g c = rw c.in-Some-OfWaiter.field-0-is at c.in-Some-OfWaiter.ensures
 
-pub send-requires-clause-there : goal.send-requires-clause-there
-send-requires-clause-there g c =
-    let d = sends g (goal.at.send-requires-clause-there g c).In-Some-ToSend c.if-due-now.true in
-    rw d.found refl
+pub on_exchange-requires-clause-due : goal.on_exchange-requires-clause-due
+on_exchange-requires-clause-due g c =
+    let k = (goal.at.on_exchange-requires-clause-due g c).In-Some-OfExchange in
+    due-at c.args.self.now c.args.now c.in-Some-OfExchange.at c.in-Some-OfExchange.number c.requires.can.exchanges (exchange g k) c.if-at-now.true
 
-pub send-requires-clause-queued : goal.send-requires-clause-queued
-send-requires-clause-queued g c =
-    let d = sends g (goal.at.send-requires-clause-queued g c).In-Some-ToSend c.if-due-now.true in
-    rw d.found d.queued
+pub on_exchange-requires-clause-fits : goal.on_exchange-requires-clause-fits
+on_exchange-requires-clause-fits g c =
+    let k = (goal.at.on_exchange-requires-clause-fits g c).In-Some-OfExchange in
+    subst (λ (s : Step). length s.bytes ≤ c.args.out.now.room)
+    (of-exchange c.args.self.now c.args.now c.args.draw c.in-Some-OfExchange.at c.in-Some-OfExchange.number (exchange g k) c.if-at-now.true) c.requires.fits
 
-pub send-requires-clause-fits : goal.send-requires-clause-fits
-send-requires-clause-fits g c =
-    let d = sends g (goal.at.send-requires-clause-fits g c).In-Some-ToSend c.if-due-now.true in
-    rw d.found (subst (λ (s : Step). length s.bytes ≤ c.args.out.now.room) d.step c.requires.fits)
+pub returns-in-Some-OfExchange : goal.returns-in-Some-OfExchange
+returns-in-Some-OfExchange g c =
+    let k = (goal.at.returns-in-Some-OfExchange g c).In-Some-OfExchange in
+    subst (λ (s : Step). Does s c.on_exchange.result c.args.out.now c.on_exchange.new.out c.on_exchange.new.self)
+    (sym (of-exchange c.args.self.now c.args.now c.args.draw c.in-Some-OfExchange.at c.in-Some-OfExchange.number (exchange g k) c.if-at-now.true)) c.on_exchange.ensures
 
-pub returns-in-Some-ToSend : goal.returns-in-Some-ToSend
-returns-in-Some-ToSend g c =
-    let d = sends g (goal.at.returns-in-Some-ToSend g c).In-Some-ToSend c.if-due-now.true in
-    subst (λ (s : Step). Does s c.send.result c.args.out.now c.send.new.out c.send.new.self) (sym d.step) (rw d.found at c.send.ensures)
+pub on_waiter-requires-clause-fits : goal.on_waiter-requires-clause-fits
+on_waiter-requires-clause-fits g c =
+    let k = (goal.at.on_waiter-requires-clause-fits g c).In-Some-OfWaiter in
+    subst (λ (s : Step). length s.bytes ≤ c.args.out.now.room)
+    (of-waiter c.args.self.now c.args.now c.args.draw c.in-Some-OfWaiter.at c.in-Some-OfWaiter.number (waiter g k) c.if-at-now-2.true) c.requires.fits
 
-pub deliver-requires-clause-there : goal.deliver-requires-clause-there
-deliver-requires-clause-there g c =
-    let d = serves g (goal.at.deliver-requires-clause-there g c).In-Some-ToServe c.if-due-now-2.true in
-    rw (d.found, d.answered) refl
-
-pub deliver-requires-clause-fits : goal.deliver-requires-clause-fits
-deliver-requires-clause-fits g c =
-    let d = serves g (goal.at.deliver-requires-clause-fits g c).In-Some-ToServe c.if-due-now-2.true in
-    rw (d.found, d.answered) (subst (λ (s : Step). length s.bytes ≤ c.args.out.now.room) d.step c.requires.fits)
-
-pub returns-in-Some-ToServe : goal.returns-in-Some-ToServe
-returns-in-Some-ToServe g c =
-    let d = serves g (goal.at.returns-in-Some-ToServe g c).In-Some-ToServe c.if-due-now-2.true in
-    subst (λ (s : Step). Does s c.deliver.result c.args.out.now c.deliver.new.out c.deliver.new.self) (sym d.step) (rw (d.found, d.answered) at c.deliver.ensures)
+pub returns-in-Some-OfWaiter : goal.returns-in-Some-OfWaiter
+returns-in-Some-OfWaiter g c =
+    let k = (goal.at.returns-in-Some-OfWaiter g c).In-Some-OfWaiter in
+    subst (λ (s : Step). Does s c.on_waiter.result c.args.out.now c.on_waiter.new.out c.on_waiter.new.self)
+    (sym (of-waiter c.args.self.now c.args.now c.args.draw c.in-Some-OfWaiter.at c.in-Some-OfWaiter.number (waiter g k) c.if-at-now-2.true)) c.on_waiter.ensures

@@ -1,10 +1,42 @@
-use Rattle.std.proofs.Common.{arith}
+use Rattle.std.proofs.Common.{◌∙◌, arith, refl, sym}
 use Rattle.coap_exchange.specs.Exchanges.{is_queued}
-use Rattle.coap_exchange.proofs.Counts.{count_where-length, count_where-push}
+use Rattle.coap_exchange.specs.Lines.{is_with}
+use Rattle.coap_exchange.proofs.Counts.{count-length}
+use Rattle.coap_exchange.proofs.Lining.{lined-push, one-itself, sent-few, sent-less}
+use Rattle.coap_exchange.proofs.Tables.{room-there}
+use Rattle.coap_exchange.proofs.Timely.{exchanges-push}
 use Rattle.coap_exchange.proofs.exchanges.Exchanges.admit.Goals as goal
 
-pub overflow_add-self : goal.overflow_add-self
-overflow_add-self c = omega (arith, count_where-length is_queued c.self.inside.table.items, c.self.invariant, c.in_ok-number.ensures.room, c.in_ok-number.ensures.fits)
+pub open_one-requires : goal.open_one-requires
+open_one-requires c =
+    let room = room-there c.self.inside.table c.is_full.ensures.sound (sym c.is_full.ensures.exact ∙ c.if-is_full.false) in
+    omega (arith, room, count-length (is_with c.args.key.target.at) c.self.inside.table.items, c.self.invariant.1.all c.args.key.target.at, c.is_full.ensures.fits)
 
-pub invariant_of-self-2 : goal.invariant_of-self-2
-invariant_of-self-2 c = rw (c.in_ok-number.ensures.ok, count_where-push) (omega (arith, c.self.invariant))
+pub overflow_add-self : goal.overflow_add-self
+overflow_add-self c = omega (arith, count-length is_queued c.self.inside.table.items, c.self.invariant.0.queued, c.in-Ok-admit.ensures.room, c.in-Ok-admit.ensures.fits)
+
+pub invariant_of-self-in-Ok-admit : goal.invariant_of-self-in-Ok-admit
+invariant_of-self-in-Ok-admit c =
+    rw c.in-Ok-admit.ensures.ok (
+      exchanges-push c.self.inside.table.items c.self.inside.queued _ refl c.requires.now refl c.self.invariant.0,
+      lined-push c.self.inside.table.items c.self.inside.lines c.open_one.new.lines _ _ refl c.self.invariant.1 c.in-Ok.ensures.all c.in-Ok.ensures.sent,
+    )
+
+pub close_one-requires-clause-all : goal.close_one-requires-clause-all
+close_one-requires-clause-all c =
+    let more = c.in-Ok.ensures.all c.args.key.target.at in
+    let one = one-itself c.args.key.target.at in
+    omega (arith, more, one)
+
+pub close_one-requires-clause-few : goal.close_one-requires-clause-few
+close_one-requires-clause-few c =
+    let room = room-there c.self.inside.table c.is_full.ensures.sound (sym c.is_full.ensures.exact ∙ c.if-is_full.false) in
+    let same = c.in-Ok.ensures.sent c.args.key.target.at in
+    omega (arith, room, same, sent-few c.self.inside.lines c.self.inside.table.items c.args.key.target.at c.self.invariant.1, c.is_full.ensures.fits)
+
+pub close_one-requires-clause-sent : goal.close_one-requires-clause-sent
+close_one-requires-clause-sent c =
+    let more = c.in-Ok.ensures.all c.args.key.target.at in
+    let one = one-itself c.args.key.target.at in
+    let same = c.in-Ok.ensures.sent c.args.key.target.at in
+    omega (arith, more, one, same, sent-less c.self.inside.lines c.self.inside.table.items c.args.key.target.at c.self.invariant.1)

@@ -1,0 +1,136 @@
+-- Who waits, and for which exchange, as waiters come, change and go.
+use Rattle.std.proofs.Common.{◌≡◌, ℕ, ◌+◌, ◌-◌, ◌^◌, ◌≤◌, List, [], ◌∷◌, ◌++◌, false, eqb, Option, Some, None, refl, sym, ap, ◌∙◌, arith}
+use Rattle.std.specs.Prelude.{IfSome}
+use Rattle.std.specs.BTreeMap.{BTreeMap}
+use Rattle.coap_exchange.specs.declared.timer.Timer.{Timer}
+use Rattle.coap_exchange.specs.declared.waiter.Waiter.{Waiter}
+use Rattle.coap_exchange.specs.declared.waiter.WaiterState.{WaiterState}
+use Rattle.coap_exchange.specs.declared.waiter.WaiterState.TheVariants.{Waiting, Delivering}
+use Rattle.coap_exchange.specs.Table.{Numbered, Table, IsTable, item_at, without, withdrawn, changed_at, count, passes}
+use Rattle.coap_exchange.specs.Tally.{tally, AreTallied}
+use Rattle.coap_exchange.specs.Waiters.{awaited_by, delivered, exchange_of, fired_state, fired_waiter, is_waiting, is_waiting_state, waits_for, waits_in_state, AreShort, CanChange, CanFire, HasEnded, IsDue, IsStateShort}
+use Rattle.coap_exchange.specs.declared.waiter.WaiterChange.TheVariants.{Fire as fire}
+use Rattle.coap_exchange.proofs.Schedule.{fired-short, first-short, short-bound}
+use Rattle.coap_exchange.proofs.Counts.{one_if, all-at, all-push, all-changed_at, all-without, all-withdrawn, count-push, count-kept, count-without, count-withdrawn, count-changed_at}
+
+-- who is sent the response waits no more
+pub delivered-off : (bytes : List ℕ) (id : ℕ) (timer : Timer) (o : Option Waiter) → IfSome o (λ w. is_waiting (delivered bytes id timer w) ≡ false)
+delivered-off bytes id timer None = tt
+delivered-off bytes id timer (Some w) = refl
+
+fired-same : (now : ℕ) (s : WaiterState) → is_waiting_state (fired_state now s) ≡ is_waiting_state s
+fired-same now (Waiting e) = refl
+fired-same now (Delivering bytes id timer) = refl
+
+-- a timer makes no one wait
+pub fired-waiting : (now : ℕ) (w : Waiter) → is_waiting (fired_waiter now w) ≡ is_waiting w
+fired-waiting now w = fired-same now w.state
+
+-- a waiter waits for its exchange alone
+pub passes-awaited : (e x : ℕ) (o : Option Waiter) → awaited_by o ≡ Some x → passes (waits_for e) o ≡ eqb x e
+passes-awaited e x None a = absurd cc
+passes-awaited e x (Some w) a = go w.state a
+  where
+    go : (s : WaiterState) → exchange_of s ≡ Some x → waits_in_state e s ≡ eqb x e
+    go (Waiting n) b = let same : n ≡ x = cc in rw same refl
+    go (Delivering bytes id timer) b = absurd cc
+
+pub passes-unawaited : (e : ℕ) (o : Option Waiter) → awaited_by o ≡ None → passes (waits_for e) o ≡ false
+passes-unawaited e None a = refl
+passes-unawaited e (Some w) a = go w.state a
+  where
+    go : (s : WaiterState) → exchange_of s ≡ None → waits_in_state e s ≡ false
+    go (Waiting n) b = absurd cc
+    go (Delivering bytes id timer) b = refl
+
+-- who waits is counted
+pub fewer-awaited : (e x n before after : ℕ) (t : Table Waiter) → IsTable t → awaited_by (item_at n t.items) ≡ Some x → before ≡ count (waits_for e) t.items → after ≡ before - one_if (eqb x e) → after + one_if (passes (waits_for e) (item_at n t.items)) ≡ before
+fewer-awaited e x n before after t is a b c =
+    let counted = count-without (waits_for e) n 0 t.items is.rising in
+    let same = ap one_if (passes-awaited e x (item_at n t.items) a) in
+    omega arith
+
+-- one more waits
+pub tallied-push : (xs : List (Numbered Waiter)) (old new : BTreeMap ℕ ℕ) (x : ℕ) (w : Numbered Waiter) → w.1.state ≡ Waiting x → AreTallied xs old → ((e : ℕ) → tally new e ≡ tally old e + one_if (eqb x e)) → AreTallied (xs ++ w ∷ []) new
+tallied-push xs old new x w s are more = λ e.
+    let counted = count-push (waits_for e) xs w in
+    let one : waits_for e w.1 ≡ eqb x e = rw s refl in
+    let same = ap one_if one in
+    let was = are e in
+    let now = more e in
+    omega arith
+
+-- one is taken out
+pub tallied-without : (n : ℕ) (t : Table Waiter) (old new : BTreeMap ℕ ℕ) → IsTable t → AreTallied t.items old → ((e : ℕ) → tally new e + one_if (passes (waits_for e) (item_at n t.items)) ≡ tally old e) → AreTallied (without n t.items) new
+tallied-without n t old new is are fewer = λ e.
+    let counted = count-without (waits_for e) n 0 t.items is.rising in
+    let was = are e in
+    let now = fewer e in
+    omega arith
+
+-- the last is withdrawn
+pub tallied-withdrawn : (t : Table Waiter) (old new : BTreeMap ℕ ℕ) → IsTable t → AreTallied t.items old → ((e : ℕ) → tally new e + one_if (passes (waits_for e) (item_at t.admitted t.items)) ≡ tally old e) → AreTallied (withdrawn t).items new
+tallied-withdrawn t old new is are fewer = λ e.
+    let counted = count-withdrawn (waits_for e) t is in
+    let was = are e in
+    let now = fewer e in
+    omega arith
+
+delivered-for : (e : ℕ) (bytes : List ℕ) (id : ℕ) (timer : Timer) (o : Option Waiter) → IfSome o (λ w. waits_for e (delivered bytes id timer w) ≡ false)
+delivered-for e bytes id timer None = tt
+delivered-for e bytes id timer (Some w) = refl
+
+-- one is sent the response
+pub tallied-delivered : (n : ℕ) (bytes : List ℕ) (id : ℕ) (timer : Timer) (t : Table Waiter) (old new : BTreeMap ℕ ℕ) → IsTable t → AreTallied t.items old → ((e : ℕ) → tally new e + one_if (passes (waits_for e) (item_at n t.items)) ≡ tally old e) → AreTallied (changed_at n (delivered bytes id timer) t.items) new
+tallied-delivered n bytes id timer t old new is are fewer = λ e.
+    let counted = count-changed_at (waits_for e) n 0 (delivered bytes id timer) t.items is.rising (delivered-for e bytes id timer (item_at n t.items)) in
+    let was = are e in
+    let now = fewer e in
+    omega arith
+
+fired-for : (e now : ℕ) (w : Waiter) → waits_for e (fired_waiter now w) ≡ waits_for e w
+fired-for e now w = go w.state
+  where
+    go : (s : WaiterState) → waits_in_state e (fired_state now s) ≡ waits_in_state e s
+    go (Waiting n) = refl
+    go (Delivering bytes id timer) = refl
+
+-- a timer is due
+pub tallied-fired : (n now : ℕ) (xs : List (Numbered Waiter)) (counts : BTreeMap ℕ ℕ) → AreTallied xs counts → AreTallied (changed_at n (fired_waiter now) xs) counts
+tallied-fired n now xs counts are = λ e. are e ∙ sym (count-kept (waits_for e) n (fired_waiter now) xs (fired-for e now))
+
+-- ---- timeouts are no longer than they come to be
+
+abbrev HasShort : Waiter → Type 0
+HasShort w = IsStateShort w.state
+
+pub short-push : (xs : List (Numbered Waiter)) (w : Numbered Waiter) (x : ℕ) → w.1.state ≡ Waiting x → AreShort xs → AreShort (xs ++ w ∷ [])
+short-push xs w x s are = let short : HasShort w.1 = rw s tt in all-push HasShort xs w are short
+
+pub short-without : (n : ℕ) (xs : List (Numbered Waiter)) → AreShort xs → AreShort (without n xs)
+short-without n xs are = all-without HasShort n xs are
+
+pub short-withdrawn : (t : Table Waiter) → AreShort t.items → AreShort (withdrawn t).items
+short-withdrawn t are = all-withdrawn HasShort t are
+
+pub short-delivered : (n : ℕ) (bytes : List ℕ) (id : ℕ) (timer : Timer) (xs : List (Numbered Waiter)) → timer.timeout ≤ 3000 → AreShort xs → AreShort (changed_at n (delivered bytes id timer) xs)
+short-delivered n bytes id timer xs le are = all-changed_at HasShort n (delivered bytes id timer) xs (λ w h. first-short timer le) are
+
+fired-has : (now : ℕ) (s : WaiterState) → IsStateShort s → IsStateShort (fired_state now s)
+fired-has now (Waiting e) h = tt
+fired-has now (Delivering bytes id timer) h = fired-short now timer h
+
+pub short-fired : (n now : ℕ) (xs : List (Numbered Waiter)) → AreShort xs → AreShort (changed_at n (fired_waiter now) xs)
+short-fired n now xs are = all-changed_at HasShort n (fired_waiter now) xs (λ w h. fired-has now w.state h) are
+
+can-fire : (now : ℕ) (s : WaiterState) → HasEnded now s → IsStateShort s → CanFire now s
+can-fire now (Waiting e) ended h = tt
+can-fire now (Delivering bytes id timer) ended h = (ended, short-bound timer h)
+
+-- whose timer is due can be changed by it
+pub fireable : (n now : ℕ) (xs : List (Numbered Waiter)) → now ≤ 2 ^ 62 → AreShort xs → IfSome (item_at n xs) (IsDue now) → IfSome (item_at n xs) (CanChange (fire now))
+fireable n now xs le are due = go (item_at n xs) due (all-at HasShort n xs are)
+  where
+    go : (o : Option Waiter) → IfSome o (IsDue now) → IfSome o HasShort → IfSome o (CanChange (fire now))
+    go None d h = tt
+    go (Some w) d h = (le, can-fire now w.state d h)

@@ -1,0 +1,39 @@
+-- Timers, ids and exchanges of the examples.
+use Rattle.std.specs.Prelude.{ℕ, false, true, List, [], ◌∷◌, Option, Some, None}
+use Rattle.coap_cache.specs.declared.key.CacheKey.{CacheKey}
+use Rattle.coap_exchange.specs.declared.exchange.Exchange.{Exchange}
+use Rattle.coap_exchange.specs.declared.exchange.ExchangeState.{ExchangeState}
+use Rattle.coap_exchange.specs.declared.exchange.ExchangeState.TheVariants.{Queued, Sent}
+use Rattle.coap_exchange.specs.declared.exchange.Sending.{Sending}
+use Rattle.coap_exchange.specs.declared.timer.Timer.{Timer}
+use Rattle.coap_exchange.specs.Timers.{started, fired}
+
+-- the timer of a message whose sendings were at these moments, after the first at 0 with this draw
+abbrev pub timer_after : ℕ → List ℕ → Timer
+timer_after draw [] = started 0 draw
+timer_after draw (now ∷ before) = fired now (timer_after draw before)
+
+-- an exchange that was opened at this moment
+abbrev pub opened : CacheKey → ℕ → ExchangeState → Option Sending → Exchange
+opened key now state sending =
+    record {
+      key = key;
+      is_get = true;
+      form = [];
+      copy = None;
+      admitted = now;
+      sending = sending;
+      tainted = false;
+      state = state;
+    }
+
+-- one whose request was sent at this moment, with the id 9
+abbrev pub sent_at : CacheKey → ℕ → ℕ → Exchange
+sent_at key admitted now =
+    opened key admitted Sent (Some (record { asked = 1; id = 9; timer = started now 0 }))
+
+abbrev pub queued : CacheKey → ℕ → Exchange
+queued key now = opened key now Queued None
+
+abbrev pub due : ℕ → ℕ → Option (ℕ × ℕ)
+due at number = Some (at, number)

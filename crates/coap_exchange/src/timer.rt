@@ -1,0 +1,93 @@
+//! Timers of messages that are sent again until they are acknowledged (RFC 7252, 4.2).
+ghost use Rattle.std.specs.Prelude.{◌≡◌, ◌<◌, ◌≤◌, ◌^◌, true};
+ghost use Rattle.coap_exchange.specs.Timers.{fire_of, fired, goes_on, started};
+
+/// What is to be done where a timer is due.
+#[derive(Clone, Copy)]
+pub enum Fire {
+    /// The message is to be sent again.
+    Again,
+    /// It was sent as often as may be, or for as long, and is given up.
+    GiveUp,
+}
+
+/// When a Confirmable message was sent, and when it is to be sent again (RFC 7252, 4.2 and 4.8).
+/// The first timeout lasts two to three seconds, and each further one twice as long as the one
+/// before it. Moments and timeouts are in milliseconds.
+#[derive(Clone, Copy)]
+pub struct Timer {
+    /// The moment of the first sending.
+    pub started: u64,
+    /// The timeout that runs.
+    pub timeout: u64,
+    /// The moment at which it ends.
+    pub due: u64,
+    /// How often the message was sent.
+    pub sends: u8,
+}
+
+impl Timer {
+    /// How often a message is sent at most: once, and four times again (MAX_RETRANSMIT; RFC 7252,
+    /// 4.8).
+    pub const MOST: u8 = 5;
+
+    /// Less than so long after the first sending a message is sent again, in milliseconds
+    /// (MAX_TRANSMIT_WAIT; RFC 7252, 4.8.2).
+    pub const SPAN: u64 = 93_000;
+
+    /// The timer of a message that is sent now for the first time. The first timeout is 2,000
+    /// milliseconds (ACK_TIMEOUT; RFC 7252, 4.8) and what was drawn, which is at most 1,000. The
+    /// moment is at most 2^62.
+    pub fn start(now: u64, draw: u16) -> Timer
+        requires now { now ≤ 2 ^ 62 }
+        requires draw { draw ≤ 1000 }
+        ensures exact { result ≡ started now draw }
+    {
+        let timeout = 2_000 + u64::from(draw);
+        Timer {
+            started: now,
+            timeout,
+            due: now + timeout,
+            sends: 1,
+        }
+    }
+
+    /// Whether the message is to be sent again at this moment: it was sent less than five times,
+    /// and for the first time less than 93,000 milliseconds before.
+    fn goes_on(&self, now: u64) -> bool
+        ensures exact { result ≡ goes_on now self.now }
+        ensures few { result ≡ true → self.now.sends < 5 }
+    {
+        self.sends < Timer::MOST && now.saturating_sub(self.started) < Timer::SPAN
+    }
+
+    /// What is to be done where it is due at this moment.
+    pub(crate) fn fire_of(&self, now: u64) -> Fire
+        ensures exact { result ≡ fire_of now self.now }
+    {
+        if self.goes_on(now) {
+            Fire::Again
+        } else {
+            Fire::GiveUp
+        }
+    }
+
+    /// What is to be done now that it is due: the moment isn't before the end of the timeout that
+    /// runs. Where the message is to be sent again, that is counted, and the next timeout runs,
+    /// which lasts twice as long. The moment is at most 2^62, and the timeout at most 2^32.
+    pub fn fire(&mut self, now: u64) -> Fire
+        requires due { self.old.due ≤ now }
+        requires now { now ≤ 2 ^ 62 }
+        requires short { self.old.timeout ≤ 2 ^ 32 }
+        ensures exact { result ≡ fire_of now self.old }
+        ensures fired { self.new ≡ fired now self.old }
+    {
+        if !self.goes_on(now) {
+            return Fire::GiveUp;
+        }
+        self.timeout *= 2;
+        self.due = now + self.timeout;
+        self.sends += 1;
+        Fire::Again
+    }
+}

@@ -1,0 +1,281 @@
+-- Sending a request again, and giving an exchange up, keep what is carried.
+use Rattle.std.proofs.Common.{◌≡◌, ◌≢◌, inl, inr, ℕ, ◌+◌, ◌-◌, ◌*◌, ◌^◌, ◌<◌, ◌≤◌, List, [], ◌∷◌, length, map, Bool, true, false, cond, ltb, Option, Some, None, refl, sym, ap, ◌∙◌, subst, arith}
+use Rattle.std.proofs.lemmas.Bool.{and_parts, and_from, ltb-true, lt-ltb}
+use Rattle.std.proofs.Math.Nat.{mul_assoc, pow-suc}
+use Rattle.coap_target.specs.declared.endpoint.Endpoint.{Endpoint}
+use Rattle.coap_target.proofs.Lists.{All-weaken}
+use Rattle.coap_cache.specs.declared.answer.Answer.{Answer}
+use Rattle.coap_exchange.specs.declared.exchange.Exchange.{Exchange}
+use Rattle.coap_exchange.specs.declared.exchange.ExchangeState.{ExchangeState}
+use Rattle.coap_exchange.specs.declared.exchange.ExchangeState.TheVariants.{Queued, Sent, Acked, Done}
+use Rattle.coap_exchange.specs.declared.exchange.Sending.{Sending}
+use Rattle.coap_exchange.specs.declared.timer.Timer.{Timer}
+use Rattle.coap_exchange.specs.declared.timer.Fire.TheVariants.{Again, GiveUp}
+use Rattle.coap_exchange.specs.Exchanges.{is_queued, is_sent_to, is_blocked, deadline, due_in, answered, fired_sending, fired_option, fired_exchange, fire_of_sending}
+use Rattle.coap_exchange.specs.Ids.{given_in}
+use Rattle.coap_exchange.specs.Table.{Numbered, item_at, changed_at, count, passes}
+use Rattle.coap_exchange.specs.Timers.{goes_on, fire_of, fired}
+use Rattle.coap_exchange.specs.Waiters.{is_waiting}
+use Rattle.coap_exchange.proofs.Counts.{one_if, count-moved, count-kept}
+use Rattle.coap_message.specs.Spelling.{spelling}
+use Rattle.coap_option.specs.Selection.{sent_on}
+use Rattle.coap_forward.specs.Forms.{forwarded}
+use Rattle.coap_forward.specs.Messages.{token_of}
+use Rattle.coap_forward.specs.Answers.{own_answer, gateway_timeout}
+use Rattle.coap_model.specs.declared.due.DueItem.TheVariants.{OfExchange}
+use Rattle.coap_model.specs.Events.{tick}
+use Rattle.coap_model.specs.Setting.{Setting}
+use Rattle.coap_model.specs.World.{World}
+use Rattle.coap_model.specs.Ticks.{resends, gives_up}
+use Rattle.coap_model.specs.Runs.{entry_of}
+use Rattle.coap_model.specs.History.{Entry, moves, Deed, Never, Ends}
+use Rattle.coap_model.specs.Standing.{staged, done}
+use Rattle.coap_model.specs.Schedules.{oldest, sends_by, IsSchedule, MayGoOn, SaysAsBefore}
+use Rattle.coap_model.specs.Justified.{IsGivingUp, overdue, unheard, given_up}
+use Rattle.coap_model.specs.Carries.{IsTimer, AreOfBytes, IsInFlight, IsState, stage_seen, form_id, Bears}
+use Rattle.coap_model.proofs.Acting.{due_of, timer-due, acting}
+use Rattle.coap_model.proofs.Frames.{same_act-self, sends-grow, schedules_with, schedules_frame}
+use Rattle.coap_model.proofs.Giving.{ids-kept}
+use Rattle.coap_model.proofs.Lists.{Has, Has-all}
+use Rattle.coap_model.proofs.Moving.{keeps_moving}
+use Rattle.coap_model.proofs.Places.{here, doing, opened-later}
+use Rattle.coap_model.proofs.Quiet.{room-still}
+use Rattle.coap_model.proofs.Rules as rules
+use Rattle.coap_model.proofs.Rules.{IsTurnOf, IsOver}
+use Rattle.coap_model.proofs.Seen.{staged-seen, unseen}
+use Rattle.coap_model.proofs.Stores.{store-otherwise}
+use Rattle.coap_model.proofs.Turns.{turn-exchange, turn-due, turn-in_time, turn-ended, turn-stage}
+
+-- ---- timers
+
+-- a timer that goes on is that of one sending more
+timer-again : (e before : Entry) (es : List Entry) (t : Timer) → IsTimer t (before ∷ es) → goes_on e.now t ≡ true → IsTimer (fired e.now t) (e ∷ before ∷ es)
+timer-again e before es t h on = rw on (let sends = h.0 in omega arith, h.1, doubled, refl)
+  where
+    doubled : t.timeout * 2 ≡ (2000 + (oldest before es).draw) * 2 ^ length (before ∷ es)
+    doubled = ap (λ (n : ℕ). n * 2) h.2 ∙ mul_assoc (2000 + (oldest before es).draw) (2 ^ length es) 2 ∙ ap (λ (k : ℕ). (2000 + (oldest before es).draw) * k) (sym (pow-suc 2 (length es)))
+
+-- it may be sent again
+may-go_on : (now : ℕ) (es : List Entry) (t : Timer) → IsTimer t es → goes_on now t ≡ true → MayGoOn now es
+may-go_on now [] t h on = absurd h
+may-go_on now (e ∷ es) t h on =
+    let parts = and_parts (ltb t.sends 5) (ltb (now - t.started) 93000) on in
+    let few = ltb-true _ _ parts.0 in
+    let soon = ltb-true _ _ parts.1 in
+    let sends = h.0 in
+    let started = h.1 in
+    record { few = omega arith; soon = omega arith }
+
+-- or else may not
+may-not : (now : ℕ) (es : List Entry) (t : Timer) → IsTimer t es → goes_on now t ≡ false → MayGoOn now es → ⊥
+may-not now [] t h on m = m
+may-not now (e ∷ es) t h off m =
+    let sends = h.0 in
+    let started = h.1 in
+    let few = m.few in
+    let soon = m.soon in
+    let first = lt-ltb t.sends 5 (omega arith) in
+    let second = lt-ltb (now - t.started) 93000 (omega arith) in
+    absurd (let both : goes_on now t ≡ true = and_from _ _ first second in let f = sym off ∙ both in cc)
+
+-- the schedule goes on
+schedule-again : (e before : Entry) (es : List Entry) (t : Timer) (to : Endpoint) (bytes : List ℕ) → IsTimer t (before ∷ es) → t.due ≤ e.now → goes_on e.now t ≡ true → AreOfBytes to bytes (before ∷ es) → e.report.send ≡ Some to → e.bytes ≡ bytes → IsSchedule (before ∷ es) → IsSchedule (e ∷ before ∷ es)
+schedule-again e before es t to bytes h come on same send is s =
+    let m = may-go_on e.now (before ∷ es) t h on in
+    let few = m.few in
+    let soon = m.soon in
+    let due = timer-due t (before ∷ es) h in
+    record { few = omega arith; spaced = (omega (arith, come, due), soon, (send ∙ sym same.0.0, is ∙ sym same.0.1), s.spaced) }
+
+-- what its timer says of a sending
+goes-again : (now : ℕ) (t : Timer) → fire_of now t ≡ Again → goes_on now t ≡ true
+goes-again now t e = go (goes_on now t) refl e
+  where
+    go : (b : Bool) → goes_on now t ≡ b → cond b Again GiveUp ≡ Again → b ≡ true
+    go true f g = refl
+    go false f g = absurd cc
+
+goes-no_more : (now : ℕ) (t : Timer) → fire_of now t ≡ GiveUp → goes_on now t ≡ false
+goes-no_more now t e = go (goes_on now t) refl e
+  where
+    go : (b : Bool) → goes_on now t ≡ b → cond b Again GiveUp ≡ GiveUp → b ≡ false
+    go true f g = absurd cc
+    go false f g = refl
+
+-- what is known of a sending whose timer goes on
+record GoesAgain (w : World) (history : List Deed) (now number : ℕ) (x : Exchange) (e : Deed) (flight : IsInFlight w.setting history (number, x)) : Type 0 where
+  pub timer : IsTimer (fired now flight.sending.timer) (e.entry ∷ sends_by (moves number) history)
+  pub schedule : IsSchedule (e.entry ∷ sends_by (moves number) history)
+  pub may : MayGoOn now (sends_by (moves number) history)
+  pub same : SaysAsBefore (sends_by (moves number) history) e.entry
+
+goes : (w : World) (history : List Deed) (now number : ℕ) (x : Exchange) (e : Deed) (flight : IsInFlight w.setting history (number, x)) → e.entry.now ≡ now → flight.sending.timer.due ≤ now → goes_on now flight.sending.timer ≡ true → e.entry.report.send ≡ Some x.key.target.at → e.entry.bytes ≡ x.form → IsSchedule (sends_by (moves number) history) → GoesAgain w history now number x e flight
+goes w history now number x e flight moment come on send is schedule = go (sends_by (moves number) history) refl
+  where
+    t : Timer
+    t = flight.sending.timer
+
+    go : (es : List Entry) → sends_by (moves number) history ≡ es → GoesAgain w history now number x e flight
+    go [] none = absurd (subst (IsTimer t) none flight.asked.timer)
+    go (before ∷ es) some =
+        let timer = subst (IsTimer t) some flight.asked.timer in
+        let bytes = subst (AreOfBytes x.key.target.at x.form) some flight.asked.bytes in
+        let on_here : goes_on e.entry.now t ≡ true = subst (λ (n : ℕ). goes_on n t ≡ true) (sym moment) on in
+        record {
+          timer = subst (λ (l : List Entry). IsTimer (fired now t) (e.entry ∷ l)) (sym some) (subst (λ (n : ℕ). IsTimer (fired n t) (e.entry ∷ before ∷ es)) moment (timer-again e.entry before es t timer on_here));
+          schedule = subst (λ (l : List Entry). IsSchedule (e.entry ∷ l)) (sym some) (schedule-again e.entry before es t x.key.target.at x.form timer (omega (arith, come, moment)) on_here bytes send is (subst IsSchedule some schedule));
+          may = subst (MayGoOn now) (sym some) (may-go_on now (before ∷ es) t timer on);
+          same = subst (λ (l : List Entry). SaysAsBefore l e.entry) (sym some) (send ∙ sym bytes.0.0, is ∙ sym bytes.0.1);
+        }
+
+-- ---- a request is sent again
+
+-- sending a request again keeps what is carried
+pub keeps_resending : (w : World) (history : List Deed) (c : Bears history w) → (now draw at number : ℕ) (x : Exchange) → w.last ≤ now → IsTurnOf w now at number x → x.state ≡ Sent → now < deadline w.setting.limits.exchange_ms x → fire_of_sending now x.sending ≡ Again
+    → Bears (doing (moves number) (entry_of now draw tick (resends w now number x)) ∷ history) (resends w now number x).world
+keeps_resending w history c now draw at number x onward turn sent early fire =
+    let e = doing (moves number) (entry_of now draw tick (resends w now number x)) in
+    let f = turn-exchange w history c now at number x turn in
+    let flight : IsInFlight w.setting history (number, x) = subst (IsState w.setting history (number, x)) sent f.state in
+    let s = flight.sending in
+    let a = flight.asked in
+    let on = goes-again now s.timer (ap (fire_of_sending now) (sym flight.sending_is) ∙ fire) in
+    let ended = turn-ended w history c now at number x turn sent s flight.sending_is early in
+    let due = turn-due w history c now at number x turn in
+    let come = due.1 in
+    let g = goes w history now number x e flight refl (omega arith) on refl refl (c.schedules (moves number)) in
+    let grown : sends_by (moves number) (e ∷ history) ≡ e.entry ∷ sends_by (moves number) history = sends-grow (moves number) history e (same_act-self number) refl in
+    let queued_same = count-kept is_queued number (fired_exchange now) w.exchanges (λ y. refl) in
+    let within = c.within.ids in
+    let id : form_id (fired_option now x.sending) ≡ form_id x.sending = ap (λ (o : Option Sending). form_id (fired_option now o)) flight.sending_is ∙ sym (ap form_id flight.sending_is) in
+    keeps_moving w history c e number x (fired_exchange now) w.ids w.store
+    (record { act = refl; opens = refl; admits = refl; unremembered = refl; stands = λ standing. refl })
+    turn.found onward
+    (record {
+      opened = opened-later e f.opened;
+      admitted = f.admitted;
+      verdict = f.verdict;
+      form_is = f.form_is ∙ ap (λ (n : ℕ). spelling (forwarded (token_of w.setting.salt number) x.key.target (sent_on f.opened.request) n)) (sym id);
+      form_short = f.form_short;
+      state = subst (IsState w.setting (e ∷ history) (number, fired_exchange now x)) (sym sent) (
+          record {
+            sending = fired_sending now s;
+            sending_is = ap (fired_option now) flight.sending_is;
+            asked = record {
+              asking = a.asking;
+              was_asked = inr a.was_asked;
+              asks = a.asks;
+              asked_key = a.asked_key;
+              to = a.to;
+              id_is = a.id_is;
+              number = a.number;
+              timer = subst (IsTimer (fired now s.timer)) (sym grown) g.timer;
+              bytes = subst (AreOfBytes x.key.target.at x.form) (sym grown) ((refl, refl), a.bytes);
+            };
+            unended = ((λ h. let k = h.outcome in cc), flight.unended);
+          }
+          );
+    })
+    (unseen number (fired_exchange now) w.exchanges (λ y. refl))
+    (ids-kept history w _ e c.clock c.ids onward refl refl refl)
+    (schedules_with history e (subst IsSchedule (sym grown) g.schedule) c.schedules)
+    (λ to. let same = count-kept (is_sent_to to) number (fired_exchange now) w.exchanges (λ y. refl) in let pace = c.within.pace to in omega arith)
+    (λ n later. let room = room-still w history c now onward n later in omega arith)
+    (store-otherwise w.setting history w.store e refl c.store) (
+      record {
+        exchange = number;
+        act = refl;
+        acting = acting w history c now (OfExchange at number) turn.due e refl refl refl;
+        to_repeat = record { to = x.key.target.at; stage = turn-stage w history c now at number x turn sent s flight.sending_is; at_is = ended ∙ timer-due s.timer _ a.timer };
+        in_time = turn-in_time w history c now at number x turn early;
+        goes_on = g.may;
+        same = g.same;
+      },
+      c.past,
+    )
+
+-- ---- an exchange is given up
+
+-- a stage comes to its end
+pub ended-seen : (n : ℕ) (a : Answer) (xs : List (Numbered Exchange)) → map stage_seen (changed_at n (answered a) xs) ≡ staged n done (map stage_seen xs)
+ended-seen n a xs = staged-seen n (answered a) done xs (All-weaken (λ y. Has y xs) (λ y. y.0 ≡ n → done ≡ done) xs (λ y there same. refl) (Has-all xs))
+
+-- one that has its answer is neither queued nor sent
+pub ended-room : (w : World) (history : List Deed) (c : Bears history w) (now n : ℕ) (a : Answer) → w.last ≤ now → (later : ℕ) → now ≤ later → given_in later w.ids + (count is_waiting w.waiters + count is_queued (changed_at n (answered a) w.exchanges)) ≤ 32768
+ended-room w history c now n a onward later after =
+    let room = room-still w history c now onward later after in
+    let moved = count-moved is_queued n 0 (answered a) w.exchanges c.whole.rising in
+    let none = no-more is_queued (item_at n w.exchanges) in
+    omega arith
+  where
+    no-more : (t : Exchange → Bool) (o : Option Exchange) → one_if (passes (λ b. is_queued (answered a b)) o) ≡ 0
+    no-more t None = refl
+    no-more t (Some b) = refl
+
+pub ended-pace : (w : World) (history : List Deed) (c : Bears history w) (n : ℕ) (a : Answer) (to : Endpoint) → count (is_sent_to to) (changed_at n (answered a) w.exchanges) ≤ w.setting.limits.nstart
+ended-pace w history c n a to =
+    let pace = c.within.pace to in
+    let moved = count-moved (is_sent_to to) n 0 (answered a) w.exchanges c.whole.rising in
+    let none = no-more (item_at n w.exchanges) in
+    omega arith
+  where
+    no-more : (o : Option Exchange) → one_if (passes (λ b. is_sent_to to (answered a b)) o) ≡ 0
+    no-more None = refl
+    no-more (Some b) = refl
+
+-- an exchange that isn't over hasn't ended
+unended-yet : (setting : Setting) (history : List Deed) (number : ℕ) (x : Exchange) (s : ExchangeState) → IsState setting history (number, x) s → ((a : Answer) → s ≢ Done a) → Never (Ends number) history
+unended-yet setting history number x Queued state other = state.unended
+unended-yet setting history number x Sent state other = state.unended
+unended-yet setting history number x Acked state other = absurd state
+unended-yet setting history number x (Done a) state other = absurd (other a refl)
+
+-- giving an exchange up keeps what is carried
+pub keeps_giving_up : (w : World) (history : List Deed) (c : Bears history w) → (now draw at number : ℕ) (x : Exchange) → w.last ≤ now → IsTurnOf w now at number x → IsOver w now x
+    → Bears (doing (moves number) (entry_of now draw tick (gives_up w now number)) ∷ history) (gives_up w now number).world
+keeps_giving_up w history c now draw at number x onward turn over =
+    let e = doing (moves number) (entry_of now draw tick (gives_up w now number)) in
+    let a = own_answer now gateway_timeout in
+    let f = turn-exchange w history c now at number x turn in
+    let unended = unended-yet w.setting history number x x.state f.state (λ b is. not-due b is (turn-due w history c now at number x turn).0) in
+    keeps_moving w history c e number x (answered a) w.ids w.store
+    (record { act = refl; opens = refl; admits = refl; unremembered = refl; stands = λ standing. refl })
+    turn.found onward
+    (record {
+      opened = opened-later e f.opened;
+      admitted = f.admitted;
+      verdict = f.verdict;
+      form_is = f.form_is;
+      form_short = f.form_short;
+      state = record { ending = here history e; was_ended = inl refl; ends = record { act = refl; outcome = refl }; with = given_up (record { act = refl; outcome = refl }) refl; got = refl };
+    })
+    (ended-seen number a w.exchanges)
+    (ids-kept history w _ e c.clock c.ids onward refl refl refl)
+    (schedules_frame history e refl c.schedules)
+    (ended-pace w history c number a)
+    (λ later after. ended-room w history c now number a onward later after)
+    (store-otherwise w.setting history w.store e refl c.store)
+    (gives unended over, c.past)
+  where
+    not-due : (b : Answer) → x.state ≡ Done b → due_of w x ≡ Some at → ⊥
+    not-due b is due = absurd (let g = sym (ap (λ (s : ExchangeState). due_in s (is_blocked w.setting.limits.nstart w.exchanges x) w.setting.limits.exchange_ms x) is) ∙ due in cc)
+
+    e : Deed
+    e = doing (moves number) (entry_of now draw tick (gives_up w now number))
+
+    gives : Never (Ends number) history → IsOver w now x → IsGivingUp w.setting history e
+    gives unended (rules.overdue late) =
+        let f = turn-exchange w history c now at number x turn in
+        let admitted = f.admitted in
+        overdue number (f.opened.opening.deed.entry.now + w.setting.limits.exchange_ms) (acting w history c now (OfExchange at number) turn.due e refl refl refl) refl
+        (record { opened = f.opened; unended = unended; at_is = refl }) (omega arith) (record { sent = refl; bytes = refl })
+    gives unended (rules.unheard is early fire) =
+        let f = turn-exchange w history c now at number x turn in
+        let flight : IsInFlight w.setting history (number, x) = subst (IsState w.setting history (number, x)) is f.state in
+        let s = flight.sending in
+        let off = goes-no_more now s.timer (ap (fire_of_sending now) (sym flight.sending_is) ∙ fire) in
+        let ended = turn-ended w history c now at number x turn is s flight.sending_is early in
+        let come = (turn-due w history c now at number x turn).1 in
+        unheard number at (acting w history c now (OfExchange at number) turn.due e refl refl refl) refl
+        (record { to = x.key.target.at; stage = turn-stage w history c now at number x turn is s flight.sending_is; at_is = ended ∙ timer-due s.timer _ flight.asked.timer })
+        unended come (may-not now (sends_by (moves number) history) s.timer flight.asked.timer off) (record { sent = refl; bytes = refl })

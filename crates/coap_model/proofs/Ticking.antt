@@ -1,0 +1,57 @@
+-- A tick is idle exactly where nothing is due.
+use Rattle.std.proofs.Common.{◌≡◌, ◌≢◌, ℕ, ◌<◌, ◌≤◌, Bool, true, false, leb, List, Option, Some, None, refl, arith}
+use Rattle.std.specs.Prelude.{option_map}
+use Rattle.std.proofs.lemmas.Bool.{lt-leb, le-leb}
+use Rattle.std.proofs.lemmas.Option.{same_Some}
+use Rattle.coap_model.specs.declared.due.DueItem.{DueItem}
+use Rattle.coap_model.specs.declared.report.Outcome.TheVariants.{Idle}
+use Rattle.coap_model.specs.Events.{Event, tick}
+use Rattle.coap_model.specs.World.{World, Step}
+use Rattle.coap_model.specs.Step.{step_of}
+use Rattle.coap_model.specs.Ticks.{moment_of, next_due, item_due, if_due, on_item}
+use Rattle.coap_model.specs.History.{Entry, Deed}
+use Rattle.coap_model.specs.Carries.{Bears, Carries}
+use Rattle.coap_model.proofs.Idling.{not-stuck}
+use Rattle.coap_model.proofs.Rules.{Rule, refusing, lacking, overloading, hitting, opening, repeating, forgetting, answering, rejecting, ignoring, forwarding, resending, giving_up, delivering, idling, stuck, rule_of}
+
+-- where no tick is wanted, a tick is idle
+pub idle-none : (w : World) (now draw : ℕ) (grown : Bool) → next_due w ≡ None → (step_of w now draw grown tick).report.outcome ≡ Idle
+idle-none w now draw grown e = go (item_due w) e
+  where
+    go : (o : Option DueItem) → option_map moment_of o ≡ None → (on_item w now draw (if_due now o)).report.outcome ≡ Idle
+    go None f = refl
+    go (Some i) f = absurd cc
+
+-- before its moment too
+pub idle-later : (w : World) (now draw at : ℕ) (grown : Bool) → next_due w ≡ Some at → now < at → (step_of w now draw grown tick).report.outcome ≡ Idle
+idle-later w now draw at grown e later = go (item_due w) e
+  where
+    go : (o : Option DueItem) → option_map moment_of o ≡ Some at → (on_item w now draw (if_due now o)).report.outcome ≡ Idle
+    go None f = absurd cc
+    go (Some i) f = let early : leb (moment_of i) now ≡ false = lt-leb _ _ (let same = same_Some (moment_of i) at f in omega (arith, same, later)) in rw early refl
+
+-- a tick with something due does something
+acts : {w : World} {now draw : ℕ} {grown : Bool} {event : Event} {s : Step} (history : List Deed) → Bears history w → Rule w now draw grown event s → event ≡ tick → if_due now (item_due w) ≢ None → s.report.outcome ≢ Idle
+acts history c (refusing client bytes m code first denied free) ticked due = λ o. cc
+acts history c (lacking client bytes m first free) ticked due = λ o. cc
+acts history c (overloading client bytes m key first verdict none short full free) ticked due = λ o. cc
+acts history c (hitting client bytes m key entry first verdict found usable free) ticked due = λ o. cc
+acts history c (opening client bytes m key first verdict none short room) ticked due = λ o. cc
+acts history c (repeating client bytes m known fits asked found) ticked due = λ o. absurd cc
+acts history c (forgetting client bytes m fits asked unknown full) ticked due = λ o. cc
+acts history c (answering source bytes m x storing store fits read response found stored) ticked due = λ o. cc
+acts history c (rejecting source bytes head is con none) ticked due = λ o. cc
+acts history c (ignoring source bytes quiet none) ticked due = λ o. cc
+acts history c (forwarding at number x turn is early) ticked due = λ o. cc
+acts history c (resending at number x turn is early fire) ticked due = λ o. cc
+acts history c (giving_up at number x turn over) ticked due = λ o. cc
+acts history c (delivering at number exchange v a is found waits answer) ticked due = λ o. cc
+acts history c (idling nothing) ticked due = λ o. due nothing
+acts {w = w} {now = now} history c (stuck s) ticked due = λ o. not-stuck w history c now s
+
+pub acts-due : (w : World) (history : List Entry) (now draw at : ℕ) (grown : Bool) → Carries history w → next_due w ≡ Some at → at ≤ now → (step_of w now draw grown tick).report.outcome ≢ Idle
+acts-due w history now draw at grown c e come = acts c.deeds c.bears (rule_of w now draw grown tick tt) refl (some (item_due w) e)
+  where
+    some : (o : Option DueItem) → option_map moment_of o ≡ Some at → if_due now o ≢ None
+    some None f none = absurd cc
+    some (Some i) f none = let late : leb (moment_of i) now ≡ true = le-leb _ _ (let same = same_Some (moment_of i) at f in omega (arith, same, come)) in let g : Some i ≡ None = rw late at none in cc
