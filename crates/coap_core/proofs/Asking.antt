@@ -21,8 +21,8 @@ use Rattle.coap_exchange.specs.Ids.{given_in}
 use Rattle.coap_model.specs.declared.report.Report.{Report}
 use Rattle.coap_model.specs.Memory.{takes_memory}
 use Rattle.coap_model.specs.Verdicts.{Verdict, refused_with, may_ask, verdict_of, form_fits}
-use Rattle.coap_model.specs.World.{World, Step, later, reserved, has_ids, can_reply}
-use Rattle.coap_model.specs.Requests.{known_of, lacks_id, refuses, overloads, opens, turns_down, turns_away, hits, can_open, on_miss, on_entry, on_key, on_verdict, on_new, repeats, on_known, on_request}
+use Rattle.coap_model.specs.World.{World, Step, later, reserved, has_ids, can_reply, known_of, repeats}
+use Rattle.coap_model.specs.Requests.{lacks_id, refuses, overloads, opens, turns_down, turns_away, hits, can_open, on_miss, on_entry, on_key, on_verdict, on_new}
 use Rattle.coap_core.specs.Steps.{Does, IsSaid, repetition_of}
 use Rattle.coap_core.proofs.Records.{held-same}
 
@@ -36,29 +36,30 @@ does-as s t r old mid new v same room does =
 pub fits-as : (s t : Step) (room other : ℕ) → t ≡ s → other ≡ room → length t.bytes ≤ room → length s.bytes ≤ other
 fits-as s t room other same rooms fits = subst (λ (n : ℕ). length s.bytes ≤ n) (sym rooms) (subst (λ (x : Step). length x.bytes ≤ room) same fits)
 
-module _ (w : World) (now : ℕ) (client : Endpoint) (m : Message) where
-  -- ---- duplicates
+-- ---- duplicates
 
-  -- a duplicate is told what its request was told: that fits
-  pub repetition-fits : (room : ℕ) → length (on_request w now client m).bytes ≤ room → IfSome (repetition_of w now client m) (λ s. length s.bytes ≤ room)
-  repetition-fits room fits = go (known_of w now client m) fits
+module _ (w : World) (now : ℕ) (source : Endpoint) (m : Message) (step : Option Record → Step) (again : (known : Record) → step (Some known) ≡ repeats w now source known.reply) where
+  -- a duplicate is told what its message was told: that fits
+  pub repetition-fits : (room : ℕ) → length (step (known_of w now source m)).bytes ≤ room → IfSome (repetition_of w now source m) (λ s. length s.bytes ≤ room)
+  repetition-fits room fits = go (known_of w now source m) fits
     where
-      go : (o : Option Record) → length (on_known w now client m o).bytes ≤ room → IfSome (option_map (λ known. repeats w now client known.reply) o) (λ s. length s.bytes ≤ room)
+      go : (o : Option Record) → length (step o).bytes ≤ room → IfSome (option_map (λ known. repeats w now source known.reply) o) (λ s. length s.bytes ≤ room)
       go None f = tt
-      go (Some known) f = f
+      go (Some known) f = subst (λ (s : Step). length s.bytes ≤ room) (again known) f
 
   -- it is the whole step
-  pub repetition-does : (report : Report) (old new : Datagram) → is_some (known_of w now client m) ≡ true → IfSome (repetition_of w now client m) (λ s. IsSaid s report old new) → Does (on_request w now client m) report old new (later w now)
-  repetition-does report old new known said = go (known_of w now client m) known said
+  pub repetition-does : (report : Report) (old new : Datagram) → is_some (known_of w now source m) ≡ true → IfSome (repetition_of w now source m) (λ s. IsSaid s report old new) → Does (step (known_of w now source m)) report old new (later w now)
+  repetition-does report old new known said = go (known_of w now source m) known said
     where
-      after : (reply : Option (List ℕ)) → later w now ≡ (repeats w now client reply).world
+      after : (reply : Option (List ℕ)) → later w now ≡ (repeats w now source reply).world
       after None = refl
       after (Some bytes) = refl
 
-      go : (o : Option Record) → is_some o ≡ true → IfSome (option_map (λ k. repeats w now client k.reply) o) (λ s. IsSaid s report old new) → Does (on_known w now client m o) report old new (later w now)
+      go : (o : Option Record) → is_some o ≡ true → IfSome (option_map (λ k. repeats w now source k.reply) o) (λ s. IsSaid s report old new) → Does (step o) report old new (later w now)
       go None e d = absurd cc
-      go (Some k) e d = (d.0, d.1, after k.reply)
+      go (Some k) e d = subst (λ (s : Step). Does s report old new (later w now)) (sym (again k)) (d.0, d.1, after k.reply)
 
+module _ (w : World) (now : ℕ) (client : Endpoint) (m : Message) where
   -- ---- memory
 
   abbrev Takes : Step → Type 0

@@ -1,6 +1,6 @@
 -- The exchange that awaits a response, found by the number that its token says.
 use Rattle.std.proofs.Common.{◌≡◌, ◌≢◌, ℕ, ◌^◌, ◌<◌, ◌≤◌, Bool, true, false, cond, eqb, List, [], ◌∷◌, length, Option, Some, None, refl, sym, ap, ◌∙◌, subst, arith}
-use Rattle.std.specs.Prelude.{◌&&◌, not, IfSome, option_map, if◌then◌else◌}
+use Rattle.std.specs.Prelude.{◌&&◌, ◌||◌, not, option_map, if◌then◌else◌}
 use Rattle.std.specs.List.{AllByRecursion, find}
 use Rattle.std.proofs.lemmas.Bool.{eqb-true, eqb-false}
 use Rattle.std.proofs.lemmas.Option.{same_Some}
@@ -12,22 +12,21 @@ use Rattle.coap_target.proofs.Equality.{Tells-bytes}
 use Rattle.coap_exchange.specs.declared.exchange.Exchange.{Exchange}
 use Rattle.coap_exchange.specs.declared.exchange.ExchangeState.{ExchangeState}
 use Rattle.coap_exchange.specs.declared.exchange.ExchangeState.TheVariants.{Queued, Sent, Acked, Done}
-use Rattle.coap_exchange.specs.Exchanges.{answer_in_state, is_missing, is_done, is_sent, is_sent_state}
+use Rattle.coap_exchange.specs.Exchanges.{answer_in_state, is_missing, is_done, is_sent, is_sent_state, is_acked_state}
 use Rattle.coap_exchange.specs.Table.{Numbered, Table, IsRising, IsTable, item_at}
 use Rattle.coap_forward.specs.Messages.{token_of}
-use Rattle.coap_model.specs.World.{World, Step}
-use Rattle.coap_model.specs.Responses.{has_id, awaits, awaiting, answers, on_awaited, on_response}
-use Rattle.coap_core.specs.Storing.{answering_at}
+use Rattle.coap_model.specs.World.{World}
+use Rattle.coap_model.specs.Responses.{is_in_flight, has_id, awaits, awaiting}
 use Rattle.coap_forward.proofs.Tokens.{length-token_of, token-same}
 
 module _ (salt : ℕ) (source : Endpoint) (m : Message) where
   abbrev is_right : Exchange → Bool
-  is_right x = (is_sent x && has_id m.id x.sending) && same_endpoint x.key.target.at source
+  is_right x = (is_in_flight x && has_id m x.sending) && same_endpoint x.key.target.at source
 
   -- an exchange of another token doesn't
   others-do-not : (x : Numbered Exchange) → token_of salt x.0 ≢ m.token → awaits salt source m x ≡ false
   others-do-not x other =
-      go (is_sent x.1 && has_id m.id x.1.sending) (same_endpoint x.1.key.target.at source) (same_bytes (token_of salt x.0) m.token) refl
+      go (is_in_flight x.1 && has_id m x.1.sending) (same_endpoint x.1.key.target.at source) (same_bytes (token_of salt x.0) m.token) refl
     where
       go : (a b t : Bool) → same_bytes (token_of salt x.0) m.token ≡ t → (a && (b && t)) ≡ false
       go a b true e = absurd (other (Tells-bytes.only (token_of salt x.0) m.token e))
@@ -39,7 +38,7 @@ module _ (salt : ℕ) (source : Endpoint) (m : Message) where
   this-does : (x : Numbered Exchange) → token_of salt x.0 ≡ m.token → awaits salt source m x ≡ is_right x.1
   this-does x same =
       let t : same_bytes (token_of salt x.0) m.token ≡ true = rw same (Tells-bytes.itself m.token) in
-      rw t (go (is_sent x.1 && has_id m.id x.1.sending) (same_endpoint x.1.key.target.at source))
+      rw t (go (is_in_flight x.1 && has_id m x.1.sending) (same_endpoint x.1.key.target.at source))
     where
       go : (a b : Bool) → (a && (b && true)) ≡ (a && b)
       go true true = refl
@@ -98,17 +97,23 @@ awaits-none salt source m number t small token is few e =
 
 -- where it is of one, that one awaits the response if its endpoint and its id are right
 pub awaits-one : (salt : ℕ) (source : Endpoint) (m : Message) (number : ℕ) (t : Table Exchange) → number < 2 ^ 64 → token_of salt number ≡ m.token → IsTable t → t.admitted < 2 ^ 64 → (x : Exchange) → item_at number t.items ≡ Some x
-    → (b : Bool) → b ≡ ((is_sent x && has_id m.id x.sending) && same_endpoint x.key.target.at source) → awaiting_in salt source m t ≡ (if b then Some number else None)
+    → (b : Bool) → b ≡ ((is_in_flight x && has_id m x.sending) && same_endpoint x.key.target.at source) → awaiting_in salt source m t ≡ (if b then Some number else None)
 awaits-one salt source m number t small token is few x e b f =
     found-by-number salt source m number small token 0 t.items is.rising (all-small t.admitted t.items few is.below) ∙ rw (e, f) refl
 
--- an exchange that awaits a response was sent
-pub sent-with : (id : ℕ) (x : Exchange) (b : Bool) → ((is_sent x && has_id id x.sending) && b) ≡ true → is_sent x ≡ true
-sent-with id x b e = go (is_sent x) (has_id id x.sending) e
+-- an exchange that awaits a response has no answer yet
+pub open-with : (m : Message) (x : Exchange) (b : Bool) → ((is_in_flight x && has_id m x.sending) && b) ≡ true → is_done x ≡ false
+open-with m x b e = go x.state (first (is_in_flight x) (has_id m x.sending) e)
   where
-    go : (s h : Bool) → ((s && h) && b) ≡ true → s ≡ true
-    go true h f = refl
-    go false h f = absurd cc
+    first : (s h : Bool) → ((s && h) && b) ≡ true → s ≡ true
+    first true h f = refl
+    first false h f = absurd cc
+
+    go : (s : ExchangeState) → (is_sent_state s || is_acked_state s) ≡ true → not (is_missing (answer_in_state s)) ≡ false
+    go Queued f = refl
+    go Sent f = refl
+    go Acked f = refl
+    go (Done a) f = absurd cc
 
 -- one that was sent isn't done
 pub sent-open : (x : Exchange) → is_sent x ≡ true → is_done x ≡ false
@@ -149,19 +154,22 @@ module _ (holds : Numbered Exchange → Bool) where
       go true f more rest = here (eqb x.0 y.0) refl (same_Some _ _ f)
       go false f more rest = later (eqb x.0 y.0) refl (more f) (rest f)
 
--- what is done for the exchange that awaits a response is done for the one of its number
-pub answered : (w : World) (now : ℕ) (grown : Bool) (source : Endpoint) (m : Message) (number : ℕ) (P : Step → Type 0) → IsRising 0 w.exchanges → Some number ≡ option_map (λ x. x.0) (awaiting w source m)
-    → ((x : Exchange) → item_at number w.exchanges ≡ Some x → P (answers w now grown m (number, x))) → P (on_response w now grown source m)
-answered w now grown source m number P rising e each = go (awaiting w source m) refl e
+-- what holds of the exchange of the number that awaits a response holds of the one that awaits it
+pub awaited : (w : World) (source : Endpoint) (m : Message) (number : ℕ) (Q : Option (Numbered Exchange) → Type 0) → IsRising 0 w.exchanges → Some number ≡ option_map (λ x. x.0) (awaiting w source m)
+    → ((x : Exchange) → item_at number w.exchanges ≡ Some x → Q (Some (number, x))) → Q (awaiting w source m)
+awaited w source m number Q rising e each = go (awaiting w source m) refl e
   where
-    go : (o : Option (Numbered Exchange)) → awaiting w source m ≡ o → Some number ≡ option_map (λ x. x.0) o → P (on_awaited w now grown m o)
+    go : (o : Option (Numbered Exchange)) → awaiting w source m ≡ o → Some number ≡ option_map (λ x. x.0) o → Q o
     go None is f = absurd cc
     go (Some x) is f =
         let same : number ≡ x.0 = cc in
         let found = found-at (awaits w.setting.salt source m) 0 w.exchanges x rising is in
-        subst (λ (n : ℕ). P (answers w now grown m (n, x.1))) same (each x.1 (rw same found))
+        subst (λ (n : ℕ). Q (Some (n, x.1))) same (each x.1 (rw same found))
 
--- so what holds of the step of an answer for that number holds of the step of the response
-pub answered-at : (w : World) (now : ℕ) (grown : Bool) (source : Endpoint) (m : Message) (number : ℕ) (P : Step → Type 0) → IsRising 0 w.exchanges → Some number ≡ option_map (λ x. x.0) (awaiting w source m)
-    → IfSome (answering_at w now grown m number) P → P (on_response w now grown source m)
-answered-at w now grown source m number P rising e each = answered w now grown source m number P rising e (λ x found. rw found at each)
+-- none awaits it where no number is found
+pub unawaited : (w : World) (source : Endpoint) (m : Message) → None ≡ option_map {T = Numbered Exchange} (λ x. x.0) (awaiting w source m) → awaiting w source m ≡ None
+unawaited w source m e = go (awaiting w source m) e
+  where
+    go : (o : Option (Numbered Exchange)) → None ≡ option_map {T = Numbered Exchange} (λ x. x.0) o → o ≡ None
+    go None f = refl
+    go (Some x) f = absurd cc

@@ -1,87 +1,244 @@
 -- What becomes of an answer: what the store makes of it, the step says.
-use Rattle.std.proofs.Common.{◌≡◌, ℕ, Bool, true, false, cond, [], Option, Some, None, refl}
-use Rattle.std.specs.Prelude.{IfSome, option_map, nat_le}
+use Rattle.std.proofs.Common.{◌≡◌, ◌⊎◌, inl, inr, ℕ, Bool, true, false, cond, List, Option, Some, None, refl, sym, ap, ◌∙◌, subst}
+use Rattle.std.specs.Prelude.{◌&&◌, ◌||◌, IfSome, option_map, nat_le}
 use Rattle.std.proofs.lemmas.Bool.{le-leb, lt-leb}
+use Rattle.coap_message.specs.declared.kind.Kind.{Kind}
+use Rattle.coap_message.specs.declared.kind.Kind.TheVariants.{Con, Non, Ack, Rst}
 use Rattle.coap_message.specs.Datagram.{Datagram, holding}
 use Rattle.coap_message.specs.Message.{Message}
+use Rattle.coap_message.specs.Spelling.{spelling}
+use Rattle.coap_target.specs.declared.endpoint.Endpoint.{Endpoint}
 use Rattle.coap_cache.specs.Entries.{Entry, entry_key, entry_size}
-use Rattle.coap_cache.specs.Lists.{of_key}
+use Rattle.coap_cache.specs.Lists.{of_key, others}
 use Rattle.coap_cache.specs.declared.answer.Answer.{Answer}
 use Rattle.coap_exchange.specs.declared.exchange.Exchange.{Exchange}
-use Rattle.coap_exchange.specs.Exchanges.{answered}
-use Rattle.coap_exchange.specs.Table.{Numbered, item_at, changed_at}
+use Rattle.coap_exchange.specs.Exchanges.{answered, is_sent}
+use Rattle.coap_exchange.specs.Table.{Numbered, IsRising, item_at, changed_at}
+use Rattle.coap_forward.specs.Messages.{is_con, is_ack, is_rst, is_empty, is_bare, acknowledgement}
+use Rattle.coap_forward.specs.Answers.{answer_of, bad_gateway, is_storable, own_answer}
+use Rattle.coap_model.specs.declared.report.Outcome.{Outcome}
 use Rattle.coap_model.specs.declared.report.Outcome.TheVariants.{Answered}
 use Rattle.coap_model.specs.declared.report.Report.{Report}
 use Rattle.coap_model.specs.declared.report.Storing.{Storing}
 use Rattle.coap_model.specs.declared.report.Storing.TheVariants.{Kept, TooLarge, NoMemory, NotStored}
-use Rattle.coap_forward.specs.Answers.{answer_of, is_storable}
 use Rattle.coap_model.specs.History.{grown_of}
 use Rattle.coap_model.specs.Memory.{takes_memory}
-use Rattle.coap_model.specs.Responses.{entry_made, keeps, keeps_if, stores, answers_so, answers_with, answers}
-use Rattle.coap_model.specs.World.{World, later, silent}
-use Rattle.coap_core.specs.Steps.{Does}
-use Rattle.coap_core.specs.Storing.{IsKept, IsPut, answering_at, if_storable}
+use Rattle.coap_model.specs.Answers.{Arrived, entry_made, keeps, keeps_if, stores, answers_so, answers_with, answers}
+use Rattle.coap_model.specs.World.{World, Step, later, silent, says, takes_up, has_record_room, remembers, with_record}
+use Rattle.coap_model.specs.Empties.{on_exchange}
+use Rattle.coap_model.specs.Responses.{awaiting, on_awaited, on_separate}
+use Rattle.coap_core.proofs.Awaiting.{awaited}
+use Rattle.coap_core.specs.Steps.{Does, resets}
+use Rattle.coap_core.specs.Storing.{IsKept, IsPut, answering, answering_at, awaited_step, separate_step, if_storable, taken_up, taken_up_bytes, taken_up_to}
+
+-- the choice of a test that is known
+pick-true : {A : Type 0} (b : Bool) (x y : A) → b ≡ true → cond b x y ≡ x
+pick-true b x y e = rw e refl
+
+pick-false : {A : Type 0} (b : Bool) (x y : A) → b ≡ false → cond b x y ≡ y
+pick-false b x y e = rw e refl
 
 -- the exchange of this number has its answer, with the store of these tables
 abbrev pub answered_in : World → ℕ → ℕ → Answer → World
 answered_in v now number a = later (record v { exchanges = changed_at number (answered a) v.exchanges }) now
 
-module _ (w v : World) (now : ℕ) (x : Numbered Exchange) (a : Answer) where
+module _ (w v : World) (now : ℕ) (a : Arrived) where
   abbrev made : Entry
-  made = entry_made w now x a
+  made = entry_made w now a.exchange a.answer
+
+  abbrev left : Storing → Step
+  left storing = takes_up (Answered storing) a.source a.message (answered_in v now a.exchange.0 a.answer)
 
   -- memory for one more isn't asked for where it is there
-  keeps-grown : (o : Option Entry) → keeps_if w now true x a o ≡ keeps w now x a
+  keeps-grown : (o : Option Entry) → keeps_if w now true a o ≡ keeps w now a
   keeps-grown None = refl
   keeps-grown (Some entry) = refl
 
   -- what the store did with it, the step says
-  put-is : (storing : Storing) → IsPut w made storing v → stores w now (grown_of (Answered storing)) x a ≡ silent (Answered storing) (answered_in v now x.0 a)
-  put-is Kept k = rw (le-leb _ _ k.1, k.0) (keeps-grown (of_key entry_key x.1.key w.store))
+  put-is : (storing : Storing) → IsPut w made storing v → stores w now (grown_of (Answered storing)) a ≡ left storing
+  put-is Kept k = rw (le-leb _ _ k.1, k.0) (keeps-grown (of_key entry_key a.exchange.1.key w.store))
   put-is TooLarge k = rw (lt-leb _ _ k.1, k.0) refl
   put-is NoMemory k = rw (le-leb _ _ k.1, k.2, k.0) refl
   put-is NotStored k = absurd k
 
   -- the same of an answer that may be one that isn't stored
-  pub kept-is : (storing : Storing) → IsKept w (if_storable w now x a) storing v → answers_with w now (grown_of (Answered storing)) x a ≡ silent (Answered storing) (answered_in v now x.0 a)
-  kept-is storing k = go (is_storable a) k
+  pub kept-is : (storing : Storing) → IsKept w (if_storable w now a.exchange a.answer) storing v → answers_with w now (grown_of (Answered storing)) a ≡ left storing
+  kept-is storing k = go (is_storable a.answer) k
     where
-      go : (b : Bool) → IsKept w (cond b (Some made) None) storing v → cond b (stores w now (grown_of (Answered storing)) x a) (answers_so w now x a NotStored w.store) ≡ silent (Answered storing) (answered_in v now x.0 a)
+      go : (b : Bool) → IsKept w (cond b (Some made) None) storing v → cond b (stores w now (grown_of (Answered storing)) a) (answers_so w now a NotStored w.store) ≡ left storing
       go true e = put-is storing e
       go false e = rw (e.0, e.1) refl
 
+-- ---- what is remembered stands beside the store
+
+module _ (w v : World) (now : ℕ) (source : Endpoint) (m : Message) (bytes : List ℕ) where
+  abbrev remembering : World
+  remembering = with_record now source m bytes w
+
+  -- the tables without what is remembered
+  abbrev before : World
+  before = record w { store = v.store }
+
+  put-before : (entry : Entry) (storing : Storing) → IsPut remembering entry storing v → IsPut w entry storing before × (v ≡ with_record now source m bytes before)
+  put-before entry Kept k = let s = ap (λ (x : World). x.store) k.0 in ((rw s refl, k.1), rw k.0 refl)
+  put-before entry TooLarge k = let s = ap (λ (x : World). x.store) k.0 in ((rw s refl, k.1), rw k.0 refl)
+  put-before entry NoMemory k = let s = ap (λ (x : World). x.store) k.0 in ((rw s refl, k.1, k.2), rw k.0 refl)
+  put-before entry NotStored k = absurd k
+
+  -- what was done with the store was done to those
+  kept-before : (entry : Option Entry) (storing : Storing) → IsKept remembering entry storing v → IsKept w entry storing before × (v ≡ with_record now source m bytes before)
+  kept-before None storing k = let s = ap (λ (x : World). x.store) k.1 in ((k.0, rw s refl), rw k.1 refl)
+  kept-before (Some entry) storing k = put-before entry storing k
+
+-- ---- the step of an answer
+
+module _ (w v : World) (now : ℕ) (source : Endpoint) (m : Message) (x : Numbered Exchange) (storing : Storing) where
+  abbrev a : Answer
+  a = answer_of w.setting.limits.datagram now m
+
+  abbrev arrived : Arrived
+  arrived = record { source = source; message = m; exchange = x; answer = a }
+
+  abbrev step_left : Step
+  step_left =
+      record {
+        report = record { send = taken_up_to source m; outcome = Answered storing };
+        bytes = taken_up_bytes m;
+        world = answered_in v now x.0 a;
+      }
+
+  -- a response that isn't confirmable
+  other-is : is_con m.kind ≡ false → IsKept w (if_storable w now x a) storing v → answers w now (grown_of (Answered storing)) source m x ≡ step_left
+  other-is other k = kept-is w v now arrived storing k ∙ rw other refl
+
+  -- a confirmable one, which is remembered
+  con-is : is_con m.kind ≡ true → IsKept (with_record now source m (spelling (acknowledgement m.id)) w) (if_storable w now x a) storing v → remembers now source m (answers w now (grown_of (Answered storing)) source m x) ≡ step_left
+  con-is con k =
+      let parts = kept-before w v now source m (spelling (acknowledgement m.id)) (if_storable w now x a) storing k in
+      let is = kept-is w (record w { store = v.store }) now arrived storing parts.0 in
+      ap (remembers now source m) is ∙ said parts.1
+    where
+      said : v ≡ with_record now source m (spelling (acknowledgement m.id)) (record w { store = v.store }) → remembers now source m (takes_up (Answered storing) source m (answered_in (record w { store = v.store }) now x.0 a)) ≡ step_left
+      said e =
+          let worlds : with_record now source m (spelling (acknowledgement m.id)) (answered_in (record w { store = v.store }) now x.0 a) ≡ answered_in v now x.0 a = sym (ap (λ (u : World). answered_in u now x.0 a) e) in
+          let turned = rw con at worlds in
+          rw con (λ i. record { report = record { send = Some source; outcome = Answered storing }; bytes = spelling (acknowledgement m.id); world = turned i })
+
+  -- either
+  pub answering-is : IsKept (taken_up now source m w) (if_storable w now x a) storing v → answering w now (grown_of (Answered storing)) source m x ≡ step_left
+  answering-is k = go (is_con m.kind) refl k
+    where
+      go : (b : Bool) → is_con m.kind ≡ b → IsKept (cond b (with_record now source m (spelling (acknowledgement m.id)) w) w) (if_storable w now x a) storing v
+          → cond b (remembers now source m (answers w now (grown_of (Answered storing)) source m x)) (answers w now (grown_of (Answered storing)) source m x) ≡ step_left
+      go true e f = con-is e f
+      go false e f = other-is e f
+
 -- what is done for the exchange of a number
-pub answer-does : (w v : World) (now number : ℕ) (m : Message) (entry : Option Entry) (storing : Storing) (report : Report) (old new : Datagram) (after : World) → (a : Answer) → a ≡ answer_of w.setting.limits.datagram now m
-    → IfSome (item_at number w.exchanges) (λ x. entry ≡ if_storable w now (number, x) a) → IsKept w entry storing v
-    → report ≡ record { send = None; outcome = Answered storing } → new ≡ holding old [] → after ≡ answered_in v now number a
-    → IfSome (answering_at w now (grown_of report.outcome) m number) (λ step. Does step report old new after)
-answer-does w v now number m entry storing report old new after a is made kept told clear left = go (item_at number w.exchanges) made
+pub answer-does : (w v : World) (now number : ℕ) (source : Endpoint) (m : Message) (entry : Option Entry) (storing : Storing) (report : Report) (old new : Datagram) (after : World) → (a : Answer) → a ≡ answer_of w.setting.limits.datagram now m
+    → IfSome (item_at number w.exchanges) (λ x. entry ≡ if_storable w now (number, x) a) → IsKept (taken_up now source m w) entry storing v
+    → report ≡ record { send = taken_up_to source m; outcome = Answered storing } → new ≡ holding old (taken_up_bytes m) → after ≡ answered_in v now number a
+    → IfSome (answering_at w now (grown_of report.outcome) source m number) (λ step. Does step report old new after)
+answer-does w v now number source m entry storing report old new after a is made kept told said left = go (item_at number w.exchanges) made
   where
-    go : (o : Option Exchange) → IfSome o (λ x. entry ≡ if_storable w now (number, x) a) → IfSome (option_map (λ x. answers w now (grown_of report.outcome) m (number, x)) o) (λ step. Does step report old new after)
+    go : (o : Option Exchange) → IfSome o (λ x. entry ≡ if_storable w now (number, x) a) → IfSome (option_map (λ x. answering w now (grown_of report.outcome) source m (number, x)) o) (λ step. Does step report old new after)
     go None e = tt
     go (Some x) e =
-        let k : IsKept w (if_storable w now (number, x) a) storing v = rw e at kept in
-        rw (told, ← is, kept-is w v now (number, x) a storing k) (refl, clear, left)
+        let k : IsKept (taken_up now source m w) (if_storable w now (number, x) (answer_of w.setting.limits.datagram now m)) storing v = rw (e, is) at kept in
+        let step = answering-is w v now source m (number, x) storing k in
+        rw (told, step) (refl, said, left ∙ ap (answered_in v now number) is)
 
-module _ (w : World) (now : ℕ) (grown : Bool) (x : Numbered Exchange) (a : Answer) where
+-- ---- the exchange that awaits a response
+
+module _ (w : World) (now : ℕ) (grown : Bool) (source : Endpoint) (m : Message) (number : ℕ) (P : Step → Type 0) (rising : IsRising 0 w.exchanges) (found : Some number ≡ option_map (λ x. x.0) (awaiting w source m)) where
+  -- what holds of the step of an answer for that number holds of the step of a response that isn't confirmable
+  pub awaited-does : is_con m.kind ≡ false → IfSome (answering_at w now grown source m number) P → P (awaited_step w now grown source m)
+  awaited-does other each = awaited w source m number (λ o. P (on_awaited w now grown source m o)) rising found (λ x at. plain x (rw at at each))
+    where
+      plain : (x : Exchange) → P (answering w now grown source m (number, x)) → P (answers w now grown source m (number, x))
+      plain x p = subst P (pick-false (is_con m.kind) _ _ other) p
+
+  -- so it holds of one that is new, where there is room to remember it
+  pub separate-does : is_con m.kind ≡ true → has_record_room w now m.kind ≡ true → IfSome (answering_at w now grown source m number) P → P (separate_step w now grown source m)
+  separate-does con room each = awaited w source m number (λ o. P (on_separate w now grown source m o)) rising found (λ x at. kept x (rw at at each))
+    where
+      kept : (x : Exchange) → P (answering w now grown source m (number, x)) → P (on_separate w now grown source m (Some (number, x)))
+      kept x p = subst P (pick-true (is_con m.kind) _ _ con ∙ sym (pick-true (has_record_room w now m.kind) _ _ room)) p
+
+-- ---- memory
+
+-- whether it is acknowledged or not, its outcome is the same
+taken-takes : (outcome : Outcome) (source : Endpoint) (m : Message) (w : World) → takes_memory outcome ≡ true → takes_memory (takes_up outcome source m w).report.outcome ≡ true
+taken-takes outcome source m w takes = go (is_con m.kind)
+  where
+    go : (b : Bool) → takes_memory (cond b (says outcome source (acknowledgement m.id) w) (silent outcome w)).report.outcome ≡ true
+    go true = takes
+    go false = takes
+
+module _ (w : World) (now : ℕ) (grown : Bool) (a : Arrived) where
+  so-takes : (storing : Storing) (store : List Entry) → takes_memory (answers_so w now a storing store).report.outcome ≡ true
+  so-takes storing store = taken-takes (Answered storing) a.source a.message _ refl
+
+  keeps-takes : takes_memory (keeps w now a).report.outcome ≡ true
+  keeps-takes = taken-takes (Answered Kept) a.source a.message _ refl
+
   -- an answer that is kept takes memory, or wants it
-  kept-takes : (g : Bool) (o : Option Entry) → takes_memory (keeps_if w now g x a o).report.outcome ≡ true
-  kept-takes true None = refl
-  kept-takes false None = refl
-  kept-takes g (Some entry) = refl
+  kept-takes : (g : Bool) (o : Option Entry) → takes_memory (keeps_if w now g a o).report.outcome ≡ true
+  kept-takes true None = keeps-takes
+  kept-takes false None = so-takes NoMemory w.store
+  kept-takes g (Some entry) = keeps-takes
 
   -- whatever becomes of an answer takes memory
-  with-takes : takes_memory (answers_with w now grown x a).report.outcome ≡ true
-  with-takes = storable (is_storable a) refl
+  with-takes : takes_memory (answers_with w now grown a).report.outcome ≡ true
+  with-takes = storable (is_storable a.answer) refl
     where
-      short : (b : Bool) → nat_le (entry_size (entry_made w now x a)) w.setting.limits.cache_bytes ≡ b → takes_memory (stores w now grown x a).report.outcome ≡ true
-      short true e = rw e (kept-takes grown (of_key entry_key x.1.key w.store))
-      short false e = rw e refl
+      short : (b : Bool) → nat_le (entry_size (entry_made w now a.exchange a.answer)) w.setting.limits.cache_bytes ≡ b → takes_memory (stores w now grown a).report.outcome ≡ true
+      short true e = rw e (kept-takes grown (of_key entry_key a.exchange.1.key w.store))
+      short false e = rw e (so-takes TooLarge (others entry_key a.exchange.1.key w.store))
 
-      storable : (b : Bool) → is_storable a ≡ b → takes_memory (answers_with w now grown x a).report.outcome ≡ true
-      storable true e = rw e (short (nat_le (entry_size (entry_made w now x a)) w.setting.limits.cache_bytes) refl)
-      storable false e = rw e refl
+      storable : (b : Bool) → is_storable a.answer ≡ b → takes_memory (answers_with w now grown a).report.outcome ≡ true
+      storable true e = rw e (short (nat_le (entry_size (entry_made w now a.exchange a.answer)) w.setting.limits.cache_bytes) refl)
+      storable false e = rw e (so-takes NotStored w.store)
 
 -- an answer takes memory
-pub answer-takes : (w : World) (now : ℕ) (grown : Bool) (m : Message) (x : Numbered Exchange) → takes_memory (answers w now grown m x).report.outcome ≡ true
-answer-takes w now grown m x = with-takes w now grown x (answer_of w.setting.limits.datagram now m)
+pub answer-takes : (w : World) (now : ℕ) (grown : Bool) (source : Endpoint) (m : Message) (x : Numbered Exchange) → takes_memory (answers w now grown source m x).report.outcome ≡ true
+answer-takes w now grown source m x = with-takes w now grown (record { source = source; message = m; exchange = x; answer = answer_of w.setting.limits.datagram now m })
+
+-- ---- a Reset
+
+-- what is bare and no acknowledgement is a Reset
+pub rst-of_bare : (m : Message) → is_bare m ≡ true → is_ack m.kind ≡ false → is_rst m.kind ≡ true
+rst-of_bare m bare other = go (is_empty m.code) (is_ack m.kind) (is_rst m.kind) bare other
+  where
+    go : (e a r : Bool) → (e && (a || r)) ≡ true → a ≡ false → r ≡ true
+    go e a true f g = refl
+    go true true false f g = absurd cc
+    go true false false f g = absurd cc
+    go false a false f g = absurd cc
+
+-- nor is what is of another type an acknowledgement
+pub no-ack : (k : Kind) → (k ≡ Con) ⊎ ((k ≡ Non) ⊎ (k ≡ Rst)) → is_ack k ≡ false
+no-ack k (inl e) = rw e refl
+no-ack k (inr (inl e)) = rw e refl
+no-ack k (inr (inr e)) = rw e refl
+
+-- it isn't confirmable
+rst-alone : (k : Kind) → is_rst k ≡ true → is_con k ≡ false
+rst-alone Con e = absurd cc
+rst-alone Non e = absurd cc
+rst-alone Ack e = absurd cc
+rst-alone Rst e = refl
+
+-- a Reset gives an answer of the proxy's own
+reset-answer : (most now : ℕ) (m : Message) → is_rst m.kind ≡ true → answer_of most now m ≡ own_answer now bad_gateway
+unfolding answer_of
+reset-answer most now m rst = rw rst refl
+
+-- which isn't stored
+pub reset-is : (w : World) (now : ℕ) (grown : Bool) (source : Endpoint) (m : Message) (number : ℕ) (x : Exchange) → is_rst m.kind ≡ true → answers w now grown source m (number, x) ≡ resets w now number
+reset-is w now grown source m number x rst = rw (reset-answer w.setting.limits.datagram now m rst, rst-alone m.kind rst) refl
+
+-- so it is the step of what was sent
+pub reset-step : (w : World) (now : ℕ) (grown : Bool) (source : Endpoint) (m : Message) (number : ℕ) (x : Exchange) → item_at number w.exchanges ≡ Some x → is_sent x ≡ true → is_ack m.kind ≡ false → is_rst m.kind ≡ true
+    → on_exchange w now grown source m number (item_at number w.exchanges) ≡ resets w now number
+reset-step w now grown source m number x found sent other rst =
+    ap (on_exchange w now grown source m number) found ∙ (pick-true (is_sent x) _ _ sent ∙ (pick-false (is_ack m.kind) _ _ other ∙ reset-is w now grown source m number x rst))

@@ -1,12 +1,15 @@
 -- What the calls of a core answer and leave.
-use Rattle.std.specs.Prelude.{◌≡◌, ℕ, ◌+◌, ◌<◌, ◌≤◌, ◌^◌, true, List, [], ◌∷◌, Option, Some, None, IfSome, option_map}
+use Rattle.std.specs.Prelude.{◌≡◌, ℕ, ◌+◌, ◌<◌, ◌≤◌, ◌^◌, true, false, List, [], ◌∷◌, Option, Some, None, IfSome, option_map}
 use Rattle.coap_message.specs.Datagram.{Datagram, holding}
 use Rattle.coap_message.specs.Message.{Message}
 use Rattle.coap_exchange.specs.declared.exchange.Exchange.{Exchange}
-use Rattle.coap_exchange.specs.Exchanges.{is_sent, due_among, answer_in, fire_of_sending}
+use Rattle.coap_exchange.specs.Exchanges.{is_done, is_sent, answered, due_among, answer_in, fire_of_sending}
 use Rattle.coap_exchange.specs.Ids.{given_in}
-use Rattle.coap_exchange.specs.Table.{Numbered, IsRising, item_at}
+use Rattle.coap_exchange.specs.Table.{Numbered, IsRising, changed_at, item_at}
+use Rattle.coap_forward.specs.Answers.{own_answer, bad_gateway}
+use Rattle.coap_model.specs.declared.report.Outcome.TheVariants.{Answered}
 use Rattle.coap_model.specs.declared.report.Report.{Report}
+use Rattle.coap_model.specs.declared.report.Storing.TheVariants.{NotStored}
 use Rattle.coap_model.specs.Verdicts as verdicts
 use Rattle.coap_routes.specs.Routes.{AreRoutes}
 use Rattle.coap_option.specs.Selection.{tags_of}
@@ -19,8 +22,7 @@ use Rattle.coap_model.specs.Promised.{Promised}
 use Rattle.coap_target.specs.declared.endpoint.Endpoint.{Endpoint}
 use Rattle.coap_dedup.specs.Lists.{AreUpTo}
 use Rattle.coap_dedup.specs.Records.{AreRecords}
-use Rattle.coap_model.specs.Requests.{known_of, repeats}
-use Rattle.coap_model.specs.World.{World, Step, records_of, reserved}
+use Rattle.coap_model.specs.World.{World, Step, later, silent, records_of, reserved, known_of, repeats}
 use Rattle.coap_core.specs.declared.requests.Verdict.{Verdict}
 use Rattle.coap_core.specs.declared.requests.Verdict.TheVariants.{RefusedWith, MayAsk}
 use Rattle.coap_model.specs.Ticks.{idles, sends, on_fire, on_answer}
@@ -60,23 +62,35 @@ pub record CanGoOn (w : World) : Type 0 where
   pub non_records : AreRecords w.non_records
   pub non_until : AreUpTo w.last w.non_records.items
 
--- a request of this client may be remembered at this moment: it is new, and nothing came later
-pub record CanRemember (now : ℕ) (client : Endpoint) (m : Message) (w : World) : Type 0 where
-  pub unknown : known_of w now client m ≡ None
+-- a message of this endpoint may be remembered at this moment: it is new, and nothing came later
+pub record CanRemember (now : ℕ) (source : Endpoint) (m : Message) (w : World) : Type 0 where
+  pub unknown : known_of w now source m ≡ None
   pub until : AreUpTo now (records_of m.kind w).items
 
--- what a duplicate is told, if a request is one
+-- what a duplicate is told, if a message is one
 abbrev pub repetition_of : World → ℕ → Endpoint → Message → Option Step
-repetition_of w now client m =
-    option_map (λ known. repeats w now client known.reply) (known_of w now client m)
+repetition_of w now source m =
+    option_map (λ known. repeats w now source known.reply) (known_of w now source m)
 
 -- the report and the datagram are those of the step
 abbrev pub IsSaid : Step → Report → Datagram → Datagram → Type 0
 IsSaid s report old new = (report ≡ s.report) × (new ≡ holding old s.bytes)
 
--- the request of the exchange of this number, if there is one, was sent, and no answer has come
+-- the request of the exchange of this number, if there is one, was sent, and neither an
+-- acknowledgement nor an answer has come
 abbrev pub IsSentAt : ℕ → List (Numbered Exchange) → Type 0
 IsSentAt number exchanges = IfSome (item_at number exchanges) (λ x. is_sent x ≡ true)
+
+-- no answer has come for the exchange of this number, if there is one
+abbrev pub IsOpenAt : ℕ → List (Numbered Exchange) → Type 0
+IsOpenAt number exchanges = IfSome (item_at number exchanges) (λ x. is_done x ≡ false)
+
+-- the request of the exchange of this number was rejected: the proxy makes its answer
+abbrev pub resets : World → ℕ → ℕ → Step
+resets w now number =
+    silent (Answered NotStored) (record (later w now) {
+      exchanges = changed_at number (answered (own_answer now bad_gateway)) w.exchanges;
+    })
 
 -- ---- values of the program as the model sees them
 

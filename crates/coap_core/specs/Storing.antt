@@ -1,5 +1,5 @@
 -- The store of the program: its limits, and what is done with an answer.
-use Rattle.std.specs.Prelude.{◌≡◌, ℕ, ◌<◌, ◌≤◌, Bool, if◌then◌else◌, Option, Some, None, option_map}
+use Rattle.std.specs.Prelude.{◌≡◌, ℕ, ◌<◌, ◌≤◌, Bool, if◌then◌else◌, List, [], Option, Some, None, option_map}
 use Rattle.coap_cache.specs.Entries as store
 use Rattle.coap_cache.specs.Entries.{Entry, entry_key, entry_size}
 use Rattle.coap_cache.specs.Lists.{of_key, others, put}
@@ -11,8 +11,12 @@ use Rattle.coap_model.specs.declared.report.Storing.{Storing}
 use Rattle.coap_model.specs.declared.report.Storing.TheVariants.{Kept, TooLarge, NoMemory, NotStored}
 use Rattle.coap_forward.specs.Answers.{is_storable}
 use Rattle.coap_limits.specs.Limits.{Limits}
-use Rattle.coap_model.specs.Responses.{entry_made, answers}
-use Rattle.coap_model.specs.World.{World, Step}
+use Rattle.coap_forward.specs.Messages.{is_con, acknowledgement}
+use Rattle.coap_model.specs.Answers.{entry_made, answers}
+use Rattle.coap_model.specs.Responses.{awaiting, on_awaited, on_separate, on_unknown}
+use Rattle.coap_model.specs.World.{World, Step, known_of, remembers, with_record}
+use Rattle.coap_message.specs.Spelling.{spelling}
+use Rattle.coap_target.specs.declared.endpoint.Endpoint.{Endpoint}
 
 -- it keeps as much as the limits say
 abbrev pub AreStoreLimits : Limits → store.Limits → Type 0
@@ -23,10 +27,39 @@ AreStoreLimits limits of_store =
 abbrev pub if_storable : World → ℕ → Numbered Exchange → Answer → Option Entry
 if_storable w now x a = if is_storable a then Some (entry_made w now x a) else None
 
--- the step of an answer for the exchange of this number
-abbrev pub answering_at : World → ℕ → Bool → Message → ℕ → Option Step
-answering_at w now grown m number =
-    option_map (λ x. answers w now grown m (number, x)) (item_at number w.exchanges)
+-- the step of a response that is the answer of an exchange: a Confirmable one is remembered
+abbrev pub answering : World → ℕ → Bool → Endpoint → Message → Numbered Exchange → Step
+answering w now grown source m x =
+    if is_con m.kind
+    then remembers now source m (answers w now grown source m x)
+    else answers w now grown source m x
+
+-- of the exchange of this number
+abbrev pub answering_at : World → ℕ → Bool → Endpoint → Message → ℕ → Option Step
+answering_at w now grown source m number =
+    option_map (λ x. answering w now grown source m (number, x)) (item_at number w.exchanges)
+
+-- what goes out at once to a response that is taken up, to whom, and the tables then
+abbrev pub taken_up_bytes : Message → List ℕ
+taken_up_bytes m = if is_con m.kind then spelling (acknowledgement m.id) else []
+
+abbrev pub taken_up_to : Endpoint → Message → Option Endpoint
+taken_up_to source m = if is_con m.kind then Some source else None
+
+abbrev pub taken_up : ℕ → Endpoint → Message → World → World
+taken_up now source m w =
+    if is_con m.kind then with_record now source m (spelling (acknowledgement m.id)) w else w
+
+-- the step of a response that isn't confirmable, of one that is, and of one that is new
+abbrev pub awaited_step : World → ℕ → Bool → Endpoint → Message → Step
+awaited_step w now grown source m = on_awaited w now grown source m (awaiting w source m)
+
+abbrev pub confirmable_step : World → ℕ → Bool → Endpoint → Message → Step
+confirmable_step w now grown source m =
+    on_unknown w now grown source m (known_of w now source m)
+
+abbrev pub separate_step : World → ℕ → Bool → Endpoint → Message → Step
+separate_step w now grown source m = on_separate w now grown source m (awaiting w source m)
 
 -- what a store does with an entry, and the tables then
 abbrev pub IsPut : World → Entry → Storing → World → Type 0

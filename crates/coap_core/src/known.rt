@@ -1,13 +1,13 @@
-//! Requests that came before, and what goes out at once to those that are new (RFC 7252, 4.2, 4.3
+//! Messages that came before, and what goes out at once to those that are new (RFC 7252, 4.2, 4.3
 //! and 4.5).
 ghost use Rattle.std.specs.Prelude.{◌≡◌, ◌≤◌, true, length, Some, is_some, IfOk, IfSome, OnOk, OnErr};
 ghost use Rattle.coap_message.specs.declared.message.Head.{Head};
 ghost use Rattle.coap_forward.specs.Messages.{reply_kind, reply_id};
-ghost use Rattle.coap_model.specs.World.{next_id, records_of, has_record_room, can_reply};
-ghost use Rattle.coap_model.specs.Requests.{known_of, replied, with_record};
-ghost use Rattle.coap_core.specs.Steps.{CanGoOn, CanRemember, IsSaid, repetition_of};
+ghost use Rattle.coap_model.specs.World.{next_id, records_of, has_record_room, can_reply, drops, known_of, with_record};
+ghost use Rattle.coap_model.specs.Requests.{replied};
+ghost use Rattle.coap_core.specs.Steps.{CanGoOn, CanRemember, Does, IsSaid, repetition_of};
 
-use crate::world::World;
+use crate::world::{World, silent};
 use coap_cache::Store;
 use coap_dedup::{Records, Seen};
 use coap_message::{Code, Datagram, Head, Kind, MessageRef, OutOfMemory, Seq};
@@ -25,7 +25,7 @@ pub(crate) fn reply_kind(kind: Kind) -> Kind
 }
 
 impl<S: Store + Drop> World<S> {
-    /// What is remembered of the requests that came in messages of this type.
+    /// What is remembered of the messages of this type that came.
     fn records(&self, kind: Kind) -> &Records
         ensures { result.now ≡ records_of kind self.now }
     {
@@ -35,7 +35,7 @@ impl<S: Store + Drop> World<S> {
         }
     }
 
-    /// Whether one more request of this type can be remembered.
+    /// Whether one more message of this type can be remembered.
     pub(crate) fn has_record_room(&self, now: u64, kind: Kind) -> bool
         requires { CanGoOn self.now }
         ensures { result ≡ has_record_room self.now now kind }
@@ -48,26 +48,26 @@ impl<S: Store + Drop> World<S> {
     pub(crate) fn repeat(
         &self,
         now: u64,
-        client: Endpoint,
-        request: &MessageRef<'_>,
+        source: Endpoint,
+        message: &MessageRef<'_>,
         out: &mut Datagram,
     ) -> Option<Report>
-        requires fits { IfSome (repetition_of self.now now client request.now) (λ step.
+        requires fits { IfSome (repetition_of self.now now source message.now) (λ step.
             length step.bytes ≤ out.old.room) }
-        ensures found { is_some result ≡ is_some (known_of self.now now client request.now) }
+        ensures found { is_some result ≡ is_some (known_of self.now now source message.now) }
         ensures said { IfSome result (λ report.
-            IfSome (repetition_of self.now now client request.now) (λ step.
+            IfSome (repetition_of self.now now source message.now) (λ step.
             IsSaid step report out.old out.new)) }
         ensures kept { out.new.room ≡ out.old.room }
     {
-        let Seen::Again(reply) = self.records(request.kind).seen(client, request.id, now) else {
+        let Seen::Again(reply) = self.records(message.kind).seen(source, message.id, now) else {
             return None;
         };
         out.clear();
         let send = match reply {
             Some(bytes) => {
                 out.put(bytes);
-                Some(client)
+                Some(source)
             }
             None => None,
         };
@@ -75,6 +75,16 @@ impl<S: Store + Drop> World<S> {
             send,
             outcome: Outcome::Again,
         })
+    }
+
+    /// There is no room to remember a message: silence.
+    pub(crate) fn drop_message(&mut self, now: u64, out: &mut Datagram) -> Report
+        requires { CanGoOn self.old }
+        ensures { Does (drops self.old now) result out.old out.new self.new }
+    {
+        out.clear();
+        self.pass(now);
+        silent(Outcome::NoRecordRoom)
     }
 
     /// Whether a reply can go out at once to a request of this type: an acknowledgement needs no
@@ -113,25 +123,25 @@ impl<S: Store + Drop> World<S> {
         }
     }
 
-    /// Remembers a request that is new, and this as what goes out at once to it.
+    /// Remembers a message that is new, and this as what goes out at once to it.
     pub(crate) fn remember(
         &mut self,
         now: u64,
-        client: Endpoint,
-        request: &MessageRef<'_>,
+        source: Endpoint,
+        message: &MessageRef<'_>,
         sent: &[u8],
     ) -> Result<(), OutOfMemory>
-        requires { CanRemember now client request.now self.old }
-        ensures ok { OnOk result (self.new ≡ with_record now client request.now sent.now self.old) }
+        requires { CanRemember now source message.now self.old }
+        ensures ok { OnOk result (self.new ≡ with_record now source message.now sent.now self.old) }
         ensures err { OnErr result (self.new ≡ self.old) }
     {
-        let kept = match request.kind {
+        let kept = match message.kind {
             Kind::Con => {
                 let reply = Seq::from_slice(self.alloc, sent)?;
-                self.con_records.keep(client, request.id, now, Some(reply))
+                self.con_records.keep(source, message.id, now, Some(reply))
             }
             Kind::Non | Kind::Ack | Kind::Rst => {
-                self.non_records.keep(client, request.id, now, None)
+                self.non_records.keep(source, message.id, now, None)
             }
         };
         match kept {

@@ -13,8 +13,8 @@ ghost use Rattle.coap_forward.specs.Forms.{forwarded};
 ghost use Rattle.coap_model.specs.Verdicts.{form_fits, verdict_of};
 ghost use Rattle.coap_cache.specs.Entries.{has_usable};
 ghost use Rattle.coap_message.specs.Datagram.{holding};
-ghost use Rattle.coap_model.specs.Requests.{lacks_id, refuses, overloads, opens, next_token, on_key, on_miss, remembers, on_new, forgets, on_request};
-ghost use Rattle.coap_model.specs.World.{can_reply};
+ghost use Rattle.coap_model.specs.Requests.{lacks_id, refuses, overloads, opens, next_token, on_key, on_miss, on_new, on_request};
+ghost use Rattle.coap_model.specs.World.{can_reply, remembers};
 ghost use Rattle.coap_core.specs.Forms.{says_uri, seen};
 ghost use Rattle.coap_core.specs.Steps.{Does, CanGoOn, CanRemember, IsAsked, verdict_seen};
 ghost use Rattle.coap_core.specs.declared.requests.Verdict.TheVariants as verdicts;
@@ -79,19 +79,9 @@ impl<S: Store + Drop> World<S> {
             return Ok(report);
         }
         if !self.has_record_room(now, request.kind) {
-            return Ok(self.forget(now, out));
+            return Ok(self.drop_message(now, out));
         }
         self.on_new(now, client, request, out)
-    }
-
-    /// There is no room to remember a request: silence.
-    fn forget(&mut self, now: u64, out: &mut Datagram) -> Report
-        requires { CanGoOn self.old }
-        ensures { Does (forgets self.old now) result out.old out.new self.new }
-    {
-        out.clear();
-        self.pass(now);
-        silent(Outcome::NoRecordRoom)
     }
 
     /// What becomes of a request that is new.

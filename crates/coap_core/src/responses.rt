@@ -1,25 +1,36 @@
-//! The step of a response that comes in an acknowledgement (RFC 7252, 5.2.1 and 5.3.2).
-ghost use Rattle.std.specs.Prelude.{◌≡◌, ◌≤◌, ◌&&◌, true, false, option_map, IfOk, IfSome, OnErr};
+//! The step of a response: in an acknowledgement, or separately in a message of its own (RFC 7252,
+//! 5.2.1, 5.2.2 and 5.3.2).
+ghost use Rattle.std.specs.Prelude.{◌≡◌, ◌≤◌, ◌&&◌, true, false, length, option_map, IfOk, IfSome, OnOk, OnErr};
+ghost use Rattle.coap_message.specs.Datagram.{holding};
+ghost use Rattle.coap_message.specs.Spelling.{spelling};
 ghost use Rattle.coap_target.specs.Endpoint.{same_endpoint};
+ghost use Rattle.coap_forward.specs.Messages.{is_con, acknowledgement};
+ghost use Rattle.coap_model.specs.Answers.{asked_of};
 ghost use Rattle.coap_model.specs.Memory.{takes_memory};
-ghost use Rattle.coap_model.specs.Responses.{asked_of, has_id, awaiting, on_response};
-ghost use Rattle.coap_exchange.specs.Exchanges.{is_sent};
+ghost use Rattle.coap_model.specs.Responses.{is_in_flight, was_sent_with, has_id, awaiting, on_response};
 ghost use Rattle.coap_exchange.specs.Table.{item_at};
 ghost use Rattle.coap_model.specs.History.{grown_of};
-ghost use Rattle.coap_core.specs.Storing.{IsKept, answering_at, if_storable};
-ghost use Rattle.coap_core.specs.Steps.{Does, CanGoOn, IsSentAt};
+ghost use Rattle.coap_core.specs.Storing.{IsKept, answering_at, awaited_step, confirmable_step, separate_step, if_storable, taken_up, taken_up_bytes, taken_up_to};
+ghost use Rattle.coap_core.specs.Steps.{Does, CanGoOn, CanRemember, IsOpenAt};
 
-use crate::world::{World, silent};
+use crate::world::World;
 use coap_cache::{CacheKey, Put, Store, Stored};
 use coap_exchange::{Answer, Exchange, Sending};
-use coap_forward::{answer_of, is_storable, number_of};
-use coap_message::{Datagram, Message, MessageRef, OutOfMemory};
+use coap_forward::{answer_of, is_storable, number_of, put_bare};
+use coap_message::{Code, Datagram, Head, Kind, Message, MessageRef, OutOfMemory, Token};
 use coap_model::{Outcome, Report, Storing};
 use coap_target::Endpoint;
 
+/// Whether its request was sent, and has no answer.
+fn is_in_flight(exchange: &Exchange) -> bool
+    ensures { result ≡ is_in_flight exchange.now }
+{
+    exchange.is_sent() || exchange.is_acked()
+}
+
 /// Whether it was sent with this id.
-fn has_id(id: u16, sending: &Option<Sending>) -> bool
-    ensures { result ≡ has_id id sending.now }
+fn was_sent_with(id: u16, sending: &Option<Sending>) -> bool
+    ensures { result ≡ was_sent_with id sending.now }
 {
     match sending {
         Some(sending) => sending.id == id,
@@ -27,13 +38,26 @@ fn has_id(id: u16, sending: &Option<Sending>) -> bool
     }
 }
 
-/// Whether an exchange of the right token awaits a response of this endpoint with this id.
-fn awaits(exchange: &Exchange, source: Endpoint, id: u16) -> bool
+/// Whether a response has the id that it has to have: in an acknowledgement that of its request, in
+/// a message of its own any.
+fn has_id(response: &MessageRef<'_>, sending: &Option<Sending>) -> bool
+    ensures { result ≡ has_id response.now sending.now }
+{
+    match response.kind {
+        Kind::Ack => was_sent_with(response.id, sending),
+        Kind::Con | Kind::Non | Kind::Rst => true,
+    }
+}
+
+/// Whether an exchange of the right token awaits this response of this endpoint.
+fn awaits(exchange: &Exchange, source: Endpoint, response: &MessageRef<'_>) -> bool
     ensures { result
-        ≡ ((is_sent exchange.now && has_id id exchange.now.sending)
+        ≡ ((is_in_flight exchange.now && has_id response.now exchange.now.sending)
         && same_endpoint exchange.now.key.target.at source) }
 {
-    exchange.is_sent() && has_id(id, &exchange.sending) && exchange.key.target.at.is(&source)
+    is_in_flight(exchange)
+        && has_id(response, &exchange.sending)
+        && exchange.key.target.at.is(&source)
 }
 
 /// The number of the event in which the request of an exchange was sent.
@@ -44,6 +68,19 @@ fn asked_of(sending: &Option<Sending>) -> u64
         Some(sending) => sending.asked,
         None => 0,
     }
+}
+
+/// Writes an Empty acknowledgement of a message with this id.
+fn put_acknowledgement(id: u16, out: &mut Datagram)
+    requires { 128 ≤ out.old.room }
+    ensures { out.new ≡ holding out.old (spelling (acknowledgement id)) }
+{
+    let head = Head {
+        kind: Kind::Ack,
+        code: Code::EMPTY,
+        id,
+    };
+    put_bare(out, head, &Token::empty());
 }
 
 /// The same message once more.
@@ -62,7 +99,10 @@ impl<S: Store + Drop> World<S> {
         out: &mut Datagram,
     ) -> Result<Report, OutOfMemory>
         requires can { CanGoOn self.old }
+        requires onward { self.old.last ≤ now }
         requires room { self.old.setting.limits.datagram ≤ out.old.room }
+        requires fits { length (on_response self.old now true source response.now).bytes
+            ≤ out.old.room }
         ensures exact { IfOk result (λ report.
             Does (on_response self.old now (grown_of report.outcome) source response.now) report
             out.old out.new self.new) }
@@ -72,22 +112,119 @@ impl<S: Store + Drop> World<S> {
             (takes_memory (on_response self.old now true source response.now).report.outcome
             ≡ true) }
     {
+        match response.kind {
+            Kind::Con => self.on_confirmable(now, source, response, out),
+            Kind::Non | Kind::Ack | Kind::Rst => self.on_awaited(now, source, response, out),
+        }
+    }
+
+    /// A response that isn't confirmable.
+    fn on_awaited(
+        &mut self,
+        now: u64,
+        source: Endpoint,
+        response: &MessageRef<'_>,
+        out: &mut Datagram,
+    ) -> Result<Report, OutOfMemory>
+        requires can { CanGoOn self.old }
+        requires other { is_con response.now.kind ≡ false }
+        requires room { self.old.setting.limits.datagram ≤ out.old.room }
+        ensures exact { IfOk result (λ report.
+            Does
+            (awaited_step self.old now (grown_of report.outcome) source response.now)
+            report out.old out.new self.new) }
+        ensures err { OnErr result (self.new ≡ self.old) }
+        ensures kept { out.new.room ≡ out.old.room }
+        ensures memory { OnErr result
+            (takes_memory
+            (awaited_step self.old now true source response.now).report.outcome
+            ≡ true) }
+    {
         match self.awaiting(source, response) {
-            Some(number) => self.answer(now, number, response, out),
+            Some(number) => self.answer(now, source, number, response, out),
             None => Ok(self.ignore(now, out)),
         }
     }
 
-    /// The number of the exchange that awaits this response of this endpoint: by endpoint, id and
-    /// token.
+    /// A response that is confirmable: a duplicate is told again what it was told.
+    fn on_confirmable(
+        &mut self,
+        now: u64,
+        source: Endpoint,
+        response: &MessageRef<'_>,
+        out: &mut Datagram,
+    ) -> Result<Report, OutOfMemory>
+        requires can { CanGoOn self.old }
+        requires onward { self.old.last ≤ now }
+        requires con { is_con response.now.kind ≡ true }
+        requires room { self.old.setting.limits.datagram ≤ out.old.room }
+        requires fits { length
+            (confirmable_step self.old now true source response.now).bytes
+            ≤ out.old.room }
+        ensures exact { IfOk result (λ report.
+            Does
+            (confirmable_step self.old now (grown_of report.outcome) source response.now)
+            report out.old out.new self.new) }
+        ensures err { OnErr result (self.new ≡ self.old) }
+        ensures kept { out.new.room ≡ out.old.room }
+        ensures memory { OnErr result
+            (takes_memory
+            (confirmable_step self.old now true source response.now).report.outcome
+            ≡ true) }
+    {
+        if let Some(report) = self.repeat(now, source, response, out) {
+            self.pass(now);
+            return Ok(report);
+        }
+        self.on_separate(now, source, response, out)
+    }
+
+    /// A confirmable response that is new. It is remembered if an exchange awaits it, and so there
+    /// has to be room for that.
+    fn on_separate(
+        &mut self,
+        now: u64,
+        source: Endpoint,
+        response: &MessageRef<'_>,
+        out: &mut Datagram,
+    ) -> Result<Report, OutOfMemory>
+        requires can { CanGoOn self.old }
+        requires con { is_con response.now.kind ≡ true }
+        requires new { CanRemember now source response.now self.old }
+        requires room { self.old.setting.limits.datagram ≤ out.old.room }
+        requires fits { length
+            (separate_step self.old now true source response.now).bytes
+            ≤ out.old.room }
+        ensures exact { IfOk result (λ report.
+            Does
+            (separate_step self.old now (grown_of report.outcome) source response.now)
+            report out.old out.new self.new) }
+        ensures err { OnErr result (self.new ≡ self.old) }
+        ensures kept { out.new.room ≡ out.old.room }
+        ensures memory { OnErr result
+            (takes_memory
+            (separate_step self.old now true source response.now).report.outcome
+            ≡ true) }
+    {
+        let Some(number) = self.awaiting(source, response) else {
+            return Ok(self.reject(now, source, response.id, out));
+        };
+        if !self.has_record_room(now, response.kind) {
+            return Ok(self.drop_message(now, out));
+        }
+        self.answer(now, source, number, response, out)
+    }
+
+    /// The number of the exchange that awaits this response of this endpoint: by endpoint and token,
+    /// and in an acknowledgement by id.
     fn awaiting(&self, source: Endpoint, response: &MessageRef<'_>) -> Option<u64>
         requires { CanGoOn self.now }
         ensures exact { result ≡ option_map (λ x. x.0) (awaiting self.now source response.now) }
-        ensures sent { IfSome result (λ number. IsSentAt number self.now.exchanges) }
+        ensures open { IfSome result (λ number. IsOpenAt number self.now.exchanges) }
     {
         let number = number_of(self.salt, response.token.as_slice())?;
         let exchange = self.exchanges.get(number)?;
-        if awaits(exchange, source, response.id) {
+        if awaits(exchange, source, response) {
             Some(number)
         } else {
             None
@@ -98,15 +235,18 @@ impl<S: Store + Drop> World<S> {
     fn answer(
         &mut self,
         now: u64,
+        source: Endpoint,
         number: u64,
         response: &MessageRef<'_>,
         out: &mut Datagram,
     ) -> Result<Report, OutOfMemory>
         requires can { CanGoOn self.old }
-        requires sent { IsSentAt number self.old.exchanges }
+        requires open { IsOpenAt number self.old.exchanges }
+        requires new { is_con response.now.kind ≡ true
+            → CanRemember now source response.now self.old }
         requires room { self.old.setting.limits.datagram ≤ out.old.room }
         ensures exact { IfOk result (λ report.
-            IfSome (answering_at self.old now (grown_of report.outcome) response.now number)
+            IfSome (answering_at self.old now (grown_of report.outcome) source response.now number)
             (λ step. Does step report out.old out.new self.new)) }
         ensures err { OnErr result (self.new ≡ self.old) }
         ensures kept { out.new.room ≡ out.old.room }
@@ -114,11 +254,45 @@ impl<S: Store + Drop> World<S> {
         let most = self.limits.values().datagram as usize;
         let answer = answer_of(self.alloc, most, now, response, out)?;
         let entry = self.entry_made(now, number, &answer)?;
+        let send = self.take_up(now, source, response, out)?;
         let storing = self.keep(entry);
         self.exchanges.answered(number, answer);
-        out.clear();
         self.pass(now);
-        Ok(silent(Outcome::Answered { storing }))
+        Ok(Report {
+            send,
+            outcome: Outcome::Answered { storing },
+        })
+    }
+
+    /// What goes out at once to a response that is taken up, and to whom: a Confirmable one is
+    /// acknowledged, and remembered (RFC 7252, 4.2 and 5.2.2).
+    fn take_up(
+        &mut self,
+        now: u64,
+        source: Endpoint,
+        response: &MessageRef<'_>,
+        out: &mut Datagram,
+    ) -> Result<Option<Endpoint>, OutOfMemory>
+        requires new { is_con response.now.kind ≡ true
+            → CanRemember now source response.now self.old }
+        requires room { 128 ≤ out.old.room }
+        ensures send { IfOk result (λ send. send ≡ taken_up_to source response.now) }
+        ensures said { OnOk result (out.new ≡ holding out.old (taken_up_bytes response.now)) }
+        ensures done { OnOk result (self.new ≡ taken_up now source response.now self.old) }
+        ensures err { OnErr result (self.new ≡ self.old) }
+        ensures kept { out.new.room ≡ out.old.room }
+    {
+        match response.kind {
+            Kind::Con => {
+                put_acknowledgement(response.id, out);
+                self.remember(now, source, response, out.bytes())?;
+                Ok(Some(source))
+            }
+            Kind::Non | Kind::Ack | Kind::Rst => {
+                out.clear();
+                Ok(None)
+            }
+        }
     }
 
     /// What is to be stored of an answer for the key of its exchange, if it may be.

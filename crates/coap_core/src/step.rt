@@ -5,8 +5,8 @@ ghost use Rattle.coap_message.specs.declared.kind.Kind.{Kind};
 ghost use Rattle.coap_message.specs.Datagram.{holding};
 ghost use Rattle.coap_model.specs.Memory.{takes_memory};
 ghost use Rattle.coap_model.specs.History.{grown_of};
-ghost use Rattle.coap_model.specs.World.{ignores};
-ghost use Rattle.coap_model.specs.Step.{rejects, unprocessed, message_in, on_message, on_datagram, step_of};
+ghost use Rattle.coap_model.specs.World.{ignores, rejects, unprocessed};
+ghost use Rattle.coap_model.specs.Step.{message_in, on_message, on_datagram, step_of};
 ghost use Rattle.coap_core.specs.Events.{IsUnread, seen};
 ghost use Rattle.coap_core.specs.Steps.{Does, CanGoOn};
 
@@ -99,7 +99,7 @@ impl<S: Store + Drop> World<S> {
         MessageRef::read(bytes).ok()
     }
 
-    /// Requests, and responses in acknowledgements, are what is processed so far.
+    /// A request, a response, or an Empty message; what is none of these isn't processed.
     fn on_message(
         &mut self,
         now: u64,
@@ -126,7 +126,12 @@ impl<S: Store + Drop> World<S> {
             Kind::Con | Kind::Non if message.code.is_request() => {
                 self.on_request(now, source, message, out)
             }
-            Kind::Ack if message.code.is_response() => self.on_response(now, source, message, out),
+            Kind::Con | Kind::Non | Kind::Ack if message.code.is_response() => {
+                self.on_response(now, source, message, out)
+            }
+            Kind::Ack | Kind::Rst if message.code == Code::EMPTY => {
+                Ok(self.on_empty(now, source, message, out))
+            }
             kind => Ok(self.unprocessed(now, source, kind, message.id, out)),
         }
     }
@@ -151,7 +156,13 @@ impl<S: Store + Drop> World<S> {
     }
 
     /// A Reset goes out with the id of what can't be processed (RFC 7252, 4.2).
-    fn reject(&mut self, now: u64, source: Endpoint, id: u16, out: &mut Datagram) -> Report
+    pub(crate) fn reject(
+        &mut self,
+        now: u64,
+        source: Endpoint,
+        id: u16,
+        out: &mut Datagram,
+    ) -> Report
         requires can { CanGoOn self.old }
         requires fits { length (rejects self.old now source id).bytes ≤ out.old.room }
         ensures { Does (rejects self.old now source id) result out.old out.new self.new }

@@ -16,7 +16,7 @@ use Rattle.coap_cache.specs.Showing as showing
 use Rattle.coap_cache.specs.Showing.{addressed, tells_age}
 use Rattle.coap_cache.specs.declared.stored.Stored.{Stored}
 use Rattle.coap_cache.specs.declared.answer.Answer.{Answer}
-use Rattle.coap_forward.specs.Messages.{eight_zeros}
+use Rattle.coap_forward.specs.Messages.{is_rst, eight_zeros}
 
 -- ---- what is kept of a response
 
@@ -61,10 +61,11 @@ gateway_timeout =
 abbrev pub own_answer : ℕ → Message → Answer
 own_answer now m = record { message = m; got = now; own = true }
 
--- the answer that a response gives, got at a moment
+-- The answer that a message gives which came for a request at a moment: a Reset gives 5.02 (RFC
+-- 7252, 4.2), and so does what can't be passed on.
 unfoldable pub answer_of : ℕ → ℕ → Message → Answer
 answer_of most now m =
-    if is_passed_on most m
+    if not (is_rst m.kind) && is_passed_on most m
     then record { message = without_observe m; got = now; own = false }
     else own_answer now bad_gateway
 

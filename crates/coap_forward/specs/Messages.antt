@@ -1,11 +1,12 @@
 -- What messages mean to a proxy: words that the step and the history share, as those of `Forms`,
 -- `Verdicts` and `Answers`. They speak of messages alone, and of no table.
-use Rattle.std.specs.Prelude.{ℕ, ◌+◌, ◌%◌, ◌^◌, Bool, true, false, if◌then◌else◌, List, [], ◌∷◌, Option, Some, None}
+use Rattle.std.specs.Prelude.{ℕ, ◌+◌, ◌%◌, ◌^◌, ◌&&◌, ◌||◌, Bool, true, false, if◌then◌else◌, List, [], ◌∷◌, Option, Some, None}
 use Rattle.std.specs.Int.{w64, to_be_bytes}
 use Rattle.coap_message.specs.declared.kind.Kind.{Kind}
 use Rattle.coap_message.specs.declared.kind.Kind.TheVariants.{Con, Non, Ack, Rst}
 use Rattle.coap_message.specs.declared.code.Code.{Code}
 use Rattle.coap_message.specs.declared.code.TheConstants.Code.{EMPTY, SERVICE_UNAVAILABLE}
+use Rattle.coap_message.specs.Codes.{is_code, is_request, is_response}
 use Rattle.coap_message.specs.declared.options.Opt.{Opt}
 use Rattle.coap_message.specs.Message.{Message}
 use Rattle.coap_cache.specs.Renewing.{max_age_option}
@@ -31,17 +32,51 @@ brings_requests Non = true
 brings_requests Ack = false
 brings_requests Rst = false
 
+-- and responses in these; in a Confirmable or a Non-confirmable message they come separately (RFC
+-- 7252, 5.2)
+abbrev pub brings_responses : Kind → Bool
+brings_responses Con = true
+brings_responses Non = true
+brings_responses Ack = true
+brings_responses Rst = false
+
 abbrev pub is_ack : Kind → Bool
 is_ack Con = false
 is_ack Non = false
 is_ack Ack = true
 is_ack Rst = false
 
+abbrev pub is_rst : Kind → Bool
+is_rst Con = false
+is_rst Non = false
+is_rst Ack = false
+is_rst Rst = true
+
+-- ---- codes
+
+abbrev pub is_empty : Code → Bool
+is_empty code = is_code code EMPTY
+
+-- an acknowledgement or a Reset without more (RFC 7252, 4.2)
+abbrev pub is_bare : Message → Bool
+is_bare m = is_empty m.code && (is_ack m.kind || is_rst m.kind)
+
+-- a message that is remembered: a request, or a response in a Confirmable message (RFC 7252, 4.2
+-- and 4.5)
+abbrev pub is_recorded : Message → Bool
+is_recorded m =
+    (brings_requests m.kind && is_request m.code) || (is_con m.kind && is_response m.code)
+
 -- ---- what the proxy says of its own
 
 -- a message without token, options and payload: a Reset of a message with this id (RFC 7252, 4.2)
 abbrev pub reset : ℕ → Message
 reset id = record { kind = Rst; code = EMPTY; id = id; token = []; options = []; payload = [] }
+
+-- an Empty acknowledgement of a message with this id (RFC 7252, 4.2 and 5.2.2)
+abbrev pub acknowledgement : ℕ → Message
+acknowledgement id =
+    record { kind = Ack; code = EMPTY; id = id; token = []; options = []; payload = [] }
 
 -- a reply of the proxy's own to a client's token
 abbrev pub own_reply : Code → List Opt → ℕ → List ℕ → Message

@@ -95,9 +95,10 @@ fn own_answer(alloc: Global, now: u64, code: Code) -> Answer
     }
 }
 
-/// 5.02, in place of a response that can't be passed on (RFC 7252, 5.9.3.3).
-fn bad_gateway(alloc: Global, now: u64) -> Answer
-    ensures { result ≡ own_answer now bad_gateway }
+/// 5.02, in place of a response that can't be passed on (RFC 7252, 5.9.3.3), and of one that never
+/// comes since its request was rejected (RFC 7252, 4.2). It takes no memory.
+pub fn bad_gateway(alloc: Global, now: u64) -> Answer
+    ensures exact { result ≡ own_answer now bad_gateway }
 {
     own_answer(alloc, now, Code::BAD_GATEWAY)
 }
@@ -109,7 +110,8 @@ pub fn gateway_timeout(alloc: Global, now: u64) -> Answer
     own_answer(alloc, now, Code::GATEWAY_TIMEOUT)
 }
 
-/// The answer that a response gives. What may be passed on is copied here.
+/// The answer that a message gives which came for a request. What may be passed on is copied here.
+/// A Reset takes no memory.
 #[tactic(auto, unfolding(crate::specs::Answers::answer_of))]
 pub fn answer_of(
     alloc: Global,
@@ -122,6 +124,9 @@ pub fn answer_of(
     ensures exact { IfOk result (λ answer. answer ≡ answer_of most now response.now) }
     ensures kept { out.new.room ≡ out.old.room }
 {
+    if response.kind == Kind::Rst {
+        return Ok(bad_gateway(alloc, now));
+    }
     if screen_response(response).is_err() || response.code == Code::VALID {
         return Ok(bad_gateway(alloc, now));
     }

@@ -8,7 +8,7 @@ mod part;
 mod token;
 mod writing;
 
-pub use answers::{answer_of, gateway_timeout, is_storable};
+pub use answers::{answer_of, bad_gateway, gateway_timeout, is_storable};
 pub use form::put_forwarded;
 pub use token::{number_of, token_of};
 pub use writing::{put_bare, put_shown, put_stored, put_with_max_age};

@@ -112,7 +112,7 @@ exchange-due w history c x there f at due = go x.1.state refl f.state due
         (λ (timer : at ≡ s.timer.due). to_repeat (record { to = x.1.key.target.at; stage = stage-is w history c x there ∙ ap (λ (s : ExchangeState). Some (stage_at x.1.key.target.at s)) is; at_is = timer ∙ timer-due s.timer _ state.asked.timer }))
         (λ (end : at ≡ last). ending state.unended end)
         (min-cases s.timer.due last at lesser)
-    go Acked is state e = absurd state
+    go Acked is state e = ending state.unended (sym (same_Some last at e))
     go (Done a) is state e = absurd cc
 
 -- what the answer of a number says of its exchange
@@ -228,7 +228,7 @@ repeat-listed w history c x at d = go y.1.state refl t.is.state
     go Sent is state =
         let moment : state.sending.timer.due ≡ at = timer-due state.sending.timer _ state.asked.timer ∙ ap (λ (n : ℕ). next_send (sends_by (moves n) history)) (sym t.number) ∙ sym d.at_is in
         of_exchange y _ t.there (ap moves (sym t.number)) (sent-due w history y is state.sending state.sending_is) (omega (arith, moment))
-    go Acked is state = absurd state
+    go Acked is state = absurd (let e = ap (λ (s : ExchangeState). Some (stage_at y.1.key.target.at s)) (sym is) ∙ stage in cc)
     go (Done a) is state = absurd (let e = ap (λ (s : ExchangeState). Some (stage_at y.1.key.target.at s)) (sym is) ∙ stage in cc)
 
 -- and so is one that is to end
@@ -251,7 +251,7 @@ end-listed w history c x at d = go y.1.state refl t.is.state
     go : (s : ExchangeState) → y.1.state ≡ s → IsState w.setting history y s → IsListed w (moves x) at
     go Queued is state = blocked is (is_blocked w.setting.limits.nstart w.exchanges y.1) refl
     go Sent is state = of_exchange y _ t.there (ap moves (sym t.number)) (sent-due w history y is state.sending state.sending_is) (let l = last in omega (arith, l))
-    go Acked is state = absurd state
+    go Acked is state = of_exchange y (deadline w.setting.limits.exchange_ms y.1) t.there (ap moves (sym t.number)) (ap (λ (s : ExchangeState). due_in s (is_blocked w.setting.limits.nstart w.exchanges y.1) w.setting.limits.exchange_ms y.1) is) (let l = last in omega (arith, l))
     go (Done a) is state = absurd (Never-at (Ends x) history state.ending d.unended state.was_ended (subst (λ (n : ℕ). Ends n state.ending) (sym t.number) state.ends))
 
 -- a client that is to be served is due by the tables
@@ -282,7 +282,7 @@ serve-listed w history c v at d = go u.1.state refl t.2
         by_state : (s : ExchangeState) → y.1.state ≡ s → IsState w.setting history y s → IsListed w (serves v) at
         by_state Queued is state = absurd (Never-at (Ends y.0) history d.ending state.unended d.was_ended ends)
         by_state Sent is state = absurd (Never-at (Ends y.0) history d.ending state.unended d.was_ended ends)
-        by_state Acked is state = absurd state
+        by_state Acked is state = absurd (Never-at (Ends y.0) history d.ending state.unended d.was_ended ends)
         by_state (Done a) is state =
             let place = ended-once w.setting history y.0 state.ending d.ending c.past state.was_ended d.was_ended state.ends ends in
             let answer : answer_in exchange w.exchanges ≡ Some a = ap answer_of found ∙ ap answer_in_state is in

@@ -1,25 +1,21 @@
 -- An answer that is got keeps what is carried.
-use Rattle.std.proofs.Common.{◌≡◌, inl, ℕ, Bool, ◌<◌, ◌≤◌, true, List, ◌∷◌, Some, refl, sym, ap, ◌∙◌, subst}
-use Rattle.std.specs.Prelude.{◌&&◌}
-use Rattle.std.specs.Cmp.Lexicographic.{same_text}
-use Rattle.std.proofs.lemmas.Bool.{eqb-true, and_parts}
+use Rattle.std.proofs.Common.{◌≡◌, inl, ℕ, Bool, ◌<◌, ◌≤◌, true, false, List, [], ◌∷◌, Option, Some, None, refl, sym, ap, ◌∙◌, subst, arith}
 use Rattle.coap_message.specs.declared.kind.Kind.{Kind}
 use Rattle.coap_message.specs.declared.kind.Kind.TheVariants.{Con, Non, Ack, Rst}
 use Rattle.coap_message.specs.Uint.{IsBytes}
 use Rattle.coap_message.specs.Message.{Message}
+use Rattle.coap_message.specs.Spelling.{spelling}
+use Rattle.coap_message.proofs.Spellings.{spelled}
 use Rattle.coap_target.specs.declared.endpoint.Endpoint.{Endpoint}
-use Rattle.coap_target.specs.Endpoint.{same_endpoint}
-use Rattle.coap_target.specs.Equality.{same_bytes}
-use Rattle.coap_target.proofs.Equality.{Tells-endpoint}
-use Rattle.coap_exchange.specs.declared.exchange.ExchangeState.{ExchangeState}
-use Rattle.coap_exchange.specs.declared.exchange.ExchangeState.TheVariants.{Queued, Sent, Acked, Done}
+use Rattle.coap_target.proofs.Lists.{All-weaken}
+use Rattle.coap_dedup.specs.Records.{Records}
 use Rattle.coap_exchange.specs.declared.exchange.Exchange.{Exchange}
 use Rattle.coap_exchange.specs.declared.exchange.Sending.{Sending}
-use Rattle.coap_exchange.specs.Exchanges.{is_sent, is_sent_state, answered}
-use Rattle.coap_exchange.specs.Table.{Numbered, item_at}
+use Rattle.coap_exchange.specs.Exchanges.{acked, answered, is_queued, is_sent_to}
+use Rattle.coap_exchange.specs.Table.{Numbered, item_at, passes}
+use Rattle.coap_exchange.proofs.Counts.{one_if, count-moved}
 use Rattle.coap_model.specs.Events.{arrival}
-use Rattle.coap_message.specs.Codes.{is_response}
-use Rattle.coap_forward.specs.Messages.{is_ack, token_of}
+use Rattle.coap_forward.specs.Messages.{is_con, is_ack, acknowledgement}
 use Rattle.coap_cache.specs.Entries.{Entry, entry_size}
 use Rattle.coap_cache.specs.declared.answer.Answer.{Answer}
 use Rattle.coap_model.specs.declared.report.Outcome.TheVariants.{Answered}
@@ -27,72 +23,33 @@ use Rattle.coap_model.specs.declared.report.Storing.{Storing}
 use Rattle.coap_model.specs.declared.report.Storing.TheVariants.{Kept, TooLarge, NoMemory, NotStored}
 use Rattle.coap_forward.specs.Answers.{answer_of, is_storable}
 use Rattle.coap_model.specs.Cached.{leaves, cached_here, entry_of_cached, IsObtained, IsStoreOf}
-use Rattle.coap_model.specs.Justified.{IsAnswer, IsObtainedHere, JustifiedBy, got}
-use Rattle.coap_model.proofs.Rules.{IsStoring, kept, too_large, no_memory, not_stored}
-use Rattle.coap_model.proofs.Stores.{store-kept, store-too_large, store-otherwise, none-found}
-use Rattle.coap_model.specs.World.{World}
+use Rattle.coap_model.specs.Justified.{Tells, IsSilent, TakesUp, IsNew, Acknowledges, IsAnswer, IsObtainedHere, JustifiedBy, got}
+use Rattle.coap_model.specs.World.{World, silent, says, known_of, has_record_room, remembers}
 use Rattle.coap_model.specs.Step.{message_in}
-use Rattle.coap_model.specs.Responses.{has_id, awaits, awaiting, asked_of, entry_made, answers_so}
-use Rattle.coap_model.specs.History.{moves, Deed, Gets}
+use Rattle.coap_model.specs.Answers.{asked_of, entry_made}
+use Rattle.coap_model.specs.Empties.{acknowledges}
+use Rattle.coap_model.specs.History as history
+use Rattle.coap_model.specs.History.{moves, Deed, Gets, last_of}
+use Rattle.coap_model.specs.Standing as stage
 use Rattle.coap_model.specs.Runs.{entry_of}
-use Rattle.coap_model.specs.Carries.{WasAsked, IsInFlight, IsState, IsExchangeOf, Bears}
-use Rattle.coap_model.proofs.Frames.{schedules_frame}
+use Rattle.coap_model.specs.Carries.{WasAsked, AreRemembered, Bears}
+use Rattle.coap_model.proofs.Awaiting.{awaited-by, ack-is, empty-is, answer-here, about-here, sent-unsettled, from-here, meets-here}
+use Rattle.coap_model.proofs.Frames.{asked_frame, sent_frame, sends-quiet, schedules_frame}
 use Rattle.coap_model.proofs.Getting.{got-is}
-use Rattle.coap_model.proofs.Giving.{ids-kept}
-use Rattle.coap_model.proofs.Lists.{find-holds, Has, All-there}
-use Rattle.coap_model.proofs.Moving.{keeps_moving}
+use Rattle.coap_model.proofs.Giving.{ids-kept, ids-differ}
+use Rattle.coap_model.proofs.Lists.{Has, Has-all}
+use Rattle.coap_model.proofs.Moving.{moved_world, keeps_moving}
+use Rattle.coap_model.specs.Promised.{IdsDiffer}
+use Rattle.coap_model.proofs.OneRequest.{settled-once, reset-once}
 use Rattle.coap_model.proofs.Places.{here, doing, opened-later, one-brought}
+use Rattle.coap_model.proofs.Quiet.{remembered-still, room-still}
+use Rattle.coap_model.proofs.Remembering.{remembered-on, record-new, now-remembered, answer-leaves}
 use Rattle.coap_model.proofs.Repeating.{ended-seen, ended-room, ended-pace}
-use Rattle.coap_model.proofs.Spelled.{message_in-is}
-use Rattle.coap_model.proofs.Tables.{Has-item}
-
--- ---- what was awaited
-
--- what tests as an acknowledgement is one
-ack_is : (k : Kind) → is_ack k ≡ true → k ≡ Ack
-ack_is Con e = absurd cc
-ack_is Non e = absurd cc
-ack_is Ack e = refl
-ack_is Rst e = absurd cc
-
--- what tests as sent is sent
-sent_state : (s : ExchangeState) → is_sent_state s ≡ true → s ≡ Sent
-sent_state Queued e = absurd cc
-sent_state Sent e = refl
-sent_state Acked e = absurd cc
-sent_state (Done a) e = absurd cc
-
--- what is known of an exchange that awaits this response
-record IsAwaited (w : World) (history : List Deed) (source : Endpoint) (m : Message) (x : Numbered Exchange) : Type 0 where
-  pub exchange : IsExchangeOf w.setting history x
-  pub found : item_at x.0 w.exchanges ≡ Some x.1
-  pub state_is : x.1.state ≡ Sent
-  pub flight : IsInFlight w.setting history x
-  pub source_is : x.1.key.target.at ≡ source
-  pub id_is : flight.sending.id ≡ m.id
-  pub token_is : m.token ≡ token_of w.setting.salt x.0
-
--- what the search for a response finds awaits it
-awaited : (w : World) (history : List Deed) → Bears history w → (source : Endpoint) (m : Message) (x : Numbered Exchange) → awaiting w source m ≡ Some x → IsAwaited w history source m x
-awaited w history c source m x found =
-    let f = find-holds (λ y. IsExchangeOf w.setting history y × Has y w.exchanges) (awaits w.setting.salt source m) w.exchanges x (All-there (IsExchangeOf w.setting history) w.exchanges c.exchanges) found in
-    let parts = and_parts (is_sent x.1 && has_id m.id x.1.sending) (same_endpoint x.1.key.target.at source && same_bytes (token_of w.setting.salt x.0) m.token) f.1 in
-    let first = and_parts (is_sent x.1) (has_id m.id x.1.sending) parts.0 in
-    let more = and_parts (same_endpoint x.1.key.target.at source) (same_bytes (token_of w.setting.salt x.0) m.token) parts.1 in
-    let sent = sent_state x.1.state first.0 in
-    let flight : IsInFlight w.setting history x = subst (IsState w.setting history x) sent f.0.0.state in
-    let id : has_id m.id (Some flight.sending) ≡ true = ap (has_id m.id) (sym flight.sending_is) ∙ first.1 in
-    record {
-      exchange = f.0.0;
-      found = Has-item 0 w.exchanges x c.whole.rising f.0.1;
-      state_is = sent;
-      flight = flight;
-      source_is = Tells-endpoint.only x.1.key.target.at source more.0;
-      id_is = eqb-true flight.sending.id m.id id;
-      token_is = sym (same_text _ _ (sym more.1));
-    }
-
--- ---- the rule
+use Rattle.coap_model.proofs.Rules.{Recorded, IsAbout, IsAnswerFor, recorded-kind, answered_world, IsStoring, kept, too_large, no_memory, not_stored}
+use Rattle.coap_model.proofs.Seen.{staged-seen}
+use Rattle.coap_model.proofs.Sendings.{was-sent}
+use Rattle.coap_model.proofs.Spelled.{message_in-is, acknowledgement-is, acknowledgement-short}
+use Rattle.coap_model.proofs.Stores.{store-kept, store-too_large, store-otherwise, none-found}
 
 -- ---- what is stored
 
@@ -126,50 +83,171 @@ module _ (w : World) (history : List Deed) (c : Bears history w) (now : ℕ) (gr
       }
   answered-so NotStored _ s is was at outcome answer obtains only (not_stored can) = record { answer = answer; none = λ o. absurd (let f = sym can ∙ only o in cc) }
 
--- an answer that is got keeps what is carried
-pub keeps_answering : (w : World) (history : List Deed) (c : Bears history w) → (now draw : ℕ) (source : Endpoint) (bytes : List ℕ) (grown : Bool) (m : Message) (x : Numbered Exchange) (storing : Storing) (store : List Entry) → w.last ≤ now → IsBytes bytes → message_in w.setting.limits.datagram bytes ≡ Some m → (is_ack m.kind && is_response m.code) ≡ true → awaiting w source m ≡ Some x → IsStoring w now grown x (answer_of w.setting.limits.datagram now m) storing store
-    → Bears (doing (moves x.0) (entry_of now draw (arrival source bytes) (answers_so w now x (answer_of w.setting.limits.datagram now m) storing store)) ∷ history) (answers_so w now x (answer_of w.setting.limits.datagram now m) storing store).world
-keeps_answering w history c now draw source bytes grown m x storing store onward fits read response found stored =
-    let result = answer_of w.setting.limits.datagram now m in
-    let e = doing (moves x.0) (entry_of now draw (arrival source bytes) (answers_so w now x result storing store)) in
-    let p = here history e in
-    let a = awaited w history c source m x found in
-    let f = a.exchange in
-    let flight = a.flight in
+-- ---- one request
+
+-- ids don't come back too soon
+differ : (w : World) (history : List Deed) → Bears history w → IdsDiffer history
+differ w history c = ids-differ w.setting.first_id history c.ids.are_ids c.ids.windows c.clock.in_order
+
+-- the last moment has come
+last-now : (w : World) (history : List Deed) → Bears history w → (now : ℕ) → w.last ≤ now → last_of history ≤ now
+last-now w history c now onward = let h = c.clock.last in omega (arith, h, onward)
+
+-- ---- the answer
+
+-- an answer that is got keeps what is carried, whatever is sent at once and remembered
+module _ (w : World) (history : List Deed) (c : Bears history w) (now draw : ℕ) (source : Endpoint) (bytes : List ℕ) (grown : Bool) (m : Message) (x : Numbered Exchange) (storing : Storing) (store : List Entry) (send : Option Endpoint) (told : List ℕ) (con non : Records) where
+  abbrev answer_deed : Deed
+  answer_deed = doing (moves x.0) (record { now = now; draw = draw; event = arrival source bytes; report = record { send = send; outcome = Answered storing }; bytes = told })
+
+  keeps-answer : w.last ≤ now → IsBytes bytes → message_in w.setting.limits.datagram bytes ≡ Some m → IsAnswerFor w now source m x → IsStoring w now grown x (answer_of w.setting.limits.datagram now m) storing store
+      → TakesUp m.kind source m.id answer_deed.entry
+      → (m.kind ≡ Con → IsNew w.setting history now source m)
+      → AreRemembered w.setting (answer_deed ∷ history) Con con × AreRemembered w.setting (answer_deed ∷ history) Non non
+      → Bears (answer_deed ∷ history) (moved_world w now x.0 (answered (answer_of w.setting.limits.datagram now m)) w.ids store con non)
+  keeps-answer onward fits read for stored taken new remembered =
+      let result = answer_of w.setting.limits.datagram now m in
+      let e = answer_deed in
+      let p = here history e in
+      let a = answer-here w history c now source m x for in
+      let h = a.0 in
+      let f = h.exchange in
+      let flight = h.flight in
+      let was = flight.asked in
+      let came = message_in-is w.setting.limits.datagram bytes m fits read in
+      let from = from-here w history c now source m x h in
+      let gets : Gets w.setting x.0 p = record { act = refl; outcome = refl; meets = meets-here w history c now source m x h a.1 bytes came.0 came.1; bytes = fits } in
+      let obtains : is_storable result ≡ true → IsObtained w.setting x.1.key result.message was.asking p = λ can. record { exchange = x.0; gets = gets; asking_is = refl; asked_key = was.asked_key; storable = can; response_is = refl } in
+      let only : IsObtainedHere w.setting history e → is_storable result ≡ true = λ o. ap (λ (r : Message). is_storable (answer_of w.setting.limits.datagram now r)) (one-brought gets.meets.brings o.obtained.gets.meets.brings).1 ∙ o.obtained.storable in
+      let answer : IsAnswer w.setting history e = record {
+        exchange = x.0;
+        gets = gets;
+        first = flight.unended;
+        unsettled = a.2;
+        only = λ reset other also. reset-once w.setting history now (differ w history c) c.clock.in_order (last-now w history c now onward) other x.0 (arrival source bytes) also (awaited-by w history c now source m x bytes fits read for) (sym (ap (λ (k : Message). k.kind) (one-brought gets.meets.brings also.meets.brings).1) ∙ reset);
+        new = λ is. subst (λ (to : Endpoint). IsNew w.setting history now to m) from (new is);
+        takes_up = subst (λ (to : Endpoint). TakesUp m.kind to m.id e.entry) from taken;
+      } in
+      keeps_moving w history c e x.0 x.1 (answered result) w.ids store con non
+      (record { act = refl; opens = refl; admits = refl; stands = λ standing. refl })
+      h.found onward
+      (record {
+        opened = opened-later e f.opened;
+        admitted = f.admitted;
+        verdict = f.verdict;
+        form_is = f.form_is;
+        form_short = f.form_short;
+        state = record {
+          ending = p;
+          was_ended = inl refl;
+          ends = record { act = refl; outcome = refl };
+          with = got gets was.asked_key refl;
+          got = got-is w.setting.limits.datagram now m;
+          was_sent = sent_frame w.setting history x.0 x.1.key x.1.form x.1.sending e (sends-quiet (moves x.0) history e refl) (was-sent w.setting history x x.1.state f.state);
+        };
+      })
+      (ended-seen x.0 result w.exchanges)
+      (ids-kept history w _ e c.clock c.ids onward refl refl refl)
+      (schedules_frame history e refl c.schedules)
+      (ended-pace w history c x.0 result)
+      (λ later after. ended-room w history c now x.0 result onward later after)
+      (stored-then w history c now grown x result e storing store flight.sending flight.sending_is was refl refl obtains stored)
+      remembered
+      (answered-so w history c now grown x result e storing store flight.sending flight.sending_is was refl refl answer obtains only stored, c.past)
+
+-- of what isn't Confirmable nothing is sent at once
+silent-up : (k : Kind) (source : Endpoint) (id : ℕ) (e : history.Entry) → is_con k ≡ false → IsSilent e → TakesUp k source id e
+silent-up Con source id e other silent = absurd cc
+silent-up Non source id e other silent = silent
+silent-up Ack source id e other silent = silent
+silent-up Rst source id e other silent = silent
+
+-- what is Confirmable is acknowledged
+told-up : (k : Kind) (source : Endpoint) (id : ℕ) (e : history.Entry) → is_con k ≡ true → Tells source (acknowledgement id) e → TakesUp k source id e
+told-up Con source id e con tells = tells
+told-up Non source id e con tells = absurd cc
+told-up Ack source id e con tells = absurd cc
+told-up Rst source id e con tells = absurd cc
+
+-- an answer that isn't Confirmable keeps what is carried
+pub keeps_answering : (w : World) (history : List Deed) (c : Bears history w) → (now draw : ℕ) (source : Endpoint) (bytes : List ℕ) (grown : Bool) (m : Message) (x : Numbered Exchange) (storing : Storing) (store : List Entry) → w.last ≤ now → IsBytes bytes → message_in w.setting.limits.datagram bytes ≡ Some m → IsAnswerFor w now source m x → is_con m.kind ≡ false → IsStoring w now grown x (answer_of w.setting.limits.datagram now m) storing store
+    → Bears (doing (moves x.0) (entry_of now draw (arrival source bytes) (silent (Answered storing) (answered_world w now x.0 (answer_of w.setting.limits.datagram now m) store))) ∷ history) (answered_world w now x.0 (answer_of w.setting.limits.datagram now m) store)
+keeps_answering w history c now draw source bytes grown m x storing store onward fits read for other stored =
+    let e = doing (moves x.0) (entry_of now draw (arrival source bytes) (silent (Answered storing) (answered_world w now x.0 (answer_of w.setting.limits.datagram now m) store))) in
+    let since = last-now w history c now onward in
+    keeps-answer w history c now draw source bytes grown m x storing store None [] w.con_records w.non_records onward fits read for stored
+    (silent-up m.kind source m.id e.entry other (record { sent = refl; bytes = refl }))
+    (λ con. absurd (let both = sym other ∙ ap is_con con in cc)) (
+      remembered-on e since (answer-leaves w bytes m Con e source storing fits read other refl refl) c.con_records,
+      remembered-on e since (answer-leaves w bytes m Non e source storing fits read other refl refl) c.non_records,
+    )
+
+-- and one that is, which is acknowledged and remembered
+pub keeps_answering_con : (w : World) (history : List Deed) (c : Bears history w) → (now draw : ℕ) (source : Endpoint) (bytes : List ℕ) (grown : Bool) (m : Message) (x : Numbered Exchange) (storing : Storing) (store : List Entry) → w.last ≤ now → IsBytes bytes → Recorded w bytes m → IsAnswerFor w now source m x → is_con m.kind ≡ true → known_of w now source m ≡ None → has_record_room w now m.kind ≡ true → IsStoring w now grown x (answer_of w.setting.limits.datagram now m) storing store
+    → Bears (doing (moves x.0) (entry_of now draw (arrival source bytes) (says (Answered storing) source (acknowledgement m.id) (answered_world w now x.0 (answer_of w.setting.limits.datagram now m) store))) ∷ history) (remembers now source m (says (Answered storing) source (acknowledgement m.id) (answered_world w now x.0 (answer_of w.setting.limits.datagram now m) store))).world
+keeps_answering_con w history c now draw source bytes grown m x storing store onward fits recorded for con unknown room stored =
+    let s = says (Answered storing) source (acknowledgement m.id) (answered_world w now x.0 (answer_of w.setting.limits.datagram now m) store) in
+    let e = doing (moves x.0) (entry_of now draw (arrival source bytes) s) in
+    let kind = recorded-kind m recorded.recorded in
+    keeps-answer w history c now draw source bytes grown m x storing store (Some source) (spelling (acknowledgement m.id)) _ _ onward fits recorded.read for stored
+    (told-up m.kind source m.id e.entry con (record { sent = refl; spells = spelled (acknowledgement m.id) (acknowledgement-is m.id) }))
+    (λ is. record-new w history c now source bytes m onward kind unknown room)
+    (now-remembered w history c now source bytes m onward draw (moves x.0) s fits recorded.read kind unknown room con (λ most wide long. omega (arith, wide, acknowledgement-short m.id)))
+
+-- ---- an acknowledgement
+
+-- an exchange whose request is acknowledged keeps what is carried
+pub keeps_acknowledging : (w : World) (history : List Deed) (c : Bears history w) → (now draw : ℕ) (source : Endpoint) (bytes : List ℕ) (m : Message) (x : Numbered Exchange) → w.last ≤ now → IsBytes bytes → message_in w.setting.limits.datagram bytes ≡ Some m → IsAbout w now source m x → is_ack m.kind ≡ true
+    → Bears (doing (moves x.0) (entry_of now draw (arrival source bytes) (acknowledges w now x.0)) ∷ history) (acknowledges w now x.0).world
+keeps_acknowledging w history c now draw source bytes m x onward fits read about ack =
+    let e = doing (moves x.0) (entry_of now draw (arrival source bytes) (acknowledges w now x.0)) in
+    let a = about-here w history c now source m x about in
+    let h = a.here in
+    let f = h.exchange in
+    let flight = h.flight in
     let was = flight.asked in
-    let tests = and_parts (is_ack m.kind) (is_response m.code) response in
-    let read_in = message_in-is w.setting.limits.datagram bytes m fits read in
-    let from : source ≡ was.asks.sends.to = sym (was.to ∙ a.source_is) in
-    let gets : Gets w.setting x.0 p = record {
-      act = refl;
-      outcome = refl;
-      meets = record {
-        asking = was.asking;
-        was_asked = was.was_asked;
-        asks = was.asks;
-        response = m;
-        brings = record { bytes = bytes; came = ap (λ (to : Endpoint). arrival to bytes) from; spells = read_in.0; short = read_in.1 };
-        matches = record { kind = ack_is m.kind tests.0; code = tests.1; same_token = a.token_is; same_id = sym a.id_is ∙ was.id_is };
-      };
-      bytes = fits;
+    let came = message_in-is w.setting.limits.datagram bytes m fits read in
+    let from = from-here w history c now source m x h in
+    let quiet = sends-quiet (moves x.0) history e refl in
+    let acknowledges_it : Acknowledges w.setting history now x.0 (arrival source bytes) = record {
+      asking = was.asking;
+      was_asked = was.was_asked;
+      asks = was.asks;
+      unsettled = sent-unsettled w history c now source m x a;
+      message = m;
+      brings = record { bytes = bytes; came = ap (λ (to : Endpoint). arrival to bytes) from; spells = came.0; short = came.1 };
+      kind = ack-is m.kind ack;
+      empty = empty-is m about.bare;
+      id_is = sym a.id_is ∙ was.id_is;
     } in
-    let obtains : is_storable result ≡ true → IsObtained w.setting x.1.key result.message was.asking p = λ can. record { exchange = x.0; gets = gets; asking_is = refl; asked_key = was.asked_key; storable = can; response_is = refl } in
-    let only : IsObtainedHere w.setting history e → is_storable result ≡ true = λ o. ap (λ (r : Message). is_storable (answer_of w.setting.limits.datagram now r)) (one-brought gets.meets.brings o.obtained.gets.meets.brings).1 ∙ o.obtained.storable in
-    keeps_moving w history c e x.0 x.1 (answered result) w.ids store
-    (record { act = refl; opens = refl; admits = refl; unremembered = refl; stands = λ standing. refl })
-    a.found onward
+    keeps_moving w history c e x.0 x.1 acked w.ids w.store w.con_records w.non_records
+    (record { act = refl; opens = refl; admits = refl; stands = λ standing. refl })
+    h.found onward
     (record {
       opened = opened-later e f.opened;
       admitted = f.admitted;
       verdict = f.verdict;
       form_is = f.form_is;
       form_short = f.form_short;
-      state = record { ending = p; was_ended = inl refl; ends = record { act = refl; outcome = refl }; with = got gets was.asked_key refl; got = got-is w.setting.limits.datagram now m };
+      state = record { sending = flight.sending; sending_is = flight.sending_is; asked = asked_frame e quiet was; unended = ((λ ended. let k = ended.outcome in absurd cc), flight.unended) };
     })
-    (ended-seen x.0 result w.exchanges)
+    (staged-seen x.0 acked stage.acked w.exchanges (All-weaken (λ y. Has y w.exchanges) (λ y. y.0 ≡ x.0 → stage.acked ≡ stage.acked) w.exchanges (λ y there same. refl) (Has-all w.exchanges)))
     (ids-kept history w _ e c.clock c.ids onward refl refl refl)
     (schedules_frame history e refl c.schedules)
-    (ended-pace w history c x.0 result)
-    (λ later after. ended-room w history c now x.0 result onward later after)
-    (stored-then w history c now grown x result e storing store flight.sending flight.sending_is was refl refl obtains stored)
-    (answered-so w history c now grown x result e storing store flight.sending flight.sending_is was refl refl (record { exchange = x.0; gets = gets; first = flight.unended; silent = record { sent = refl; bytes = refl } }) obtains only stored, c.past)
+    (λ to. let pace = c.within.pace to in let moved = count-moved (is_sent_to to) x.0 0 acked w.exchanges c.whole.rising in let none = unsent-acked (is_sent_to to) (λ b. refl) (item_at x.0 w.exchanges) in omega arith)
+    (λ later after. let room = room-still w history c now onward later after in let moved = count-moved is_queued x.0 0 acked w.exchanges c.whole.rising in let none = unsent-acked is_queued (λ b. refl) (item_at x.0 w.exchanges) in omega arith)
+    (store-otherwise w.setting history w.store e refl c.store)
+    (remembered-still w history c e onward (λ k. refl)) (
+      record {
+        exchange = x.0;
+        act = refl;
+        acknowledges = acknowledges_it;
+        only = λ other also. settled-once w.setting history now (differ w history c) c.clock.in_order (last-now w history c now onward) other x.0 (arrival source bytes) also acknowledges_it;
+        silent = record { sent = refl; bytes = refl };
+      },
+      c.past,
+    )
+  where
+    unsent-acked : (test : Exchange → Bool) → ((b : Exchange) → test (acked b) ≡ false) → (o : Option Exchange) → one_if (passes (λ b. test (acked b)) o) ≡ 0
+    unsent-acked test none None = refl
+    unsent-acked test none (Some b) = ap one_if (none b)

@@ -1,5 +1,5 @@
 -- One event brings one message, or none.
-use Rattle.std.proofs.Common.{◌≡◌, ℕ, false, List, Option, Some, sym, ap, ◌∙◌}
+use Rattle.std.proofs.Common.{◌≡◌, ℕ, false, List, Option, Some, refl, sym, ap, ◌∙◌}
 use Rattle.std.proofs.lemmas.Option.{same_Some}
 use Rattle.coap_message.specs.declared.kind.Kind.{Kind}
 use Rattle.coap_message.specs.declared.message.Head.{Head}
@@ -11,6 +11,7 @@ use Rattle.coap_model.specs.Events.{Event, arrival, tick}
 use Rattle.std.specs.Option.{option_map_or}
 use Rattle.coap_model.specs.Setting.{Setting}
 use Rattle.coap_forward.specs.Messages.{is_con}
+use Rattle.coap_model.specs.Justified.{Comes}
 use Rattle.coap_model.specs.History.{Brings, comes_con, IsRequestOf}
 use Rattle.coap_model.proofs.Places.{arrival-same, one-brought}
 
@@ -33,6 +34,10 @@ head_kind {a = a} {b = b} {m = m} {head = head} {ys = ys} p came is =
 -- and so of no other type
 pub kinds : {A : Type 0} {m n k l : Kind} → m ≡ n → m ≡ k → n ≡ l → (k ≡ l → ⊥) → A
 kinds same m_is n_is other = absurd (other (sym m_is ∙ same ∙ n_is))
+
+-- a request is remembered
+pub request_comes : {setting : Setting} {client : Endpoint} {m : Message} {event : Event} → IsRequestOf setting client m event → Comes setting client m event
+request_comes {m = m} r = record { brings = r.brings; recorded = rw (r.kind, r.method) refl }
 
 -- a request is Confirmable where its datagram is
 pub request_con : {setting : Setting} {client : Endpoint} {m : Message} {event : Event} → IsRequestOf setting client m event → comes_con event ≡ is_con m.kind

@@ -19,7 +19,7 @@ use Rattle.coap_model.specs.Justified.{IsObtainedHere, size_here, JustifiedBy, A
 use Rattle.coap_model.specs.Carries.{Carries}
 use Rattle.coap_model.proofs.Places.{here}
 use Rattle.coap_model.proofs.Cached.{obtained-unique, clash, apart}
-use Rattle.coap_model.proofs.Owing.{given_again, given_forgotten, given_hit}
+use Rattle.coap_model.proofs.Owing.{given_again, given_dropped, given_no_room, given_hit}
 
 module _ (setting : Setting) (past : List Deed) (d : Deed) where
   -- what is obtained at a place has one size
@@ -57,8 +57,9 @@ module _ (setting : Setting) (past : List Deed) (d : Deed) where
   owed-by j =
       let o = d.entry.report.outcome in
       record {
-        again = λ client request known r. given_again o setting past d client request j r known;
-        no_room = λ client request r. given_forgotten o setting past d client request j r;
+        again = λ source m known. given_again o setting past d source m known j;
+        no_room = λ client request r. given_dropped o setting past d client request j r;
+        no_answer_room = λ exchange awaited. given_no_room o setting past d exchange j awaited;
         hit = λ client request key cached entry r new. given_hit o setting past d client request j r new key cached entry;
         small = λ h. small-so o j h.obtained.gets.outcome h;
         large = λ h. large-so o j h.obtained.gets.outcome h;

@@ -26,7 +26,7 @@ use Rattle.coap_forward.specs.Answers.{answer_of}
 use Rattle.coap_model.specs.Examples.{origin, client, get_t, get_temp}
 use Rattle.coap_model.specs.LimitExamples as limited
 use Rattle.coap_model.specs.OptionExamples.{key_of_temp}
-use Rattle.coap_model.specs.History.{Deed, Place, IsPlaceOf, Never, Sends, Asks}
+use Rattle.coap_model.specs.History.{Deed, Place, IsPlaceOf, Never, Sends, Asks, in_acknowledgement}
 use Rattle.coap_model.specs.Forged as forged
 use Rattle.coap_model.specs.Forged.{setting, opened, asked}
 use Rattle.coap_model.specs.Cached.{IsObtained, IsCacheOf, empty, kept, too_large, hit, otherwise}
@@ -104,9 +104,9 @@ content_obtained past now id x storing asking was_asked asks to message key byte
       asking = asking;
       was_asked = was_asked;
       asks = asks;
-      response = content_for id x;
+      message = content_for id x;
       brings = record { bytes = limited.got id x; came = ap (λ (e : Endpoint). arrival e (limited.got id x)) (sym to); spells = spells; short = omega arith };
-      matches = record { kind = refl; code = refl; same_token = refl; same_id = ap (λ (m : Message). m.id) (sym message) };
+      matches = in_acknowledgement refl refl refl (ap (λ (m : Message). m.id) (sym message));
     };
     bytes = bytes;
   };

@@ -1,5 +1,5 @@
 -- The cache of a history: it is one, and its entries were obtained.
-use Rattle.std.proofs.Common.{◌≡◌, ◌≢◌, inl, inr, ℕ, ◌-◌, ◌<◌, ◌&&◌, true, false, Bool, cond, nat_le, nat_lt, List, [], ◌∷◌, Some, Result, Ok, refl, sym, ap, ◌∙◌, subst}
+use Rattle.std.proofs.Common.{◌≡◌, ◌≢◌, inl, inr, ℕ, ◌-◌, ◌<◌, ◌&&◌, true, false, Bool, not, cond, nat_le, nat_lt, List, [], ◌∷◌, Some, Result, Ok, refl, sym, ap, ◌∙◌, subst}
 use Rattle.std.specs.List.{AllByRecursion}
 use Rattle.std.proofs.lemmas.Option.{same_Some}
 use Rattle.std.proofs.lemmas.Bool.{and_parts, ltb-true}
@@ -20,6 +20,7 @@ use Rattle.coap_model.specs.declared.report.Outcome.{Outcome}
 use Rattle.coap_model.specs.Setting.{Setting}
 use Rattle.coap_model.specs.Events.{Event}
 use Rattle.coap_model.specs.Keys.{key_sent, request_key}
+use Rattle.coap_forward.specs.Messages.{is_rst}
 use Rattle.coap_forward.specs.Answers.{answer_of, is_storable, without_observe, is_passed_on, bad_gateway}
 use Rattle.coap_model.specs.History.{Deed, Place, IsPlaceOf, Never, Brings, Sends, Meets, Matches}
 use Rattle.coap_model.specs.Cached.{IsObtained, Cached, cached_key, cached_size, cached_with, cached_here, leaves, IsCacheOf, empty, kept, too_large, hit, otherwise, WasObtained, IsOfOrigin}
@@ -35,20 +36,20 @@ one-sent salt x y p q same s t = (
   one_message q.deed.entry.bytes s.message t.message (subst (λ (r : Place). Spells r.deed.entry.bytes s.message) same s.spells) t.spells,
 )
 
--- what two know who say which response met one exchange
+-- what two know who say which answer met one exchange
 pub record MeetTheSame {setting : Setting} {x y : ℕ} {past : List Deed} {u v : Event} (a : Meets setting x past u) (b : Meets setting y past v) : Type 0 where
   pub asking : a.asking ≡ b.asking
   pub to : a.asks.sends.to ≡ b.asks.sends.to
   pub message : a.asks.sends.message ≡ b.asks.sends.message
-  pub response : a.response ≡ b.response
+  pub answer : a.message ≡ b.message
 
--- where it was asked, and the response
+-- where it was asked, and the answer
 pub meets-unique : (setting : Setting) (x y : ℕ) (past : List Deed) (u v : Event) → x ≡ y → u ≡ v → (a : Meets setting x past u) (b : Meets setting y past v) → MeetTheSame a b
 meets-unique setting x y past u v exchange event a b =
     let salt = setting.salt in
     let asking = first-once (Sends salt y) past a.asking b.asking a.was_asked b.was_asked (subst (λ (n : ℕ). Sends salt n a.asking) exchange a.asks.sends) b.asks.sends (subst (λ (n : ℕ). Never (Sends salt n) a.asking.before) exchange a.asks.first) b.asks.first in
     let sent = one-sent salt x y a.asking b.asking asking a.asks.sends b.asks.sends in
-    record { asking = asking; to = sent.0; message = sent.1; response = (one-brought (subst (Brings setting.limits.datagram a.asks.sends.to a.response) event a.brings) b.brings).1 }
+    record { asking = asking; to = sent.0; message = sent.1; answer = (one-brought (subst (Brings setting.limits.datagram a.asks.sends.to a.message) event a.brings) b.brings).1 }
 
 -- so a place obtains one response, for one key, at one asking
 pub obtained-unique : (setting : Setting) (k l : CacheKey) (m n : Message) (a b getting : Place) → IsObtained setting k m a getting → IsObtained setting l n b getting → (k ≡ l) × (m ≡ n) × (a ≡ b)
@@ -56,7 +57,7 @@ obtained-unique setting k l m n a b getting o p =
     let same = meets-unique setting o.exchange p.exchange getting.before getting.deed.entry.event getting.deed.entry.event (same_moves o.exchange p.exchange (sym o.gets.act ∙ p.gets.act)) refl o.gets.meets p.gets.meets in
     let key : key_sent o.gets.meets.asks.sends.to o.gets.meets.asks.sends.message ≡ key_sent p.gets.meets.asks.sends.to p.gets.meets.asks.sends.message = λ i. key_sent (same.to i) (same.message i) in (
       sym o.asked_key ∙ key ∙ p.asked_key,
-      o.response_is ∙ ap (λ (r : Message). (answer_of setting.limits.datagram getting.deed.entry.now r).message) same.response ∙ sym p.response_is,
+      o.response_is ∙ ap (λ (r : Message). (answer_of setting.limits.datagram getting.deed.entry.now r).message) same.answer ∙ sym p.response_is,
       sym o.asking_is ∙ same.asking ∙ p.asking_is,
     )
 
@@ -70,16 +71,16 @@ record IsPassedOn (most : ℕ) (m response : Message) : Type 0 where
 -- it was passed on
 passed-on : (most now : ℕ) (m response : Message) → is_storable (answer_of most now m) ≡ true → response ≡ (answer_of most now m).message → IsPassedOn most m response
 unfolding answer_of
-passed-on most now m response storable is = go (is_passed_on most m) refl storable is
+passed-on most now m response storable is = go (not (is_rst m.kind) && is_passed_on most m) refl storable is
   where
     answer_if : Bool → Answer
     answer_if b = cond b (record { message = without_observe m; got = now; own = false }) (record { message = bad_gateway; got = now; own = true })
 
-    go : (b : Bool) → is_passed_on most m ≡ b → is_storable (answer_if b) ≡ true → response ≡ (answer_if b).message → IsPassedOn most m response
+    go : (b : Bool) → (not (is_rst m.kind) && is_passed_on most m) ≡ b → is_storable (answer_if b) ≡ true → response ≡ (answer_if b).message → IsPassedOn most m response
     go true passed storable is =
         let parts = and_parts (tells_age (without_observe m).code) (nat_lt 0 (max_age_of (without_observe m))) storable in
         record {
-          passed = passed;
+          passed = (and_parts (not (is_rst m.kind)) (is_passed_on most m) passed).1;
           response_is = is;
           code = ap (λ (r : Message). tells_age r.code) is ∙ parts.0;
           age = ltb-true 0 (max_age_of response) (ap (λ (r : Message). nat_lt 0 (max_age_of r)) is ∙ parts.1);
@@ -91,16 +92,16 @@ pub obtained-of_origin : (setting : Setting) (key : CacheKey) (response : Messag
 obtained-of_origin setting key response asking getting o =
     let m = o.gets.meets in
     let s = m.asks.sends in
-    let p = passed-on setting.limits.datagram getting.deed.entry.now m.response response o.storable o.response_is in
+    let p = passed-on setting.limits.datagram getting.deed.entry.now m.message response o.storable o.response_is in
     record {
       origin = s.to;
       request = s.message;
       sent = subst (λ (q : Place). q.deed.entry.report.send ≡ Some s.to) o.asking_is s.sent;
       spells = subst (λ (q : Place). Spells q.deed.entry.bytes s.message) o.asking_is s.spells;
       key_is = o.asked_key;
-      came = m.response;
+      came = m.message;
       brings = m.brings;
-      matches = subst (λ (token : List ℕ). Matches token s.message.id m.response) (sym s.token) m.matches;
+      matches = subst (λ (token : List ℕ). Matches token s.message.id m.message) (sym s.token) m.matches;
       passed = p.passed;
       response_is = p.response_is;
       code = p.code;

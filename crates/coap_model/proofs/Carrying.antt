@@ -9,8 +9,8 @@ use Rattle.coap_model.specs.Step.{step_of}
 use Rattle.coap_model.specs.History.{Entry, Act, no_item, admits, moves, serves, Deed, opened_in, admitted_in}
 use Rattle.coap_model.specs.Runs.{entry_of}
 use Rattle.coap_model.specs.Carries.{Ids, Bears, Carries}
-use Rattle.coap_model.proofs.Rules.{Rule, refusing, lacking, overloading, hitting, opening, repeating, forgetting, answering, rejecting, ignoring, forwarding, resending, giving_up, delivering, idling, stuck, rule_of}
-use Rattle.coap_model.proofs.Replying.{keeps_refusing, keeps_overloading, keeps_lacking, keeps_repeating, keeps_forgetting, keeps_rejecting, keeps_ignoring}
+use Rattle.coap_model.proofs.Rules.{Rule, refusing, lacking, overloading, hitting, opening, repeating, dropping, answering, answering_con, acknowledging, rejecting, ignoring, forwarding, resending, giving_up, delivering, idling, stuck, rule_of}
+use Rattle.coap_model.proofs.Replying.{keeps_refusing, keeps_overloading, keeps_lacking, keeps_repeating, keeps_dropping, keeps_rejecting, keeps_ignoring}
 use Rattle.coap_model.proofs.Places.{doing}
 use Rattle.coap_model.proofs.Idling.{keeps_idling, not-stuck}
 use Rattle.coap_model.proofs.Repeating.{keeps_resending, keeps_giving_up}
@@ -18,7 +18,7 @@ use Rattle.coap_model.proofs.Opening.{keeps_opening}
 use Rattle.coap_model.proofs.Hitting.{keeps_hitting}
 use Rattle.coap_model.proofs.Stores.{store-empty}
 use Rattle.coap_model.proofs.Forwarding.{keeps_forwarding}
-use Rattle.coap_model.proofs.Answering.{keeps_answering}
+use Rattle.coap_model.proofs.Answering.{keeps_answering, keeps_answering_con, keeps_acknowledging}
 use Rattle.coap_model.proofs.Delivering.{keeps_delivering}
 
 -- the tables after an entry are what it did, in front of what was done before
@@ -34,8 +34,10 @@ keeps_rule {w = w} {now = now} {draw = draw} history c onward (overloading clien
 keeps_rule {w = w} {now = now} {draw = draw} history c onward (hitting client bytes m key entry first verdict found usable free) = record { act = no_item; bears = keeps_hitting w history c now draw client bytes m key entry onward first verdict found usable free }
 keeps_rule {w = w} {now = now} {draw = draw} history c onward (opening client bytes m key first verdict none short room) = record { act = admits (admitted_in history + 1) (opened_in history + 1); bears = keeps_opening w history c now draw client bytes m key onward first verdict none short room }
 keeps_rule {w = w} {now = now} {draw = draw} history c onward (repeating client bytes m known fits asked found) = record { act = no_item; bears = keeps_repeating w history c now draw client bytes m known onward fits asked found }
-keeps_rule {w = w} {now = now} {draw = draw} history c onward (forgetting client bytes m fits asked unknown full) = record { act = no_item; bears = keeps_forgetting w history c now draw client bytes m onward fits asked unknown full }
-keeps_rule {w = w} {now = now} {draw = draw} {grown = grown} history c onward (answering source bytes m x storing store fits read response found stored) = record { act = moves x.0; bears = keeps_answering w history c now draw source bytes grown m x storing store onward fits read response found stored }
+keeps_rule {w = w} {now = now} {draw = draw} history c onward (dropping source bytes m fits recorded wanted unknown full) = record { act = no_item; bears = keeps_dropping w history c now draw source bytes m onward fits recorded wanted unknown full }
+keeps_rule {w = w} {now = now} {draw = draw} {grown = grown} history c onward (answering source bytes m x storing store fits read for other stored) = record { act = moves x.0; bears = keeps_answering w history c now draw source bytes grown m x storing store onward fits read for other stored }
+keeps_rule {w = w} {now = now} {draw = draw} {grown = grown} history c onward (answering_con source bytes m x storing store fits recorded for con unknown room stored) = record { act = moves x.0; bears = keeps_answering_con w history c now draw source bytes grown m x storing store onward fits recorded for con unknown room stored }
+keeps_rule {w = w} {now = now} {draw = draw} history c onward (acknowledging source bytes m x fits read about ack) = record { act = moves x.0; bears = keeps_acknowledging w history c now draw source bytes m x onward fits read about ack }
 keeps_rule {w = w} {now = now} {draw = draw} history c onward (rejecting source bytes head is con none) = record { act = no_item; bears = keeps_rejecting w history c now draw source bytes head onward is con none }
 keeps_rule {w = w} {now = now} {draw = draw} history c onward (ignoring source bytes quiet none) = record { act = no_item; bears = keeps_ignoring w history c now draw source bytes onward quiet none }
 keeps_rule {w = w} {now = now} {draw = draw} history c onward (forwarding at number x turn is early) = record { act = moves number; bears = keeps_forwarding w history c now draw at number x onward turn is early }

@@ -44,7 +44,7 @@ use Rattle.coap_model.proofs.Quiet.{remembered-still}
 use Rattle.coap_model.proofs.Replying.{id-same}
 use Rattle.coap_model.proofs.Room.{all-waiting}
 use Rattle.coap_model.proofs.Seen.{gone-seen, kept-but, kept-all, who-waits}
-use Rattle.coap_model.proofs.Showing.{shown-is}
+use Rattle.coap_model.proofs.Showing.{matches-response, shown-is}
 use Rattle.coap_model.proofs.Stores.{store-otherwise}
 use Rattle.coap_model.proofs.Tables.{item-Has, item-holds, one-item, length-without, without-fewer, HasNumber-without, Has-number, count-some}
 
@@ -79,7 +79,7 @@ served w history c number exchange v a found waits answer =
 pub ending-is : (w : World) (now id x : ℕ) (key : CacheKey) (p : Place) (a : Answer) (token : List ℕ) (tags : List (List ℕ)) → EndsWith w.setting x key p a → length token ≤ 8 → IsMessage (shown now a id token tags)
 ending-is w now id x key p a token tags (got gets asked is) short =
     let m = gets.meets in
-    subst (λ (b : Answer). IsMessage (shown now b id token tags)) (sym is) (shown-is w.setting.limits.datagram now p.deed.entry.now m.response id token tags m.brings.spells.message m.matches.code short)
+    subst (λ (b : Answer). IsMessage (shown now b id token tags)) (sym is) (shown-is w.setting.limits.datagram now p.deed.entry.now m.message id token tags m.brings.spells.message (matches-response m.matches) short)
 ending-is w now id x key p a token tags (given_up gives is) short =
     subst (λ (b : Answer). IsMessage (shown now b id token tags)) (sym is) (timeout-is now p.deed.entry.now id token tags short)
 
@@ -282,7 +282,7 @@ keeps_delivering w history c now draw at number exchange v a onward due found wa
     let within = c.within.ids now onward in
     let there : Has (number, v) w.waiters = item-Has number w.waiters v found in
     let fewer = length-without number 0 w.waiters (Has-number w.waiters (number, v) there) c.whole.waiters_rise in
-    let remembered = remembered-still w history c e onward refl in
+    let remembered = remembered-still w history c e onward (λ k. refl) in
     let first = turn-is w history c now (OfWaiter at number) due in
     record {
       routes = c.routes;

@@ -1,8 +1,8 @@
 -- What is remembered, by places: each record was left at a place, and what is left at a place is found as long as it lives.
-use Rattle.std.proofs.Common.{◌≡◌, inl, inr, refl, ⊎_elim, ℕ, ◌+◌, ◌<◌, Bool, true, false, List, [], ◌∷◌, ◌++◌, Option, Some, None, sym, ap, ◌∙◌, subst}
+use Rattle.std.proofs.Common.{◌≡◌, inl, inr, refl, ⊎_elim, ℕ, ◌+◌, ◌<◌, ◌&&◌, Bool, true, false, List, [], ◌∷◌, ◌++◌, Option, Some, None, sym, ap, ◌∙◌, subst}
 use Rattle.std.specs.Prelude.{filter, if◌then◌else◌}
 use Rattle.std.specs.List.{AllByRecursion}
-use Rattle.std.proofs.lemmas.Bool.{ltb-true, lt-ltb}
+use Rattle.std.proofs.lemmas.Bool.{and_parts, ltb-true, lt-ltb}
 use Rattle.coap_target.proofs.Lists.{All-append, All-weaken}
 use Rattle.coap_message.specs.declared.kind.Kind.{Kind}
 use Rattle.coap_message.specs.declared.kind.Kind.TheVariants.{Con, Non, Ack, Rst}
@@ -36,33 +36,25 @@ record WasLeft (kind : Kind) (history : List Deed) (r : Record) : Type 0 where
   pub id : former.id ≡ r.id
   pub at : r.at ≡ place.deed.entry.now
   pub reply : r.reply ≡ told_again former.kind place.deed.entry.bytes
-  pub remembered : is_remembered place.deed.entry.report.outcome ≡ true
+  pub remembered : is_remembered place.deed.entry.report.outcome former.kind ≡ true
 
 -- what an entry leaves was left there
 left-by : (kind : Kind) (past : List Deed) (d : Deed) → AllByRecursion (WasLeft kind (d ∷ past)) (kept_by kind d.entry)
-left-by kind past d = go (is_remembered d.entry.report.outcome) refl
+left-by kind past d = brought d.entry.event refl
   where
-    now : ℕ
-    now = d.entry.now
-
-    headed : is_remembered d.entry.report.outcome ≡ true → (source : Endpoint) (bytes : List ℕ) → d.entry.event ≡ arrival source bytes → (h : Option Head) → head_at bytes ≡ h → AllByRecursion (WasLeft kind (d ∷ past)) (kept_of kind d.entry.now d.entry.bytes source h)
-    headed kept source bytes came None is = tt
-    headed kept source bytes came (Some former) is = test (goes_with kind former.kind) refl
+    headed : (source : Endpoint) (bytes : List ℕ) → d.entry.event ≡ arrival source bytes → (h : Option Head) → head_at bytes ≡ h → AllByRecursion (WasLeft kind (d ∷ past)) (kept_of kind d.entry.report.outcome d.entry.now d.entry.bytes source h)
+    headed source bytes came None is = tt
+    headed source bytes came (Some former) is = test (goes_with kind former.kind && is_remembered d.entry.report.outcome former.kind) refl
       where
-        made : Record
-        made = record { from = source; id = former.id; at = d.entry.now; reply = told_again former.kind d.entry.bytes }
+        test : (b : Bool) → (goes_with kind former.kind && is_remembered d.entry.report.outcome former.kind) ≡ b → AllByRecursion (WasLeft kind (d ∷ past)) (if b then record { from = source; id = former.id; at = d.entry.now; reply = told_again former.kind d.entry.bytes } ∷ [] else [])
+        test true kept =
+            let parts = and_parts (goes_with kind former.kind) (is_remembered d.entry.report.outcome former.kind) kept in
+            (record { place = record { before = past; deed = d }; there = inl refl; bytes = bytes; former = former; came = came; head = is; goes = parts.0; id = refl; at = refl; reply = refl; remembered = parts.1 }, tt)
+        test false kept = tt
 
-        test : (b : Bool) → goes_with kind former.kind ≡ b → AllByRecursion (WasLeft kind (d ∷ past)) (if b then record { from = source; id = former.id; at = d.entry.now; reply = told_again former.kind d.entry.bytes } ∷ [] else [])
-        test true goes = (record { place = record { before = past; deed = d }; there = inl refl; bytes = bytes; former = former; came = came; head = is; goes = goes; id = refl; at = refl; reply = refl; remembered = kept }, tt)
-        test false goes = tt
-
-    brought : is_remembered d.entry.report.outcome ≡ true → (event : Event) → d.entry.event ≡ event → AllByRecursion (WasLeft kind (d ∷ past)) (kept_at kind d.entry.now d.entry.bytes event)
-    brought kept (arrival source bytes) came = headed kept source bytes came (head_at bytes) refl
-    brought kept tick came = tt
-
-    go : (b : Bool) → is_remembered d.entry.report.outcome ≡ b → AllByRecursion (WasLeft kind (d ∷ past)) (if b then kept_at kind d.entry.now d.entry.bytes d.entry.event else [])
-    go true kept = brought kept d.entry.event refl
-    go false kept = tt
+    brought : (event : Event) → d.entry.event ≡ event → AllByRecursion (WasLeft kind (d ∷ past)) (kept_at kind d.entry.report.outcome d.entry.now d.entry.bytes event)
+    brought (arrival source bytes) came = headed source bytes came (head_at bytes) refl
+    brought tick came = tt
 
 -- so was all that is left
 all-left : (kind : Kind) (history : List Deed) → AllByRecursion (WasLeft kind history) (kept_in kind history)
@@ -87,15 +79,15 @@ goes-same Non Rst e = absurd cc
 goes-same Ack l e = absurd cc
 goes-same Rst l e = absurd cc
 
--- what is known of a request is what was left of it at a place
-pub known-place : (past : List Deed) (now : ℕ) (client : Endpoint) (request : Message) (known : Record) → record_of client request.id (remembered_at request.kind now past) ≡ Some known → Somewhere (IsRememberedAt now client request known) past
-known-place past now client request known found =
-    let kind = request.kind in
+-- what is known of a message is what was left of it at a place
+pub known-place : (past : List Deed) (now : ℕ) (source : Endpoint) (m : Message) (known : Record) → record_of source m.id (remembered_at m.kind now past) ≡ Some known → Somewhere (IsRememberedAt now source m known) past
+known-place past now source m known found =
+    let kind = m.kind in
     let lifetime = remembered_for kind in
     let living = All-filter (WasLeft kind past) (is_living lifetime now) (kept_in kind past) (all-left kind past) in
-    let h = find-holds (λ r. WasLeft kind past r × (is_living lifetime now r ≡ true)) (is_of client request.id) (remembered_at kind now past) known living found in
+    let h = find-holds (λ r. WasLeft kind past r × (is_living lifetime now r ≡ true)) (is_of source m.id) (remembered_at kind now past) known living found in
     let l = h.0.0 in
-    let key = is_of-key client request.id known h.1 in
+    let key = is_of-key source m.id known h.1 in
     let same = goes-same kind l.former.kind l.goes in
     record {
       place = l.place;
@@ -138,33 +130,33 @@ goes-itself Non e = refl
 goes-itself Ack e = absurd cc
 goes-itself Rst e = absurd cc
 
--- what an entry leaves of a request that it brought
-left-is : (kind : Kind) (e : Entry) (client : Endpoint) (bytes : List ℕ) (former : Head) → is_remembered e.report.outcome ≡ true → e.event ≡ arrival client bytes → head_at bytes ≡ Some former → goes_with kind former.kind ≡ true → kept_by kind e ≡ record { from = client; id = former.id; at = e.now; reply = told_again former.kind e.bytes } ∷ []
-left-is kind e client bytes former kept came head goes = rw (kept, came, head, goes) refl
+-- what an entry leaves of a message that it brought
+left-is : (kind : Kind) (e : Entry) (source : Endpoint) (bytes : List ℕ) (former : Head) → is_remembered e.report.outcome former.kind ≡ true → e.event ≡ arrival source bytes → head_at bytes ≡ Some former → goes_with kind former.kind ≡ true → kept_by kind e ≡ record { from = source; id = former.id; at = e.now; reply = told_again former.kind e.bytes } ∷ []
+left-is kind e source bytes former kept came head goes = rw (came, head, goes, kept) refl
 
--- so a request that repeats one is known
-pub place-known : (past : List Deed) (now : ℕ) (client : Endpoint) (request : Message) (p : Place) → brings_requests request.kind ≡ true → IsPlaceOf past p → Repeats now client request p → record_of client request.id (remembered_at request.kind now past) ≡ None → ⊥
-place-known past now client request p brings at r none = go past at (unfilter (λ x. is_of client request.id x ≡ false) (is_living lifetime now) (kept_in kind past) (none-found (is_of client request.id) (remembered_at kind now past) none))
+-- so a message that repeats one is known
+pub place-known : (past : List Deed) (now : ℕ) (source : Endpoint) (m : Message) (p : Place) → brings_requests m.kind ≡ true → IsPlaceOf past p → Repeats now source m p → record_of source m.id (remembered_at m.kind now past) ≡ None → ⊥
+place-known past now source m p brings at r none = go past at (unfilter (λ x. is_of source m.id x ≡ false) (is_living lifetime now) (kept_in kind past) (none-found (is_of source m.id) (remembered_at kind now past) none))
   where
     kind : Kind
-    kind = request.kind
+    kind = m.kind
 
     lifetime : ℕ
-    lifetime = remembered_for request.kind
+    lifetime = remembered_for m.kind
 
-    go : (history : List Deed) → IsPlaceOf history p → AllByRecursion (λ x. is_living (remembered_for request.kind) now x ≡ true → is_of client request.id x ≡ false) (kept_in request.kind history) → ⊥
+    go : (history : List Deed) → IsPlaceOf history p → AllByRecursion (λ x. is_living (remembered_for m.kind) now x ≡ true → is_of source m.id x ≡ false) (kept_in m.kind history) → ⊥
     go [] there all = there
     go (d ∷ before) there all =
-        let parts = both-parts (λ x. is_living (remembered_for request.kind) now x ≡ true → is_of client request.id x ≡ false) (kept_in request.kind before) (kept_by request.kind d.entry) all in
+        let parts = both-parts (λ x. is_living (remembered_for m.kind) now x ≡ true → is_of source m.id x ≡ false) (kept_in m.kind before) (kept_by m.kind d.entry) all in
         ⊎_elim
         (λ (same : record { before = before; deed = d } ≡ p).
         let e = p.deed.entry in
-        let made : Record = record { from = client; id = r.former.id; at = e.now; reply = told_again r.former.kind e.bytes } in
-        let goes : goes_with request.kind r.former.kind ≡ true = subst (λ (k : Kind). goes_with request.kind k ≡ true) (sym r.kind) (goes-itself request.kind brings) in
-        let left : kept_by request.kind d.entry ≡ made ∷ [] = ap (λ (q : Place). kept_by request.kind q.deed.entry) same ∙ left-is request.kind e client r.bytes r.former r.remembered r.came r.head goes in
-        let one = subst (λ (rs : List Record). AllByRecursion (λ x. is_living (remembered_for request.kind) now x ≡ true → is_of client request.id x ≡ false) rs) left parts.1 in
-        let other = one.0 (lt-ltb now (e.now + remembered_for request.kind) r.alive) in
-        let itself : is_of client request.id made ≡ true = subst (λ (n : ℕ). is_of client n made ≡ true) r.id (same_key-itself (record { from = client; id = r.former.id })) in
+        let made : Record = record { from = source; id = r.former.id; at = e.now; reply = told_again r.former.kind e.bytes } in
+        let goes : goes_with m.kind r.former.kind ≡ true = subst (λ (k : Kind). goes_with m.kind k ≡ true) (sym r.kind) (goes-itself m.kind brings) in
+        let left : kept_by m.kind d.entry ≡ made ∷ [] = ap (λ (q : Place). kept_by m.kind q.deed.entry) same ∙ left-is m.kind e source r.bytes r.former r.remembered r.came r.head goes in
+        let one = subst (λ (rs : List Record). AllByRecursion (λ x. is_living (remembered_for m.kind) now x ≡ true → is_of source m.id x ≡ false) rs) left parts.1 in
+        let other = one.0 (lt-ltb now (e.now + remembered_for m.kind) r.alive) in
+        let itself : is_of source m.id made ≡ true = subst (λ (n : ℕ). is_of source n made ≡ true) r.id (same_key-itself (record { from = source; id = r.former.id })) in
         absurd (let f = sym itself ∙ other in cc))
         (λ (earlier : IsPlaceOf before p). go before earlier parts.0)
         there

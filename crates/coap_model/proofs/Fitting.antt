@@ -9,12 +9,13 @@ use Rattle.coap_limits.specs.Limits.{AreLimits}
 use Rattle.coap_model.specs.Events.{Event, IsEvent}
 use Rattle.coap_forward.specs.Messages.{reset}
 use Rattle.coap_forward.specs.Answers.{shown}
-use Rattle.coap_model.specs.World.{World, Step, next_id, records_of}
+use Rattle.coap_model.specs.World.{World, Step, repeats, next_id, records_of}
 use Rattle.coap_model.specs.Step.{step_of}
 use Rattle.coap_model.specs.History.{Entry, Deed, Place}
 use Rattle.coap_model.specs.Carries.{Bears, Carries}
 use Rattle.coap_model.proofs.Showing.{answer-fits}
-use Rattle.coap_model.proofs.Rules.{Rule, refusing, lacking, overloading, hitting, opening, repeating, forgetting, answering, rejecting, ignoring, forwarding, resending, giving_up, delivering, idling, stuck, rule_of}
+use Rattle.coap_model.proofs.Spelled.{acknowledgement-short}
+use Rattle.coap_model.proofs.Rules.{Rule, refusing, lacking, overloading, hitting, opening, repeating, dropping, answering, answering_con, acknowledging, rejecting, ignoring, forwarding, resending, giving_up, delivering, idling, stuck, rule_of}
 use Rattle.coap_model.proofs.Turns.{turn-exchange}
 use Rattle.coap_model.proofs.Getting.{timeout-fits}
 use Rattle.coap_cache.specs.declared.key.CacheKey.{CacheKey}
@@ -31,7 +32,6 @@ use Rattle.coap_dedup.specs.Lists.{is_of, is_living, record_of, reply_bytes}
 use Rattle.coap_dedup.specs.Records.{Records, living_at}
 use Rattle.std.specs.List.{AllByRecursion}
 use Rattle.std.specs.Option.{option_map_or}
-use Rattle.coap_model.specs.Requests.{repeats}
 use Rattle.coap_option.specs.Selection.{tags_of}
 
 -- ---- the proxy's own replies
@@ -46,7 +46,7 @@ reset-short id = omega (arith, spelling-length (reset id))
 ending-fits : (w : World) (now id x : ℕ) (key : CacheKey) (p : Place) (a : Answer) (token : List ℕ) (tags : List (List ℕ)) → 128 ≤ w.setting.limits.datagram → EndsWith w.setting x key p a → length token ≤ 8 → length (spelling (shown now a id token tags)) ≤ w.setting.limits.datagram
 ending-fits w now id x key p a token tags wide (got gets asked is) short =
     let m = gets.meets in
-    subst (λ (b : Answer). length (spelling (shown now b id token tags)) ≤ w.setting.limits.datagram) (sym is) (answer-fits w.setting.limits.datagram w.setting.limits.datagram now p.deed.entry.now id m.brings.bytes m.response token tags wide (omega arith) gets.bytes m.brings.spells short)
+    subst (λ (b : Answer). length (spelling (shown now b id token tags)) ≤ w.setting.limits.datagram) (sym is) (answer-fits w.setting.limits.datagram w.setting.limits.datagram now p.deed.entry.now id m.brings.bytes m.message token tags wide (omega arith) gets.bytes m.brings.spells short)
 ending-fits w now id x key p a token tags wide (given_up gives is) short =
     subst (λ (b : Answer). length (spelling (shown now b id token tags)) ≤ w.setting.limits.datagram) (sym is) (timeout-fits now p.deed.entry.now id w.setting.limits.datagram token tags short wide)
 
@@ -76,8 +76,10 @@ rule_fits {w = w} {now = now} history c are (repeating client bytes m known fits
     go Non is = told known.reply (short w.non_records (c.non_records.short most (are Datagram).0 (omega arith)) (subst (λ (k : Kind). record_of client m.id (living_at now (records_of k w)) ≡ Some known) is found))
     go Ack is = told known.reply (short w.non_records (c.non_records.short most (are Datagram).0 (omega arith)) (subst (λ (k : Kind). record_of client m.id (living_at now (records_of k w)) ≡ Some known) is found))
     go Rst is = told known.reply (short w.non_records (c.non_records.short most (are Datagram).0 (omega arith)) (subst (λ (k : Kind). record_of client m.id (living_at now (records_of k w)) ≡ Some known) is found))
-rule_fits {w = w} history c are (forgetting client bytes m fits asked unknown full) = omega arith
-rule_fits {w = w} history c are (answering source bytes m x storing store fit read response found stored) = omega arith
+rule_fits {w = w} history c are (dropping source bytes m fits recorded wanted unknown full) = omega arith
+rule_fits {w = w} history c are (answering source bytes m x storing store fit read for other stored) = omega arith
+rule_fits {w = w} history c are (answering_con source bytes m x storing store fit recorded for con unknown room stored) = omega (arith, (are Datagram).0, acknowledgement-short m.id)
+rule_fits {w = w} history c are (acknowledging source bytes m x fit read about ack) = omega arith
 rule_fits {w = w} history c are (rejecting source bytes head is con none) = omega (arith, (are Datagram).0, reset-short head.id)
 rule_fits {w = w} history c are (ignoring source bytes quiet none) = omega arith
 rule_fits {w = w} {now = now} history c are (forwarding at number x turn is early) = omega (arith, length-with_id (next_id w) x.form, (turn-exchange w history c now at number x turn).form_short)

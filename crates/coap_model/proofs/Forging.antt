@@ -1,14 +1,16 @@
 -- Forged deliveries.
-use Rattle.std.proofs.Common.{◌≡◌, inl, inr, ⊎_elim, ℕ, false, List, [], ◌∷◌, Some, Result, Ok, Err, refl, sym, ap, ◌∙◌, subst, length, arith}
+use Rattle.std.proofs.Common.{◌≡◌, inl, inr, ⊎_elim, ℕ, Bool, true, false, List, [], ◌∷◌, Some, Result, Ok, Err, refl, sym, ap, ◌∙◌, subst, length, arith}
 use Rattle.std.proofs.lemmas.Option.{same_Some}
 use Rattle.coap_message.specs.declared.error.ReadError.{ReadError}
 use Rattle.coap_target.specs.declared.endpoint.Endpoint.{Endpoint}
+use Rattle.coap_message.specs.declared.kind.Kind.TheVariants.{Rst}
 use Rattle.coap_message.specs.Message.{Message}
 use Rattle.coap_message.specs.Reading.{read_message, body_at, options_within, option_at, extended}
 use Rattle.coap_message.specs.Uint.{uint_spelling}
 use Rattle.coap_message.specs.Spelling.{spelling, option_spelling}
 use Rattle.coap_message.proofs.WholeMessages.{read_again}
 use Rattle.coap_option.specs.Selection.{tags_of, max_age_of}
+use Rattle.coap_forward.specs.Messages.{is_rst}
 use Rattle.coap_forward.specs.Answers.{answer_of, shown}
 use Rattle.coap_model.specs.Examples.{origin, client, get_t, get_temp, content, content_for_client}
 use Rattle.coap_cache.specs.declared.answer.Answer.{Answer}
@@ -30,6 +32,7 @@ use Rattle.coap_model.specs.LimitExamples as limited
 use Rattle.coap_model.specs.OptionExamples.{key_of_temp}
 use Rattle.coap_model.specs.declared.report.Storing.TheVariants.{Kept}
 use Rattle.coap_model.proofs.Places.{here, same_serves, arrival-same, admitted-number, place-before}
+use Rattle.coap_model.proofs.Sorts.{token-or-reset}
 use Rattle.coap_model.proofs.CacheExamples.{get_read, get_spelled}
 
 -- the waiter that is served is that of the act
@@ -157,8 +160,8 @@ unfolding read_message body_at options_within option_at extended answer_of spell
 got_age x key p answer id request place (got gets asked_key is) =
     let m = gets.meets in
     let same = arrival-same m.asks.sends.to _ m.brings.bytes content (sym m.brings.came ∙ ap (λ (q : Place). q.deed.entry.event) place) in
-    let read = ap read_message (sym same.1) ∙ read_again m.brings.bytes m.response m.brings.spells in
-    let answer_is : answer ≡ answer_of 1500 0 m.response = is ∙ ap (λ (q : Place). answer_of 1500 q.deed.entry.now m.response) place in
+    let read = ap read_message (sym same.1) ∙ read_again m.brings.bytes m.message m.brings.spells in
+    let answer_is : answer ≡ answer_of 1500 0 m.message = is ∙ ap (λ (q : Place). answer_of 1500 q.deed.entry.now m.message) place in
     ap (λ (a : Answer). max_age_of (shown 2500 a id request.token (tags_of request))) answer_is ∙ sym (ap (owed_by id request) read)
 got_age x key p answer id request place (given_up gives is) = absurd (let e = ap (λ (q : Place). q.deed.entry.report.outcome) (sym place) ∙ gives.outcome in cc)
 
@@ -252,12 +255,21 @@ abbrev token_told : Result Message ReadError → ℕ
 token_told (Ok m) = sum_by (λ b. b) m.token
 token_told (Err e) = 0
 
+-- whether it is a Reset
+abbrev is_reset : Result Message ReadError → Bool
+is_reset (Ok m) = is_rst m.kind
+is_reset (Err e) = false
+
 -- what answers another request came from no origin of this one
 pub not_its_answer : ¬ IsOfOrigin setting key_of_temp (content_for 1 2) (here (opened ∷ []) asked) (here (asked ∷ opened ∷ []) (cached.answered 5 1 2 (Answered Kept)))
 unfolding read_message body_at options_within option_at extended
 not_its_answer o =
     let same = arrival-same o.origin origin o.brings.bytes (limited.got 1 2) (sym o.brings.came) in
-    let told : 2 ≡ sum_by (λ b. b) o.came.token = ap token_told (ap read_message (sym same.1) ∙ read_again o.brings.bytes o.came o.brings.spells) in
+    let read = ap read_message (sym same.1) ∙ read_again o.brings.bytes o.came o.brings.spells in
+    let told : 2 ≡ sum_by (λ b. b) o.came.token = ap token_told read in
     let sent : 1 ≡ sum_by (λ b. b) o.request.token = ap token_told (read_again (get_temp []) o.request o.spells) in
-    let token = ap (λ (t : List ℕ). sum_by (λ b. b) t) o.matches.same_token in
-    omega (arith, told, sent, token)
+    let kind : false ≡ is_rst o.came.kind = ap is_reset read in
+    ⊎_elim
+    (λ (same_token : o.came.token ≡ o.request.token). let token = ap (λ (t : List ℕ). sum_by (λ b. b) t) same_token in omega (arith, told, sent, token))
+    (λ (reset : o.came.kind ≡ Rst). let e : false ≡ true = kind ∙ ap is_rst reset in cc)
+    (token-or-reset o.came o.matches)

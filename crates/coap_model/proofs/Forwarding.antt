@@ -38,6 +38,7 @@ use Rattle.coap_model.proofs.Keys.{key-forwarded}
 use Rattle.coap_model.proofs.Lists.{Has, Has-all}
 use Rattle.coap_model.proofs.Moving.{keeps_moving}
 use Rattle.coap_model.proofs.Places.{here, doing, opened-later}
+use Rattle.coap_model.proofs.Quiet.{remembered-still}
 use Rattle.coap_model.proofs.Replying.{id-same}
 use Rattle.coap_model.proofs.Rules.{IsTurnOf}
 use Rattle.coap_model.proofs.Seen.{staged-seen}
@@ -78,8 +79,8 @@ keeps_forwarding w history c now draw at number x onward turn queued early =
     let fewer : count is_queued (changed_at number (sent sending) w.exchanges) + 1 ≡ count is_queued w.exchanges =
     less (count is_queued (changed_at number (sent sending) w.exchanges)) (count is_queued w.exchanges) _ _ passes_queued passes_sent (count-moved is_queued number 0 (sent sending) w.exchanges c.whole.rising) in
     let within = c.within.ids now onward in
-    keeps_moving w history c e number x (sent sending) (called now w.ids) w.store
-    (record { act = refl; opens = refl; admits = refl; unremembered = refl; stands = λ standing. refl })
+    keeps_moving w history c e number x (sent sending) (called now w.ids) w.store w.con_records w.non_records
+    (record { act = refl; opens = refl; admits = refl; stands = λ standing. refl })
     turn.found onward
     (record {
       opened = opened-later e f.opened;
@@ -109,7 +110,8 @@ keeps_forwarding w history c now draw at number x onward turn queued early =
     (schedules_with history e (subst IsSchedule (sym grown) (record { few = omega arith; spaced = tt })) c.schedules)
     (λ to. paced to sending (count-moved (is_sent_to to) number 0 (sent sending) w.exchanges c.whole.rising) (same_endpoint x.key.target.at to) refl (ap (passes (is_sent_to to)) turn.found ∙ ap (λ (s : ExchangeState). is_sent_state s && same_endpoint x.key.target.at to) queued) (ap (passes (λ a. is_sent_to to (sent sending a))) turn.found))
     (λ n later. room-called w.ids now (count is_waiting w.waiters + count is_queued (changed_at number (sent sending) w.exchanges)) (omega arith) n)
-    (store-otherwise w.setting history w.store e refl c.store) (
+    (store-otherwise w.setting history w.store e refl c.store)
+    (remembered-still w history c e onward (λ k. refl)) (
       record {
         exchange = number;
         act = refl;

@@ -1,12 +1,14 @@
 -- What stays as the history grows by an entry.
-use Rattle.std.proofs.Common.{◌≡◌, ◌≢◌, ⊎_elim, inr, ℕ, ◌+◌, ◌<◌, ◌≤◌, Bool, true, false, List, [], ◌∷◌, length, refl, sym, ap, ◌∙◌, subst, arith}
+use Rattle.std.proofs.Common.{◌≡◌, ◌≢◌, ⊎_elim, inr, ℕ, ◌+◌, ◌<◌, ◌≤◌, Bool, true, false, List, [], ◌∷◌, length, Option, Some, None, refl, sym, ap, ◌∙◌, subst, arith}
 use Rattle.std.specs.Prelude.{◌&&◌}
 use Rattle.std.specs.List.{AllByRecursion}
 use Rattle.std.proofs.lemmas.Bool.{eqb-true, eq-eqb}
 use Rattle.coap_target.proofs.Lists.{All-weaken}
+use Rattle.coap_cache.specs.declared.key.CacheKey.{CacheKey}
 use Rattle.coap_exchange.specs.declared.exchange.ExchangeState.{ExchangeState}
 use Rattle.coap_exchange.specs.declared.exchange.ExchangeState.TheVariants.{Queued, Sent, Acked, Done}
 use Rattle.coap_exchange.specs.declared.exchange.Exchange.{Exchange}
+use Rattle.coap_exchange.specs.declared.exchange.Sending.{Sending}
 use Rattle.coap_exchange.specs.declared.waiter.Waiter.{Waiter}
 use Rattle.coap_exchange.specs.declared.waiter.WaiterState.{WaiterState}
 use Rattle.coap_exchange.specs.declared.waiter.WaiterState.TheVariants.{Waiting, Delivering}
@@ -17,7 +19,7 @@ use Rattle.coap_model.specs.Setting.{Setting}
 use Rattle.coap_model.specs.World.{World}
 use Rattle.coap_model.specs.History.{Act, no_item, admits, moves, serves, Deed, Somewhere, opens_one, admits_one, opened_in, admitted_in, Opens, Admits}
 use Rattle.coap_model.specs.Schedules.{same_act, is_sending, sends_for, sends_by, IsSchedule}
-use Rattle.coap_model.specs.Carries.{Clock, Numbers, IsTimer, AreOfBytes, IsState, IsExchangeOf, IsWaiterIn, IsWaiterOf, AreUnused, AreSchedules}
+use Rattle.coap_model.specs.Carries.{Clock, Numbers, IsTimer, AreOfBytes, WasAsked, WasSent, IsInFlight, IsState, IsExchangeOf, IsWaiterIn, IsWaiterOf, AreUnused, AreSchedules}
 use Rattle.coap_model.proofs.Places.{here, opened-later, admitted-later}
 
 -- ---- the clock and the numbers
@@ -96,6 +98,36 @@ sends-grow a history d same sending = let one : sends_for a d ≡ true = rw (sam
 
 -- ---- exchanges
 
+-- what was asked stays so at an entry that sends nothing for it
+pub asked_frame : {setting : Setting} {history : List Deed} {x : ℕ} {key : CacheKey} {form : List ℕ} {s : Sending} (e : Deed) → sends_by (moves x) (e ∷ history) ≡ sends_by (moves x) history → WasAsked setting history x key form s → WasAsked setting (e ∷ history) x key form s
+asked_frame {key = key} {form = form} {s = s} e same a =
+    record {
+      asking = a.asking;
+      was_asked = inr a.was_asked;
+      asks = a.asks;
+      asked_key = a.asked_key;
+      to = a.to;
+      id_is = a.id_is;
+      number = a.number;
+      timer = subst (IsTimer s.timer) (sym same) a.timer;
+      bytes = subst (AreOfBytes key.target.at form) (sym same) a.bytes;
+    }
+
+-- so does what was sent, or never was
+pub sent_frame : (setting : Setting) (history : List Deed) (x : ℕ) (key : CacheKey) (form : List ℕ) (o : Option Sending) (e : Deed) → sends_by (moves x) (e ∷ history) ≡ sends_by (moves x) history → WasSent setting history x key form o → WasSent setting (e ∷ history) x key form o
+sent_frame setting history x key form None e same a = tt
+sent_frame setting history x key form (Some s) e same a = asked_frame e same a
+
+-- so does an exchange that is on its way, where the entry acts on another
+flight_frame : (setting : Setting) (history : List Deed) (e : Deed) (x : Numbered Exchange) → e.act ≢ moves x.0 → IsInFlight setting history x → IsInFlight setting (e ∷ history) x
+flight_frame setting history e x other s =
+    record {
+      sending = s.sending;
+      sending_is = s.sending_is;
+      asked = asked_frame e (sends-stay (moves x.0) history e other) s.asked;
+      unended = ((λ h. other h.act), s.unended);
+    }
+
 -- a state stays at an entry that acts on another
 state_frame : (setting : Setting) (history : List Deed) (e : Deed) (x : Numbered Exchange) (s : ExchangeState) → e.act ≢ moves x.0 → IsState setting history x s → IsState setting (e ∷ history) x s
 state_frame setting history e x Queued other s =
@@ -105,26 +137,17 @@ state_frame setting history e x Queued other s =
       no_sends = sends-stay (moves x.0) history e other ∙ s.no_sends;
       unended = ((λ h. other h.act), s.unended);
     }
-state_frame setting history e x Sent other s =
-    let a = s.asked in
+state_frame setting history e x Sent other s = flight_frame setting history e x other s
+state_frame setting history e x Acked other s = flight_frame setting history e x other s
+state_frame setting history e x (Done answer) other s =
     record {
-      sending = s.sending;
-      sending_is = s.sending_is;
-      asked = record {
-        asking = a.asking;
-        was_asked = inr a.was_asked;
-        asks = a.asks;
-        asked_key = a.asked_key;
-        to = a.to;
-        id_is = a.id_is;
-        number = a.number;
-        timer = subst (IsTimer s.sending.timer) (sym (sends-stay (moves x.0) history e other)) a.timer;
-        bytes = subst (AreOfBytes x.1.key.target.at x.1.form) (sym (sends-stay (moves x.0) history e other)) a.bytes;
-      };
-      unended = ((λ h. other h.act), s.unended);
+      ending = s.ending;
+      was_ended = inr s.was_ended;
+      ends = s.ends;
+      with = s.with;
+      got = s.got;
+      was_sent = sent_frame setting history x.0 x.1.key x.1.form x.1.sending e (sends-stay (moves x.0) history e other) s.was_sent;
     }
-state_frame setting history e x Acked other s = absurd s
-state_frame setting history e x (Done answer) other s = record { ending = s.ending; was_ended = inr s.was_ended; ends = s.ends; with = s.with; got = s.got }
 
 -- an exchange stays at an entry that acts on another
 pub exchange_frame : (setting : Setting) (history : List Deed) (e : Deed) (x : Numbered Exchange) → e.act ≢ moves x.0 → IsExchangeOf setting history x → IsExchangeOf setting (e ∷ history) x

@@ -4,6 +4,8 @@ use Rattle.coap_message.specs.Message.{Message}
 use Rattle.coap_message.specs.Spelling.{IsMessage, spelling}
 use Rattle.coap_message.specs.declared.code.TheConstants.Code.{GATEWAY_TIMEOUT}
 use Rattle.coap_message.proofs.Spellings.{spelling-length}
+use Rattle.std.specs.Prelude.{◌&&◌, not}
+use Rattle.coap_forward.specs.Messages.{is_rst}
 use Rattle.coap_cache.specs.declared.answer.Answer.{Answer}
 use Rattle.coap_forward.specs.Answers.{without_observe, is_passed_on, bad_gateway, own_answer, gateway_timeout, answer_of, shown}
 use Rattle.coap_model.proofs.Spelled.{own_reply-is}
@@ -11,7 +13,7 @@ use Rattle.coap_model.proofs.Spelled.{own_reply-is}
 -- an answer is got at the moment of its response
 pub got-is : (most now : ℕ) (m : Message) → (answer_of most now m).got ≡ now
 unfolding answer_of
-got-is most now m = go (is_passed_on most m)
+got-is most now m = go (not (is_rst m.kind) && is_passed_on most m)
   where
     go : (b : Bool) → (cond {A = Answer} b (record { message = without_observe m; got = now; own = false }) (record { message = bad_gateway; got = now; own = true })).got ≡ now
     go true = refl

@@ -17,8 +17,8 @@ use Rattle.coap_model.specs.Events.{arrival}
 use Rattle.coap_forward.specs.Answers.{answer_of, stored_answer, shown}
 use Rattle.coap_model.specs.Verdicts.{may_ask}
 use Rattle.coap_forward.specs.Messages.{is_con, at_once}
-use Rattle.coap_model.specs.World.{World, next_id, can_reply}
-use Rattle.coap_model.specs.Requests.{hits, remembers}
+use Rattle.coap_model.specs.World.{World, remembers, next_id, can_reply}
+use Rattle.coap_model.specs.Requests.{hits}
 use Rattle.coap_model.specs.History.{gives_id, no_item, Deed}
 use Rattle.coap_model.specs.Cached.{Cached, entry_of_cached, IsObtained, IsStoreOf, IsEntryOf}
 use Rattle.coap_model.specs.Runs.{entry_of}
@@ -30,7 +30,7 @@ use Rattle.coap_model.proofs.OwnReplies.{at_once-is, at_once-long}
 use Rattle.coap_model.proofs.Remembering.{first-new, first-remembered}
 use Rattle.coap_model.proofs.Replying.{request-came, takes-ids, has-id, ids_after, reply-ids, reply-room}
 use Rattle.coap_model.proofs.Rules.{IsFirst, verdict_in}
-use Rattle.coap_model.proofs.Showing.{shown-is, answer-fits}
+use Rattle.coap_model.proofs.Showing.{matches-response, shown-is, answer-fits}
 use Rattle.coap_model.proofs.Stores.{found-cached, store-hit}
 use Rattle.coap_model.proofs.Verdicts.{askable}
 
@@ -46,10 +46,10 @@ same-answer : (a : Answer) → a.own ≡ false → ◌≡◌ {A = Answer} a (rec
 same-answer a e = let same : ◌≡◌ {A = Answer} (record { message = a.message; got = a.got; own = a.own }) (record { message = a.message; got = a.got; own = false }) = rw e refl in same
 
 -- so what is stored of a response that was obtained is the answer that it gave
-pub stored-as-got : (setting : Setting) (c : Cached) → (o : IsObtained setting c.key c.response c.asking c.getting) → stored_answer (entry_of_cached c).1 ≡ answer_of setting.limits.datagram c.getting.deed.entry.now o.gets.meets.response
+pub stored-as-got : (setting : Setting) (c : Cached) → (o : IsObtained setting c.key c.response c.asking c.getting) → stored_answer (entry_of_cached c).1 ≡ answer_of setting.limits.datagram c.getting.deed.entry.now o.gets.meets.message
 stored-as-got setting c o =
-    let a = answer_of setting.limits.datagram c.getting.deed.entry.now o.gets.meets.response in
-    let got : a.got ≡ c.getting.deed.entry.now = got-is setting.limits.datagram c.getting.deed.entry.now o.gets.meets.response in
+    let a = answer_of setting.limits.datagram c.getting.deed.entry.now o.gets.meets.message in
+    let got : a.got ≡ c.getting.deed.entry.now = got-is setting.limits.datagram c.getting.deed.entry.now o.gets.meets.message in
     let made : ◌≡◌ {A = Answer} (record { message = c.response; got = c.getting.deed.entry.now; own = false }) (record { message = a.message; got = a.got; own = false }) = rw (o.response_is, got) refl in
     made ∙ sym (same-answer a (not-own a.own _ o.storable))
 
@@ -63,8 +63,8 @@ module _ (w : World) (history : List Deed) (c : Bears history w) (key : CacheKey
   hit-is now id token tags short =
       let f = cached-entry in
       let o = f.was_obtained.obtained in
-      let is = shown-is w.setting.limits.datagram now f.entry.getting.deed.entry.now o.gets.meets.response id token tags o.gets.meets.brings.spells.message o.gets.meets.matches.code short in
-      let same : stored_answer entry.1 ≡ answer_of w.setting.limits.datagram f.entry.getting.deed.entry.now o.gets.meets.response = ap (λ (s : Entry). stored_answer s.1) f.stored_is ∙ stored-as-got w.setting f.entry o in
+      let is = shown-is w.setting.limits.datagram now f.entry.getting.deed.entry.now o.gets.meets.message id token tags o.gets.meets.brings.spells.message (matches-response o.gets.meets.matches) short in
+      let same : stored_answer entry.1 ≡ answer_of w.setting.limits.datagram f.entry.getting.deed.entry.now o.gets.meets.message = ap (λ (s : Entry). stored_answer s.1) f.stored_is ∙ stored-as-got w.setting f.entry o in
       subst (λ (a : Answer). IsMessage (shown now a id token tags)) (sym same) is
 
   -- which fits a datagram
@@ -73,8 +73,8 @@ module _ (w : World) (history : List Deed) (c : Bears history w) (key : CacheKey
       let f = cached-entry in
       let o = f.was_obtained.obtained in
       let g = o.gets in
-      let fits = answer-fits w.setting.limits.datagram most now f.entry.getting.deed.entry.now id g.meets.brings.bytes g.meets.response token tags wide long g.bytes g.meets.brings.spells short in
-      let same : stored_answer entry.1 ≡ answer_of w.setting.limits.datagram f.entry.getting.deed.entry.now g.meets.response = ap (λ (s : Entry). stored_answer s.1) f.stored_is ∙ stored-as-got w.setting f.entry o in
+      let fits = answer-fits w.setting.limits.datagram most now f.entry.getting.deed.entry.now id g.meets.brings.bytes g.meets.message token tags wide long g.bytes g.meets.brings.spells short in
+      let same : stored_answer entry.1 ≡ answer_of w.setting.limits.datagram f.entry.getting.deed.entry.now g.meets.message = ap (λ (s : Entry). stored_answer s.1) f.stored_is ∙ stored-as-got w.setting f.entry o in
       at_once-long m (shown now (stored_answer entry.1) id token tags) most (subst (λ (b : Answer). length (spelling (shown now b id token tags)) ≤ most) (sym same) fits)
 
 -- what is fresh and not marked is fresh

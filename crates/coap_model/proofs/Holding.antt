@@ -46,7 +46,7 @@ use Rattle.coap_model.specs.Justified.{EndsWith, got, given_up}
 use Rattle.coap_model.specs.Carries.{form_id, IsState, IsExchangeOf, IsWaiterIn, IsWaiterOf, Bears}
 use Rattle.coap_target.specs.Target.{IsShort, IsTarget}
 use Rattle.coap_forward.proofs.Forms.{AreUnused, in_key, key-screened, sent-unused, AreOptions-merged, target-options, sent-options, with_id-forwarded, length-with_id}
-use Rattle.coap_forward.specs.Messages.{token_of}
+use Rattle.coap_forward.specs.Messages.{is_rst, token_of}
 use Rattle.coap_model.proofs.Keys.{target-kept}
 use Rattle.coap_model.proofs.Verdicts.{IsAskable, askable}
 use Rattle.coap_model.proofs.OptionLengths.{filter-length}
@@ -116,15 +116,16 @@ payload-least (p ∷ ps) = omega arith
 -- an answer takes no more than a datagram
 answer-short : (most now : ℕ) (m : Message) → AreOptions 0 m.options → response_bytes (answer_of most now m).message ≤ most
 unfolding answer_of
-answer-short most now m are = go (is_passed_on most m) refl
+answer-short most now m are = go (is_rst m.kind) (is_passed_on most m) refl
   where
-    go : (b : Bool) → is_passed_on most m ≡ b → response_bytes (cond {A = Answer} b (record { message = without_observe m; got = now; own = false }) (record { message = bad_gateway; got = now; own = true })).message ≤ most
-    go true e =
+    go : (r b : Bool) → is_passed_on most m ≡ b → response_bytes (cond {A = Answer} (not r && b) (record { message = without_observe m; got = now; own = false }) (record { message = bad_gateway; got = now; own = true })).message ≤ most
+    go false true e =
         let parts = and_parts (is_screened m) (not (is_code m.code VALID) && fits most (without_observe m)) e in
         let more = and_parts (not (is_code m.code VALID)) (fits most (without_observe m)) parts.1 in
         let kept : Message = without_observe m in
         omega (arith, options-length 0 kept.options, within-widest m are parts.0, spelling-length (widest kept), payload-least m.payload, leb-true (length (spelling (widest kept))) most more.1)
-    go false e = omega arith
+    go false false e = omega arith
+    go true b e = omega arith
 
 -- ---- tags are held in no more than the request
 
@@ -183,14 +184,14 @@ exchange-held setting history routes x f = go x.1.state f.state
 
     ended : (a : Answer) (p : Place) → EndsWith setting x.0 x.1.key p a → response_bytes a.message ≤ setting.limits.datagram
     ended a p (got gets asked is) =
-        let short = answer-short setting.limits.datagram p.deed.entry.now gets.meets.response gets.meets.brings.spells.message.options in
+        let short = answer-short setting.limits.datagram p.deed.entry.now gets.meets.message gets.meets.brings.spells.message.options in
         subst (λ (b : Answer). response_bytes b.message ≤ setting.limits.datagram) (sym is) short
     ended a p (given_up gives is) = subst (λ (b : Answer). response_bytes b.message ≤ setting.limits.datagram) (sym is) (omega arith)
 
     go : (s : ExchangeState) → IsState setting history x s → length x.1.form + key_bytes x.1.key + state_bytes s ≤ 4 * setting.limits.datagram + 256
     go Queued state = omega (arith, target, key, f.form_short)
     go Sent state = omega (arith, target, key, f.form_short)
-    go Acked state = absurd state
+    go Acked state = omega (arith, target, key, f.form_short)
     go (Done a) state = omega (arith, target, key, f.form_short, ended a state.ending state.with)
 
 -- what a waiter holds is within its part

@@ -1,9 +1,10 @@
 -- A tick with nothing to do keeps what is carried: nothing was due. And nothing is due that isn't there.
-use Rattle.std.proofs.Common.{◌≡◌, ℕ, ◌≤◌, List, ◌∷◌, Some, None, refl, sym, ap, ◌∙◌, subst}
+use Rattle.std.proofs.Common.{◌≡◌, ℕ, ◌≤◌, List, ◌∷◌, Some, None, refl, sym, ap, ◌∙◌, subst, arith}
+use Rattle.std.proofs.lemmas.Option.{same_Some}
 use Rattle.coap_exchange.specs.declared.exchange.ExchangeState.{ExchangeState}
 use Rattle.coap_exchange.specs.declared.waiter.Waiter.{Waiter}
 use Rattle.coap_exchange.specs.declared.waiter.WaiterState.{WaiterState}
-use Rattle.coap_exchange.specs.Exchanges.{due_in, is_blocked}
+use Rattle.coap_exchange.specs.Exchanges.{deadline, due_in, is_blocked}
 use Rattle.coap_exchange.specs.Table.{Numbered}
 use Rattle.coap_exchange.specs.Waiters as waiters
 use Rattle.coap_exchange.specs.Waiters.{moment_of, due_after}
@@ -13,7 +14,7 @@ use Rattle.coap_model.specs.World.{World}
 use Rattle.coap_model.specs.Ticks.{item_due, if_due, idles}
 use Rattle.coap_model.specs.History.{no_item, Deed}
 use Rattle.coap_model.specs.Runs.{entry_of}
-use Rattle.coap_model.specs.Carries.{HasNumber, IsState, IsExchangeOf, IsWaiterIn, IsWaiterOf, Bears}
+use Rattle.coap_model.specs.Carries.{HasNumber, IsWaiterIn, IsWaiterOf, Bears}
 use Rattle.coap_model.proofs.Acting.{due_of, idling-due, turn-is, exchange-turn, client-turn}
 use Rattle.coap_model.proofs.FirstDue.{first_due-holds}
 use Rattle.coap_model.proofs.Lists.{Has, Has-all}
@@ -27,7 +28,7 @@ use Rattle.coap_model.proofs.Turns.{turn-due}
 pub keeps_idling : (w : World) (history : List Deed) (c : Bears history w) (now draw : ℕ) → w.last ≤ now → if_due now (item_due w) ≡ None → Bears (doing no_item (entry_of now draw tick (idles w now)) ∷ history) (idles w now).world
 keeps_idling w history c now draw onward nothing =
     let e = doing no_item (entry_of now draw tick (idles w now)) in
-    keeps_quiet w history c e (record { act = refl; opens = refl; admits = refl; sends = refl; leaves_open = λ standing xs. refl; stands = λ standing. refl }) refl refl onward refl
+    keeps_quiet w history c e (record { act = refl; opens = refl; admits = refl; sends = refl; leaves_open = λ standing xs. refl; stands = λ standing. refl }) refl (λ k. refl) onward refl
     (record { act = refl; ticked = refl; nothing = idling-due w history c now nothing; silent = record { sent = refl; bytes = refl } }, c.past)
 
 -- a client that is due first is there, and is due since its moment
@@ -40,7 +41,12 @@ not-stuck w history c now (no_exchange at number due none) =
     let d = first_due-holds (λ y. Has y w.exchanges) (due_of w) w.exchanges (at, number) (Has-all w.exchanges) (exchange-turn w history c at number (turn-is w history c now (OfExchange at number) due).0) in
     absurd (item-none number w.exchanges none (subst (λ (n : ℕ). HasNumber n w.exchanges) d.2 (Has-number w.exchanges d.0 d.1)))
 not-stuck w history c now (acknowledged at number x turn is early) =
-    absurd (subst (IsState w.setting history (number, x)) is (item-holds (IsExchangeOf w.setting history) number w.exchanges x c.exchanges turn.found).state)
+    absurd (
+    let due = turn-due w history c now at number x turn in
+    let late = same_Some (deadline w.setting.limits.exchange_ms x) at (sym (ap (λ (s : ExchangeState). due_in s (is_blocked w.setting.limits.nstart w.exchanges x) w.setting.limits.exchange_ms x) is) ∙ due.0) in
+    let come = due.1 in
+    omega (arith, early, late, come)
+    )
 not-stuck w history c now (answered at number x a turn is) =
     absurd (let due = (turn-due w history c now at number x turn).0 in let e = sym (ap (λ (s : ExchangeState). due_in s (is_blocked w.setting.limits.nstart w.exchanges x) w.setting.limits.exchange_ms x) is) ∙ due in cc)
 not-stuck w history c now (no_waiter at number due none) =

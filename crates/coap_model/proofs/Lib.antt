@@ -21,8 +21,10 @@ pub mod Cached
 pub mod Stores
 pub mod Quiet
 pub mod Missing
+pub mod Sendings
 pub mod Awaiting
 pub mod Replying
+pub mod Sorts
 pub mod Arrivals
 pub mod Owing
 pub mod Stages
@@ -37,6 +39,7 @@ pub mod OneStoring
 pub mod OwedThere
 pub mod BySize
 pub mod Repeats
+pub mod OneRequest
 pub mod OneAnswer
 pub mod CacheExamples
 pub mod Forging

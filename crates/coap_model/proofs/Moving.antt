@@ -1,5 +1,5 @@
 -- A step that changes one exchange keeps what is carried.
-use Rattle.std.proofs.Common.{◌≡◌, ◌≢◌, ℕ, ◌+◌, ◌<◌, ◌≤◌, List, ◌∷◌, map, false, Some, refl, sym, ap, ◌∙◌, subst, arith}
+use Rattle.std.proofs.Common.{◌≡◌, ◌≢◌, ℕ, ◌+◌, ◌<◌, ◌≤◌, List, ◌∷◌, map, Some, refl, sym, ap, ◌∙◌, subst, arith}
 use Rattle.coap_target.specs.declared.endpoint.Endpoint.{Endpoint}
 use Rattle.coap_target.proofs.Lists.{All-weaken}
 use Rattle.coap_cache.specs.Entries as cache
@@ -11,16 +11,16 @@ use Rattle.coap_exchange.specs.Table.{item_at, changed, changed_at, count}
 use Rattle.coap_exchange.specs.Waiters.{is_waiting, waits_for}
 use Rattle.coap_exchange.proofs.Changes.{length-changed_at, IsRising-changed_at}
 use Rattle.coap_model.specs.Cached.{IsStoreOf}
-use Rattle.coap_model.specs.Remembered.{is_remembered}
+use Rattle.coap_message.specs.declared.kind.Kind.TheVariants.{Con, Non}
+use Rattle.coap_dedup.specs.Records.{Records}
 use Rattle.coap_model.specs.World.{World, later}
 use Rattle.coap_model.specs.History.{moves, serves, Deed, opens_one, admits_one}
 use Rattle.coap_model.specs.Standing.{Standing, standing_by, open_by, standing_in}
 use Rattle.coap_model.specs.Justified.{AllJustified}
-use Rattle.coap_model.specs.Carries.{HasNumber, stage_seen, exchange_in, Ids, IsExchangeOf, AreSchedules, Bears}
+use Rattle.coap_model.specs.Carries.{HasNumber, stage_seen, exchange_in, Ids, IsExchangeOf, AreRemembered, AreSchedules, Bears}
 use Rattle.coap_model.proofs.Frames.{clock_frame, numbers_frame, exchange_frame, waiters_frame, unused_frame, opened-before, admitted-before}
 use Rattle.coap_model.proofs.Lists.{Has, All-map, All-there}
 use Rattle.coap_model.proofs.Places.{same_moves, opened-number}
-use Rattle.coap_model.proofs.Quiet.{remembered-still}
 use Rattle.coap_model.proofs.Tables.{item-Has, item-holds, one-item, changed-cases, HasNumber-changed}
 
 -- what an entry must be that moves the exchange of a number
@@ -28,28 +28,27 @@ pub record IsMove (n : ℕ) (e : Deed) : Type 0 where
   pub act : e.act ≡ moves n
   pub opens : opens_one e.entry.report.outcome ≡ 0
   pub admits : admits_one e.entry.report.outcome ≡ 0
-  pub unremembered : is_remembered e.entry.report.outcome ≡ false
   pub stands : (standing : List Standing) → standing_by e.entry.report.outcome e.act standing ≡ standing
 
--- the clock goes on, one exchange changes, these ids are given and this is stored
-abbrev pub moved_world : World → ℕ → ℕ → (Exchange → Exchange) → Given → List cache.Entry → World
-moved_world w now n f ids store =
-    record (later w now) { exchanges = changed_at n f w.exchanges; ids = ids; store = store }
+-- the clock goes on, one exchange changes, these ids are given, and this is stored and remembered
+abbrev pub moved_world : World → ℕ → ℕ → (Exchange → Exchange) → Given → List cache.Entry → Records → Records → World
+moved_world w now n f ids store con non =
+    record (later w now) { exchanges = changed_at n f w.exchanges; ids = ids; store = store; con_records = con; non_records = non }
 
 -- such a step keeps what is carried
-pub keeps_moving : (w : World) (history : List Deed) (c : Bears history w) (e : Deed) (n : ℕ) (x : Exchange) (f : Exchange → Exchange) (ids : Given) (store : List cache.Entry) → IsMove n e → item_at n w.exchanges ≡ Some x → w.last ≤ e.entry.now
+pub keeps_moving : (w : World) (history : List Deed) (c : Bears history w) (e : Deed) (n : ℕ) (x : Exchange) (f : Exchange → Exchange) (ids : Given) (store : List cache.Entry) (con non : Records) → IsMove n e → item_at n w.exchanges ≡ Some x → w.last ≤ e.entry.now
     → IsExchangeOf w.setting (e ∷ history) (n, f x)
     → map stage_seen (changed_at n f w.exchanges) ≡ open_by e.entry.report.outcome e.act e.entry.report.send (standing_in (e ∷ history)) (map stage_seen w.exchanges)
-    → Ids (e ∷ history) (moved_world w e.entry.now n f ids store)
+    → Ids (e ∷ history) (moved_world w e.entry.now n f ids store con non)
     → AreSchedules (e ∷ history)
     → ((to : Endpoint) → count (is_sent_to to) (changed_at n f w.exchanges) ≤ w.setting.limits.nstart)
     → ((now : ℕ) → e.entry.now ≤ now → given_in now ids + (count is_waiting w.waiters + count is_queued (changed_at n f w.exchanges)) ≤ 32768)
     → IsStoreOf w.setting (e ∷ history) store
-    → AllJustified w.setting (e ∷ history) → Bears (e ∷ history) (moved_world w e.entry.now n f ids store)
-keeps_moving w history c e n x f ids store m found onward new seen given schedules pace room stored past =
+    → AreRemembered w.setting (e ∷ history) Con con × AreRemembered w.setting (e ∷ history) Non non
+    → AllJustified w.setting (e ∷ history) → Bears (e ∷ history) (moved_world w e.entry.now n f ids store con non)
+keeps_moving w history c e n x f ids store con non m found onward new seen given schedules pace room stored remembered past =
     let opens = m.opens in
     let admits = m.admits in
-    let remembered = remembered-still w history c e onward m.unremembered in
     let number = opened-number (item-holds (IsExchangeOf w.setting history) n w.exchanges x c.exchanges found).opened in
     let unserved : (v : ℕ) → e.act ≢ serves v = λ v same. let g = sym m.act ∙ same in cc in
     record {

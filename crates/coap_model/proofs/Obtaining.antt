@@ -2,6 +2,8 @@
 use Rattle.std.proofs.Common.{◌≡◌, ℕ, ◌<◌, ◌≤◌, ◌&&◌, true, false, not, nat_lt, List, Some, None, refl, sym, ap, ◌∙◌, subst, arith}
 use Rattle.std.proofs.lemmas.Option.{same_Some}
 use Rattle.std.proofs.lemmas.Bool.{lt-ltb}
+use Rattle.coap_message.specs.declared.kind.Kind.{Kind}
+use Rattle.coap_message.specs.declared.kind.Kind.TheVariants.{Con, Non, Ack, Rst}
 use Rattle.coap_message.specs.Message.{Message}
 use Rattle.coap_message.specs.Spelling.{Spells}
 use Rattle.coap_message.proofs.WholeMessages.{one_message}
@@ -14,8 +16,9 @@ use Rattle.coap_model.specs.declared.report.Outcome.TheVariants.{Answered}
 use Rattle.coap_model.specs.declared.report.Storing.TheVariants.{Kept, TooLarge, NoMemory, NotStored}
 use Rattle.coap_model.specs.Setting.{Setting}
 use Rattle.coap_model.specs.Keys.{key_sent}
+use Rattle.coap_forward.specs.Messages.{is_rst, brings_requests}
 use Rattle.coap_forward.specs.Answers.{answer_of, is_passed_on, is_storable, without_observe}
-use Rattle.coap_model.specs.History.{Deed, Place, takes, Gets}
+use Rattle.coap_model.specs.History.{Deed, Place, takes, Gets, Matches, in_acknowledgement, separate, by_reset}
 use Rattle.coap_model.specs.Cached.{IsObtained, IsOfOrigin, Cached, cached_key, cached_size, cached_here, IsCacheOf}
 use Rattle.coap_model.specs.Justified.{IsObtainedHere, size_here, JustifiedBy}
 use Rattle.coap_model.proofs.Cached.{cache-unique, obtained-unique}
@@ -49,10 +52,22 @@ record IsStorableAs (most now : ℕ) (m response : Message) : Type 0 where
   pub storable : is_storable (answer_of most now m) ≡ true
   pub response_is : response ≡ (answer_of most now m).message
 
--- what is passed on and tells an age above 0 may be stored without Observe
-storable-as : (most now : ℕ) (m response : Message) → is_passed_on most m ≡ true → response ≡ without_observe m → tells_age response.code ≡ true → 0 < max_age_of response → IsStorableAs most now m response
+-- an answer that tells its age is no Reset, which is Empty
+no_reset : (token : List ℕ) (id : ℕ) (m : Message) → Matches token id m → tells_age m.code ≡ true → not (is_rst m.kind) ≡ true
+no_reset token id m (in_acknowledgement kind code same with_id) told = rw kind refl
+no_reset token id m (separate kind code same) told = go m.kind kind
+  where
+    go : (k : Kind) → brings_requests k ≡ true → not (is_rst k) ≡ true
+    go Con e = refl
+    go Non e = refl
+    go Ack e = refl
+    go Rst e = absurd cc
+no_reset token id m (by_reset kind code with_id) told = absurd (let e : true ≡ false = sym told ∙ ap tells_age code in cc)
+
+-- what is passed on, is no Reset and tells an age above 0 may be stored without Observe
+storable-as : (most now : ℕ) (m response : Message) → not (is_rst m.kind) ≡ true → is_passed_on most m ≡ true → response ≡ without_observe m → tells_age response.code ≡ true → 0 < max_age_of response → IsStorableAs most now m response
 unfolding answer_of
-storable-as most now m response passed is code age = record { storable = rw passed both; response_is = rw passed is }
+storable-as most now m response kind passed is code age = record { storable = rw (kind, passed) both; response_is = rw (kind, passed) is }
   where
     told : tells_age (without_observe m).code ≡ true
     told = subst (λ (r : Message). tells_age r.code ≡ true) is code
@@ -71,7 +86,8 @@ of_origin-obtained setting key response asking getting x g at o =
     let to = same_Some s.to o.origin (sym s.sent ∙ ap (λ (p : Place). p.deed.entry.report.send) at ∙ o.sent) in
     let message = one_message asking.deed.entry.bytes s.message o.request (subst (λ (p : Place). Spells p.deed.entry.bytes s.message) at s.spells) o.spells in
     let came = (one-brought o.brings g.meets.brings).1 in
-    let made = storable-as most getting.deed.entry.now o.came response o.passed o.response_is o.code o.age in
+    let told = subst (λ (r : Message). tells_age r.code ≡ true) o.response_is o.code in
+    let made = storable-as most getting.deed.entry.now o.came response (no_reset o.request.token o.request.id o.came o.matches told) o.passed o.response_is o.code o.age in
     record {
       exchange = x;
       gets = g;

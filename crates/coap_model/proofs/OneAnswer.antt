@@ -1,8 +1,10 @@
 -- What may follow deeds at a turn is one answer.
-use Rattle.std.proofs.Common.{◌≡◌, ◌⊎◌, inl, inr, ⊎_elim, ℕ, Bool, ◌+◌, ◌%◌, ◌^◌, ◌<◌, ◌≤◌, true, false, List, [], ◌∷◌, length, Option, Some, None, refl, sym, ap, ◌∙◌, subst, arith}
+use Rattle.std.proofs.Common.{◌≡◌, ◌⊎◌, inl, inr, ⊎_elim, ℕ, Bool, ◌+◌, ◌%◌, ◌^◌, ◌<◌, ◌≤◌, true, false, List, [], ◌∷◌, Option, Some, None, refl, sym, ap, ◌∙◌, subst, arith}
 use Rattle.std.proofs.lemmas.Option.{same_Some}
 use Rattle.std.proofs.lemmas.Bool.{cases_lt}
-use Rattle.coap_message.specs.declared.kind.Kind.TheVariants.{Non}
+use Rattle.coap_message.specs.declared.kind.Kind.{Kind}
+use Rattle.coap_message.specs.declared.kind.Kind.TheVariants.{Con, Non, Ack, Rst}
+use Rattle.coap_message.specs.Codes.{is_request}
 use Rattle.coap_message.specs.declared.message.Head.{Head}
 use Rattle.coap_message.specs.Message.{Message}
 use Rattle.coap_message.specs.Reading.{head_at}
@@ -13,22 +15,21 @@ use Rattle.coap_target.specs.declared.endpoint.Endpoint.{Endpoint}
 use Rattle.coap_target.specs.declared.target.Target.{Target}
 use Rattle.coap_option.specs.Selection.{sent_on, tags_of}
 use Rattle.coap_model.specs.declared.report.Outcome.{Outcome}
-use Rattle.coap_model.specs.declared.report.Outcome.TheVariants.{Ignored, Rejected, Again, NoRecordRoom, Refused, Hit, Opened, Overloaded, NoId, Answered, SentRequest, Resent, GaveUp, Delivered, Idle}
+use Rattle.coap_model.specs.declared.report.Outcome.TheVariants.{Ignored, Rejected, Again, NoRecordRoom, Refused, Hit, Opened, Overloaded, NoId, Answered, Acked, SentRequest, Resent, GaveUp, Delivered, Idle}
 use Rattle.coap_model.specs.declared.report.Storing.{Storing}
 use Rattle.coap_model.specs.Setting.{Setting}
 use Rattle.coap_dedup.specs.declared.record.Record.{Record}
-use Rattle.coap_dedup.specs.Lists.{record_of}
-use Rattle.coap_forward.specs.Messages.{is_con, reset, own_reply, busy_reply, at_once, reply_kind, reply_id, token_of}
-use Rattle.coap_model.specs.Remembered.{most_remembered, remembered_at}
+use Rattle.coap_model.specs.Events.{Event}
+use Rattle.coap_forward.specs.Messages.{is_con, brings_requests, acknowledgement, reset, own_reply, busy_reply, at_once, reply_kind, reply_id, token_of}
 use Rattle.coap_forward.specs.Forms.{forwarded}
 use Rattle.coap_forward.specs.Answers.{answer_of, own_answer, gateway_timeout, stored_answer, shown}
-use Rattle.coap_model.specs.History.{Entry, Act, no_item, admits, moves, serves, Deed, Place, ids_in, opened_in, comes_con, ids_given, takes, Brings, Gets, Ends, Gives, IsRequestOf}
+use Rattle.coap_model.specs.History.{Entry, Act, no_item, admits, moves, serves, Deed, Place, ids_in, opened_in, comes_con, ids_given, takes, Brings, Meets, Gets, Ends, Gives, IsRequestOf}
 use Rattle.coap_model.specs.Standing.{HasIds, HasRoomToOpen, queued, stage_of}
 use Rattle.coap_model.specs.Schedules.{sends_by, MayGoOn, SaysAsBefore}
 use Rattle.coap_model.specs.Due.{IsToEnd, IsToRepeat, IsDueAt, ComesBefore}
 use Rattle.coap_model.specs.Verdicts.{verdict_of}
 use Rattle.coap_cache.specs.declared.answer.Answer.{Answer}
-use Rattle.coap_model.specs.Justified.{IsMiss, Deserves, HaveOneMemory, is_fresh_at, verdict_on, IsNew, HasIdFor, SaysAgain, Tells, IsSilent, IsAwaited, IsActing, InTime, IsForwarding, IsResending, IsGivingUp, overdue, unheard, EndsWith, got, given_up as was_given_up, IsDelivery, IsUnprocessable, JustifiedBy, AllJustified, MayFollow, AreOfOneTurn}
+use Rattle.coap_model.specs.Justified.{Comes, known_of, HasRecordRoom, IsMiss, Deserves, HaveOneMemory, is_fresh_at, verdict_on, IsNew, HasIdFor, SaysAgain, Tells, IsSilent, TakesUp, IsAwaited, Acknowledges, IsDropped, IsAnswer, IsActing, InTime, IsForwarding, IsResending, IsGivingUp, overdue, unheard, EndsWith, got, given_up as was_given_up, IsDelivery, IsUnprocessable, JustifiedBy, AllJustified, MayFollow, AreOfOneTurn}
 use Rattle.coap_model.proofs.Places.{here, same_moves, same_serves, arrival-same, one-brought, request-unique, one-opened, one-admitted}
 use Rattle.coap_model.proofs.Once.{ended-once}
 use Rattle.coap_model.proofs.Stages.{opened-before, sent-number}
@@ -39,7 +40,8 @@ use Rattle.coap_cache.specs.declared.key.CacheKey.{CacheKey}
 use Rattle.coap_cache.specs.Lists.{of_key}
 use Rattle.coap_model.specs.Cached.{cached_key, entry_of_cached}
 use Rattle.coap_model.proofs.Arrivals.{request_con}
-use Rattle.coap_model.proofs.Owing.{one_key, taken-so, given_again, given_forgotten, given_hit, given_refused, given_overloaded, given_no_id, given_opened, given_answered, given_rejected, given_ignored, given_up-so, OnTick, sent as sending, resent, given_up, delivered, idle, on-tick}
+use Rattle.coap_model.proofs.Sorts.{recorded-sorts, token-or-reset}
+use Rattle.coap_model.proofs.Owing.{one_key, taken-so, answer-awaited, given_again, given_dropped, given_no_room, given_settled, given_hit, given_refused, given_overloaded, given_no_id, given_opened, given_answered, given_rejected, given_ignored, given_up-so, OnTick, sent as sending, resent, given_up, delivered, idle, on-tick}
 
 -- ---- what is said
 
@@ -64,6 +66,16 @@ told-same d e a b m n s t to same =
 again-same : (d e : Entry) (client : Endpoint) (reply : Option (List ℕ)) → SaysAgain client reply d → SaysAgain client reply e → SayTheSame d e
 again-same d e client None s t = silent-same d e s t
 again-same d e client (Some reply) s t = record { send = s.0 ∙ sym t.0; bytes = s.1 ∙ sym t.1 }
+
+-- what is taken up is acknowledged the same, or met with silence
+taken_up-same : (d e : Entry) (k l : Kind) (a b : Endpoint) (i j : ℕ) → k ≡ l → a ≡ b → i ≡ j → TakesUp k a i d → TakesUp l b j e → SayTheSame d e
+taken_up-same d e k l a b i j kind to id s t = go l (subst (λ (n : Kind). TakesUp n a i d) kind s) t
+  where
+    go : (n : Kind) → TakesUp n a i d → TakesUp n b j e → SayTheSame d e
+    go Con s t = told-same d e a b (acknowledgement i) (acknowledgement j) s t to (ap acknowledgement id)
+    go Non s t = silent-same d e s t
+    go Ack s t = silent-same d e s t
+    go Rst s t = silent-same d e s t
 
 -- what is sent again is what was sent before
 before-same : (d e : Entry) (es : List Entry) → SaysAsBefore es d → SaysAsBefore es e → SayTheSame d e
@@ -126,17 +138,17 @@ one-act setting past d e p q = ⊎_elim (λ (same : d.act ≡ e.act). same) (λ 
 
 -- ---- one answer of each kind
 
--- a response at a place is the one that its event brings
-one-response : (setting : Setting) (x y : ℕ) (p q : Place) → p ≡ q → (g : Gets setting x p) (h : Gets setting y q) → g.meets.response ≡ h.meets.response
-one-response setting x y p q e g h =
+-- an answer at a place is the one that its event brings
+one-message : (setting : Setting) (x y : ℕ) (p q : Place) → p ≡ q → (g : Gets setting x p) (h : Gets setting y q) → g.meets.message ≡ h.meets.message
+one-message setting x y p q e g h =
     let m = g.meets in
-    (one-brought (subst (λ (r : Place). Brings setting.limits.datagram m.asks.sends.to m.response r.deed.entry.event) e m.brings) h.meets.brings).1
+    (one-brought (subst (λ (r : Place). Brings setting.limits.datagram m.asks.sends.to m.message r.deed.entry.event) e m.brings) h.meets.brings).1
 
 -- an exchange ends with one answer at a place
 one-ending : (setting : Setting) (x y : ℕ) (k l : CacheKey) (p q : Place) (a b : Answer) → p ≡ q → EndsWith setting x k p a → EndsWith setting y l q b → a ≡ b
 one-ending setting x y k l p q a b same (got g key is) (got h other also) =
-    let response = one-response setting x y p q same g h in
-    is ∙ (λ i. answer_of setting.limits.datagram (same i).deed.entry.now (response i)) ∙ sym also
+    let message = one-message setting x y p q same g h in
+    is ∙ (λ i. answer_of setting.limits.datagram (same i).deed.entry.now (message i)) ∙ sym also
 one-ending setting x y k l p q a b same (got g key is) (was_given_up h also) = absurd (let e = sym g.outcome ∙ ap (λ (r : Place). takes r.deed.entry.report.outcome) same ∙ ap takes h.outcome in cc)
 one-ending setting x y k l p q a b same (was_given_up g is) (got h other also) = absurd (let e = sym h.outcome ∙ ap (λ (r : Place). takes r.deed.entry.report.outcome) (sym same) ∙ ap takes g.outcome in cc)
 one-ending setting x y k l p q a b same (was_given_up g is) (was_given_up h also) = is ∙ ap (λ (r : Place). own_answer r.deed.entry.now gateway_timeout) same ∙ sym also
@@ -160,17 +172,46 @@ gets-number setting past x d all g =
     let m = g.meets in
     omega (arith, sent-number setting past m.asking x all m.was_asked m.asks.sends, opened-before past m.asking m.was_asked)
 
--- a response is of one exchange: the requests of two were sent with different tokens
-one-exchange : (setting : Setting) (past : List Deed) → AllJustified setting past → opened_in past < 2 ^ 64 → (x y : ℕ) (d e : Deed) → d.entry.event ≡ e.entry.event → Gets setting x (here past d) → Gets setting y (here past e) → d.act ≡ e.act
-one-exchange setting past all few x y d e event g h =
-    let p = g.meets in
-    let q = h.meets in
-    let response = (one-brought (subst (Brings setting.limits.datagram p.asks.sends.to p.response) event p.brings) q.brings).1 in
-    let token : token_of setting.salt x ≡ token_of setting.salt y = sym p.matches.same_token ∙ ap (λ (m : Message). m.token) response ∙ q.matches.same_token in
-    let small_x = gets-number setting past x d all g in
-    let small_y = gets-number setting past y e all h in
-    let number = token-same setting.salt x y (omega (arith, few, small_x)) (omega (arith, few, small_y)) token in
-    g.act ∙ ap moves number ∙ sym h.act
+-- what is awaited at a turn is awaited by the other entry of the turn
+awaited-too : (setting : Setting) (past : List Deed) (d e : Entry) (x : ℕ) → AreOfOneTurn d e → IsAwaited setting past e.now x e.event → IsAwaited setting past d.now x d.event
+awaited-too setting past d e x turn a = subst (λ (event : Event). IsAwaited setting past d.now x event) (sym turn.event) (subst (λ (n : ℕ). IsAwaited setting past n x e.event) (sym turn.now) a)
+
+-- an answer is of one exchange: the requests of two were sent with different tokens, and a Reset is
+-- of one request
+one-exchange : (setting : Setting) (past : List Deed) → AllJustified setting past → opened_in past < 2 ^ 64 → (d e : Deed) → AreOfOneTurn d.entry e.entry → (a : IsAnswer setting past d) (b : IsAnswer setting past e) → d.act ≡ e.act
+one-exchange setting past all few d e turn a b = a.gets.act ∙ ap moves number ∙ sym b.gets.act
+  where
+    p : Meets setting a.exchange past d.entry.event
+    p = a.gets.meets
+
+    q : Meets setting b.exchange past e.entry.event
+    q = b.gets.meets
+
+    message : p.message ≡ q.message
+    message = (one-brought (subst (Brings setting.limits.datagram p.asks.sends.to p.message) turn.event p.brings) q.brings).1
+
+    small_a : a.exchange ≤ opened_in past
+    small_a = gets-number setting past a.exchange d all a.gets
+
+    small_b : b.exchange ≤ opened_in past
+    small_b = gets-number setting past b.exchange e all b.gets
+
+    by_token : p.message.token ≡ token_of setting.salt a.exchange → q.message.token ≡ token_of setting.salt b.exchange → a.exchange ≡ b.exchange
+    by_token s t = token-same setting.salt a.exchange b.exchange (omega (arith, few, small_a)) (omega (arith, few, small_b)) (sym s ∙ ap (λ (m : Message). m.token) message ∙ t)
+
+    by_reset : p.message.kind ≡ Rst → a.exchange ≡ b.exchange
+    by_reset reset = sym (a.only reset b.exchange (awaited-too setting past d.entry e.entry b.exchange turn (answer-awaited b)))
+
+    number : a.exchange ≡ b.exchange
+    number =
+        ⊎_elim
+        (λ (s : p.message.token ≡ token_of setting.salt a.exchange).
+        ⊎_elim
+        (λ (t : q.message.token ≡ token_of setting.salt b.exchange). by_token s t)
+        (λ (reset : q.message.kind ≡ Rst). by_reset (ap (λ (m : Message). m.kind) message ∙ reset))
+        (token-or-reset q.message q.matches))
+        (λ (reset : p.message.kind ≡ Rst). by_reset reset)
+        (token-or-reset p.message p.matches)
 
 -- to one client one answer is told
 one-delivery : (setting : Setting) (past : List Deed) → AllJustified setting past → (d e : Deed) (id : ℕ) → Gives id d.entry → Gives id e.entry → IsDelivery setting past d → IsDelivery setting past e → d.act ≡ e.act → d.entry.now ≡ e.entry.now → SayTheSame d.entry e.entry
@@ -281,6 +322,50 @@ one-answer setting past d e all few f g turn =
     same_request : (client : Endpoint) (request : Message) → IsRequestOf setting client request d.entry.event → IsRequestOf setting client request e.entry.event
     same_request client request r = subst (IsRequestOf setting client request) turn.event r
 
+    -- what was said of one entry of the turn is said of the other
+    turned : (P : ℕ → Event → Type 0) → P d.entry.now d.entry.event → P e.entry.now e.entry.event
+    turned P h = subst (λ (event : Event). P e.entry.now event) turn.event (subst (λ (n : ℕ). P n d.entry.event) turn.now h)
+
+    -- what can't be processed can't at the other
+    unprocessable_too : IsUnprocessable setting past d.entry → IsUnprocessable setting past e.entry
+    unprocessable_too u =
+        let back = sym turn.event in
+        let earlier = sym turn.now in
+        record {
+          no_request = λ client request r. u.no_request client request (subst (IsRequestOf setting client request) back r);
+          no_duplicate = λ source m comes. subst (λ (n : ℕ). known_of past n source m ≡ None) turn.now (u.no_duplicate source m (subst (Comes setting source m) back comes));
+          no_answer = λ x awaited. u.no_answer x (awaited-too setting past d.entry e.entry x turn awaited);
+          no_settling = λ x k. u.no_settling x (subst (λ (event : Event). Acknowledges setting past d.entry.now x event) back (subst (λ (n : ℕ). Acknowledges setting past n x e.entry.event) earlier k));
+        }
+
+    -- a message that there is no room to remember isn't remembered by the other
+    dropped_too : IsDropped setting past d → e.entry.report.outcome ≡ NoRecordRoom
+    dropped_too j = ⊎_elim (λ request. by_request request.0 request.1) (λ response. by_answer response.0 (j.wanted response.1)) (recorded-sorts j.message j.comes.recorded)
+      where
+        unknown : known_of past e.entry.now j.source j.message ≡ None
+        unknown = subst (λ (n : ℕ). known_of past n j.source j.message ≡ None) turn.now j.unknown
+
+        full : ¬ HasRecordRoom setting past e.entry.now j.message
+        full = subst (λ (n : ℕ). ¬ HasRecordRoom setting past n j.message) turn.now j.full
+
+        brings : Brings setting.limits.datagram j.source j.message e.entry.event
+        brings = subst (Brings setting.limits.datagram j.source j.message) turn.event j.comes.brings
+
+        by_request : brings_requests j.message.kind ≡ true → is_request j.message.code ≡ true → e.entry.report.outcome ≡ NoRecordRoom
+        by_request kind method = given_dropped e.entry.report.outcome setting past e j.source j.message g.justified (record { brings = brings; kind = kind; method = method }) unknown full
+
+        by_answer : j.message.kind ≡ Con → (x : ℕ) × IsAwaited setting past d.entry.now x d.entry.event → e.entry.report.outcome ≡ NoRecordRoom
+        by_answer con wanted =
+            let a : IsAwaited setting past e.entry.now wanted.0 e.entry.event = turned (λ n event. IsAwaited setting past n wanted.0 event) wanted.1 in
+            let one = one-brought brings a.meets.brings in
+            given_no_room e.entry.report.outcome setting past e wanted.0 g.justified a (sym (ap (λ (m : Message). m.kind) one.1) ∙ con) ((λ i. known_of past e.entry.now (sym one.0 i) (sym one.1 i)) ∙ unknown) (subst (λ (m : Message). ¬ HasRecordRoom setting past e.entry.now m) one.1 full)
+
+    -- an answer is taken by the other
+    answered_too : IsAnswer setting past d → takes e.entry.report.outcome ≡ true
+    answered_too a =
+        let t = turned (λ n event. (w : IsAwaited setting past n a.exchange event) × (w.meets.message.kind ≡ Con → IsNew setting past n w.meets.asks.sends.to w.meets.message)) (answer-awaited a, a.new) in
+        given_answered e.entry.report.outcome setting past e a.exchange g.justified t.0 t.1
+
     same_miss : (key : CacheKey) → IsMiss setting past key d.entry.now → IsMiss setting past key e.entry.now
     same_miss key miss = subst (IsMiss setting past key) turn.now miss
 
@@ -296,11 +381,11 @@ one-answer setting past d e all few f g turn =
 
     by_outcome : (o : Outcome) → d.entry.report.outcome ≡ o → JustifiedBy o setting past d → DoTheSame d e
     by_outcome Ignored is j =
-        let o = given_ignored e.entry.report.outcome setting past e j.source j.bytes g.justified (sym turn.event ∙ j.came) j.no_con (subst (IsUnprocessable setting past) turn.event j.unprocessable) in
+        let o = given_ignored e.entry.report.outcome setting past e j.source j.bytes g.justified (sym turn.event ∙ j.came) j.no_con (unprocessable_too j.unprocessable) in
         let k = holds Ignored o in
         record { outcome = is ∙ sym o; act = j.act ∙ sym k.act; say = silent-same d.entry e.entry j.silent k.silent }
     by_outcome Rejected is j =
-        let o = given_rejected e.entry.report.outcome setting past e j.source j.bytes j.head g.justified (sym turn.event ∙ j.came) j.head_is j.con (subst (IsUnprocessable setting past) turn.event j.unprocessable) in
+        let o = given_rejected e.entry.report.outcome setting past e j.source j.bytes g.justified (sym turn.event ∙ j.came) j.head j.head_is j.con (unprocessable_too j.unprocessable) in
         let k = holds Rejected o in
         let came = arrival-same j.source k.source j.bytes k.bytes (sym j.came ∙ turn.event ∙ k.came) in
         let head = same_Some j.head k.head (sym j.head_is ∙ ap head_at came.1 ∙ k.head_is) in
@@ -348,29 +433,36 @@ one-answer setting past d e all few f g turn =
         let same = at_once-same j.request k.request reply again (ap (λ (m : Message). m.kind) one.1) (ap (λ (m : Message). m.code) content) (ap (λ (m : Message). m.token) content) (ap (λ (m : Message). m.options) content) (ap (λ (m : Message). m.payload) content) id in
         record { outcome = is ∙ sym o; act = j.act ∙ sym k.act; say = told-same d.entry e.entry j.client k.client _ _ j.tells k.tells one.0 same }
     by_outcome Again is j =
-        let r = same_request j.client j.request j.asked in
-        let found = subst (λ (n : ℕ). record_of j.client j.request.id (remembered_at j.request.kind n past) ≡ Some j.known) turn.now j.found in
-        let o = given_again e.entry.report.outcome setting past e j.client j.request g.justified r j.known found in
+        let comes = subst (Comes setting j.source j.message) turn.event j.comes in
+        let found = subst (λ (n : ℕ). known_of past n j.source j.message ≡ Some j.known) turn.now j.found in
+        let o = given_again e.entry.report.outcome setting past e j.source j.message j.known g.justified comes found in
         let k = holds Again o in
-        let one = request-unique setting e.entry.event j.client k.client j.request k.request r k.asked in
-        let known = same_Some j.known k.known (sym found ∙ (λ i. record_of (one.0 i) (one.1 i).id (remembered_at (one.1 i).kind e.entry.now past)) ∙ k.found) in
-        let told = subst (λ (c : Record). SaysAgain k.client c.reply d.entry) known (subst (λ (client : Endpoint). SaysAgain client j.known.reply d.entry) one.0 j.says_again) in
-        record { outcome = is ∙ sym o; act = j.act ∙ sym k.act; say = again-same d.entry e.entry k.client k.known.reply told k.says_again }
+        let one = one-brought comes.brings k.comes.brings in
+        let known = same_Some j.known k.known (sym found ∙ (λ i. known_of past e.entry.now (one.0 i) (one.1 i)) ∙ k.found) in
+        let told = subst (λ (c : Record). SaysAgain k.source c.reply d.entry) known (subst (λ (source : Endpoint). SaysAgain source j.known.reply d.entry) one.0 j.says_again) in
+        record { outcome = is ∙ sym o; act = j.act ∙ sym k.act; say = again-same d.entry e.entry k.source k.known.reply told k.says_again }
     by_outcome NoRecordRoom is j =
-        let r = same_request j.client j.request j.asked in
-        let o = given_forgotten e.entry.report.outcome setting past e j.client j.request g.justified r (subst (λ (n : ℕ). record_of j.client j.request.id (remembered_at j.request.kind n past) ≡ None) turn.now j.unknown) (subst (λ (n : ℕ). most_remembered j.request.kind setting.limits ≤ length (remembered_at j.request.kind n past)) turn.now j.full) in
+        let o = dropped_too j in
         let k = holds NoRecordRoom o in
         record { outcome = is ∙ sym o; act = j.act ∙ sym k.act; say = silent-same d.entry e.entry j.silent k.silent }
     by_outcome (Answered s) is j =
         let a = taken-so s setting past d j in
-        let awaited : IsAwaited setting past a.exchange d.entry.event = record { meets = a.gets.meets; unended = a.first } in
-        let some = taken-some e.entry.report.outcome (given_answered e.entry.report.outcome setting past e a.exchange g.justified (subst (IsAwaited setting past a.exchange) turn.event awaited)) in
+        let some = taken-some e.entry.report.outcome (answered_too a) in
         let k = holds (Answered some.0) some.1 in
         let b = taken-so some.0 setting past e k in
-        let act = one-exchange setting past all few a.exchange b.exchange d e turn.event a.gets b.gets in
+        let act = one-exchange setting past all few d e turn a b in
         let memory = subst (λ (o : Outcome). HaveOneMemory o (Answered some.0)) is (subst (HaveOneMemory d.entry.report.outcome) some.1 turn.memory) in
         let storing = one-storing setting past d e turn.event turn.now act s some.0 j k memory in
-        record { outcome = is ∙ ap Answered storing ∙ sym some.1; act = act; say = silent-same d.entry e.entry a.silent b.silent }
+        let p = a.gets.meets in
+        let q = b.gets.meets in
+        let one = one-brought (subst (Brings setting.limits.datagram p.asks.sends.to p.message) turn.event p.brings) q.brings in
+        let say = taken_up-same d.entry e.entry p.message.kind q.message.kind p.asks.sends.to q.asks.sends.to p.message.id q.message.id (ap (λ (m : Message). m.kind) one.1) one.0 (ap (λ (m : Message). m.id) one.1) a.takes_up b.takes_up in
+        record { outcome = is ∙ ap Answered storing ∙ sym some.1; act = act; say = say }
+    by_outcome Acked is j =
+        let acknowledges = turned (λ n event. Acknowledges setting past n j.exchange event) j.acknowledges in
+        let o = given_settled e.entry.report.outcome setting past e j.exchange g.justified acknowledges in
+        let k = holds Acked o in
+        record { outcome = is ∙ sym o; act = j.act ∙ ap moves (k.only j.exchange acknowledges) ∙ sym k.act; say = silent-same d.entry e.entry j.silent k.silent }
     by_outcome SentRequest is j = go refl (on-tick e.entry.report.outcome setting past e g.justified (sym turn.event ∙ j.acting.ticked))
       where
         go : {o : Outcome} → e.entry.report.outcome ≡ o → OnTick setting past e o → DoTheSame d e

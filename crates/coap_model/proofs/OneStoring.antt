@@ -19,7 +19,7 @@ obtained-over setting past d e event now act k o =
     let h = k.gets in
     let exchange = same_moves o.obtained.exchange k.exchange (sym g.act ∙ act ∙ h.act) in
     let m = meets-unique setting o.obtained.exchange k.exchange past d.entry.event e.entry.event exchange event g.meets h.meets in
-    let answer : answer_of setting.limits.datagram d.entry.now g.meets.response ≡ answer_of setting.limits.datagram e.entry.now h.meets.response = λ i. answer_of setting.limits.datagram (now i) (m.response i) in
+    let answer : answer_of setting.limits.datagram d.entry.now g.meets.message ≡ answer_of setting.limits.datagram e.entry.now h.meets.message = λ i. answer_of setting.limits.datagram (now i) (m.answer i) in
     let key : key_sent g.meets.asks.sends.to g.meets.asks.sends.message ≡ key_sent h.meets.asks.sends.to h.meets.asks.sends.message = λ i. key_sent (m.to i) (m.message i) in
     record {
       exchange = k.exchange;

@@ -21,8 +21,8 @@ use Rattle.coap_forward.specs.Messages.{is_non}
 use Rattle.coap_forward.proofs.Tokens.{length-token_of}
 use Rattle.coap_model.specs.Events.{arrival}
 use Rattle.coap_model.specs.Verdicts.{may_ask}
-use Rattle.coap_model.specs.World.{World, reserved, has_ids, has_room}
-use Rattle.coap_model.specs.Requests.{opens, new_exchange, new_waiter, next_token, can_open, remembers}
+use Rattle.coap_model.specs.World.{World, remembers, reserved, has_ids, has_room}
+use Rattle.coap_model.specs.Requests.{opens, new_exchange, new_waiter, next_token, can_open}
 use Rattle.coap_model.specs.History.{Act, admits, moves, serves, Deed, opened_in, admitted_in, last_of, Opens, Admits}
 use Rattle.coap_model.specs.Standing as stages
 use Rattle.coap_model.specs.Standing.{Open, Standing, open_in, standing_in}

@@ -3,13 +3,12 @@ use Rattle.std.proofs.Common.{◌≡◌, ⊎_elim, List, [], ◌∷◌, Option, 
 use Rattle.coap_message.specs.Message.{Message}
 use Rattle.coap_target.specs.declared.endpoint.Endpoint.{Endpoint}
 use Rattle.coap_dedup.specs.declared.record.Record.{Record}
-use Rattle.coap_dedup.specs.Lists.{record_of}
 use Rattle.coap_model.specs.declared.report.Outcome.TheVariants.{Again}
 use Rattle.coap_model.specs.Setting.{Setting}
-use Rattle.coap_model.specs.Remembered.{remembered_at}
 use Rattle.coap_model.specs.Duplicates.{Repeats}
-use Rattle.coap_model.specs.History.{Deed, Place, IsPlaceOf, IsRequestOf}
-use Rattle.coap_model.specs.Justified.{IsOwed, AllOwed}
+use Rattle.coap_model.specs.History.{Deed, Place, IsPlaceOf}
+use Rattle.coap_model.specs.Justified.{known_of, Comes, IsOwed, AllOwed}
+use Rattle.coap_model.proofs.Sorts.{recorded-kind}
 use Rattle.coap_model.proofs.Duplicates.{place-known}
 
 -- at each place it was given
@@ -21,10 +20,10 @@ owed-at setting (d ∷ past) p all at =
     (λ (there : IsPlaceOf past p). owed-at setting past p all.1 there)
     at
 
--- a request that repeats a place is told again
-pub again-there : (setting : Setting) (p former : Place) (client : Endpoint) (request : Message) → IsOwed setting p.before p.deed → IsRequestOf setting client request p.deed.entry.event → IsPlaceOf p.before former → Repeats p.deed.entry.now client request former → p.deed.entry.report.outcome ≡ Again
-again-there setting p former client request owed asked at repeats = go (record_of client request.id (remembered_at request.kind p.deed.entry.now p.before)) refl
+-- a message that repeats a place is told again
+pub again-there : (setting : Setting) (p former : Place) (source : Endpoint) (m : Message) → IsOwed setting p.before p.deed → Comes setting source m p.deed.entry.event → IsPlaceOf p.before former → Repeats p.deed.entry.now source m former → p.deed.entry.report.outcome ≡ Again
+again-there setting p former source m owed comes at repeats = go (known_of p.before p.deed.entry.now source m) refl
   where
-    go : (o : Option Record) → record_of client request.id (remembered_at request.kind p.deed.entry.now p.before) ≡ o → p.deed.entry.report.outcome ≡ Again
-    go None e = absurd (place-known p.before p.deed.entry.now client request former asked.kind at repeats e)
-    go (Some known) e = owed.again client request known asked e
+    go : (o : Option Record) → known_of p.before p.deed.entry.now source m ≡ o → p.deed.entry.report.outcome ≡ Again
+    go None e = absurd (place-known p.before p.deed.entry.now source m former (recorded-kind m comes.recorded) at repeats e)
+    go (Some known) e = owed.again source m known comes e

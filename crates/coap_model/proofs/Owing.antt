@@ -1,36 +1,57 @@
 -- What is owed is given: by exclusion, since each deed is justified by its outcome.
-use Rattle.std.proofs.Common.{◌≡◌, ◌≢◌, ℕ, ◌<◌, ◌≤◌, true, false, List, length, Some, None, refl, sym, ap, ◌∙◌, subst, arith}
+use Rattle.std.proofs.Common.{◌≡◌, ◌≢◌, ⊎_elim, ℕ, ◌≤◌, true, List, Some, None, refl, sym, ap, ◌∙◌, subst, arith}
 use Rattle.coap_message.specs.declared.code.Code.{Code}
-use Rattle.coap_message.specs.declared.kind.Kind.TheVariants.{Con, Non, Ack}
+use Rattle.coap_message.specs.declared.kind.Kind.TheVariants.{Con, Non}
 use Rattle.coap_message.specs.declared.message.Head.{Head}
 use Rattle.coap_message.specs.Message.{Message}
 use Rattle.coap_message.specs.Reading.{head_at}
 use Rattle.coap_target.specs.declared.endpoint.Endpoint.{Endpoint}
 use Rattle.coap_cache.specs.declared.key.CacheKey.{CacheKey}
 use Rattle.coap_model.specs.declared.report.Outcome.{Outcome}
-use Rattle.coap_model.specs.declared.report.Outcome.TheVariants.{Ignored, Rejected, Again, NoRecordRoom, Refused, Hit, Opened, Overloaded, NoId, Answered, SentRequest, Resent, GaveUp, Delivered, Idle}
+use Rattle.coap_model.specs.declared.report.Outcome.TheVariants.{Ignored, Rejected, Again, NoRecordRoom, Refused, Hit, Opened, Overloaded, NoId, Answered, Acked, SentRequest, Resent, GaveUp, Delivered, Idle}
 use Rattle.coap_model.specs.declared.report.Storing.{Storing}
 use Rattle.coap_model.specs.declared.report.Storing.TheVariants.{Kept, TooLarge, NoMemory, NotStored}
 use Rattle.coap_model.specs.Setting.{Setting}
 use Rattle.coap_dedup.specs.declared.record.Record.{Record}
-use Rattle.coap_dedup.specs.Lists.{record_of}
 use Rattle.coap_model.specs.Events.{Event, arrival, tick}
-use Rattle.coap_forward.specs.Messages.{brings_requests}
-use Rattle.coap_model.specs.Remembered.{most_remembered, remembered_at}
+use Rattle.coap_forward.specs.Messages.{is_recorded}
 use Rattle.coap_model.specs.Verdicts.{may_ask}
 use Rattle.coap_model.specs.Standing.{HasIds, HasRoomToOpen}
-use Rattle.coap_model.specs.History.{Act, Deed, takes, Brings, IsRequestOf}
+use Rattle.coap_model.specs.History.{Act, Deed, takes, Brings, IsRequestOf, Meets, Matches}
 use Rattle.coap_cache.specs.Lists.{of_key}
 use Rattle.coap_model.specs.Cached.{Cached, cached_key, IsCacheOf}
 use Rattle.coap_model.proofs.Cached.{cache-unique}
 use Rattle.coap_model.specs.Due.{IsDueAt}
-use Rattle.coap_model.specs.Justified.{IsNew, HasIdFor, IsRepetition, IsForgotten, verdict_on, fits_on, Deserves, by_verdict, by_length, IsMiss, is_fresh_at, IsRefusal, IsHit, IsAnswer, IsOverload, IsLack, IsOpening, IsAwaited, IsForwarding, IsResending, IsGivingUp, overdue, unheard, IsDelivery, IsIdle, IsUnprocessable, IsActing, JustifiedBy}
-use Rattle.coap_model.proofs.Arrivals.{no_tick, one_kind, head_kind, kinds}
-use Rattle.coap_model.proofs.Places.{arrival-same, request-unique}
+use Rattle.coap_model.specs.Justified.{Comes, known_of, HasRecordRoom, IsNew, HasIdFor, IsRepetition, IsDropped, Acknowledges, verdict_on, fits_on, Deserves, by_verdict, by_length, IsMiss, is_fresh_at, IsRefusal, IsHit, IsAnswer, IsOverload, IsLack, IsOpening, IsAwaited, IsForwarding, IsResending, IsGivingUp, overdue, unheard, IsDelivery, IsIdle, IsUnprocessable, IsActing, JustifiedBy}
+use Rattle.coap_model.proofs.Arrivals.{no_tick, one_kind}
+use Rattle.coap_model.proofs.Places.{arrival-same, one-brought, request-unique}
+use Rattle.coap_model.proofs.Sorts.{ack-no-request, answer-no-request, answer-no-ack, recorded-sorts, recorded-kind, answer-recorded}
 
--- a response in an acknowledgement is no request
-no_answer : {A : Type 0} {event : Event} {most : ℕ} {a b : Endpoint} {m n : Message} → Brings most a m event → m.kind ≡ Ack → Brings most b n event → brings_requests n.kind ≡ true → A
-no_answer p ack q request = absurd (let e : true ≡ false = sym request ∙ ap brings_requests (sym (one_kind p q) ∙ ack) in cc)
+-- ---- sorts of messages
+
+-- a request is no answer
+no_answer : {A : Type 0} {setting : Setting} {past : List Deed} {x : ℕ} {event : Event} {client : Endpoint} {request : Message} → Meets setting x past event → IsRequestOf setting client request event → A
+no_answer {request = request} meets r =
+    let one = (one-brought meets.brings r.brings).1 in
+    answer-no-request request (subst (Matches _ _) one meets.matches) r.kind r.method
+
+-- nor an acknowledgement
+no_ack : {A : Type 0} {setting : Setting} {past : List Deed} {now x : ℕ} {event : Event} {client : Endpoint} {request : Message} → Acknowledges setting past now x event → IsRequestOf setting client request event → A
+no_ack k r = ack-no-request (sym (one_kind k.brings r.brings) ∙ k.kind) r.kind
+
+-- an answer is no acknowledgement and no more
+not_both : {A : Type 0} {setting : Setting} {past : List Deed} {now x y : ℕ} {event : Event} → Meets setting x past event → Acknowledges setting past now y event → A
+not_both meets k =
+    let one = (one-brought meets.brings k.brings).1 in
+    answer-no-ack meets.message meets.matches (ap (λ (m : Message). m.kind) one ∙ k.kind) (ap (λ (m : Message). m.code) one ∙ k.empty)
+
+-- which isn't remembered
+not_recorded : {A : Type 0} {setting : Setting} {past : List Deed} {now x : ℕ} {event : Event} {source : Endpoint} {m : Message} → Acknowledges setting past now x event → Comes setting source m event → A
+not_recorded {m = m} k comes = ack-no-request (sym (one_kind k.brings comes.brings) ∙ k.kind) (recorded-kind m comes.recorded)
+
+-- an answer that is remembered is Confirmable
+answer_con : {setting : Setting} {past : List Deed} {x : ℕ} {event : Event} {source : Endpoint} {m : Message} → (meets : Meets setting x past event) → Comes setting source m event → meets.message.kind ≡ Con
+answer_con meets comes = answer-recorded meets.message meets.matches (ap is_recorded (one-brought meets.brings comes.brings).1 ∙ comes.recorded)
 
 -- ---- requests
 
@@ -54,7 +75,7 @@ data OnRequest (setting : Setting) (past : List Deed) (d : Deed) : Outcome → T
   opened : IsOpening setting past d → OnRequest setting past d Opened
   hit : IsHit setting past d → OnRequest setting past d Hit
   repeated : IsRepetition setting past d → OnRequest setting past d Again
-  forgotten : IsForgotten setting past d → OnRequest setting past d NoRecordRoom
+  dropped : IsDropped setting past d → OnRequest setting past d NoRecordRoom
 
 -- a request is refused, answered from the cache, told to come later, met with silence, opened, a
 -- duplicate or not remembered, and nothing else
@@ -67,8 +88,9 @@ on-request Overloaded setting past d client request j r = overloaded j
 on-request NoId setting past d client request j r = lacking j
 on-request Hit setting past d client request j r = hit j
 on-request Again setting past d client request j r = repeated j
-on-request NoRecordRoom setting past d client request j r = forgotten j
-on-request (Answered s) setting past d client request j r = let m = (taken-so s setting past d j).gets.meets in no_answer m.brings m.matches.kind r.brings r.kind
+on-request NoRecordRoom setting past d client request j r = dropped j
+on-request (Answered s) setting past d client request j r = no_answer (taken-so s setting past d j).gets.meets r
+on-request Acked setting past d client request j r = no_ack j.acknowledges r
 on-request SentRequest setting past d client request j r = no_tick r.brings.came j.acting.ticked
 on-request Resent setting past d client request j r = no_tick r.brings.came j.acting.ticked
 on-request GaveUp setting past d client request j r = no_tick r.brings.came (given_up-so setting past d j).ticked
@@ -115,22 +137,53 @@ key-of setting d a b r s k l asked again p q = one_key (sym p ∙ ap (verdict_on
 fewer_ids : (now : ℕ) (past : List Deed) → HasIds 2 now past → HasIds 1 now past
 fewer_ids now past h = record { free = let f = h.free in omega arith }
 
--- ---- requests that are new
+-- ---- messages that are new
 
--- what is remembered of a request is found under either name
-same_known : (setting : Setting) (past : List Deed) (d : Deed) (a b : Endpoint) (r s : Message) → IsRequestOf setting a r d.entry.event → IsRequestOf setting b s d.entry.event → record_of a r.id (remembered_at r.kind d.entry.now past) ≡ record_of b s.id (remembered_at s.kind d.entry.now past)
-same_known setting past d a b r s asked again = let one = request-unique setting d.entry.event a b r s asked again in λ i. record_of (one.0 i) (one.1 i).id (remembered_at (one.1 i).kind d.entry.now past)
+-- what is known of a message is found under either name
+pub same_known : (most : ℕ) (past : List Deed) (d : Deed) (a b : Endpoint) (r s : Message) → Brings most a r d.entry.event → Brings most b s d.entry.event → known_of past d.entry.now a r ≡ known_of past d.entry.now b s
+same_known most past d a b r s brings again = let one = one-brought brings again in λ i. known_of past d.entry.now (one.0 i) (one.1 i)
 
--- one that is new isn't remembered
-new-known : {A : Type 0} (setting : Setting) (past : List Deed) (d : Deed) (a b : Endpoint) (r s : Message) (known : Record) → IsRequestOf setting a r d.entry.event → IsRequestOf setting b s d.entry.event → record_of a r.id (remembered_at r.kind d.entry.now past) ≡ None → record_of b s.id (remembered_at s.kind d.entry.now past) ≡ Some known → A
-new-known setting past d a b r s known asked again new found = absurd (let e = sym new ∙ same_known setting past d a b r s asked again ∙ found in cc)
+-- of what is new nothing is known
+new-known : {A : Type 0} (most : ℕ) (past : List Deed) (d : Deed) (a b : Endpoint) (r s : Message) (known : Record) → Brings most a r d.entry.event → Brings most b s d.entry.event → known_of past d.entry.now a r ≡ None → known_of past d.entry.now b s ≡ Some known → A
+new-known most past d a b r s known brings again new found = absurd (let e = sym new ∙ same_known most past d a b r s brings again ∙ found in cc)
 
 -- and there is room to remember it
-new-full : {A : Type 0} (setting : Setting) (past : List Deed) (d : Deed) (a b : Endpoint) (r s : Message) → IsRequestOf setting a r d.entry.event → IsRequestOf setting b s d.entry.event → IsNew setting past d.entry.now a r → most_remembered s.kind setting.limits ≤ length (remembered_at s.kind d.entry.now past) → A
-new-full setting past d a b r s asked again new full =
-    let one = request-unique setting d.entry.event a b r s asked again in
-    let room : length (remembered_at s.kind d.entry.now past) < most_remembered s.kind setting.limits = subst (λ (m : Message). length (remembered_at m.kind d.entry.now past) < most_remembered m.kind setting.limits) one.1 new.room in
-    absurd (omega (arith, room, full))
+new-full : {A : Type 0} (setting : Setting) (past : List Deed) (d : Deed) (a b : Endpoint) (r s : Message) → Brings setting.limits.datagram a r d.entry.event → Brings setting.limits.datagram b s d.entry.event → IsNew setting past d.entry.now a r → ¬ HasRecordRoom setting past d.entry.now s → A
+new-full setting past d a b r s brings again new full = absurd (full (subst (HasRecordRoom setting past d.entry.now) (one-brought brings again).1 new.room))
+
+-- what is known of a message is told again
+pub given_again : (o : Outcome) (setting : Setting) (past : List Deed) (d : Deed) (source : Endpoint) (m : Message) (known : Record) → JustifiedBy o setting past d → Comes setting source m d.entry.event → known_of past d.entry.now source m ≡ Some known → o ≡ Again
+given_again o setting past d source m known j comes found = go o j
+  where
+    new : {A : Type 0} (other : Endpoint) (n : Message) → Brings setting.limits.datagram other n d.entry.event → known_of past d.entry.now other n ≡ None → A
+    new other n brings unknown = new-known setting.limits.datagram past d other source n m known brings comes.brings unknown found
+
+    unprocessed : {A : Type 0} → IsUnprocessable setting past d.entry → A
+    unprocessed u = new source m comes.brings (u.no_duplicate source m comes)
+
+    go : (p : Outcome) → JustifiedBy p setting past d → p ≡ Again
+    go Ignored k = unprocessed k.unprocessable
+    go Rejected k = unprocessed k.unprocessable
+    go (Refused code) k = new k.client k.request k.asked.brings k.new.unknown
+    go Opened k = new k.client k.request k.asked.brings k.new.unknown
+    go Overloaded k = new k.client k.request k.asked.brings k.new.unknown
+    go NoId k = new k.client k.request k.asked.brings k.new.unknown
+    go Hit k = new k.client k.request k.asked.brings k.new.unknown
+    go Again k = refl
+    go NoRecordRoom k = new k.source k.message k.comes.brings k.unknown
+    go (Answered s) k =
+        let a = taken-so s setting past d k in
+        let meets = a.gets.meets in
+        new meets.asks.sends.to meets.message meets.brings (a.new (answer_con meets comes)).unknown
+    go Acked k = not_recorded k.acknowledges comes
+    go SentRequest k = no_tick comes.brings.came k.acting.ticked
+    go Resent k = no_tick comes.brings.came k.acting.ticked
+    go GaveUp k = no_tick comes.brings.came (given_up-so setting past d k).ticked
+    go Delivered k = no_tick comes.brings.came k.acting.ticked
+    go Idle k = no_tick comes.brings.came k.ticked
+    go _ k = absurd k
+
+-- ---- requests that are new
 
 module _ (o : Outcome) (setting : Setting) (past : List Deed) (d : Deed) (client : Endpoint) (request : Message) (j : JustifiedBy o setting past d) (r : IsRequestOf setting client request d.entry.event) where
   abbrev now : ℕ
@@ -140,39 +193,29 @@ module _ (o : Outcome) (setting : Setting) (past : List Deed) (d : Deed) (client
   one : (other : Endpoint) (m : Message) → IsRequestOf setting other m d.entry.event → m ≡ request
   one other m asked = (request-unique setting d.entry.event other client m request asked r).1
 
-  -- what is known of a request is told again
-  pub given_again : (known : Record) → record_of client request.id (remembered_at request.kind d.entry.now past) ≡ Some known → o ≡ Again
-  given_again known found = go (on-request o setting past d client request j r)
-    where
-      go : {p : Outcome} → OnRequest setting past d p → p ≡ Again
-      go (refused code k) = new-known setting past d k.client client k.request request known k.asked r k.new.unknown found
-      go (overloaded k) = new-known setting past d k.client client k.request request known k.asked r k.new.unknown found
-      go (lacking k) = new-known setting past d k.client client k.request request known k.asked r k.new.unknown found
-      go (opened k) = new-known setting past d k.client client k.request request known k.asked r k.new.unknown found
-      go (hit k) = new-known setting past d k.client client k.request request known k.asked r k.new.unknown found
-      go (repeated k) = refl
-      go (forgotten k) = new-known setting past d k.client client k.request request known k.asked r k.unknown found
-
   -- where there is no room to remember it, there is silence
-  pub given_forgotten : record_of client request.id (remembered_at request.kind d.entry.now past) ≡ None → most_remembered request.kind setting.limits ≤ length (remembered_at request.kind d.entry.now past) → o ≡ NoRecordRoom
-  given_forgotten unknown full = go (on-request o setting past d client request j r)
+  pub given_dropped : known_of past d.entry.now client request ≡ None → ¬ HasRecordRoom setting past d.entry.now request → o ≡ NoRecordRoom
+  given_dropped unknown full = go (on-request o setting past d client request j r)
     where
+      not-new : {A : Type 0} (other : Endpoint) (m : Message) → IsRequestOf setting other m d.entry.event → IsNew setting past d.entry.now other m → A
+      not-new other m asked new = new-full setting past d other client m request asked.brings r.brings new full
+
       go : {p : Outcome} → OnRequest setting past d p → p ≡ NoRecordRoom
-      go (refused code k) = new-full setting past d k.client client k.request request k.asked r k.new full
-      go (overloaded k) = new-full setting past d k.client client k.request request k.asked r k.new full
-      go (lacking k) = new-full setting past d k.client client k.request request k.asked r k.new full
-      go (opened k) = new-full setting past d k.client client k.request request k.asked r k.new full
-      go (hit k) = new-full setting past d k.client client k.request request k.asked r k.new full
-      go (repeated k) = new-known setting past d client k.client request k.request k.known r k.asked unknown k.found
-      go (forgotten k) = refl
+      go (refused code k) = not-new k.client k.request k.asked k.new
+      go (overloaded k) = not-new k.client k.request k.asked k.new
+      go (lacking k) = not-new k.client k.request k.asked k.new
+      go (opened k) = not-new k.client k.request k.asked k.new
+      go (hit k) = not-new k.client k.request k.asked k.new
+      go (repeated k) = new-known setting.limits.datagram past d client k.source request k.message k.known r.brings k.comes.brings unknown k.found
+      go (dropped k) = refl
 
   module _ (new : IsNew setting past d.entry.now client request) where
     -- a request that is new is no duplicate, and is remembered
     not-again : {A : Type 0} → IsRepetition setting past d → A
-    not-again k = new-known setting past d client k.client request k.request k.known r k.asked new.unknown k.found
+    not-again k = new-known setting.limits.datagram past d client k.source request k.message k.known r.brings k.comes.brings new.unknown k.found
 
-    not-forgotten : {A : Type 0} → IsForgotten setting past d → A
-    not-forgotten k = new-full setting past d client k.client request k.request r k.asked new k.full
+    not-dropped : {A : Type 0} → IsDropped setting past d → A
+    not-dropped k = new-full setting past d client k.source request k.message r.brings k.comes.brings new k.full
 
     -- a request that deserves a code is refused with it
     pub given_refused : (code : Code) → Deserves setting past d.entry.now request code → HasIdFor request d.entry.now past → o ≡ Refused code
@@ -185,7 +228,7 @@ module _ (o : Outcome) (setting : Setting) (past : List Deed) (d : Deed) (client
         go (opened k) = fits_well setting past now k.request code k.key (same_deserved setting past now d client k.client request k.request code r k.asked deserved) k.verdict k.fits
         go (hit k) = hits_well setting past now k.request code k.key k.cached k.entry (same_deserved setting past now d client k.client request k.request code r k.asked deserved) k.verdict k.is_cache k.found k.fresh
         go (repeated k) = not-again k
-        go (forgotten k) = not-forgotten k
+        go (dropped k) = not-dropped k
 
     -- one whose key has a fresh entry is answered from the cache
     pub given_hit : (key : CacheKey) (cached : List Cached) (entry : Cached) → verdict_on setting request ≡ may_ask key → IsCacheOf setting past cached → of_key cached_key key cached ≡ Some entry → is_fresh_at d.entry.now entry ≡ true → HasIdFor request d.entry.now past → o ≡ Hit
@@ -198,7 +241,7 @@ module _ (o : Outcome) (setting : Setting) (past : List Deed) (d : Deed) (client
         go (opened k) = missed-or-hit setting past now k.key key cached entry k.miss (key-of setting d k.client client k.request request k.key key k.asked r k.verdict verdict) is found fresh
         go (hit k) = refl
         go (repeated k) = not-again k
-        go (forgotten k) = not-forgotten k
+        go (dropped k) = not-dropped k
 
     -- one that is missed is told to come later where there is no room
     pub given_overloaded : (key : CacheKey) → verdict_on setting request ≡ may_ask key → IsMiss setting past key d.entry.now → fits_on setting key request ≡ true → (request.kind ≡ Non → ¬ HasRoomToOpen setting.limits d.entry.now past) → HasIdFor request d.entry.now past → o ≡ Overloaded
@@ -211,7 +254,7 @@ module _ (o : Outcome) (setting : Setting) (past : List Deed) (d : Deed) (client
         go (opened k) = absurd (full (sym (ap (λ (m : Message). m.kind) (one k.client k.request k.asked)) ∙ k.kind) k.room)
         go (hit k) = missed-or-hit setting past now key k.key k.cached k.entry miss (key-of setting d client k.client request k.request key k.key r k.asked verdict k.verdict) k.is_cache k.found k.fresh
         go (repeated k) = not-again k
-        go (forgotten k) = not-forgotten k
+        go (dropped k) = not-dropped k
 
     module _ (kind : request.kind ≡ Non) where
       non : (other : Endpoint) (m : Message) → IsRequestOf setting other m d.entry.event → m.kind ≡ Non
@@ -228,7 +271,7 @@ module _ (o : Outcome) (setting : Setting) (past : List Deed) (d : Deed) (client
           go (opened k) = absurd (none (fewer_ids d.entry.now past k.room.ids))
           go (hit k) = absurd (none (k.ids (non k.client k.request k.asked)))
           go (repeated k) = not-again k
-          go (forgotten k) = not-forgotten k
+          go (dropped k) = not-dropped k
 
       -- one that is missed, with room, is opened
       pub given_opened : (key : CacheKey) → verdict_on setting request ≡ may_ask key → IsMiss setting past key d.entry.now → fits_on setting key request ≡ true → HasRoomToOpen setting.limits d.entry.now past → o ≡ Opened
@@ -241,68 +284,144 @@ module _ (o : Outcome) (setting : Setting) (past : List Deed) (d : Deed) (client
           go (opened k) = refl
           go (hit k) = missed-or-hit setting past now key k.key k.cached k.entry miss (key-of setting d client k.client request k.request key k.key r k.asked verdict k.verdict) k.is_cache k.found k.fresh
           go (repeated k) = not-again k
-          go (forgotten k) = not-forgotten k
+          go (dropped k) = not-dropped k
 
--- ---- responses
+-- ---- answers
 
--- a response that is awaited is an answer
-pub given_answered : (o : Outcome) (setting : Setting) (past : List Deed) (d : Deed) (x : ℕ) → JustifiedBy o setting past d → IsAwaited setting past x d.entry.event → takes o ≡ true
-given_answered Ignored setting past d x j a = absurd (j.unprocessable.no_answer x a)
-given_answered Rejected setting past d x j a = absurd (j.unprocessable.no_answer x a)
-given_answered (Refused code) setting past d x j a = no_answer a.meets.brings a.meets.matches.kind j.asked.brings j.asked.kind
-given_answered Opened setting past d x j a = no_answer a.meets.brings a.meets.matches.kind j.asked.brings j.asked.kind
-given_answered Overloaded setting past d x j a = no_answer a.meets.brings a.meets.matches.kind j.asked.brings j.asked.kind
-given_answered NoId setting past d x j a = no_answer a.meets.brings a.meets.matches.kind j.asked.brings j.asked.kind
-given_answered Again setting past d x j a = no_answer a.meets.brings a.meets.matches.kind j.asked.brings j.asked.kind
-given_answered NoRecordRoom setting past d x j a = no_answer a.meets.brings a.meets.matches.kind j.asked.brings j.asked.kind
-given_answered Hit setting past d x j a = no_answer a.meets.brings a.meets.matches.kind j.asked.brings j.asked.kind
-given_answered (Answered s) setting past d x j a = refl
-given_answered SentRequest setting past d x j a = no_tick a.meets.brings.came j.acting.ticked
-given_answered Resent setting past d x j a = no_tick a.meets.brings.came j.acting.ticked
-given_answered GaveUp setting past d x j a = no_tick a.meets.brings.came (given_up-so setting past d j).ticked
-given_answered Delivered setting past d x j a = no_tick a.meets.brings.came j.acting.ticked
-given_answered Idle setting past d x j a = no_tick a.meets.brings.came j.ticked
-given_answered _ setting past d x j a = absurd j
+module _ (o : Outcome) (setting : Setting) (past : List Deed) (d : Deed) (x : ℕ) (j : JustifiedBy o setting past d) (a : IsAwaited setting past d.entry.now x d.entry.event) where
+  -- an answer that is awaited is taken; one in a Confirmable message where it is new
+  pub given_answered : (a.meets.message.kind ≡ Con → IsNew setting past d.entry.now a.meets.asks.sends.to a.meets.message) → takes o ≡ true
+  given_answered new = go o j
+    where
+      go : (p : Outcome) → JustifiedBy p setting past d → takes p ≡ true
+      go Ignored k = absurd (k.unprocessable.no_answer x a)
+      go Rejected k = absurd (k.unprocessable.no_answer x a)
+      go (Refused code) k = no_answer a.meets k.asked
+      go Opened k = no_answer a.meets k.asked
+      go Overloaded k = no_answer a.meets k.asked
+      go NoId k = no_answer a.meets k.asked
+      go Hit k = no_answer a.meets k.asked
+      go Again k = new-known setting.limits.datagram past d a.meets.asks.sends.to k.source a.meets.message k.message k.known a.meets.brings k.comes.brings (new (answer_con a.meets k.comes)).unknown k.found
+      go NoRecordRoom k = new-full setting past d a.meets.asks.sends.to k.source a.meets.message k.message a.meets.brings k.comes.brings (new (answer_con a.meets k.comes)) k.full
+      go (Answered s) k = refl
+      go Acked k = not_both a.meets k.acknowledges
+      go SentRequest k = no_tick a.meets.brings.came k.acting.ticked
+      go Resent k = no_tick a.meets.brings.came k.acting.ticked
+      go GaveUp k = no_tick a.meets.brings.came (given_up-so setting past d k).ticked
+      go Delivered k = no_tick a.meets.brings.came k.acting.ticked
+      go Idle k = no_tick a.meets.brings.came k.ticked
+      go _ k = absurd k
+
+  -- one in a Confirmable message that isn't known, and that there is no room to remember, meets silence
+  pub given_no_room : a.meets.message.kind ≡ Con → known_of past d.entry.now a.meets.asks.sends.to a.meets.message ≡ None → ¬ HasRecordRoom setting past d.entry.now a.meets.message → o ≡ NoRecordRoom
+  given_no_room con unknown full = go o j
+    where
+      go : (p : Outcome) → JustifiedBy p setting past d → p ≡ NoRecordRoom
+      go Ignored k = absurd (k.unprocessable.no_answer x a)
+      go Rejected k = absurd (k.unprocessable.no_answer x a)
+      go (Refused code) k = no_answer a.meets k.asked
+      go Opened k = no_answer a.meets k.asked
+      go Overloaded k = no_answer a.meets k.asked
+      go NoId k = no_answer a.meets k.asked
+      go Hit k = no_answer a.meets k.asked
+      go Again k = new-known setting.limits.datagram past d a.meets.asks.sends.to k.source a.meets.message k.message k.known a.meets.brings k.comes.brings unknown k.found
+      go NoRecordRoom k = refl
+      go (Answered s) k = let b = taken-so s setting past d k in let m = b.gets.meets in let one = (one-brought a.meets.brings m.brings).1 in new-full setting past d m.asks.sends.to a.meets.asks.sends.to m.message a.meets.message m.brings a.meets.brings (b.new (sym (ap (λ (n : Message). n.kind) one) ∙ con)) full
+      go Acked k = not_both a.meets k.acknowledges
+      go SentRequest k = no_tick a.meets.brings.came k.acting.ticked
+      go Resent k = no_tick a.meets.brings.came k.acting.ticked
+      go GaveUp k = no_tick a.meets.brings.came (given_up-so setting past d k).ticked
+      go Delivered k = no_tick a.meets.brings.came k.acting.ticked
+      go Idle k = no_tick a.meets.brings.came k.ticked
+      go _ k = absurd k
+
+-- an acknowledgement of a request that waits for one settles it
+pub given_settled : (o : Outcome) (setting : Setting) (past : List Deed) (d : Deed) (x : ℕ) → JustifiedBy o setting past d → Acknowledges setting past d.entry.now x d.entry.event → o ≡ Acked
+given_settled o setting past d x j a = go o j
+  where
+    go : (p : Outcome) → JustifiedBy p setting past d → p ≡ Acked
+    go Ignored k = absurd (k.unprocessable.no_settling x a)
+    go Rejected k = absurd (k.unprocessable.no_settling x a)
+    go (Refused code) k = no_ack a k.asked
+    go Opened k = no_ack a k.asked
+    go Overloaded k = no_ack a k.asked
+    go NoId k = no_ack a k.asked
+    go Hit k = no_ack a k.asked
+    go Again k = not_recorded a k.comes
+    go NoRecordRoom k = not_recorded a k.comes
+    go (Answered s) k = not_both (taken-so s setting past d k).gets.meets a
+    go Acked k = refl
+    go SentRequest k = no_tick a.brings.came k.acting.ticked
+    go Resent k = no_tick a.brings.came k.acting.ticked
+    go GaveUp k = no_tick a.brings.came (given_up-so setting past d k).ticked
+    go Delivered k = no_tick a.brings.came k.acting.ticked
+    go Idle k = no_tick a.brings.came k.ticked
+    go _ k = absurd k
 
 -- ---- what isn't processed
 
--- a confirmable datagram that can't be processed is rejected
-pub given_rejected : (o : Outcome) (setting : Setting) (past : List Deed) (d : Deed) (source : Endpoint) (bytes : List ℕ) (head : Head) → JustifiedBy o setting past d → d.entry.event ≡ arrival source bytes → head_at bytes ≡ Some head → head.kind ≡ Con → IsUnprocessable setting past d.entry.event → o ≡ Rejected
-given_rejected Ignored setting past d source bytes head j came is con not = let same = arrival-same source j.source bytes j.bytes (sym came ∙ j.came) in absurd (j.no_con head (sym (ap head_at same.1) ∙ is) con)
-given_rejected Rejected setting past d source bytes head j came is con not = refl
-given_rejected (Refused code) setting past d source bytes head j came is con not = absurd (not.no_request j.client j.request j.asked)
-given_rejected Opened setting past d source bytes head j came is con not = absurd (not.no_request j.client j.request j.asked)
-given_rejected Overloaded setting past d source bytes head j came is con not = absurd (not.no_request j.client j.request j.asked)
-given_rejected NoId setting past d source bytes head j came is con not = absurd (not.no_request j.client j.request j.asked)
-given_rejected Again setting past d source bytes head j came is con not = absurd (not.no_request j.client j.request j.asked)
-given_rejected NoRecordRoom setting past d source bytes head j came is con not = absurd (not.no_request j.client j.request j.asked)
-given_rejected Hit setting past d source bytes head j came is con not = absurd (not.no_request j.client j.request j.asked)
-given_rejected (Answered s) setting past d source bytes head j came is con not = let m = (taken-so s setting past d j).gets.meets in kinds (head_kind m.brings came is) m.matches.kind con (λ e. cc)
-given_rejected SentRequest setting past d source bytes head j came is con not = no_tick came j.acting.ticked
-given_rejected Resent setting past d source bytes head j came is con not = no_tick came j.acting.ticked
-given_rejected GaveUp setting past d source bytes head j came is con not = no_tick came (given_up-so setting past d j).ticked
-given_rejected Delivered setting past d source bytes head j came is con not = no_tick came j.acting.ticked
-given_rejected Idle setting past d source bytes head j came is con not = no_tick came j.ticked
-given_rejected _ setting past d source bytes head j came is con not = absurd j
+-- an answer is one that is awaited
+abbrev pub answer-awaited : {setting : Setting} {past : List Deed} {d : Deed} (a : IsAnswer setting past d) → IsAwaited setting past d.entry.now a.exchange d.entry.event
+answer-awaited a = record { meets = a.gets.meets; unended = a.first; unsettled = a.unsettled }
 
--- what can't be processed and isn't confirmable is ignored
-pub given_ignored : (o : Outcome) (setting : Setting) (past : List Deed) (d : Deed) (source : Endpoint) (bytes : List ℕ) → JustifiedBy o setting past d → d.entry.event ≡ arrival source bytes → ((head : Head) → head_at bytes ≡ Some head → head.kind ≢ Con) → IsUnprocessable setting past d.entry.event → o ≡ Ignored
-given_ignored Ignored setting past d source bytes j came no_con not = refl
-given_ignored Rejected setting past d source bytes j came no_con not = let same = arrival-same source j.source bytes j.bytes (sym came ∙ j.came) in absurd (no_con j.head (ap head_at same.1 ∙ j.head_is) j.con)
-given_ignored (Refused code) setting past d source bytes j came no_con not = absurd (not.no_request j.client j.request j.asked)
-given_ignored Opened setting past d source bytes j came no_con not = absurd (not.no_request j.client j.request j.asked)
-given_ignored Overloaded setting past d source bytes j came no_con not = absurd (not.no_request j.client j.request j.asked)
-given_ignored NoId setting past d source bytes j came no_con not = absurd (not.no_request j.client j.request j.asked)
-given_ignored Again setting past d source bytes j came no_con not = absurd (not.no_request j.client j.request j.asked)
-given_ignored NoRecordRoom setting past d source bytes j came no_con not = absurd (not.no_request j.client j.request j.asked)
-given_ignored Hit setting past d source bytes j came no_con not = absurd (not.no_request j.client j.request j.asked)
-given_ignored (Answered s) setting past d source bytes j came no_con not = let a = taken-so s setting past d j in absurd (not.no_answer a.exchange (record { meets = a.gets.meets; unended = a.first }))
-given_ignored SentRequest setting past d source bytes j came no_con not = no_tick came j.acting.ticked
-given_ignored Resent setting past d source bytes j came no_con not = no_tick came j.acting.ticked
-given_ignored GaveUp setting past d source bytes j came no_con not = no_tick came (given_up-so setting past d j).ticked
-given_ignored Delivered setting past d source bytes j came no_con not = no_tick came j.acting.ticked
-given_ignored Idle setting past d source bytes j came no_con not = no_tick came j.ticked
-given_ignored _ setting past d source bytes j came no_con not = absurd j
+-- what is ignored or rejected isn't dropped: no request is, nor an answer that is awaited
+no_drop : {A : Type 0} {setting : Setting} {past : List Deed} {d : Deed} → IsDropped setting past d → IsUnprocessable setting past d.entry → A
+no_drop k not =
+    absurd (⊎_elim
+    (λ request. not.no_request k.source k.message (record { brings = k.comes.brings; kind = request.0; method = request.1 }))
+    (λ response. let wanted = k.wanted response.1 in not.no_answer wanted.0 wanted.1)
+    (recorded-sorts k.message k.comes.recorded))
+
+-- nor is it told again
+no_again : {A : Type 0} {setting : Setting} {past : List Deed} {d : Deed} → IsRepetition setting past d → IsUnprocessable setting past d.entry → A
+no_again k not = absurd (let e = sym (not.no_duplicate k.source k.message k.comes) ∙ k.found in cc)
+
+module _ (o : Outcome) (setting : Setting) (past : List Deed) (d : Deed) (source : Endpoint) (bytes : List ℕ) (j : JustifiedBy o setting past d) (came : d.entry.event ≡ arrival source bytes) where
+  -- a confirmable datagram that can't be processed is rejected
+  pub given_rejected : (head : Head) → head_at bytes ≡ Some head → head.kind ≡ Con → IsUnprocessable setting past d.entry → o ≡ Rejected
+  given_rejected head is con not = go o j
+    where
+      go : (p : Outcome) → JustifiedBy p setting past d → p ≡ Rejected
+      go Ignored k = let same = arrival-same source k.source bytes k.bytes (sym came ∙ k.came) in absurd (k.no_con head (sym (ap head_at same.1) ∙ is) con)
+      go Rejected k = refl
+      go (Refused code) k = absurd (not.no_request k.client k.request k.asked)
+      go Opened k = absurd (not.no_request k.client k.request k.asked)
+      go Overloaded k = absurd (not.no_request k.client k.request k.asked)
+      go NoId k = absurd (not.no_request k.client k.request k.asked)
+      go Hit k = absurd (not.no_request k.client k.request k.asked)
+      go Again k = no_again k not
+      go NoRecordRoom k = no_drop k not
+      go (Answered s) k = let a = taken-so s setting past d k in absurd (not.no_answer a.exchange (answer-awaited a))
+      go Acked k = absurd (not.no_settling k.exchange k.acknowledges)
+      go SentRequest k = no_tick came k.acting.ticked
+      go Resent k = no_tick came k.acting.ticked
+      go GaveUp k = no_tick came (given_up-so setting past d k).ticked
+      go Delivered k = no_tick came k.acting.ticked
+      go Idle k = no_tick came k.ticked
+      go _ k = absurd k
+
+  -- what can't be processed and isn't confirmable is ignored
+  pub given_ignored : ((head : Head) → head_at bytes ≡ Some head → head.kind ≢ Con) → IsUnprocessable setting past d.entry → o ≡ Ignored
+  given_ignored no_con not = go o j
+    where
+      go : (p : Outcome) → JustifiedBy p setting past d → p ≡ Ignored
+      go Ignored k = refl
+      go Rejected k = let same = arrival-same source k.source bytes k.bytes (sym came ∙ k.came) in absurd (no_con k.head (ap head_at same.1 ∙ k.head_is) k.con)
+      go (Refused code) k = absurd (not.no_request k.client k.request k.asked)
+      go Opened k = absurd (not.no_request k.client k.request k.asked)
+      go Overloaded k = absurd (not.no_request k.client k.request k.asked)
+      go NoId k = absurd (not.no_request k.client k.request k.asked)
+      go Hit k = absurd (not.no_request k.client k.request k.asked)
+      go Again k = no_again k not
+      go NoRecordRoom k = no_drop k not
+      go (Answered s) k = let a = taken-so s setting past d k in absurd (not.no_answer a.exchange (answer-awaited a))
+      go Acked k = absurd (not.no_settling k.exchange k.acknowledges)
+      go SentRequest k = no_tick came k.acting.ticked
+      go Resent k = no_tick came k.acting.ticked
+      go GaveUp k = no_tick came (given_up-so setting past d k).ticked
+      go Delivered k = no_tick came k.acting.ticked
+      go Idle k = no_tick came k.ticked
+      go _ k = absurd k
 
 -- ---- ticks
 
@@ -322,10 +441,11 @@ on-tick (Refused code) setting past d j ticked = no_tick j.asked.brings.came tic
 on-tick Opened setting past d j ticked = no_tick j.asked.brings.came ticked
 on-tick Overloaded setting past d j ticked = no_tick j.asked.brings.came ticked
 on-tick NoId setting past d j ticked = no_tick j.asked.brings.came ticked
-on-tick Again setting past d j ticked = no_tick j.asked.brings.came ticked
-on-tick NoRecordRoom setting past d j ticked = no_tick j.asked.brings.came ticked
+on-tick Again setting past d j ticked = no_tick j.comes.brings.came ticked
+on-tick NoRecordRoom setting past d j ticked = no_tick j.comes.brings.came ticked
 on-tick Hit setting past d j ticked = no_tick j.asked.brings.came ticked
 on-tick (Answered s) setting past d j ticked = no_tick (taken-so s setting past d j).gets.meets.brings.came ticked
+on-tick Acked setting past d j ticked = no_tick j.acknowledges.brings.came ticked
 on-tick SentRequest setting past d j ticked = sent j
 on-tick Resent setting past d j ticked = resent j
 on-tick GaveUp setting past d j ticked = given_up j

@@ -1,5 +1,6 @@
 -- A step that opens, sends, gets and serves nothing keeps what is carried.
 use Rattle.std.proofs.Common.{◌≡◌, ◌≢◌, ℕ, ◌+◌, ◌≤◌, true, false, List, ◌∷◌, refl, sym, ◌∙◌, arith}
+use Rattle.coap_message.specs.declared.kind.Kind.{Kind}
 use Rattle.coap_message.specs.declared.kind.Kind.TheVariants.{Con, Non}
 use Rattle.coap_cache.specs.Entries as cache
 use Rattle.coap_dedup.specs.Records.{Records}
@@ -78,7 +79,7 @@ keeps_still w history c e ids store con non q onward given room stored remembere
     }
 
 -- what is remembered stays at an entry that leaves nothing
-pub remembered-still : (w : World) (history : List Deed) (c : Bears history w) (e : Deed) → w.last ≤ e.entry.now → is_remembered e.entry.report.outcome ≡ false → AreRemembered w.setting (e ∷ history) Con w.con_records × AreRemembered w.setting (e ∷ history) Non w.non_records
+pub remembered-still : (w : World) (history : List Deed) (c : Bears history w) (e : Deed) → w.last ≤ e.entry.now → ((k : Kind) → is_remembered e.entry.report.outcome k ≡ false) → AreRemembered w.setting (e ∷ history) Con w.con_records × AreRemembered w.setting (e ∷ history) Non w.non_records
 remembered-still w history c e onward none =
     let since : last_of history ≤ e.entry.now = let h = c.clock.last in omega (arith, h, onward) in
     (remembered-on e since (leaves-nothing Con e none) c.con_records, remembered-on e since (leaves-nothing Non e none) c.non_records)
@@ -88,7 +89,7 @@ pub room-still : (w : World) (history : List Deed) (c : Bears history w) (later 
 room-still w history c later onward now after = c.within.ids now (omega arith)
 
 -- so does one that gives no id, and moves and leaves nothing there
-pub keeps_quiet : (w : World) (history : List Deed) (c : Bears history w) (e : Deed) → IsQuiet e → leaves e.entry.report.outcome ≡ true → is_remembered e.entry.report.outcome ≡ false → w.last ≤ e.entry.now → gives_id e.entry ≡ 0
+pub keeps_quiet : (w : World) (history : List Deed) (c : Bears history w) (e : Deed) → IsQuiet e → leaves e.entry.report.outcome ≡ true → ((k : Kind) → is_remembered e.entry.report.outcome k ≡ false) → w.last ≤ e.entry.now → gives_id e.entry ≡ 0
     → AllJustified w.setting (e ∷ history) → Bears (e ∷ history) (later w e.entry.now)
 keeps_quiet w history c e q leaving none onward gives past =
     keeps_still w history c e w.ids w.store w.con_records w.non_records q onward (ids-kept history w (later w e.entry.now) e c.clock c.ids onward refl gives refl) (room-still w history c e.entry.now onward) (store-otherwise w.setting history w.store e leaving c.store) (remembered-still w history c e onward none) past

@@ -1,6 +1,6 @@
 -- The requests that are remembered are those of the history, as it goes on.
-use Rattle.std.proofs.Common.{◌≡◌, ℕ, ◌<◌, ◌≤◌, true, false, List, [], ◌∷◌, ◌++◌, length, Some, None, refl, sym, ap, ◌∙◌, subst, arith}
-use Rattle.std.specs.Prelude.{if◌then◌else◌}
+use Rattle.std.proofs.Common.{◌≡◌, ℕ, ◌<◌, ◌≤◌, Bool, true, false, List, [], ◌∷◌, ◌++◌, length, Option, Some, None, refl, sym, ap, ◌∙◌, subst, arith}
+use Rattle.std.specs.Prelude.{◌&&◌, if◌then◌else◌}
 use Rattle.std.proofs.lemmas.Bool.{and_parts, ltb-true}
 use Rattle.std.proofs.lemmas.List.{append-nil}
 use Rattle.std.proofs.lemmas.List.Elements.{filter-append}
@@ -18,11 +18,16 @@ use Rattle.coap_dedup.specs.Records.{Records, living_at, with_kept}
 use Rattle.coap_dedup.proofs.Kept.{AreRecords-kept}
 use Rattle.coap_dedup.proofs.Passing.{living-kept, AreUpTo-kept}
 use Rattle.coap_model.specs.Setting.{Setting}
-use Rattle.coap_model.specs.Events.{arrival}
+use Rattle.coap_model.specs.Events.{Event, arrival, tick}
 use Rattle.coap_forward.specs.Messages.{is_con, brings_requests, told_again}
-use Rattle.coap_model.specs.Remembered.{is_remembered, kept_by, kept_in, kept_of, most_remembered, remembered_at, remembered_for}
-use Rattle.coap_model.specs.World.{World, Step, records_of}
-use Rattle.coap_model.specs.Requests.{record_made}
+use Rattle.coap_model.specs.Remembered.{is_remembered, goes_with, kept_at, kept_by, kept_in, kept_of, most_remembered, remembered_at, remembered_for}
+use Rattle.coap_model.specs.World.{World, Step, records_of, record_made, known_of, has_record_room}
+use Rattle.coap_model.specs.Step.{message_in}
+use Rattle.coap_model.specs.declared.report.Outcome.{Outcome}
+use Rattle.coap_model.specs.declared.report.Outcome.TheVariants.{Answered}
+use Rattle.coap_model.specs.declared.report.Storing.{Storing}
+use Rattle.std.proofs.lemmas.Option.{same_Some}
+use Rattle.coap_message.specs.Uint.{IsBytes}
 use Rattle.coap_model.specs.History.{Act, Deed, last_of}
 use Rattle.coap_model.specs.Justified.{IsNew}
 use Rattle.coap_model.specs.Runs.{entry_of}
@@ -68,9 +73,22 @@ remembered-more {setting = setting} {history = history} {kind = kind} {t = t} e 
         ∙ sym (filter-append (is_living (remembered_for kind) n) (kept_in kind history) (r ∷ []))
         ∙ ap (λ (rs : List Record). living (remembered_for kind) n (kept_in kind history ++ rs)) (sym one)
 
+-- what tests as nothing isn't remembered
+and_off : (a b : Bool) → b ≡ false → (a && b) ≡ false
+and_off true b e = e
+and_off false b e = refl
+
+kept-nothing : (kind : Kind) (outcome : Outcome) (now : ℕ) (sent : List ℕ) (source : Endpoint) (o : Option Head) → ((h : Head) → o ≡ Some h → is_remembered outcome h.kind ≡ false) → kept_of kind outcome now sent source o ≡ []
+kept-nothing kind outcome now sent source None none = refl
+kept-nothing kind outcome now sent source (Some h) none = rw (and_off (goes_with kind h.kind) (is_remembered outcome h.kind) (none h refl)) refl
+
 -- an entry with another outcome leaves nothing
-pub leaves-nothing : (kind : Kind) (e : Deed) → is_remembered e.entry.report.outcome ≡ false → kept_by kind e.entry ≡ []
-leaves-nothing kind e none = rw none refl
+pub leaves-nothing : (kind : Kind) (e : Deed) → ((k : Kind) → is_remembered e.entry.report.outcome k ≡ false) → kept_by kind e.entry ≡ []
+leaves-nothing kind e none = go e.entry.event
+  where
+    go : (event : Event) → kept_at kind e.entry.report.outcome e.entry.now e.entry.bytes event ≡ []
+    go (arrival source bytes) = kept-nothing kind e.entry.report.outcome e.entry.now e.entry.bytes source (head_at bytes) (λ h is. none h.kind)
+    go tick = refl
 
 -- ---- a request that is new
 
@@ -96,22 +114,24 @@ module _ (w : World) (history : List Deed) (c : Bears history w) (now : ℕ) (cl
   limit-is Rst e = absurd cc
 
   -- it isn't remembered, and there is room
-  pub first-new : IsFirst w now client bytes m → IsNew w.setting history now client m
-  first-new first =
-      let kind = request-kind first.asked in
+  pub record-new : brings_requests m.kind ≡ true → known_of w now client m ≡ None → has_record_room w now m.kind ≡ true → IsNew w.setting history now client m
+  record-new kind unknown room =
       let same = known-is m.kind kind in
       let limit = limit-is m.kind kind in
-      let less = ltb-true _ _ first.room in
+      let less = ltb-true _ _ room in
       record {
-        unknown = ap (record_of client m.id) (sym same) ∙ first.unknown;
+        unknown = ap (record_of client m.id) (sym same) ∙ unknown;
         room = omega (arith, ap length same, limit, less);
       }
 
-  -- so it is remembered from here on
-  pub first-remembered : (draw : ℕ) (act : Act) (s : Step) → IsFirst w now client bytes m → is_remembered s.report.outcome ≡ true → ((most : ℕ) → 128 ≤ most → w.setting.limits.datagram ≤ most → length s.bytes ≤ most)
+  pub first-new : IsFirst w now client bytes m → IsNew w.setting history now client m
+  first-new first = record-new (request-kind first.asked) first.unknown first.room
+
+  -- what came is remembered from here on
+  pub now-remembered : (draw : ℕ) (act : Act) (s : Step) → IsBytes bytes → message_in w.setting.limits.datagram bytes ≡ Some m → brings_requests m.kind ≡ true → known_of w now client m ≡ None → has_record_room w now m.kind ≡ true → is_remembered s.report.outcome m.kind ≡ true → ((most : ℕ) → 128 ≤ most → w.setting.limits.datagram ≤ most → length s.bytes ≤ most)
       → AreRemembered w.setting (doing act (entry_of now draw (arrival client bytes) s) ∷ history) Con (if is_con m.kind then with_kept (record_made now client m s.bytes) w.con_records else w.con_records)
       × AreRemembered w.setting (doing act (entry_of now draw (arrival client bytes) s) ∷ history) Non (if is_con m.kind then w.non_records else with_kept (record_made now client m s.bytes) w.non_records)
-  first-remembered draw act s first kept short = go m.kind refl
+  now-remembered draw act s fits came kind new free kept short = go m.kind refl
     where
       e : Deed
       e = doing act (entry_of now draw (arrival client bytes) s)
@@ -122,19 +142,20 @@ module _ (w : World) (history : List Deed) (c : Bears history w) (now : ℕ) (cl
       head : Kind → Head
       head k = record { kind = k; code = m.code; id = m.id }
 
-      leaves : (kind k : Kind) → m.kind ≡ k → kept_by kind e.entry ≡ kept_of kind now s.bytes client (Some (head k))
+      leaves : (kind k : Kind) → m.kind ≡ k → kept_by kind e.entry ≡ (if goes_with kind k && true then made k ∷ [] else [])
       leaves kind k is =
-          let read : head_at bytes ≡ Some (head k) = head_of_read w bytes m first.fits first.asked.read ∙ ap (λ (l : Kind). Some (head l)) is in
-          rw (kept, read) refl
+          let read : head_at bytes ≡ Some (head k) = head_of_read w bytes m fits came ∙ ap (λ (l : Kind). Some (head l)) is in
+          let on : is_remembered s.report.outcome k ≡ true = subst (λ (l : Kind). is_remembered s.report.outcome l ≡ true) is kept in
+          ap (λ (o : Option Head). kept_of kind s.report.outcome now s.bytes client o) read ∙ ap (λ (b : Bool). if goes_with kind k && b then made k ∷ [] else []) on
 
       unknown : (k : Kind) → m.kind ≡ k → record_of client m.id (living_at now (records_of k w)) ≡ None
-      unknown k is = subst (λ (l : Kind). record_of client m.id (living_at now (records_of l w)) ≡ None) is first.unknown
+      unknown k is = subst (λ (l : Kind). record_of client m.id (living_at now (records_of l w)) ≡ None) is new
 
       room : (k : Kind) → m.kind ≡ k → length (living_at now (records_of k w)) < (records_of k w).limit
-      room k is = subst (λ (l : Kind). length (living_at now (records_of l w)) < (records_of l w).limit) is (ltb-true _ _ first.room)
+      room k is = subst (λ (l : Kind). length (living_at now (records_of l w)) < (records_of l w).limit) is (ltb-true _ _ free)
 
       none : {A : Type 0} (k : Kind) → m.kind ≡ k → brings_requests k ≡ false → A
-      none k is no_request = absurd (let f = sym (request-kind first.asked) ∙ ap brings_requests is ∙ no_request in cc)
+      none k is no_request = absurd (let f = sym kind ∙ ap brings_requests is ∙ no_request in cc)
 
       go : (k : Kind) → m.kind ≡ k
           → AreRemembered w.setting (e ∷ history) Con (if is_con k then with_kept (made k) w.con_records else w.con_records)
@@ -143,3 +164,19 @@ module _ (w : World) (history : List Deed) (c : Bears history w) (now : ℕ) (cl
       go Non is = (remembered-on e since (leaves Con Non is) c.con_records, remembered-more e (made Non) since refl (leaves Non Non is) (unknown Non is) (room Non is) (λ most wide long. omega arith) c.non_records)
       go Ack is = none Ack is refl
       go Rst is = none Rst is refl
+
+  -- so is a request that is new
+  pub first-remembered : (draw : ℕ) (act : Act) (s : Step) → IsFirst w now client bytes m → is_remembered s.report.outcome m.kind ≡ true → ((most : ℕ) → 128 ≤ most → w.setting.limits.datagram ≤ most → length s.bytes ≤ most)
+      → AreRemembered w.setting (doing act (entry_of now draw (arrival client bytes) s) ∷ history) Con (if is_con m.kind then with_kept (record_made now client m s.bytes) w.con_records else w.con_records)
+      × AreRemembered w.setting (doing act (entry_of now draw (arrival client bytes) s) ∷ history) Non (if is_con m.kind then w.non_records else with_kept (record_made now client m s.bytes) w.non_records)
+  first-remembered draw act s first kept short = now-remembered draw act s first.fits first.asked.read (request-kind first.asked) first.unknown first.room kept short
+
+-- ---- an answer that isn't Confirmable
+
+-- it leaves nothing
+pub answer-leaves : (w : World) (bytes : List ℕ) (m : Message) (kind : Kind) (e : Deed) (source : Endpoint) (storing : Storing) → IsBytes bytes → message_in w.setting.limits.datagram bytes ≡ Some m → is_con m.kind ≡ false → e.entry.event ≡ arrival source bytes → e.entry.report.outcome ≡ Answered storing → kept_by kind e.entry ≡ []
+answer-leaves w bytes m kind e source storing fits read other came outcome =
+    ap (λ (v : Event). kept_at kind e.entry.report.outcome e.entry.now e.entry.bytes v) came
+    ∙ ap (λ (o : Outcome). kept_of kind o e.entry.now e.entry.bytes source (head_at bytes)) outcome
+    ∙ kept-nothing kind (Answered storing) e.entry.now e.entry.bytes source (head_at bytes)
+    (λ h is. let own = head_of_read w bytes m fits read in ap (λ (k : Head). is_con k.kind) (same_Some h (record { kind = m.kind; code = m.code; id = m.id }) (sym is ∙ own)) ∙ other)

@@ -34,15 +34,16 @@ use Rattle.coap_model.specs.Schedules.{oldest, sends_by, IsSchedule, MayGoOn, Sa
 use Rattle.coap_model.specs.Justified.{IsGivingUp, overdue, unheard, given_up}
 use Rattle.coap_model.specs.Carries.{IsTimer, AreOfBytes, IsInFlight, IsState, stage_seen, form_id, Bears}
 use Rattle.coap_model.proofs.Acting.{due_of, timer-due, acting}
-use Rattle.coap_model.proofs.Frames.{same_act-self, sends-grow, schedules_with, schedules_frame}
+use Rattle.coap_model.proofs.Frames.{same_act-self, sends-quiet, sent_frame, sends-grow, schedules_with, schedules_frame}
 use Rattle.coap_model.proofs.Giving.{ids-kept}
 use Rattle.coap_model.proofs.Lists.{Has, Has-all}
 use Rattle.coap_model.proofs.Moving.{keeps_moving}
 use Rattle.coap_model.proofs.Places.{here, doing, opened-later}
-use Rattle.coap_model.proofs.Quiet.{room-still}
+use Rattle.coap_model.proofs.Quiet.{remembered-still, room-still}
 use Rattle.coap_model.proofs.Rules as rules
 use Rattle.coap_model.proofs.Rules.{IsTurnOf, IsOver}
 use Rattle.coap_model.proofs.Seen.{staged-seen, unseen}
+use Rattle.coap_model.proofs.Sendings.{was-sent}
 use Rattle.coap_model.proofs.Stores.{store-otherwise}
 use Rattle.coap_model.proofs.Turns.{turn-exchange, turn-due, turn-in_time, turn-ended, turn-stage}
 
@@ -148,8 +149,8 @@ keeps_resending w history c now draw at number x onward turn sent early fire =
     let queued_same = count-kept is_queued number (fired_exchange now) w.exchanges (λ y. refl) in
     let within = c.within.ids in
     let id : form_id (fired_option now x.sending) ≡ form_id x.sending = ap (λ (o : Option Sending). form_id (fired_option now o)) flight.sending_is ∙ sym (ap form_id flight.sending_is) in
-    keeps_moving w history c e number x (fired_exchange now) w.ids w.store
-    (record { act = refl; opens = refl; admits = refl; unremembered = refl; stands = λ standing. refl })
+    keeps_moving w history c e number x (fired_exchange now) w.ids w.store w.con_records w.non_records
+    (record { act = refl; opens = refl; admits = refl; stands = λ standing. refl })
     turn.found onward
     (record {
       opened = opened-later e f.opened;
@@ -181,7 +182,8 @@ keeps_resending w history c now draw at number x onward turn sent early fire =
     (schedules_with history e (subst IsSchedule (sym grown) g.schedule) c.schedules)
     (λ to. let same = count-kept (is_sent_to to) number (fired_exchange now) w.exchanges (λ y. refl) in let pace = c.within.pace to in omega arith)
     (λ n later. let room = room-still w history c now onward n later in omega arith)
-    (store-otherwise w.setting history w.store e refl c.store) (
+    (store-otherwise w.setting history w.store e refl c.store)
+    (remembered-still w history c e onward (λ k. refl)) (
       record {
         exchange = number;
         act = refl;
@@ -227,7 +229,7 @@ ended-pace w history c n a to =
 unended-yet : (setting : Setting) (history : List Deed) (number : ℕ) (x : Exchange) (s : ExchangeState) → IsState setting history (number, x) s → ((a : Answer) → s ≢ Done a) → Never (Ends number) history
 unended-yet setting history number x Queued state other = state.unended
 unended-yet setting history number x Sent state other = state.unended
-unended-yet setting history number x Acked state other = absurd state
+unended-yet setting history number x Acked state other = state.unended
 unended-yet setting history number x (Done a) state other = absurd (other a refl)
 
 -- giving an exchange up keeps what is carried
@@ -238,8 +240,8 @@ keeps_giving_up w history c now draw at number x onward turn over =
     let a = own_answer now gateway_timeout in
     let f = turn-exchange w history c now at number x turn in
     let unended = unended-yet w.setting history number x x.state f.state (λ b is. not-due b is (turn-due w history c now at number x turn).0) in
-    keeps_moving w history c e number x (answered a) w.ids w.store
-    (record { act = refl; opens = refl; admits = refl; unremembered = refl; stands = λ standing. refl })
+    keeps_moving w history c e number x (answered a) w.ids w.store w.con_records w.non_records
+    (record { act = refl; opens = refl; admits = refl; stands = λ standing. refl })
     turn.found onward
     (record {
       opened = opened-later e f.opened;
@@ -247,7 +249,7 @@ keeps_giving_up w history c now draw at number x onward turn over =
       verdict = f.verdict;
       form_is = f.form_is;
       form_short = f.form_short;
-      state = record { ending = here history e; was_ended = inl refl; ends = record { act = refl; outcome = refl }; with = given_up (record { act = refl; outcome = refl }) refl; got = refl };
+      state = record { ending = here history e; was_ended = inl refl; ends = record { act = refl; outcome = refl }; with = given_up (record { act = refl; outcome = refl }) refl; got = refl; was_sent = sent_frame w.setting history number x.key x.form x.sending e (sends-quiet (moves number) history e refl) (was-sent w.setting history (number, x) x.state f.state) };
     })
     (ended-seen number a w.exchanges)
     (ids-kept history w _ e c.clock c.ids onward refl refl refl)
@@ -255,6 +257,7 @@ keeps_giving_up w history c now draw at number x onward turn over =
     (ended-pace w history c number a)
     (λ later after. ended-room w history c now number a onward later after)
     (store-otherwise w.setting history w.store e refl c.store)
+    (remembered-still w history c e onward (λ k. refl))
     (gives unended over, c.past)
   where
     not-due : (b : Answer) → x.state ≡ Done b → due_of w x ≡ Some at → ⊥

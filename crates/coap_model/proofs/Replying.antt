@@ -18,31 +18,34 @@ use Rattle.coap_dedup.specs.declared.record.Record.{Record}
 use Rattle.coap_dedup.specs.Lists.{record_of}
 use Rattle.coap_cache.specs.declared.key.CacheKey.{CacheKey}
 use Rattle.coap_model.specs.Events.{arrival}
-use Rattle.coap_message.specs.Codes.{is_request}
+use Rattle.coap_message.specs.Codes.{is_request, is_response}
+use Rattle.coap_exchange.specs.declared.exchange.Exchange.{Exchange}
+use Rattle.coap_exchange.specs.Table.{Numbered}
+use Rattle.coap_model.specs.Responses.{awaiting}
 use Rattle.coap_forward.specs.Messages.{is_con, brings_requests, reset, own_reply, busy_reply, at_once, reply_id}
 use Rattle.coap_model.specs.Remembered.{remembered_at}
 use Rattle.coap_model.specs.Verdicts.{may_ask}
-use Rattle.coap_model.specs.World.{World, next_id, has_record_room, reserved, has_ids, can_reply, ignores}
-use Rattle.coap_model.specs.Requests.{lacks_id, refuses, overloads, can_open, known_of, remembers, repeats, forgets}
-use Rattle.coap_model.specs.Step.{rejects, message_in}
-use Rattle.coap_model.specs.History.{no_item, Deed, comes_con, gives_id, ids_in, IsRequestOf}
+use Rattle.coap_model.specs.World.{World, next_id, known_of, has_record_room, remembers, repeats, drops, reserved, has_ids, can_reply, ignores, rejects}
+use Rattle.coap_model.specs.Requests.{lacks_id, refuses, overloads, can_open}
+use Rattle.coap_model.specs.Step.{message_in}
+use Rattle.coap_model.specs.History.{Entry, no_item, Deed, comes_con, gives_id, ids_in, IsRequestOf}
 use Rattle.coap_model.specs.Standing.{HasRoomToOpen}
 use Rattle.coap_exchange.specs.declared.ids.Ids.{Ids as Given}
 use Rattle.coap_exchange.specs.Ids.{given_in, called}
-use Rattle.coap_model.specs.Justified.{IsNew, HasIdFor, SaysAgain, IsUnprocessable}
+use Rattle.coap_model.specs.Justified.{Comes, IsNew, HasIdFor, SaysAgain, IsAwaited, Acknowledges, IsUnprocessable}
 use Rattle.coap_model.specs.Runs.{entry_of}
 use Rattle.coap_model.specs.Carries.{Ids, Bears}
 use Rattle.coap_model.proofs.Giving.{ids-kept, ids-given, room-called}
 use Rattle.coap_model.proofs.Spelled.{reset-is, own_reply-is, busy_reply-is, message_in-is, message_in-again}
 use Rattle.coap_model.proofs.Places.{doing, arrival-same}
 use Rattle.coap_model.proofs.Verdicts.{deserved-code}
-use Rattle.coap_model.proofs.Rules.{Asked, IsFirst, IsNotCon, IsNothing, verdict_in, fits_in, IsMissed, IsDenied, head_of_read}
+use Rattle.coap_model.proofs.Rules.{by_response, recorded-kind, recorded-response, Asked, Recorded, IsFirst, IsNotCon, IsNothing, verdict_in, fits_in, IsMissed, IsDenied, head_of_read}
 use Rattle.coap_model.proofs.OwnReplies.{at_once-is, own-short, busy-short, reply-due, free-one, free-none}
-use Rattle.coap_model.proofs.Remembering.{request-kind, known-is, limit-is, first-new, first-remembered}
+use Rattle.coap_model.proofs.Remembering.{known-is, limit-is, first-new, first-remembered}
 use Rattle.coap_model.proofs.Missing.{missed, deserves}
 use Rattle.coap_model.proofs.Room.{ids-free, ids-none, room-none}
 use Rattle.coap_model.proofs.Stores.{store-otherwise}
-use Rattle.coap_model.proofs.Awaiting.{not-ignored}
+use Rattle.coap_model.proofs.Awaiting.{awaited-by, not-known, not-ignored, not-settled}
 use Rattle.coap_model.proofs.Quiet.{room-still, keeps_still, keeps_quiet}
 
 -- ---- what came
@@ -159,35 +162,52 @@ module _ (w : World) (history : List Deed) (c : Bears history w) (now draw : ℕ
 
 -- ---- duplicates
 
+-- a message that is remembered comes, as the history says it
+pub recorded-came : (w : World) (source : Endpoint) (bytes : List ℕ) (m : Message) → IsBytes bytes → Recorded w bytes m → Comes w.setting source m (arrival source bytes)
+recorded-came w source bytes m fits r =
+    let read = message_in-is w.setting.limits.datagram bytes m fits r.read in
+    record { brings = record { bytes = bytes; came = refl; spells = read.0; short = read.1 }; recorded = r.recorded }
+
 -- a duplicate keeps what is carried
-pub keeps_repeating : (w : World) (history : List Deed) (c : Bears history w) (now draw : ℕ) (client : Endpoint) (bytes : List ℕ) (m : Message) (known : Record) → w.last ≤ now → IsBytes bytes → Asked w bytes m → known_of w now client m ≡ Some known
-    → Bears (doing no_item (entry_of now draw (arrival client bytes) (repeats w now client known.reply)) ∷ history) (repeats w now client known.reply).world
-keeps_repeating w history c now draw client bytes m known onward fits asked found = go known.reply refl
+pub keeps_repeating : (w : World) (history : List Deed) (c : Bears history w) (now draw : ℕ) (source : Endpoint) (bytes : List ℕ) (m : Message) (known : Record) → w.last ≤ now → IsBytes bytes → Recorded w bytes m → known_of w now source m ≡ Some known
+    → Bears (doing no_item (entry_of now draw (arrival source bytes) (repeats w now source known.reply)) ∷ history) (repeats w now source known.reply).world
+keeps_repeating w history c now draw source bytes m known onward fits recorded found = go known.reply refl
   where
-    same : record_of client m.id (remembered_at m.kind now history) ≡ Some known
-    same = ap (record_of client m.id) (sym (known-is w history c now client bytes m onward m.kind (request-kind asked))) ∙ found
+    same : record_of source m.id (remembered_at m.kind now history) ≡ Some known
+    same = ap (record_of source m.id) (sym (known-is w history c now source bytes m onward m.kind (recorded-kind m recorded.recorded))) ∙ found
 
-    go : (reply : Option (List ℕ)) → known.reply ≡ reply → Bears (doing no_item (entry_of now draw (arrival client bytes) (repeats w now client reply)) ∷ history) (repeats w now client reply).world
+    go : (reply : Option (List ℕ)) → known.reply ≡ reply → Bears (doing no_item (entry_of now draw (arrival source bytes) (repeats w now source reply)) ∷ history) (repeats w now source reply).world
     go None is =
-        let e = doing no_item (entry_of now draw (arrival client bytes) (repeats w now client None)) in
-        keeps_quiet w history c e (record { act = refl; opens = refl; admits = refl; sends = refl; leaves_open = λ standing xs. refl; stands = λ standing. refl }) refl refl onward refl
-        (record { act = refl; client = client; request = m; known = known; asked = request-came w client bytes m fits asked; found = same; says_again = subst (λ (o : Option (List ℕ)). SaysAgain client o e.entry) (sym is) (record { sent = refl; bytes = refl }) }, c.past)
+        let e = doing no_item (entry_of now draw (arrival source bytes) (repeats w now source None)) in
+        keeps_quiet w history c e (record { act = refl; opens = refl; admits = refl; sends = refl; leaves_open = λ standing xs. refl; stands = λ standing. refl }) refl (λ k. refl) onward refl
+        (record { act = refl; source = source; message = m; known = known; comes = recorded-came w source bytes m fits recorded; found = same; says_again = subst (λ (o : Option (List ℕ)). SaysAgain source o e.entry) (sym is) (record { sent = refl; bytes = refl }) }, c.past)
     go (Some reply) is =
-        let e = doing no_item (entry_of now draw (arrival client bytes) (repeats w now client (Some reply))) in
-        keeps_quiet w history c e (record { act = refl; opens = refl; admits = refl; sends = refl; leaves_open = λ standing xs. refl; stands = λ standing. refl }) refl refl onward refl
-        (record { act = refl; client = client; request = m; known = known; asked = request-came w client bytes m fits asked; found = same; says_again = subst (λ (o : Option (List ℕ)). SaysAgain client o e.entry) (sym is) (refl, refl) }, c.past)
+        let e = doing no_item (entry_of now draw (arrival source bytes) (repeats w now source (Some reply))) in
+        keeps_quiet w history c e (record { act = refl; opens = refl; admits = refl; sends = refl; leaves_open = λ standing xs. refl; stands = λ standing. refl }) refl (λ k. refl) onward refl
+        (record { act = refl; source = source; message = m; known = known; comes = recorded-came w source bytes m fits recorded; found = same; says_again = subst (λ (o : Option (List ℕ)). SaysAgain source o e.entry) (sym is) (refl, refl) }, c.past)
 
--- and so does silence where there is no room to remember the request
-pub keeps_forgetting : (w : World) (history : List Deed) (c : Bears history w) (now draw : ℕ) (client : Endpoint) (bytes : List ℕ) (m : Message) → w.last ≤ now → IsBytes bytes → Asked w bytes m → known_of w now client m ≡ None → has_record_room w now m.kind ≡ false
-    → Bears (doing no_item (entry_of now draw (arrival client bytes) (forgets w now)) ∷ history) (forgets w now).world
-keeps_forgetting w history c now draw client bytes m onward fits asked unknown full =
-    let e = doing no_item (entry_of now draw (arrival client bytes) (forgets w now)) in
-    let kind = request-kind asked in
-    let same = known-is w history c now client bytes m onward m.kind kind in
-    let limit = limit-is w history c now client bytes m onward m.kind kind in
+-- and so does silence where there is no room to remember what came
+pub keeps_dropping : (w : World) (history : List Deed) (c : Bears history w) (now draw : ℕ) (source : Endpoint) (bytes : List ℕ) (m : Message) → w.last ≤ now → IsBytes bytes → Recorded w bytes m → (is_response m.code ≡ true → (x : Numbered Exchange) × (awaiting w source m ≡ Some x)) → known_of w now source m ≡ None → has_record_room w now m.kind ≡ false
+    → Bears (doing no_item (entry_of now draw (arrival source bytes) (drops w now)) ∷ history) (drops w now).world
+keeps_dropping w history c now draw source bytes m onward fits recorded wanted unknown full =
+    let e = doing no_item (entry_of now draw (arrival source bytes) (drops w now)) in
+    let kind = recorded-kind m recorded.recorded in
+    let same = known-is w history c now source bytes m onward m.kind kind in
+    let limit = limit-is w history c now source bytes m onward m.kind kind in
     let most = ltb-false _ _ full in
-    keeps_quiet w history c e (record { act = refl; opens = refl; admits = refl; sends = refl; leaves_open = λ standing xs. refl; stands = λ standing. refl }) refl refl onward refl
-    (record { act = refl; client = client; request = m; asked = request-came w client bytes m fits asked; unknown = ap (record_of client m.id) (sym same) ∙ unknown; full = omega (arith, ap length same, limit, most); silent = record { sent = refl; bytes = refl } }, c.past)
+    keeps_quiet w history c e (record { act = refl; opens = refl; admits = refl; sends = refl; leaves_open = λ standing xs. refl; stands = λ standing. refl }) refl (λ k. refl) onward refl (
+      record {
+        act = refl;
+        source = source;
+        message = m;
+        comes = recorded-came w source bytes m fits recorded;
+        wanted = λ response. let x = wanted response in (x.0.0, awaited-by w history c now source m x.0 bytes fits recorded.read (by_response (recorded-response m recorded.recorded response) x.1));
+        unknown = ap (record_of source m.id) (sym same) ∙ unknown;
+        full = λ room. omega (arith, ap length same, limit, most, room);
+        silent = record { sent = refl; bytes = refl };
+      },
+      c.past,
+    )
 
 -- ---- what isn't processed
 
@@ -200,25 +220,27 @@ request-read w source client bytes m r =
     let short : length bytes ≤ w.setting.limits.datagram = rw same.1 b.short in
     (message_in-again w.setting.limits.datagram bytes m read short, and_from (brings_requests m.kind) (is_request m.code) r.kind r.method)
 
--- what holds neither a request nor a response that is awaited can't be processed
-unprocessable : (w : World) (history : List Deed) (c : Bears history w) (source : Endpoint) (bytes : List ℕ) → IsNothing w source bytes → IsUnprocessable w.setting history (arrival source bytes)
-unprocessable w history c source bytes none = record {
-  no_request = λ client m r. let read = request-read w source client bytes m r in let test = none.request m read.0 in absurd (let both = sym test ∙ read.1 in cc);
-  no_answer = λ x a. not-ignored w history c x source bytes a none;
+-- what holds no other message can't be processed
+unprocessable : (w : World) (history : List Deed) (c : Bears history w) (e : Entry) (source : Endpoint) (bytes : List ℕ) → w.last ≤ e.now → e.event ≡ arrival source bytes → IsNothing w e.now source bytes → IsUnprocessable w.setting history e
+unprocessable w history c e source bytes onward came none = record {
+  no_request = λ client m r. let read = request-read w source client bytes m (subst (IsRequestOf w.setting client m) came r) in let test = (none m read.0).request in absurd (let both = sym test ∙ read.1 in cc);
+  no_duplicate = λ other m comes. not-known w history c e.now source bytes onward none other m (subst (Comes w.setting other m) came comes);
+  no_answer = λ x a. not-ignored w history c e.now source bytes onward none x (subst (IsAwaited w.setting history e.now x) came a);
+  no_settling = λ x a. not-settled w history c e.now source bytes onward none x (subst (Acknowledges w.setting history e.now x) came a);
 }
 
 -- a Reset keeps what is carried
-pub keeps_rejecting : (w : World) (history : List Deed) (c : Bears history w) (now draw : ℕ) (source : Endpoint) (bytes : List ℕ) (head : Head) → w.last ≤ now → head_at bytes ≡ Some head → is_con head.kind ≡ true → IsNothing w source bytes
+pub keeps_rejecting : (w : World) (history : List Deed) (c : Bears history w) (now draw : ℕ) (source : Endpoint) (bytes : List ℕ) (head : Head) → w.last ≤ now → head_at bytes ≡ Some head → is_con head.kind ≡ true → IsNothing w now source bytes
     → Bears (doing no_item (entry_of now draw (arrival source bytes) (rejects w now source head.id)) ∷ history) (rejects w now source head.id).world
 keeps_rejecting w history c now draw source bytes head onward is con none =
     let e = doing no_item (entry_of now draw (arrival source bytes) (rejects w now source head.id)) in
-    keeps_quiet w history c e (record { act = refl; opens = refl; admits = refl; sends = refl; leaves_open = λ standing xs. refl; stands = λ standing. refl }) refl refl onward refl
-    (record { act = refl; source = source; bytes = bytes; head = head; came = refl; head_is = is; con = con_is head.kind con; unprocessable = unprocessable w history c source bytes none; tells = record { sent = refl; spells = spelled (reset head.id) (reset-is head.id) } }, c.past)
+    keeps_quiet w history c e (record { act = refl; opens = refl; admits = refl; sends = refl; leaves_open = λ standing xs. refl; stands = λ standing. refl }) refl (λ k. refl) onward refl
+    (record { act = refl; source = source; bytes = bytes; head = head; came = refl; head_is = is; con = con_is head.kind con; unprocessable = unprocessable w history c e.entry source bytes onward refl none; tells = record { sent = refl; spells = spelled (reset head.id) (reset-is head.id) } }, c.past)
 
 -- and so does doing nothing
-pub keeps_ignoring : (w : World) (history : List Deed) (c : Bears history w) (now draw : ℕ) (source : Endpoint) (bytes : List ℕ) → w.last ≤ now → IsNotCon bytes → IsNothing w source bytes
+pub keeps_ignoring : (w : World) (history : List Deed) (c : Bears history w) (now draw : ℕ) (source : Endpoint) (bytes : List ℕ) → w.last ≤ now → IsNotCon bytes → IsNothing w now source bytes
     → Bears (doing no_item (entry_of now draw (arrival source bytes) (ignores w now)) ∷ history) (ignores w now).world
 keeps_ignoring w history c now draw source bytes onward quiet none =
     let e = doing no_item (entry_of now draw (arrival source bytes) (ignores w now)) in
-    keeps_quiet w history c e (record { act = refl; opens = refl; admits = refl; sends = refl; leaves_open = λ standing xs. refl; stands = λ standing. refl }) refl refl onward refl
-    (record { act = refl; source = source; bytes = bytes; came = refl; no_con = λ head is con. absurd (let f = quiet head is in let g = sym f ∙ ap is_con con in cc); unprocessable = unprocessable w history c source bytes none; silent = record { sent = refl; bytes = refl } }, c.past)
+    keeps_quiet w history c e (record { act = refl; opens = refl; admits = refl; sends = refl; leaves_open = λ standing xs. refl; stands = λ standing. refl }) refl (λ k. refl) onward refl
+    (record { act = refl; source = source; bytes = bytes; came = refl; no_con = λ head is con. absurd (let f = quiet head is in let g = sym f ∙ ap is_con con in cc); unprocessable = unprocessable w history c e.entry source bytes onward refl none; silent = record { sent = refl; bytes = refl } }, c.past)

@@ -1,7 +1,7 @@
 -- The cases of a step, each with what is known there.
-use Rattle.std.proofs.Common.{◌≡◌, ℕ, Bool, true, false, cond, List, Option, Some, None, refl, sym, ◌∙◌, subst}
-use Rattle.std.specs.Prelude.{◌&&◌, ◌≤◌, ◌<◌, nat_le}
-use Rattle.std.proofs.lemmas.Bool.{leb-true, leb-false}
+use Rattle.std.proofs.Common.{◌≡◌, ℕ, Bool, true, false, cond, List, Option, Some, None, refl, sym, ap, ◌∙◌, subst, arith}
+use Rattle.std.specs.Prelude.{◌&&◌, ◌||◌, ◌/◌, ◌==◌, ◌≤◌, ◌<◌, nat_le, not}
+use Rattle.std.proofs.lemmas.Bool.{eqb-true, leb-true, leb-false, and_parts, and_from}
 use Rattle.std.proofs.lemmas.Option.{same_Some}
 use Rattle.coap_message.specs.declared.kind.Kind.{Kind}
 use Rattle.coap_message.specs.declared.kind.Kind.TheVariants.{Con, Non, Ack, Rst}
@@ -17,21 +17,25 @@ use Rattle.coap_cache.specs.declared.key.CacheKey.{CacheKey}
 use Rattle.coap_cache.specs.Entries.{Entry, entry_key, entry_size}
 use Rattle.coap_cache.specs.Freshness.{is_usable}
 use Rattle.coap_cache.specs.Lists.{of_key, others, put}
+use Rattle.coap_model.specs.declared.report.Outcome.TheVariants.{Answered}
 use Rattle.coap_model.specs.declared.report.Storing.{Storing}
 use Rattle.coap_model.specs.declared.report.Storing.TheVariants.{Kept, TooLarge, NoMemory, NotStored}
 use Rattle.coap_forward.specs.Answers.{answer_of, is_storable}
 use Rattle.coap_cache.specs.declared.answer.Answer.{Answer}
 use Rattle.coap_exchange.specs.declared.exchange.Exchange.{Exchange}
 use Rattle.coap_exchange.specs.declared.waiter.Waiter.{Waiter}
-use Rattle.coap_exchange.specs.Table.{Numbered, item_at}
+use Rattle.coap_exchange.specs.Table.{Numbered, changed_at, first_that, item_at}
 use Rattle.coap_model.specs.Events.{Event, arrival, tick, IsEvent}
 use Rattle.coap_message.specs.Codes.{is_request, is_response}
-use Rattle.coap_forward.specs.Messages.{is_con, brings_requests, is_ack}
+use Rattle.coap_forward.specs.Messages.{is_con, brings_requests, brings_responses, is_ack, is_rst, is_bare, is_empty, is_recorded, acknowledgement}
 use Rattle.coap_model.specs.Verdicts.{Verdict, refused_with, may_ask, verdict_of, form_fits}
 use Rattle.coap_dedup.specs.declared.record.Record.{Record}
-use Rattle.coap_model.specs.World.{World, Step, has_record_room, can_reply, ignores}
-use Rattle.coap_model.specs.Requests.{lacks_id, refuses, overloads, opens, turns_down, turns_away, hits, can_open, on_miss, on_entry, on_verdict, known_of, remembers, on_new, repeats, forgets, on_known, on_request}
-use Rattle.coap_model.specs.Responses.{awaiting, entry_made, answers_so, keeps_if, stores, answers, on_awaited, on_response}
+use Rattle.coap_model.specs.World.{World, Step, has_record_room, can_reply, known_of, remembers, repeats, drops, ignores, rejects, unprocessed, silent, says, later}
+use Rattle.coap_model.specs.Requests.{lacks_id, refuses, overloads, opens, turns_down, turns_away, hits, can_open, on_miss, on_entry, on_verdict, on_new, on_known, on_request}
+use Rattle.coap_model.specs.Answers.{Arrived, entry_made, answers_so, keeps_if, stores, answers_with, answers}
+use Rattle.coap_model.specs.Responses.{awaiting, on_awaited, on_separate, on_unknown, on_response_in, on_response}
+use Rattle.coap_model.specs.Empties.{acknowledges, settles, on_sent, on_empty}
+use Rattle.coap_model.specs.Empties as empties
 use Rattle.coap_exchange.specs.declared.exchange.ExchangeState.{ExchangeState}
 use Rattle.coap_exchange.specs.declared.exchange.ExchangeState.TheVariants.{Queued, Sent, Acked, Done}
 use Rattle.coap_exchange.specs.declared.timer.Timer.{Timer}
@@ -39,11 +43,12 @@ use Rattle.coap_exchange.specs.declared.timer.Fire.{Fire}
 use Rattle.coap_exchange.specs.declared.timer.Fire.TheVariants.{Again, GiveUp}
 use Rattle.coap_exchange.specs.declared.waiter.WaiterState.{WaiterState}
 use Rattle.coap_exchange.specs.declared.waiter.WaiterState.TheVariants.{Waiting, Delivering}
-use Rattle.coap_exchange.specs.Exchanges.{deadline, answer_in, fire_of_sending}
+use Rattle.coap_exchange.specs.Exchanges as exchanges
+use Rattle.coap_exchange.specs.Exchanges.{deadline, answer_in, fire_of_sending, is_sent, was_sent_as}
 use Rattle.coap_model.specs.declared.due.DueItem.{DueItem}
 use Rattle.coap_model.specs.declared.due.DueItem.TheVariants.{OfExchange, OfWaiter}
 use Rattle.coap_model.specs.Ticks.{item_due, if_due, sends, resends, gives_up, on_fire, in_time, on_exchange, delivers, on_answer, on_waiting, on_waiter, idles, on_item}
-use Rattle.coap_model.specs.Step.{rejects, unprocessed, on_message, message_in, on_read, step_of}
+use Rattle.coap_model.specs.Step.{on_no_response, on_no_request, on_message, message_in, on_read, step_of}
 use Rattle.coap_model.proofs.Spelled.{message_in-is}
 
 -- a request that is processed came in these bytes
@@ -58,14 +63,37 @@ pub record IsFirst (w : World) (now : ℕ) (client : Endpoint) (bytes : List ℕ
   pub unknown : known_of w now client m ≡ None
   pub room : has_record_room w now m.kind ≡ true
 
+-- a message that is remembered came in these bytes
+pub record Recorded (w : World) (bytes : List ℕ) (m : Message) : Type 0 where
+  pub read : message_in w.setting.limits.datagram bytes ≡ Some m
+  pub recorded : is_recorded m ≡ true
+
+-- what an Empty message is about: the exchange of a request that was sent, and not answered
+pub record IsAbout (w : World) (now : ℕ) (source : Endpoint) (m : Message) (x : Numbered Exchange) : Type 0 where
+  pub bare : is_bare m ≡ true
+  pub first : first_that (was_sent_as source m.id now) w.exchanges ≡ Some x.0
+  pub found : item_at x.0 w.exchanges ≡ Some x.1
+  pub sent : is_sent x.1 ≡ true
+
+-- a message gives an exchange its answer: a response that it awaits, or a Reset
+pub data IsAnswerFor (w : World) (now : ℕ) (source : Endpoint) (m : Message) (x : Numbered Exchange) : Type 0 where
+  by_response : (brings_responses m.kind && is_response m.code) ≡ true → awaiting w source m ≡ Some x → IsAnswerFor w now source m x
+  by_reset : IsAbout w now source m x → is_ack m.kind ≡ false → IsAnswerFor w now source m x
+
 -- a datagram whose head isn't confirmable
 abbrev pub IsNotCon : List ℕ → Type 0
 IsNotCon bytes = (head : Head) → head_at bytes ≡ Some head → is_con head.kind ≡ false
 
--- a datagram that holds neither a request that is processed nor a response that is awaited
-pub record IsNothing (w : World) (source : Endpoint) (bytes : List ℕ) : Type 0 where
-  pub request : (m : Message) → message_in w.setting.limits.datagram bytes ≡ Some m → (brings_requests m.kind && is_request m.code) ≡ false
-  pub response : (m : Message) → message_in w.setting.limits.datagram bytes ≡ Some m → (is_ack m.kind && is_response m.code) ≡ true → awaiting w source m ≡ None
+-- a message that is neither a request that is processed, nor a duplicate, nor awaited
+pub record IsNoOnes (w : World) (now : ℕ) (source : Endpoint) (m : Message) : Type 0 where
+  pub request : (brings_requests m.kind && is_request m.code) ≡ false
+  pub unknown : is_recorded m ≡ true → known_of w now source m ≡ None
+  pub response : (brings_responses m.kind && is_response m.code) ≡ true → awaiting w source m ≡ None
+  pub about : (x : Numbered Exchange) → ¬ IsAbout w now source m x
+
+-- a datagram that holds no other message
+abbrev pub IsNothing : World → ℕ → Endpoint → List ℕ → Type 0
+IsNothing w now source bytes = (m : Message) → message_in w.setting.limits.datagram bytes ≡ Some m → IsNoOnes w now source m
 
 -- what becomes of a request in this world
 abbrev pub verdict_in : World → Message → Verdict
@@ -110,6 +138,10 @@ pub data IsStuck (w : World) (now : ℕ) : Type 0 where
   unanswered : (at number exchange : ℕ) (v : Waiter) → if_due now (item_due w) ≡ Some (OfWaiter at number) → item_at number w.waiters ≡ Some v → v.state ≡ Waiting exchange → answer_in exchange w.exchanges ≡ None → IsStuck w now
   served : (at number id : ℕ) (v : Waiter) (bytes : List ℕ) (timer : Timer) → if_due now (item_due w) ≡ Some (OfWaiter at number) → item_at number w.waiters ≡ Some v → v.state ≡ Delivering bytes id timer → IsStuck w now
 
+-- the exchange of a number has this answer, and this is stored
+abbrev pub answered_world : World → ℕ → ℕ → Answer → List Entry → World
+answered_world w now n a store = record (later w now) { exchanges = changed_at n (exchanges.answered a) w.exchanges; store = store }
+
 -- the cases of a step, each with what is known in it
 pub data Rule (w : World) (now draw : ℕ) (grown : Bool) : Event → Step → Type 0 where
   refusing : (client : Endpoint) (bytes : List ℕ) (m : Message) (code : Code) → IsFirst w now client bytes m → IsDenied w now m code → can_reply w now m.kind ≡ true → Rule w now draw grown (arrival client bytes) (remembers now client m (refuses w now client m code))
@@ -117,11 +149,14 @@ pub data Rule (w : World) (now draw : ℕ) (grown : Bool) : Event → Step → T
   overloading : (client : Endpoint) (bytes : List ℕ) (m : Message) (key : CacheKey) → IsFirst w now client bytes m → verdict_in w m ≡ may_ask key → IsMissed w now key → fits_in w key m ≡ true → can_open w now m.kind ≡ false → can_reply w now m.kind ≡ true → Rule w now draw grown (arrival client bytes) (remembers now client m (overloads w now client m))
   opening : (client : Endpoint) (bytes : List ℕ) (m : Message) (key : CacheKey) → IsFirst w now client bytes m → verdict_in w m ≡ may_ask key → IsMissed w now key → fits_in w key m ≡ true → can_open w now m.kind ≡ true → Rule w now draw grown (arrival client bytes) (remembers now client m (opens w now client m key))
   hitting : (client : Endpoint) (bytes : List ℕ) (m : Message) (key : CacheKey) (entry : Entry) → IsFirst w now client bytes m → verdict_in w m ≡ may_ask key → of_key entry_key key w.store ≡ Some entry → is_usable now entry.1 ≡ true → can_reply w now m.kind ≡ true → Rule w now draw grown (arrival client bytes) (remembers now client m (hits w now client m key entry.1))
-  repeating : (client : Endpoint) (bytes : List ℕ) (m : Message) (known : Record) → IsBytes bytes → Asked w bytes m → known_of w now client m ≡ Some known → Rule w now draw grown (arrival client bytes) (repeats w now client known.reply)
-  forgetting : (client : Endpoint) (bytes : List ℕ) (m : Message) → IsBytes bytes → Asked w bytes m → known_of w now client m ≡ None → has_record_room w now m.kind ≡ false → Rule w now draw grown (arrival client bytes) (forgets w now)
-  answering : (source : Endpoint) (bytes : List ℕ) (m : Message) (x : Numbered Exchange) (storing : Storing) (store : List Entry) → IsBytes bytes → message_in w.setting.limits.datagram bytes ≡ Some m → (is_ack m.kind && is_response m.code) ≡ true → awaiting w source m ≡ Some x → IsStoring w now grown x (answer_of w.setting.limits.datagram now m) storing store → Rule w now draw grown (arrival source bytes) (answers_so w now x (answer_of w.setting.limits.datagram now m) storing store)
-  rejecting : (source : Endpoint) (bytes : List ℕ) (head : Head) → head_at bytes ≡ Some head → is_con head.kind ≡ true → IsNothing w source bytes → Rule w now draw grown (arrival source bytes) (rejects w now source head.id)
-  ignoring : (source : Endpoint) (bytes : List ℕ) → IsNotCon bytes → IsNothing w source bytes → Rule w now draw grown (arrival source bytes) (ignores w now)
+  repeating : (source : Endpoint) (bytes : List ℕ) (m : Message) (known : Record) → IsBytes bytes → Recorded w bytes m → known_of w now source m ≡ Some known → Rule w now draw grown (arrival source bytes) (repeats w now source known.reply)
+  dropping : (source : Endpoint) (bytes : List ℕ) (m : Message) → IsBytes bytes → Recorded w bytes m → (is_response m.code ≡ true → (x : Numbered Exchange) × (awaiting w source m ≡ Some x)) → known_of w now source m ≡ None → has_record_room w now m.kind ≡ false → Rule w now draw grown (arrival source bytes) (drops w now)
+  answering : (source : Endpoint) (bytes : List ℕ) (m : Message) (x : Numbered Exchange) (storing : Storing) (store : List Entry) → IsBytes bytes → message_in w.setting.limits.datagram bytes ≡ Some m → IsAnswerFor w now source m x → is_con m.kind ≡ false → IsStoring w now grown x (answer_of w.setting.limits.datagram now m) storing store → Rule w now draw grown (arrival source bytes) (silent (Answered storing) (answered_world w now x.0 (answer_of w.setting.limits.datagram now m) store))
+  answering_con : (source : Endpoint) (bytes : List ℕ) (m : Message) (x : Numbered Exchange) (storing : Storing) (store : List Entry) → IsBytes bytes → Recorded w bytes m → IsAnswerFor w now source m x → is_con m.kind ≡ true → known_of w now source m ≡ None → has_record_room w now m.kind ≡ true → IsStoring w now grown x (answer_of w.setting.limits.datagram now m) storing store
+      → Rule w now draw grown (arrival source bytes) (remembers now source m (says (Answered storing) source (acknowledgement m.id) (answered_world w now x.0 (answer_of w.setting.limits.datagram now m) store)))
+  acknowledging : (source : Endpoint) (bytes : List ℕ) (m : Message) (x : Numbered Exchange) → IsBytes bytes → message_in w.setting.limits.datagram bytes ≡ Some m → IsAbout w now source m x → is_ack m.kind ≡ true → Rule w now draw grown (arrival source bytes) (acknowledges w now x.0)
+  rejecting : (source : Endpoint) (bytes : List ℕ) (head : Head) → head_at bytes ≡ Some head → is_con head.kind ≡ true → IsNothing w now source bytes → Rule w now draw grown (arrival source bytes) (rejects w now source head.id)
+  ignoring : (source : Endpoint) (bytes : List ℕ) → IsNotCon bytes → IsNothing w now source bytes → Rule w now draw grown (arrival source bytes) (ignores w now)
   forwarding : (at number : ℕ) (x : Exchange) → IsTurnOf w now at number x → x.state ≡ Queued → now < deadline w.setting.limits.exchange_ms x → Rule w now draw grown tick (sends w now draw number x)
   resending : (at number : ℕ) (x : Exchange) → IsTurnOf w now at number x → x.state ≡ Sent → now < deadline w.setting.limits.exchange_ms x → fire_of_sending now x.sending ≡ Again → Rule w now draw grown tick (resends w now number x)
   giving_up : (at number : ℕ) (x : Exchange) → IsTurnOf w now at number x → IsOver w now x → Rule w now draw grown tick (gives_up w now number)
@@ -129,6 +164,89 @@ pub data Rule (w : World) (now draw : ℕ) (grown : Bool) : Event → Step → T
   idling : if_due now (item_due w) ≡ None → Rule w now draw grown tick (idles w now)
   -- what never comes: something is due that isn't there, or isn't due
   stuck : IsStuck w now → Rule w now draw grown tick (idles w now)
+
+-- ---- types and codes
+
+or_first : (a b : Bool) → a ≡ true → (a || b) ≡ true
+or_first true b e = refl
+or_first false b e = absurd cc
+
+or_second : (a b : Bool) → b ≡ true → (a || b) ≡ true
+or_second true b e = refl
+or_second false b e = e
+
+-- a code is not both a method and a response
+pub no_response : (code : Code) → is_request code ≡ true → is_response code ≡ true → ⊥
+no_response code request response =
+    let zero = eqb-true (code.0 / 32) 0 (and_parts (code.0 / 32 == 0) (not (code.0 == 0)) request).0 in
+    let two = leb-true 2 (code.0 / 32) (and_parts (nat_le 2 (code.0 / 32)) (nat_le (code.0 / 32) 5) response).0 in
+    omega (arith, zero, two)
+
+-- an Empty message is no response
+pub empty_no_response : (m : Message) → is_bare m ≡ true → is_response m.code ≡ true → ⊥
+empty_no_response m bare response =
+    let zero = eqb-true m.code.0 0 (and_parts (is_empty m.code) (is_ack m.kind || is_rst m.kind) bare).0 in
+    let class : m.code.0 / 32 ≡ 0 = ap (λ (n : ℕ). n / 32) zero in
+    let two = leb-true 2 (m.code.0 / 32) (and_parts (nat_le 2 (m.code.0 / 32)) (nat_le (m.code.0 / 32) 5) response).0 in
+    omega (arith, class, two)
+
+bare_kind : (k : Kind) → (is_ack k || is_rst k) ≡ true → (brings_requests k ≡ false) × (is_con k ≡ false)
+bare_kind Con e = absurd cc
+bare_kind Non e = absurd cc
+bare_kind Ack e = (refl, refl)
+bare_kind Rst e = (refl, refl)
+
+-- nor a request, and it isn't Confirmable
+pub bare_no_request : (m : Message) → is_bare m ≡ true → (brings_requests m.kind && is_request m.code) ≡ false
+bare_no_request m bare = ap (λ (b : Bool). b && is_request m.code) (bare_kind m.kind (and_parts (is_empty m.code) (is_ack m.kind || is_rst m.kind) bare).1).0
+
+pub bare_not_con : (m : Message) → is_bare m ≡ true → is_con m.kind ≡ false
+bare_not_con m bare = (bare_kind m.kind (and_parts (is_empty m.code) (is_ack m.kind || is_rst m.kind) bare).1).1
+
+-- what is no request and isn't Confirmable isn't remembered
+pub unrecorded : (m : Message) → (brings_requests m.kind && is_request m.code) ≡ false → is_con m.kind ≡ false → is_recorded m ≡ true → ⊥
+unrecorded m request con recorded =
+    let none : is_recorded m ≡ false = ap (λ (b : Bool). b || (is_con m.kind && is_response m.code)) request ∙ ap (λ (b : Bool). b && is_response m.code) con in
+    let both : false ≡ true = sym none ∙ recorded in
+    absurd cc
+
+con_brings : (k : Kind) → is_con k ≡ true → brings_responses k ≡ true
+con_brings Con e = refl
+con_brings Non e = absurd cc
+con_brings Ack e = absurd cc
+con_brings Rst e = absurd cc
+
+-- nor what is neither a request nor a response
+pub neither : (m : Message) → (brings_requests m.kind && is_request m.code) ≡ false → (brings_responses m.kind && is_response m.code) ≡ false → is_recorded m ≡ true → ⊥
+neither m request response recorded =
+    let as_response : (is_con m.kind && is_response m.code) ≡ true = sym (ap (λ (b : Bool). b || (is_con m.kind && is_response m.code)) request) ∙ recorded in
+    let parts = and_parts (is_con m.kind) (is_response m.code) as_response in
+    let both : false ≡ true = sym response ∙ and_from (brings_responses m.kind) (is_response m.code) (con_brings m.kind parts.0) parts.1 in
+    absurd cc
+
+pub request-brings : (k : Kind) → brings_requests k ≡ true → brings_responses k ≡ true
+request-brings Con e = refl
+request-brings Non e = refl
+request-brings Ack e = absurd cc
+request-brings Rst e = absurd cc
+
+con_requests : (k : Kind) → is_con k ≡ true → brings_requests k ≡ true
+con_requests Con e = refl
+con_requests Non e = absurd cc
+con_requests Ack e = absurd cc
+con_requests Rst e = absurd cc
+
+-- what is remembered came in a Confirmable or a Non-confirmable message
+pub recorded-kind : (m : Message) → is_recorded m ≡ true → brings_requests m.kind ≡ true
+recorded-kind m recorded = go (brings_requests m.kind && is_request m.code) refl
+  where
+    go : (b : Bool) → (brings_requests m.kind && is_request m.code) ≡ b → brings_requests m.kind ≡ true
+    go true e = (and_parts (brings_requests m.kind) (is_request m.code) e).0
+    go false e = con_requests m.kind (and_parts (is_con m.kind) (is_response m.code) (sym (ap (λ (b : Bool). b || (is_con m.kind && is_response m.code)) e) ∙ recorded)).0
+
+-- a response among them is one that may be awaited
+pub recorded-response : (m : Message) → is_recorded m ≡ true → is_response m.code ≡ true → (brings_responses m.kind && is_response m.code) ≡ true
+recorded-response m recorded response = and_from (brings_responses m.kind) (is_response m.code) (request-brings m.kind (recorded-kind m recorded)) response
 
 -- ---- requests
 
@@ -174,14 +292,20 @@ rule_verdict : (w : World) (now draw : ℕ) (grown : Bool) (client : Endpoint) (
 rule_verdict w now draw grown client bytes m first (refused_with code) e = rule_refusal w now draw grown client bytes m code first (by_verdict e)
 rule_verdict w now draw grown client bytes m first (may_ask key) e = rule_entry w now draw grown client bytes m key first e (of_key entry_key key w.store) refl
 
+-- a request that is processed is remembered
+request_recorded : (w : World) (bytes : List ℕ) (m : Message) → Asked w bytes m → Recorded w bytes m
+request_recorded w bytes m asked = record { read = asked.read; recorded = or_first (brings_requests m.kind && is_request m.code) (is_con m.kind && is_response m.code) asked.request }
+
 -- a request is a case by what is known of it
 rule_known : (w : World) (now draw : ℕ) (grown : Bool) (client : Endpoint) (bytes : List ℕ) (m : Message) → IsBytes bytes → Asked w bytes m → (o : Option Record) → known_of w now client m ≡ o → Rule w now draw grown (arrival client bytes) (on_known w now client m o)
-rule_known w now draw grown client bytes m fits asked (Some known) e = repeating client bytes m known fits asked e
+rule_known w now draw grown client bytes m fits asked (Some known) e = repeating client bytes m known fits (request_recorded w bytes m asked) e
 rule_known w now draw grown client bytes m fits asked None e = go (has_record_room w now m.kind) refl
   where
-    go : (b : Bool) → has_record_room w now m.kind ≡ b → Rule w now draw grown (arrival client bytes) (cond b (remembers now client m (on_new w now client m)) (forgets w now))
+    go : (b : Bool) → has_record_room w now m.kind ≡ b → Rule w now draw grown (arrival client bytes) (cond b (remembers now client m (on_new w now client m)) (drops w now))
     go true room = rule_verdict w now draw grown client bytes m (record { fits = fits; asked = asked; unknown = e; room = room }) (verdict_in w m) refl
-    go false room = forgetting client bytes m fits asked e room
+    go false room =
+        dropping client bytes m fits (request_recorded w bytes m asked)
+        (λ response. absurd (no_response m.code (and_parts (brings_requests m.kind) (is_request m.code) asked.request).1 response)) e room
 
 -- ---- what came
 
@@ -190,7 +314,7 @@ one_head : (bytes : List ℕ) (head : Head) → head_at bytes ≡ Some head → 
 one_head bytes head is other again also = let same : head ≡ again = same_Some head again (sym is ∙ also) in subst (λ (h : Head). is_con h.kind ≡ false) same other
 
 -- what isn't processed is rejected where it is confirmable
-rule_unprocessed : (w : World) (now draw : ℕ) (grown : Bool) (source : Endpoint) (bytes : List ℕ) (head : Head) → head_at bytes ≡ Some head → IsNothing w source bytes → Rule w now draw grown (arrival source bytes) (unprocessed w now source head.kind head.id)
+rule_unprocessed : (w : World) (now draw : ℕ) (grown : Bool) (source : Endpoint) (bytes : List ℕ) (head : Head) → head_at bytes ≡ Some head → IsNothing w now source bytes → Rule w now draw grown (arrival source bytes) (unprocessed w now source head.kind head.id)
 rule_unprocessed w now draw grown source bytes head is none = go (is_con head.kind) refl
   where
     go : (b : Bool) → is_con head.kind ≡ b → Rule w now draw grown (arrival source bytes) (cond b (rejects w now source head.id) (ignores w now))
@@ -198,76 +322,188 @@ rule_unprocessed w now draw grown source bytes head is none = go (is_con head.ki
     go false other = ignoring source bytes (one_head bytes head is other) none
 
 -- the message that was read is the only one
-nothing_else : (w : World) (source : Endpoint) (bytes : List ℕ) (m : Message) → message_in w.setting.limits.datagram bytes ≡ Some m → (brings_requests m.kind && is_request m.code) ≡ false → ((is_ack m.kind && is_response m.code) ≡ true → awaiting w source m ≡ None) → IsNothing w source bytes
-nothing_else w source bytes m read request response =
-    record {
-      request = λ n again. subst (λ (k : Message). (brings_requests k.kind && is_request k.code) ≡ false) (same_Some m n (sym read ∙ again)) request;
-      response = λ n again. subst (λ (k : Message). (is_ack k.kind && is_response k.code) ≡ true → awaiting w source k ≡ None) (same_Some m n (sym read ∙ again)) response;
-    }
+nothing_else : (w : World) (now : ℕ) (source : Endpoint) (bytes : List ℕ) (m : Message) → message_in w.setting.limits.datagram bytes ≡ Some m → IsNoOnes w now source m → IsNothing w now source bytes
+nothing_else w now source bytes m read none n again = subst (IsNoOnes w now source) (same_Some m n (sym read ∙ again)) none
 
 -- where no message is read, nothing is there
-nothing_read : (w : World) (source : Endpoint) (bytes : List ℕ) → message_in w.setting.limits.datagram bytes ≡ None → IsNothing w source bytes
-nothing_read w source bytes unread = record { request = λ n again. absurd (let g = sym unread ∙ again in cc); response = λ n again. absurd (let g = sym unread ∙ again in cc) }
-
--- an acknowledgement isn't confirmable
-ack_not_con : (k : Kind) (b : Bool) → (is_ack k && b) ≡ true → is_con k ≡ false
-ack_not_con Con b e = absurd cc
-ack_not_con Non b e = refl
-ack_not_con Ack b e = refl
-ack_not_con Rst b e = refl
+nothing_read : (w : World) (now : ℕ) (source : Endpoint) (bytes : List ℕ) → message_in w.setting.limits.datagram bytes ≡ None → IsNothing w now source bytes
+nothing_read w now source bytes unread n again = absurd (let g = sym unread ∙ again in cc)
 
 -- a message that is read has its own head
 pub head_of_read : (w : World) (bytes : List ℕ) (m : Message) → IsBytes bytes → message_in w.setting.limits.datagram bytes ≡ Some m → head_at bytes ≡ Some (record { kind = m.kind; code = m.code; id = m.id })
 head_of_read w bytes m fits read = head_read bytes m (message_in-is w.setting.limits.datagram bytes m fits read).2
 
+-- ---- answers
+
 -- an answer is a case by what is done with it towards the store
-rule_answer : (w : World) (now draw : ℕ) (grown : Bool) (source : Endpoint) (bytes : List ℕ) (m : Message) (x : Numbered Exchange) → IsBytes bytes → message_in w.setting.limits.datagram bytes ≡ Some m → (is_ack m.kind && is_response m.code) ≡ true → awaiting w source m ≡ Some x → Rule w now draw grown (arrival source bytes) (answers w now grown m x)
-rule_answer w now draw grown source bytes m x fits read response e = storable (is_storable a) refl
+rule_storing : (w : World) (now draw : ℕ) (grown : Bool) (event : Event) (f : Step → Step) (a : Arrived) → ((storing : Storing) (store : List Entry) → IsStoring w now grown a.exchange a.answer storing store → Rule w now draw grown event (f (answers_so w now a storing store))) → Rule w now draw grown event (f (answers_with w now grown a))
+rule_storing w now draw grown event f a case = storable (is_storable a.answer) refl
   where
-    a : Answer
-    a = answer_of w.setting.limits.datagram now m
+    size : ℕ
+    size = entry_size (entry_made w now a.exchange a.answer)
 
-    case : (storing : Storing) (store : List Entry) → IsStoring w now grown x a storing store → Rule w now draw grown (arrival source bytes) (answers_so w now x a storing store)
-    case storing store s = answering source bytes m x storing store fits read response e s
-
-    fitting : is_storable a ≡ true → entry_size (entry_made w now x a) ≤ w.setting.limits.cache_bytes → (o : Option Entry) → of_key entry_key x.1.key w.store ≡ o → (g : Bool) → grown ≡ g → Rule w now draw grown (arrival source bytes) (keeps_if w now g x a o)
+    fitting : is_storable a.answer ≡ true → size ≤ w.setting.limits.cache_bytes → (o : Option Entry) → of_key entry_key a.exchange.1.key w.store ≡ o → (g : Bool) → grown ≡ g → Rule w now draw grown event (f (keeps_if w now g a o))
     fitting can small None new true g = case Kept _ (kept can small)
     fitting can small None new false g = case NoMemory _ (no_memory can small new g)
-    fitting can small (Some old) there g f = case Kept _ (kept can small)
+    fitting can small (Some old) there g e = case Kept _ (kept can small)
 
-    sized : is_storable a ≡ true → (b : Bool) → nat_le (entry_size (entry_made w now x a)) w.setting.limits.cache_bytes ≡ b → Rule w now draw grown (arrival source bytes) (cond b (keeps_if w now grown x a (of_key entry_key x.1.key w.store)) (answers_so w now x a TooLarge (others entry_key x.1.key w.store)))
-    sized can true small = fitting can (leb-true _ _ small) (of_key entry_key x.1.key w.store) refl grown refl
+    sized : is_storable a.answer ≡ true → (b : Bool) → nat_le size w.setting.limits.cache_bytes ≡ b → Rule w now draw grown event (f (cond b (keeps_if w now grown a (of_key entry_key a.exchange.1.key w.store)) (answers_so w now a TooLarge (others entry_key a.exchange.1.key w.store))))
+    sized can true small = fitting can (leb-true _ _ small) (of_key entry_key a.exchange.1.key w.store) refl grown refl
     sized can false large = case TooLarge _ (too_large can (leb-false _ _ large))
 
-    storable : (b : Bool) → is_storable a ≡ b → Rule w now draw grown (arrival source bytes) (cond b (stores w now grown x a) (answers_so w now x a NotStored w.store))
-    storable true can = sized can (nat_le (entry_size (entry_made w now x a)) w.setting.limits.cache_bytes) refl
+    storable : (b : Bool) → is_storable a.answer ≡ b → Rule w now draw grown event (f (cond b (stores w now grown a) (answers_so w now a NotStored w.store)))
+    storable true can = sized can (nat_le size w.setting.limits.cache_bytes) refl
     storable false not = case NotStored _ (not_stored not)
 
--- a response is a case by what awaits it
-rule_response : (w : World) (now draw : ℕ) (grown : Bool) (source : Endpoint) (bytes : List ℕ) (m : Message) → IsBytes bytes → message_in w.setting.limits.datagram bytes ≡ Some m → (brings_requests m.kind && is_request m.code) ≡ false → (is_ack m.kind && is_response m.code) ≡ true
-    → (o : Option (Numbered Exchange)) → awaiting w source m ≡ o → Rule w now draw grown (arrival source bytes) (on_awaited w now grown m o)
-rule_response w now draw grown source bytes m fits read request response None e = ignoring source bytes (one_head bytes (record { kind = m.kind; code = m.code; id = m.id }) (head_of_read w bytes m fits read) (ack_not_con m.kind (is_response m.code) response)) (nothing_else w source bytes m read request (λ _. e))
-rule_response w now draw grown source bytes m fits read request response (Some x) e = rule_answer w now draw grown source bytes m x fits read response e
+module _ (w : World) (now draw : ℕ) (grown : Bool) (source : Endpoint) (bytes : List ℕ) (m : Message) (fits : IsBytes bytes) (read : message_in w.setting.limits.datagram bytes ≡ Some m) where
+  abbrev arrived : Numbered Exchange → Arrived
+  arrived x = record { source = source; message = m; exchange = x; answer = answer_of w.setting.limits.datagram now m }
 
--- a message is a case by its type and its code
-rule_message : (w : World) (now draw : ℕ) (grown : Bool) (source : Endpoint) (bytes : List ℕ) (m : Message) → IsBytes bytes → message_in w.setting.limits.datagram bytes ≡ Some m → Rule w now draw grown (arrival source bytes) (on_message w now grown source m)
-rule_message w now draw grown source bytes m fits read = request (brings_requests m.kind && is_request m.code) refl
-  where
-    response : (brings_requests m.kind && is_request m.code) ≡ false → (b : Bool) → (is_ack m.kind && is_response m.code) ≡ b → Rule w now draw grown (arrival source bytes) (cond b (on_response w now grown source m) (unprocessed w now source m.kind m.id))
-    response other true e = rule_response w now draw grown source bytes m fits read other e (awaiting w source m) refl
-    response other false e = rule_unprocessed w now draw grown source bytes (record { kind = m.kind; code = m.code; id = m.id }) (head_of_read w bytes m fits read) (nothing_else w source bytes m read other (λ t. absurd (let g = sym t ∙ e in cc)))
+  abbrev own_head : Head
+  own_head = record { kind = m.kind; code = m.code; id = m.id }
 
-    request : (b : Bool) → (brings_requests m.kind && is_request m.code) ≡ b → Rule w now draw grown (arrival source bytes) (cond b (on_request w now source m) (cond (is_ack m.kind && is_response m.code) (on_response w now grown source m) (unprocessed w now source m.kind m.id)))
-    request true e = rule_known w now draw grown source bytes m fits (record { read = read; request = e }) (known_of w now source m) refl
-    request false e = response e (is_ack m.kind && is_response m.code) refl
+  -- an answer that isn't Confirmable
+  rule_answer : (x : Numbered Exchange) → IsAnswerFor w now source m x → is_con m.kind ≡ false → Rule w now draw grown (arrival source bytes) (answers w now grown source m x)
+  rule_answer x for other = rule_storing w now draw grown (arrival source bytes) (λ s. s) (arrived x) (λ storing store s. go storing store s (is_con m.kind) other)
+    where
+      go : (storing : Storing) (store : List Entry) → IsStoring w now grown x (answer_of w.setting.limits.datagram now m) storing store → (b : Bool) → b ≡ false
+          → Rule w now draw grown (arrival source bytes) (cond b (says (Answered storing) source (acknowledgement m.id) (answered_world w now x.0 (answer_of w.setting.limits.datagram now m) store)) (silent (Answered storing) (answered_world w now x.0 (answer_of w.setting.limits.datagram now m) store)))
+      go storing store s true e = absurd cc
+      go storing store s false e = answering source bytes m x storing store fits read for other s
+
+  -- one that is, and is new
+  rule_answer_con : (x : Numbered Exchange) → is_recorded m ≡ true → IsAnswerFor w now source m x → is_con m.kind ≡ true → known_of w now source m ≡ None → has_record_room w now m.kind ≡ true → Rule w now draw grown (arrival source bytes) (remembers now source m (answers w now grown source m x))
+  rule_answer_con x recorded for con unknown room = rule_storing w now draw grown (arrival source bytes) (remembers now source m) (arrived x) (λ storing store s. go storing store s (is_con m.kind) con)
+    where
+      go : (storing : Storing) (store : List Entry) → IsStoring w now grown x (answer_of w.setting.limits.datagram now m) storing store → (b : Bool) → b ≡ true
+          → Rule w now draw grown (arrival source bytes) (remembers now source m (cond b (says (Answered storing) source (acknowledgement m.id) (answered_world w now x.0 (answer_of w.setting.limits.datagram now m) store)) (silent (Answered storing) (answered_world w now x.0 (answer_of w.setting.limits.datagram now m) store))))
+      go storing store s false e = absurd cc
+      go storing store s true e = answering_con source bytes m x storing store fits (record { read = read; recorded = recorded }) for con unknown room s
+
+  -- ---- responses
+
+  module _ (request : (brings_requests m.kind && is_request m.code) ≡ false) (response : (brings_responses m.kind && is_response m.code) ≡ true) where
+    code : is_response m.code ≡ true
+    code = (and_parts (brings_responses m.kind) (is_response m.code) response).1
+
+    -- one that isn't awaited is no one's
+    unawaited : (is_recorded m ≡ true → known_of w now source m ≡ None) → awaiting w source m ≡ None → IsNothing w now source bytes
+    unawaited unknown none =
+        nothing_else w now source bytes m read (
+        record {
+          request = request;
+          unknown = unknown;
+          response = λ _. none;
+          about = λ x about. absurd (empty_no_response m about.bare code);
+        }
+        )
+
+    -- one that isn't Confirmable is a case by what awaits it
+    rule_awaited : is_con m.kind ≡ false → (o : Option (Numbered Exchange)) → awaiting w source m ≡ o → Rule w now draw grown (arrival source bytes) (on_awaited w now grown source m o)
+    rule_awaited other None e = ignoring source bytes (one_head bytes own_head (head_of_read w bytes m fits read) other) (unawaited (λ recorded. absurd (unrecorded m request other recorded)) e)
+    rule_awaited other (Some x) e = rule_answer x (by_response response e) other
+
+    -- one that is, too, and by what there is room for
+    rule_separate : m.kind ≡ Con → known_of w now source m ≡ None → (o : Option (Numbered Exchange)) → awaiting w source m ≡ o → Rule w now draw grown (arrival source bytes) (on_separate w now grown source m o)
+    rule_separate con unknown None e = rejecting source bytes own_head (head_of_read w bytes m fits read) (ap is_con con) (unawaited (λ recorded. unknown) e)
+    rule_separate con unknown (Some x) e = go (has_record_room w now m.kind) refl
+      where
+        recorded : is_recorded m ≡ true
+        recorded = or_second (brings_requests m.kind && is_request m.code) (is_con m.kind && is_response m.code) (and_from (is_con m.kind) (is_response m.code) (ap is_con con) code)
+
+        go : (b : Bool) → has_record_room w now m.kind ≡ b → Rule w now draw grown (arrival source bytes) (cond b (remembers now source m (answers w now grown source m x)) (drops w now))
+        go true room = rule_answer_con x recorded (by_response response e) (ap is_con con) unknown room
+        go false full = dropping source bytes m fits (record { read = read; recorded = recorded }) (λ _. (x, e)) unknown full
+
+    rule_unknown : m.kind ≡ Con → (o : Option Record) → known_of w now source m ≡ o → Rule w now draw grown (arrival source bytes) (on_unknown w now grown source m o)
+    rule_unknown con None e = rule_separate con e (awaiting w source m) refl
+    rule_unknown con (Some known) e =
+        repeating source bytes m known fits
+        (record { read = read; recorded = or_second (brings_requests m.kind && is_request m.code) (is_con m.kind && is_response m.code) (and_from (is_con m.kind) (is_response m.code) (ap is_con con) code) })
+        e
+
+    rule_response : (k : Kind) → m.kind ≡ k → Rule w now draw grown (arrival source bytes) (on_response_in k w now grown source m)
+    rule_response Con is = rule_unknown is (known_of w now source m) refl
+    rule_response Non is = rule_awaited (ap is_con is) (awaiting w source m) refl
+    rule_response Ack is = rule_awaited (ap is_con is) (awaiting w source m) refl
+    rule_response Rst is = rule_awaited (ap is_con is) (awaiting w source m) refl
+
+  -- ---- Empty messages
+
+  module _ (bare : is_bare m ≡ true) where
+    not_con : is_con m.kind ≡ false
+    not_con = bare_not_con m bare
+
+    -- one that is about nothing is no one's
+    unmatched : ((x : Numbered Exchange) → ¬ IsAbout w now source m x) → Rule w now draw grown (arrival source bytes) (ignores w now)
+    unmatched none =
+        ignoring source bytes (one_head bytes own_head (head_of_read w bytes m fits read) not_con)
+        (nothing_else w now source bytes m read (
+        record {
+          request = bare_no_request m bare;
+          unknown = λ recorded. absurd (unrecorded m (bare_no_request m bare) not_con recorded);
+          response = λ response. absurd (empty_no_response m bare (and_parts (brings_responses m.kind) (is_response m.code) response).1);
+          about = none;
+        }
+        ))
+
+    rule_settled : (x : Numbered Exchange) → IsAbout w now source m x → (b : Bool) → is_ack m.kind ≡ b → Rule w now draw grown (arrival source bytes) (cond b (acknowledges w now x.0) (answers w now grown source m x))
+    rule_settled x about true ack = acknowledging source bytes m x fits read about ack
+    rule_settled x about false rst = rule_answer x (by_reset about rst) not_con
+
+    rule_found : (n : ℕ) → first_that (was_sent_as source m.id now) w.exchanges ≡ Some n → (o : Option Exchange) → item_at n w.exchanges ≡ o → Rule w now draw grown (arrival source bytes) (empties.on_exchange w now grown source m n o)
+    rule_found n first None e = unmatched (λ x about. let same = same_Some n x.0 (sym first ∙ about.first) in let g : None ≡ Some x.1 = sym e ∙ ap (λ (k : ℕ). item_at k w.exchanges) same ∙ about.found in absurd cc)
+    rule_found n first (Some x) e = go (is_sent x) refl
+      where
+        go : (b : Bool) → is_sent x ≡ b → Rule w now draw grown (arrival source bytes) (cond b (settles w now grown source m n x) (ignores w now))
+        go true sent = rule_settled (n, x) (record { bare = bare; first = first; found = e; sent = sent }) (is_ack m.kind) refl
+        go false other =
+            unmatched (λ y about.
+            let same = same_Some n y.0 (sym first ∙ about.first) in
+            let found : Some x ≡ Some y.1 = sym e ∙ ap (λ (k : ℕ). item_at k w.exchanges) same ∙ about.found in
+            let one = same_Some x y.1 found in
+            let both : false ≡ true = sym other ∙ ap is_sent one ∙ about.sent in
+            absurd cc)
+
+    rule_sent : (o : Option ℕ) → first_that (was_sent_as source m.id now) w.exchanges ≡ o → Rule w now draw grown (arrival source bytes) (on_sent w now grown source m o)
+    rule_sent None e = unmatched (λ x about. absurd (let g = sym e ∙ about.first in cc))
+    rule_sent (Some n) e = rule_found n e (item_at n w.exchanges) refl
+
+  -- ---- messages
+
+  -- what is neither a request nor a response is a case by whether it is Empty
+  rule_no_response : (brings_requests m.kind && is_request m.code) ≡ false → (brings_responses m.kind && is_response m.code) ≡ false → (b : Bool) → is_bare m ≡ b → Rule w now draw grown (arrival source bytes) (cond b (on_empty w now grown source m) (unprocessed w now source m.kind m.id))
+  rule_no_response request response true bare = rule_sent bare (first_that (was_sent_as source m.id now) w.exchanges) refl
+  rule_no_response request response false full =
+      rule_unprocessed w now draw grown source bytes own_head (head_of_read w bytes m fits read)
+      (nothing_else w now source bytes m read (
+      record {
+        request = request;
+        unknown = λ recorded. absurd (neither m request response recorded);
+        response = λ e. absurd (let g = sym e ∙ response in cc);
+        about = λ x about. absurd (let g = sym about.bare ∙ full in cc);
+      }
+      ))
+
+  rule_no_request : (brings_requests m.kind && is_request m.code) ≡ false → (b : Bool) → (brings_responses m.kind && is_response m.code) ≡ b → Rule w now draw grown (arrival source bytes) (cond b (on_response w now grown source m) (on_no_response w now grown source m))
+  rule_no_request request true response = rule_response request response m.kind refl
+  rule_no_request request false other = rule_no_response request other (is_bare m) refl
+
+  -- a message is a case by its type and its code
+  rule_message : Rule w now draw grown (arrival source bytes) (on_message w now grown source m)
+  rule_message = go (brings_requests m.kind && is_request m.code) refl
+    where
+      go : (b : Bool) → (brings_requests m.kind && is_request m.code) ≡ b → Rule w now draw grown (arrival source bytes) (cond b (on_request w now source m) (on_no_request w now grown source m))
+      go true e = rule_known w now draw grown source bytes m fits (record { read = read; request = e }) (known_of w now source m) refl
+      go false e = rule_no_request e (brings_responses m.kind && is_response m.code) refl
 
 -- a datagram is a case by what is read of it
 rule_read : (w : World) (now draw : ℕ) (grown : Bool) (source : Endpoint) (bytes : List ℕ) → IsBytes bytes → (h : Option Head) → head_at bytes ≡ h → (o : Option Message) → message_in w.setting.limits.datagram bytes ≡ o → Rule w now draw grown (arrival source bytes) (on_read w now grown source h o)
-rule_read w now draw grown source bytes fits None is None read = ignoring source bytes (λ head also. absurd (let g = sym is ∙ also in cc)) (nothing_read w source bytes read)
+rule_read w now draw grown source bytes fits None is None read = ignoring source bytes (λ head also. absurd (let g = sym is ∙ also in cc)) (nothing_read w now source bytes read)
 rule_read w now draw grown source bytes fits None is (Some m) read =
     absurd (let head = head_read bytes m (message_in-is w.setting.limits.datagram bytes m fits read).2 in let g = sym is ∙ head in cc)
-rule_read w now draw grown source bytes fits (Some head) is None read = rule_unprocessed w now draw grown source bytes head is (nothing_read w source bytes read)
-rule_read w now draw grown source bytes fits (Some head) is (Some m) read = rule_message w now draw grown source bytes m fits read
+rule_read w now draw grown source bytes fits (Some h) is None read = rule_unprocessed w now draw grown source bytes h is (nothing_read w now source bytes read)
+rule_read w now draw grown source bytes fits (Some h) is (Some m) read = rule_message w now draw grown source bytes m fits read
 
 -- ---- ticks
 

@@ -3,13 +3,12 @@ use Rattle.std.proofs.Common.{◌≡◌, ℕ, Bool, ◌+◌, List, [], ◌∷◌
 use Rattle.coap_routes.specs.Routes.{AreRoutes}
 use Rattle.coap_model.specs.Setting.{Setting}
 use Rattle.coap_model.specs.Events.{Event, IsEvent}
-use Rattle.coap_model.specs.World.{World, Step}
+use Rattle.coap_model.specs.World.{World, Step, repeats}
 use Rattle.coap_model.specs.Step.{step_of}
 use Rattle.coap_model.specs.Carries.{Carries}
 use Rattle.coap_model.specs.Promised.{Promised}
-use Rattle.coap_model.specs.Requests.{repeats}
 use Rattle.coap_model.specs.Runs.{Taken, turns_of, AreTurns, Run, new_run, one_turn, run_of}
-use Rattle.coap_model.proofs.Rules.{Rule, refusing, lacking, overloading, hitting, opening, repeating, forgetting, answering, rejecting, ignoring, forwarding, resending, giving_up, delivering, idling, stuck, rule_of}
+use Rattle.coap_model.proofs.Rules.{Rule, refusing, lacking, overloading, hitting, opening, repeating, dropping, answering, answering_con, acknowledging, rejecting, ignoring, forwarding, resending, giving_up, delivering, idling, stuck, rule_of}
 use Rattle.coap_model.proofs.Carrying.{keeps_step, starts}
 use Rattle.coap_model.proofs.Promising.{promises}
 
@@ -25,8 +24,10 @@ rule_setting {w = w} {now = now} (repeating client bytes m known fits asked foun
     repeated : (o : Option (List ℕ)) → (repeats w now client o).world.setting ≡ w.setting
     repeated None = refl
     repeated (Some reply) = refl
-rule_setting (forgetting client bytes m fits asked unknown full) = refl
-rule_setting (answering source bytes m x storing store fits read response found stored) = refl
+rule_setting (dropping source bytes m fits recorded wanted unknown full) = refl
+rule_setting (answering source bytes m x storing store fits read for other stored) = refl
+rule_setting (answering_con source bytes m x storing store fits recorded for con unknown room stored) = refl
+rule_setting (acknowledging source bytes m x fits read about ack) = refl
 rule_setting (rejecting source bytes head is con none) = refl
 rule_setting (ignoring source bytes quiet none) = refl
 rule_setting (forwarding at number x turn is early) = refl
@@ -56,8 +57,10 @@ rule_clock {w = w} {now = now} (repeating client bytes m known fits asked found)
     repeated : (o : Option (List ℕ)) → IsOneOn w now (repeats w now client o).world
     repeated None = (refl, refl)
     repeated (Some reply) = (refl, refl)
-rule_clock (forgetting client bytes m fits asked unknown full) = (refl, refl)
-rule_clock (answering source bytes m x storing store fits read response found stored) = (refl, refl)
+rule_clock (dropping source bytes m fits recorded wanted unknown full) = (refl, refl)
+rule_clock (answering source bytes m x storing store fits read for other stored) = (refl, refl)
+rule_clock (answering_con source bytes m x storing store fits recorded for con unknown room stored) = (refl, refl)
+rule_clock (acknowledging source bytes m x fits read about ack) = (refl, refl)
 rule_clock (rejecting source bytes head is con none) = (refl, refl)
 rule_clock (ignoring source bytes quiet none) = (refl, refl)
 rule_clock (forwarding at number x turn is early) = (refl, refl)

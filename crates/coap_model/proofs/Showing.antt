@@ -32,6 +32,8 @@ use Rattle.coap_cache.proofs.Tags.{first_tag, tag_of-first, tag-short}
 use Rattle.coap_target.specs.Equality.{same_bytes}
 use Rattle.coap_cache.specs.declared.answer.Answer.{Answer}
 use Rattle.coap_forward.specs.Answers.{is_screened, without_observe, greatest_max_age, widest, fits, is_passed_on, bad_gateway, answer_of, left_of, left_told, shown}
+use Rattle.coap_forward.specs.Messages.{is_rst}
+use Rattle.coap_model.specs.History.{Matches, in_acknowledgement, separate, by_reset}
 use Rattle.coap_model.proofs.OptionLengths.{lower-length}
 use Rattle.coap_model.proofs.Spelled.{length-uint_spelling}
 
@@ -128,10 +130,16 @@ case-sound m is (as_valid left tag short) =
     }
 case-sound m is (as_aged left) = record { code = is.code; options = with_max_age-options left m.options is.options }
 
--- what a client is shown of an answer to a response
-pub shown-is : (most now got : ℕ) (m : Message) (id : ℕ) (token : List ℕ) (tags : List (List ℕ)) → IsMessage m → is_response m.code ≡ true → length token ≤ 8 → IsMessage (shown now (answer_of most got m) id token tags)
+-- a message that answers a request is a Reset, or a response
+pub matches-response : {token : List ℕ} {id : ℕ} {m : Message} → Matches token id m → is_rst m.kind ≡ false → is_response m.code ≡ true
+matches-response (in_acknowledgement kind code same_token same_id) not = code
+matches-response (separate kind code same_token) not = code
+matches-response (by_reset kind code same_id) not = absurd (let f = sym (ap is_rst kind) ∙ not in cc)
+
+-- what a client is shown of an answer to a response, or to a Reset
+pub shown-is : (most now got : ℕ) (m : Message) (id : ℕ) (token : List ℕ) (tags : List (List ℕ)) → IsMessage m → (is_rst m.kind ≡ false → is_response m.code ≡ true) → length token ≤ 8 → IsMessage (shown now (answer_of most got m) id token tags)
 unfolding answer_of
-shown-is most now got m id token tags is response short = answered (is_passed_on most m)
+shown-is most now got m id token tags is response short = answered (is_rst m.kind) refl (is_passed_on most m)
   where
     of : (a : Answer) → IsSound a.message → IsMessage (shown now a id token tags)
     of a sound =
@@ -142,9 +150,13 @@ shown-is most now got m id token tags is response short = answered (is_passed_on
           bare = record { token = λ e. absurd (s.code e); options = λ e. absurd (s.code e); payload = λ e. absurd (s.code e) };
         }
 
-    answered : (b : Bool) → IsMessage (shown now (cond b (record { message = without_observe m; got = got; own = false }) (record { message = bad_gateway; got = got; own = true })) id token tags)
-    answered true = of (record { message = without_observe m; got = got; own = false }) (record { code = response-code m.code response; options = AreOptions-filter (λ o. not (o.number == 6)) 0 m.options is.options })
-    answered false = of (record { message = bad_gateway; got = got; own = true }) (record { code = λ e. absurd (omega arith); options = tt })
+    own : IsMessage (shown now (record { message = bad_gateway; got = got; own = true }) id token tags)
+    own = of (record { message = bad_gateway; got = got; own = true }) (record { code = λ e. absurd (omega arith); options = tt })
+
+    answered : (r : Bool) → is_rst m.kind ≡ r → (b : Bool) → IsMessage (shown now (cond (not r && b) (record { message = without_observe m; got = got; own = false }) (record { message = bad_gateway; got = got; own = true })) id token tags)
+    answered false no_reset true = of (record { message = without_observe m; got = got; own = false }) (record { code = response-code m.code (response no_reset); options = AreOptions-filter (λ o. not (o.number == 6)) 0 m.options is.options })
+    answered false no_reset false = own
+    answered true reset b = own
 
 -- ---- one Max-Age at most, of four bytes
 
@@ -372,7 +384,7 @@ case-short most id m token wide short fit plain small (as_aged left) =
 -- what is shown of an answer fits a datagram, and a longer one
 pub answer-fits : (most longest now got id : ℕ) (bytes : List ℕ) (m : Message) (token : List ℕ) (tags : List (List ℕ)) → 128 ≤ longest → most ≤ longest → IsBytes bytes → Spells bytes m → length token ≤ 8 → length (spelling (shown now (answer_of most got m) id token tags)) ≤ longest
 unfolding answer_of
-answer-fits most longest now got id bytes m token tags wide no_longer fit s short = go (is_passed_on most m) refl
+answer-fits most longest now got id bytes m token tags wide no_longer fit s short = go (is_rst m.kind) (is_passed_on most m) refl
   where
     passed : is_passed_on most m ≡ true → length (spelling (shown now (record { message = without_observe m; got = got; own = false }) id token tags)) ≤ longest
     passed e =
@@ -383,6 +395,10 @@ answer-fits most longest now got id bytes m token tags wide no_longer fit s shor
         let small : left_of now a < 2 ^ 32 = let age = age-small (without_observe m) all in omega (arith, age) in
         case-short longest id (without_observe m) token wide short (let fits_most = leb-true _ _ more.1 in omega (arith, no_longer, fits_most)) (within-widest m s.message.options parts.0) small (shown-as (without_observe m) (left_told now a) tags)
 
-    go : (b : Bool) → is_passed_on most m ≡ b → length (spelling (shown now (cond {A = Answer} b (record { message = without_observe m; got = got; own = false }) (record { message = bad_gateway; got = got; own = true })) id token tags)) ≤ longest
-    go true e = passed e
-    go false e = omega (arith, wide, short, spelling-length (shown now (record { message = bad_gateway; got = got; own = true }) id token tags))
+    own : length (spelling (shown now (record { message = bad_gateway; got = got; own = true }) id token tags)) ≤ longest
+    own = omega (arith, wide, short, spelling-length (shown now (record { message = bad_gateway; got = got; own = true }) id token tags))
+
+    go : (r b : Bool) → is_passed_on most m ≡ b → length (spelling (shown now (cond {A = Answer} (not r && b) (record { message = without_observe m; got = got; own = false }) (record { message = bad_gateway; got = got; own = true })) id token tags)) ≤ longest
+    go false true e = passed e
+    go false false e = own
+    go true b e = own

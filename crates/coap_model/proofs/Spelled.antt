@@ -9,11 +9,12 @@ use Rattle.coap_message.specs.declared.options.Opt.{Opt}
 use Rattle.coap_message.specs.Uint.{IsBytes, without_zeros, uint_spelling}
 use Rattle.coap_message.specs.Options.{AreOptions}
 use Rattle.coap_message.specs.Message.{Message}
-use Rattle.coap_message.specs.Spelling.{IsMessage, Spells}
+use Rattle.coap_message.specs.Spelling.{spelling, IsMessage, Spells}
 use Rattle.coap_message.specs.Reading.{read_message}
+use Rattle.coap_message.proofs.Spellings.{spelling-length}
 use Rattle.coap_message.proofs.WholeMessages.{read_is}
 use Rattle.coap_cache.specs.Renewing.{max_age_option}
-use Rattle.coap_forward.specs.Messages.{reset, own_reply, busy_reply}
+use Rattle.coap_forward.specs.Messages.{acknowledgement, reset, own_reply, busy_reply}
 use Rattle.coap_model.specs.Step.{message_in}
 
 -- ---- a Max-Age
@@ -38,6 +39,13 @@ max_age-options seconds = (omega arith, omega arith, omega (arith, length-uint_s
 -- a Reset is a message
 pub reset-is : (id : ℕ) → IsMessage (reset id)
 reset-is id = record { token = omega arith; options = tt; bare = record { token = λ _. refl; options = λ _. refl; payload = λ _. refl } }
+
+-- so is an Empty acknowledgement, which has four bytes
+pub acknowledgement-is : (id : ℕ) → IsMessage (acknowledgement id)
+acknowledgement-is id = record { token = omega arith; options = tt; bare = record { token = λ _. refl; options = λ _. refl; payload = λ _. refl } }
+
+pub acknowledgement-short : (id : ℕ) → length (spelling (acknowledgement id)) ≤ 4
+acknowledgement-short id = let long = spelling-length (acknowledgement id) in omega (arith, long)
 
 -- a reply of the proxy's own is one
 pub own_reply-is : (code : Code) (options : List Opt) (id : ℕ) (token : List ℕ) → code.0 ≢ 0 → AreOptions 0 options → length token ≤ 8 → IsMessage (own_reply code options id token)

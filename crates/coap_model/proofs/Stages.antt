@@ -7,11 +7,11 @@ use Rattle.coap_target.proofs.Lists.{All-append, All-weaken}
 use Rattle.coap_target.specs.declared.endpoint.Endpoint.{Endpoint}
 use Rattle.coap_forward.specs.Messages.{token_of}
 use Rattle.coap_model.specs.declared.report.Outcome.{Outcome}
-use Rattle.coap_model.specs.declared.report.Outcome.TheVariants.{Opened, Answered, SentRequest, GaveUp, Delivered}
+use Rattle.coap_model.specs.declared.report.Outcome.TheVariants.{Opened, Answered, Acked, SentRequest, GaveUp, Delivered}
 use Rattle.coap_model.specs.Setting.{Setting}
 use Rattle.coap_model.specs.History.{Act, admits, moves, serves, Deed, Place, IsPlaceOf, Never, opened_in, ends, Sends, Ends}
-use Rattle.coap_model.specs.Standing.{Standing, Stage, queued, sent, done, Open, staged, waits_for, awaited, open_by, open_in, standing_in, stage_of}
-use Rattle.coap_model.specs.Justified.{IsOpening, IsForwarding, IsGivingUp, overdue, unheard, JustifiedBy, AllJustified}
+use Rattle.coap_model.specs.Standing.{Standing, Stage, queued, sent, acked, done, Open, staged, waits_for, awaited, open_by, open_in, standing_in, stage_of}
+use Rattle.coap_model.specs.Justified.{IsOpening, IsSettled, IsForwarding, IsGivingUp, overdue, unheard, JustifiedBy, AllJustified}
 use Rattle.coap_model.proofs.Lists.{find-holds, All-filter}
 use Rattle.coap_model.proofs.Places.{here, same_moves, same_admits, never-from, justified-at, opened-number}
 use Rattle.coap_model.proofs.Owing.{taken-so}
@@ -32,25 +32,28 @@ All-staged P Q x stage (o ∷ xs) this others all = (go (o.number == x) refl, Al
     go true e = this o all.0 (eqb-true o.number x e)
     go false e = others o all.0 (eqb-false o.number x e)
 
--- What holds of all that were open holds, changed, of all that are: of a new one, of the one that is sent, of the one that ends, and of each that a deed does none of this with.
+-- What holds of all that were open holds, changed, of all that are: of a new one, of the one that is sent, of the one that is acknowledged, of the one that ends, and of each that a deed does none of this with.
 pub All-open : (P Q : Open → Type 0) (o : Outcome) (act : Act) (send : Option Endpoint) (standing : List Standing) (xs : List Open)
     → ((v x : ℕ) → o ≡ Opened → act ≡ admits v x → Q (record { number = x; stage = queued }))
     → ((x : ℕ) (to : Endpoint) → o ≡ SentRequest → act ≡ moves x → send ≡ Some to → (q : Open) → P q → q.number ≡ x → Q (record q { stage = sent to }))
+    → ((x : ℕ) → o ≡ Acked → act ≡ moves x → (q : Open) → P q → q.number ≡ x → Q (record q { stage = acked }))
     → ((x : ℕ) → ends o ≡ true → act ≡ moves x → (q : Open) → P q → q.number ≡ x → Q (record q { stage = done }))
     → ((q : Open) → P q → (((o ≡ SentRequest) × (send ≢ None)) ⊎ (ends o ≡ true) → act ≢ moves q.number) → Q q)
     → AllByRecursion P xs → AllByRecursion Q (open_by o act send standing xs)
-All-open P Q Opened (admits v x) send standing xs new sending ending others all =
+All-open P Q Opened (admits v x) send standing xs new sending acking ending others all =
     All-append Q xs _ (All-weaken P Q xs (λ q h. others q h (λ either same. cc)) all) (new v x refl refl, tt)
-All-open P Q SentRequest (moves x) None standing xs new sending ending others all = All-weaken P Q xs (λ q h. others q h (λ either same. ⊎_elim (λ e. e.1 refl) (λ e. cc) either)) all
-All-open P Q SentRequest (moves x) (Some to) standing xs new sending ending others all =
+All-open P Q SentRequest (moves x) None standing xs new sending acking ending others all = All-weaken P Q xs (λ q h. others q h (λ either same. ⊎_elim (λ e. e.1 refl) (λ e. cc) either)) all
+All-open P Q SentRequest (moves x) (Some to) standing xs new sending acking ending others all =
     All-staged P Q x (sent to) xs (sending x to refl refl refl) (λ q h other. others q h (λ either same. other (sym (same_moves x q.number same)))) all
-All-open P Q (Answered s) (moves x) send standing xs new sending ending others all =
+All-open P Q Acked (moves x) send standing xs new sending acking ending others all =
+    All-staged P Q x acked xs (acking x refl refl) (λ q h other. others q h (λ either same. other (sym (same_moves x q.number same)))) all
+All-open P Q (Answered s) (moves x) send standing xs new sending acking ending others all =
     All-staged P Q x done xs (ending x refl refl) (λ q h other. others q h (λ either same. other (sym (same_moves x q.number same)))) all
-All-open P Q GaveUp (moves x) send standing xs new sending ending others all =
+All-open P Q GaveUp (moves x) send standing xs new sending acking ending others all =
     All-staged P Q x done xs (ending x refl refl) (λ q h other. others q h (λ either same. other (sym (same_moves x q.number same)))) all
-All-open P Q Delivered (serves v) send standing xs new sending ending others all =
+All-open P Q Delivered (serves v) send standing xs new sending acking ending others all =
     All-awaited Q standing xs (All-weaken P Q xs (λ q h. others q h (λ either same. cc)) all)
-All-open P Q _ _ send standing xs new sending ending others all =
+All-open P Q _ _ send standing xs new sending acking ending others all =
     All-weaken P Q xs (λ q h. others q h (λ either same. ⊎_elim (λ e. let f = e.0 in cc) (λ e. cc) either)) all
 
 -- what holds of an exchange that has a stage
@@ -79,6 +82,7 @@ open-numbers setting (d ∷ past) all =
     All-open (λ o. o.number ≤ opened_in past) (λ o. o.number ≤ opened_in (d ∷ past)) d.entry.report.outcome d.act d.entry.report.send (standing_in (d ∷ past)) (open_in past)
     (λ v x is act. new v x is act)
     (λ x to is act sent_to q h same. omega (arith, h))
+    (λ x is act q h same. omega (arith, h))
     (λ x is act q h same. omega (arith, h))
     (λ q h not. omega (arith, h))
     (open-numbers setting past all.1)
@@ -167,11 +171,17 @@ queued-come setting history x all come stage =
     let h = stage-holds (HasCome setting.salt history) x queued history come stage in
     subst (λ (n : ℕ). Never (Ends n) history) h.number (h.holds.unended (λ e. let f = sym h.stage_is ∙ e in cc))
 
+-- nor has one that waits for an acknowledgement
+sent-come : (setting : Setting) (history : List Deed) (x : ℕ) (to : Endpoint) → AllJustified setting history → AllByRecursion (HasCome setting.salt history) (open_in history) → stage_of x history ≡ Some (sent to) → Never (Ends x) history
+sent-come setting history x to all come stage =
+    let h = stage-holds (HasCome setting.salt history) x (sent to) history come stage in
+    subst (λ (n : ℕ). Never (Ends n) history) h.number (h.holds.unended (λ e. let f = sym h.stage_is ∙ e in cc))
+
 -- all that are open have come as far as their stages say
 pub all-come : (setting : Setting) (history : List Deed) → AllJustified setting history → AllByRecursion (HasCome setting.salt history) (open_in history)
 all-come setting [] all = tt
 all-come setting (d ∷ past) all =
-    All-open (HasCome setting.salt past) (HasCome setting.salt (d ∷ past)) d.entry.report.outcome d.act d.entry.report.send (standing_in (d ∷ past)) (open_in past) new (sending (all-come setting past all.1)) ending others (all-come setting past all.1)
+    All-open (HasCome setting.salt past) (HasCome setting.salt (d ∷ past)) d.entry.report.outcome d.act d.entry.report.send (standing_in (d ∷ past)) (open_in past) new (sending (all-come setting past all.1)) (acking (all-come setting past all.1)) ending others (all-come setting past all.1)
   where
     new : (v x : ℕ) → d.entry.report.outcome ≡ Opened → d.act ≡ admits v x → HasCome setting.salt (d ∷ past) (record { number = x; stage = queued })
     new v x is act =
@@ -212,6 +222,18 @@ all-come setting (d ∷ past) all =
             to_is = cc;
           };
           unended = λ not. ((λ s. let e = ap ends (sym is) ∙ s.outcome in cc), subst (λ (n : ℕ). Never (Ends n) past) back was);
+        }
+
+    acking : AllByRecursion (HasCome setting.salt past) (open_in past) → (x : ℕ) → d.entry.report.outcome ≡ Acked → d.act ≡ moves x → (q : Open) → HasCome setting.salt past q → q.number ≡ x → HasCome setting.salt (d ∷ past) (record q { stage = acked })
+    acking come x is act q h same =
+        let j : IsSettled setting past d = subst (λ (o : Outcome). JustifiedBy o setting past d) is all.0 in
+        let number : x ≡ j.exchange = same_moves x j.exchange (sym act ∙ j.act) in
+        let u = j.acknowledges.unsettled in
+        let was = sent-come setting past j.exchange u.to all.1 come u.stage in
+        record {
+          unsent = λ e. absurd cc;
+          was_sent = λ to e. absurd cc;
+          unended = λ not. ((λ s. let e = ap ends (sym is) ∙ s.outcome in cc), subst (λ (n : ℕ). Never (Ends n) past) (sym number ∙ sym same) was);
         }
 
     ending : (x : ℕ) → ends d.entry.report.outcome ≡ true → d.act ≡ moves x → (q : Open) → HasCome setting.salt past q → q.number ≡ x → HasCome setting.salt (d ∷ past) (record q { stage = done })

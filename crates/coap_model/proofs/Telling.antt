@@ -1,5 +1,5 @@
 -- What a step found of memory is told by its report.
-use Rattle.std.proofs.Common.{◌≡◌, ℕ, Bool, true, false, nat_le, Option, Some, None, refl}
+use Rattle.std.proofs.Common.{◌≡◌, ℕ, Bool, true, false, nat_le, List, Option, Some, None, refl, ap}
 use Rattle.std.specs.Prelude.{◌&&◌, if◌then◌else◌}
 use Rattle.coap_message.specs.Codes.{is_request, is_response}
 use Rattle.coap_message.specs.declared.message.Head.{Head}
@@ -8,20 +8,27 @@ use Rattle.coap_message.specs.Reading.{head_at}
 use Rattle.coap_target.specs.declared.endpoint.Endpoint.{Endpoint}
 use Rattle.coap_cache.specs.Entries.{Entry, entry_key, entry_size}
 use Rattle.coap_cache.specs.Lists.{of_key, others}
-use Rattle.coap_cache.specs.declared.answer.Answer.{Answer}
 use Rattle.coap_exchange.specs.declared.exchange.Exchange.{Exchange}
-use Rattle.coap_exchange.specs.Table.{Numbered}
+use Rattle.coap_exchange.specs.Table.{Numbered, first_that, item_at}
 use Rattle.coap_model.specs.declared.report.Outcome.{Outcome}
 use Rattle.coap_model.specs.declared.report.Outcome.TheVariants.{Answered}
-use Rattle.coap_model.specs.declared.report.Storing.TheVariants.{TooLarge, NoMemory, NotStored}
+use Rattle.coap_model.specs.declared.report.Storing.{Storing}
+use Rattle.coap_model.specs.declared.report.Storing.TheVariants.{Kept, TooLarge, NoMemory, NotStored}
 use Rattle.coap_forward.specs.Answers.{answer_of, is_storable}
 use Rattle.coap_model.specs.Events.{Event, arrival, tick}
 use Rattle.coap_model.specs.History.{grown_of}
-use Rattle.coap_forward.specs.Messages.{brings_requests, is_ack}
+use Rattle.coap_message.specs.declared.kind.Kind.{Kind}
+use Rattle.coap_message.specs.declared.kind.Kind.TheVariants.{Con, Non, Ack, Rst}
+use Rattle.coap_dedup.specs.declared.record.Record.{Record}
+use Rattle.coap_exchange.specs.Exchanges.{is_sent, was_sent_as}
+use Rattle.coap_forward.specs.Messages.{brings_requests, brings_responses, is_con, is_ack, is_bare, acknowledgement}
+use Rattle.coap_model.specs.Answers.{Arrived, entry_made, answers_so, keeps_if, answers}
+use Rattle.coap_model.specs.Empties.{acknowledges, settles, on_exchange, on_sent, on_empty}
 use Rattle.coap_model.specs.Requests.{on_request}
-use Rattle.coap_model.specs.Responses.{awaiting, entry_made, answers_so, keeps_if, on_awaited, on_response}
-use Rattle.coap_model.specs.Step.{unprocessed, on_no_request, message_in, on_read, step_of}
-use Rattle.coap_model.specs.World.{World, Step}
+use Rattle.coap_model.specs.Responses.{awaiting, on_awaited, on_separate, on_unknown, on_response_in, on_response}
+use Rattle.coap_model.specs.Step.{on_no_response, on_no_request, message_in, on_read, step_of}
+use Rattle.coap_model.specs.World.{World, Step, known_of, has_record_room, remembers, drops, ignores, unprocessed, says, silent}
+use Rattle.coap_model.proofs.Rules.{answered_world}
 
 -- a step that hangs on the memory is the one of its own report
 abbrev IsTold : (Bool → Step) → Type 0
@@ -32,20 +39,68 @@ either : (b : Bool) (s t : Bool → Step) → IsTold s → IsTold t → IsTold (
 either true s t p q = p
 either false s t p q = q
 
--- what is kept hangs on the memory where its key has no entry
-kept-told : (w : World) (now : ℕ) (x : Numbered Exchange) (a : Answer) (o : Option Entry) → IsTold (λ grown. keeps_if w now grown x a o)
-kept-told w now x a None true = refl
-kept-told w now x a None false = refl
-kept-told w now x a (Some entry) grown = refl
+-- and one that is remembered besides
+remembered-told : (now : ℕ) (source : Endpoint) (m : Message) (s : Bool → Step) → IsTold s → IsTold (λ grown. remembers now source m (s grown))
+remembered-told now source m s told grown = ap (remembers now source m) (told grown)
 
--- nothing else does
-awaited-told : (w : World) (now : ℕ) (m : Message) (o : Option (Numbered Exchange)) → IsTold (λ grown. on_awaited w now grown m o)
-awaited-told w now m None = λ grown. refl
-awaited-told w now m (Some x) =
-    let a = answer_of w.setting.limits.datagram now m in
-    either (is_storable a) (λ grown. if nat_le (entry_size (entry_made w now x a)) w.setting.limits.cache_bytes then keeps_if w now grown x a (of_key entry_key x.1.key w.store) else answers_so w now x a TooLarge (others entry_key x.1.key w.store)) (λ grown. answers_so w now x a NotStored w.store)
-    (either (nat_le (entry_size (entry_made w now x a)) w.setting.limits.cache_bytes) (λ grown. keeps_if w now grown x a (of_key entry_key x.1.key w.store)) (λ grown. answers_so w now x a TooLarge (others entry_key x.1.key w.store)) (kept-told w now x a (of_key entry_key x.1.key w.store)) (λ grown. refl))
+-- an answer tells how it was stored, whatever goes out at once
+so-outcome : (w : World) (now : ℕ) (a : Arrived) (storing : Storing) (store : List Entry) → (answers_so w now a storing store).report.outcome ≡ Answered storing
+so-outcome w now a storing store = go (is_con a.message.kind)
+  where
+    go : (b : Bool) → (if b then says (Answered storing) a.source (acknowledgement a.message.id) (answered_world w now a.exchange.0 a.answer store) else silent (Answered storing) (answered_world w now a.exchange.0 a.answer store)).report.outcome ≡ Answered storing
+    go true = refl
+    go false = refl
+
+-- what is kept hangs on the memory where its key has no entry
+kept-told : (w : World) (now : ℕ) (a : Arrived) (o : Option Entry) → IsTold (λ grown. keeps_if w now grown a o)
+kept-told w now a None true = ap (λ (o : Outcome). keeps_if w now (grown_of o) a None) (so-outcome w now a Kept _)
+kept-told w now a None false = ap (λ (o : Outcome). keeps_if w now (grown_of o) a None) (so-outcome w now a NoMemory w.store)
+kept-told w now a (Some entry) grown = refl
+
+answers-told : (w : World) (now : ℕ) (source : Endpoint) (m : Message) (x : Numbered Exchange) → IsTold (λ grown. answers w now grown source m x)
+answers-told w now source m x =
+    let a : Arrived = record { source = source; message = m; exchange = x; answer = answer_of w.setting.limits.datagram now m } in
+    let small = nat_le (entry_size (entry_made w now x a.answer)) w.setting.limits.cache_bytes in
+    either (is_storable a.answer) (λ grown. if small then keeps_if w now grown a (of_key entry_key x.1.key w.store) else answers_so w now a TooLarge (others entry_key x.1.key w.store)) (λ grown. answers_so w now a NotStored w.store)
+    (either small (λ grown. keeps_if w now grown a (of_key entry_key x.1.key w.store)) (λ grown. answers_so w now a TooLarge (others entry_key x.1.key w.store)) (kept-told w now a (of_key entry_key x.1.key w.store)) (λ grown. refl))
     (λ grown. refl)
+
+-- ---- responses
+
+awaited-told : (w : World) (now : ℕ) (source : Endpoint) (m : Message) (o : Option (Numbered Exchange)) → IsTold (λ grown. on_awaited w now grown source m o)
+awaited-told w now source m None = λ grown. refl
+awaited-told w now source m (Some x) = answers-told w now source m x
+
+separate-told : (w : World) (now : ℕ) (source : Endpoint) (m : Message) (o : Option (Numbered Exchange)) → IsTold (λ grown. on_separate w now grown source m o)
+separate-told w now source m None = λ grown. refl
+separate-told w now source m (Some x) =
+    either (has_record_room w now m.kind) (λ grown. remembers now source m (answers w now grown source m x)) (λ grown. drops w now)
+    (remembered-told now source m (λ grown. answers w now grown source m x) (answers-told w now source m x)) (λ grown. refl)
+
+unknown-told : (w : World) (now : ℕ) (source : Endpoint) (m : Message) (o : Option Record) → IsTold (λ grown. on_unknown w now grown source m o)
+unknown-told w now source m None = separate-told w now source m (awaiting w source m)
+unknown-told w now source m (Some known) = λ grown. refl
+
+response-told : (w : World) (now : ℕ) (source : Endpoint) (m : Message) (k : Kind) → IsTold (λ grown. on_response_in k w now grown source m)
+response-told w now source m Con = unknown-told w now source m (known_of w now source m)
+response-told w now source m Non = awaited-told w now source m (awaiting w source m)
+response-told w now source m Ack = awaited-told w now source m (awaiting w source m)
+response-told w now source m Rst = awaited-told w now source m (awaiting w source m)
+
+-- ---- Empty messages
+
+found-told : (w : World) (now : ℕ) (source : Endpoint) (m : Message) (n : ℕ) (o : Option Exchange) → IsTold (λ grown. on_exchange w now grown source m n o)
+found-told w now source m n None = λ grown. refl
+found-told w now source m n (Some x) =
+    either (is_sent x) (λ grown. settles w now grown source m n x) (λ grown. ignores w now)
+    (either (is_ack m.kind) (λ grown. acknowledges w now n) (λ grown. answers w now grown source m (n, x)) (λ grown. refl) (answers-told w now source m (n, x)))
+    (λ grown. refl)
+
+sent-told : (w : World) (now : ℕ) (source : Endpoint) (m : Message) (o : Option ℕ) → IsTold (λ grown. on_sent w now grown source m o)
+sent-told w now source m None = λ grown. refl
+sent-told w now source m (Some n) = found-told w now source m n (item_at n w.exchanges)
+
+-- ---- steps
 
 -- a datagram that was read tells it
 read-told : (w : World) (now : ℕ) (source : Endpoint) (h : Option Head) (o : Option Message) → IsTold (λ grown. on_read w now grown source h o)
@@ -53,7 +108,8 @@ read-told w now source None o = λ grown. refl
 read-told w now source (Some head) None = λ grown. refl
 read-told w now source (Some head) (Some m) =
     either (brings_requests m.kind && is_request m.code) (λ grown. on_request w now source m) (λ grown. on_no_request w now grown source m) (λ grown. refl)
-    (either (is_ack m.kind && is_response m.code) (λ grown. on_response w now grown source m) (λ grown. unprocessed w now source m.kind m.id) (awaited-told w now m (awaiting w source m)) (λ grown. refl))
+    (either (brings_responses m.kind && is_response m.code) (λ grown. on_response w now grown source m) (λ grown. on_no_response w now grown source m) (response-told w now source m m.kind)
+    (either (is_bare m) (λ grown. on_empty w now grown source m) (λ grown. unprocessed w now source m.kind m.id) (sent-told w now source m (first_that (was_sent_as source m.id now) w.exchanges)) (λ grown. refl)))
 
 -- a step is the one of its own report
 pub step-told : (w : World) (now draw : ℕ) (event : Event) (grown : Bool) → step_of w now draw (grown_of (step_of w now draw grown event).report.outcome) event ≡ step_of w now draw grown event

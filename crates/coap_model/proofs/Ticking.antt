@@ -12,7 +12,7 @@ use Rattle.coap_model.specs.Ticks.{moment_of, next_due, item_due, if_due, on_ite
 use Rattle.coap_model.specs.History.{Entry, Deed}
 use Rattle.coap_model.specs.Carries.{Bears, Carries}
 use Rattle.coap_model.proofs.Idling.{not-stuck}
-use Rattle.coap_model.proofs.Rules.{Rule, refusing, lacking, overloading, hitting, opening, repeating, forgetting, answering, rejecting, ignoring, forwarding, resending, giving_up, delivering, idling, stuck, rule_of}
+use Rattle.coap_model.proofs.Rules.{Rule, refusing, lacking, overloading, hitting, opening, repeating, dropping, answering, answering_con, acknowledging, rejecting, ignoring, forwarding, resending, giving_up, delivering, idling, stuck, rule_of}
 
 -- where no tick is wanted, a tick is idle
 pub idle-none : (w : World) (now draw : ℕ) (grown : Bool) → next_due w ≡ None → (step_of w now draw grown tick).report.outcome ≡ Idle
@@ -37,9 +37,11 @@ acts history c (lacking client bytes m first free) ticked due = λ o. cc
 acts history c (overloading client bytes m key first verdict none short full free) ticked due = λ o. cc
 acts history c (hitting client bytes m key entry first verdict found usable free) ticked due = λ o. cc
 acts history c (opening client bytes m key first verdict none short room) ticked due = λ o. cc
-acts history c (repeating client bytes m known fits asked found) ticked due = λ o. absurd cc
-acts history c (forgetting client bytes m fits asked unknown full) ticked due = λ o. cc
-acts history c (answering source bytes m x storing store fits read response found stored) ticked due = λ o. cc
+acts history c (repeating source bytes m known fits recorded found) ticked due = λ o. absurd cc
+acts history c (dropping source bytes m fits recorded wanted unknown full) ticked due = λ o. cc
+acts history c (answering source bytes m x storing store fits read answer con stored) ticked due = λ o. cc
+acts history c (answering_con source bytes m x storing store fits recorded answer con unknown room stored) ticked due = λ o. cc
+acts history c (acknowledging source bytes m x fits read about ack) ticked due = λ o. cc
 acts history c (rejecting source bytes head is con none) ticked due = λ o. cc
 acts history c (ignoring source bytes quiet none) ticked due = λ o. cc
 acts history c (forwarding at number x turn is early) ticked due = λ o. cc

@@ -46,7 +46,7 @@ unfolding form_fits
 form-short most t m fits token eight = omega (arith, form-length token t (sent_on m), eight, leb-true _ _ fits)
 
 -- codes of one number are one
-code-same : (a b : Code) → a.0 ≡ b.0 → a ≡ b
+pub code-same : (a b : Code) → a.0 ≡ b.0 → a ≡ b
 code-same a b e = let same : ◌≡◌ {A = Code} (record { 0 = a.0 }) (record { 0 = b.0 }) = rw e refl in same
 
 -- no refusal for the target has the code 0.00

@@ -34,11 +34,11 @@ pub record IsObtained
   pub asking_is : gets.meets.asking ≡ asking
   pub asked_key : key_sent gets.meets.asks.sends.to gets.meets.asks.sends.message ≡ key
   pub storable :
-      is_storable (answer_of setting.limits.datagram getting.deed.entry.now gets.meets.response)
+      is_storable (answer_of setting.limits.datagram getting.deed.entry.now gets.meets.message)
       ≡ true
   pub response_is :
       response
-      ≡ (answer_of setting.limits.datagram getting.deed.entry.now gets.meets.response).message
+      ≡ (answer_of setting.limits.datagram getting.deed.entry.now gets.meets.message).message
 
 -- The same in other words: a request with this key was sent to an endpoint, which answered it; the
 -- response is what it sent, without Observe; it was passed on, and stays fresh for some time.

@@ -129,6 +129,12 @@ pub record WasAsked
   pub timer : IsTimer s.timer (sends_by (moves x) history)
   pub bytes : AreOfBytes key.target.at form (sends_by (moves x) history)
 
+-- an exchange that was sent was asked
+abbrev pub WasSent :
+    Setting → List Deed → ℕ → CacheKey → List ℕ → Option Sending → Type 0
+WasSent setting history x key form None = Unit {0}
+WasSent setting history x key form (Some s) = WasAsked setting history x key form s
+
 -- ---- exchanges
 
 pub record IsQueued (setting : Setting) (history : List Deed) (x : Numbered Exchange) : Type 0 where
@@ -154,12 +160,14 @@ pub record IsDone
   pub ends : Ends x.0 ending
   pub with : EndsWith setting x.0 x.1.key ending answer
   pub got : answer.got ≡ ending.deed.entry.now
+  -- and it was sent before, unless it never was
+  pub was_sent : WasSent setting history x.0 x.1.key x.1.form x.1.sending
 
--- the state is how far the history brought the exchange; none is acknowledged yet
+-- the state is how far the history brought the exchange
 abbrev pub IsState : Setting → List Deed → Numbered Exchange → ExchangeState → Type 0
 IsState setting history x Queued = IsQueued setting history x
 IsState setting history x Sent = IsInFlight setting history x
-IsState setting history x Acked = ⊥
+IsState setting history x Acked = IsInFlight setting history x
 IsState setting history x (Done a) = IsDone setting history x a
 
 -- the id of the form: none until it is sent

@@ -162,16 +162,17 @@ long_max_age = answered_by 0 (answer 0x68 0x45 1 1 (0xD5 ∷ 1 ∷ 0 ∷ 0 ∷ 0
 abbrev pub replaced_sent : List Sent
 replaced_sent = delivered_once (0x50 ∷ 0xA2 ∷ 0 ∷ 2 ∷ [])
 
--- The response of another endpoint, or with another token or id, is no one's; in a confirmable
--- message it is rejected. The right one is still taken after them.
+-- The response of another endpoint, or with another token, is no one's, and in an acknowledgement
+-- one with another id; in a confirmable message it is rejected. The right one is still taken after
+-- them.
 abbrev pub impostor : List Turn
 impostor =
     from 0 (client 1) (get_t []) ∷ tick_at 0 ∷ from 0 (client 2) content
     ∷ from 0 origin (answer 0x68 0x45 1 2 (0xFF ∷ 0x39 ∷ []))
     ∷ from 0 origin (answer 0x68 0x45 2 1 (0xFF ∷ 0x39 ∷ []))
-    ∷ from 0 origin (answer 0x48 0x45 9 1 (0xFF ∷ 0x39 ∷ []))
-    ∷ from 0 origin (answer 0x58 0x45 9 1 (0xFF ∷ 0x39 ∷ [])) ∷ tick_at 0 ∷ from 0 origin content
-    ∷ tick_at 0 ∷ []
+    ∷ from 0 origin (answer 0x48 0x45 9 2 (0xFF ∷ 0x39 ∷ []))
+    ∷ from 0 (client 2) (answer 0x58 0x45 9 1 (0xFF ∷ 0x39 ∷ [])) ∷ tick_at 0
+    ∷ from 0 origin content ∷ tick_at 0 ∷ []
 
 abbrev pub impostor_sent : List Sent
 impostor_sent =

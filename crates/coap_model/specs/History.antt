@@ -1,7 +1,8 @@
 -- What the traffic alone says: which entry of a history opened, asked, got and admitted what. This
 -- file names no table. A history has its newest entry first.
 use Rattle.std.specs.Prelude.{◌≡◌, ◌⊎◌, ℕ, ◌+◌, ◌%◌, ◌≤◌, List, [], ◌∷◌, length, map, Bool, true, false, if◌then◌else◌, Some}
-use Rattle.coap_message.specs.declared.kind.Kind.TheVariants.{Ack}
+use Rattle.coap_message.specs.declared.kind.Kind.TheVariants.{Ack, Rst}
+use Rattle.coap_message.specs.declared.code.TheConstants.Code.{EMPTY}
 use Rattle.std.specs.Option.{option_map_or}
 use Rattle.coap_message.specs.Reading.{head_at}
 use Rattle.coap_message.specs.Uint.{IsBytes}
@@ -180,22 +181,30 @@ pub record Asks (salt x : ℕ) (p : Place) : Type 0 where
   pub sends : Sends salt x p
   pub first : Never (Sends salt x) p.before
 
--- a response in an acknowledgement, with the token and the id of a request (RFC 7252, 5.3.2)
-pub record Matches (token : List ℕ) (id : ℕ) (response : Message) : Type 0 where
-  pub kind : response.kind ≡ Ack
-  pub code : is_response response.code ≡ true
-  pub same_token : response.token ≡ token
-  pub same_id : response.id ≡ id
+-- A message answers a request with this token and id: a response in its acknowledgement or in a
+-- message of its own, or a Reset of it (RFC 7252, 4.2, 5.2.1, 5.2.2 and 5.3.2).
+pub data Matches (token : List ℕ) (id : ℕ) (m : Message) : Type 0 where
+  in_acknowledgement :
+      m.kind ≡ Ack
+      → is_response m.code ≡ true
+      → m.token ≡ token
+      → m.id ≡ id
+      → Matches token id m
+  separate :
+      brings_requests m.kind ≡ true
+      → is_response m.code ≡ true
+      → m.token ≡ token
+      → Matches token id m
+  by_reset : m.kind ≡ Rst → m.code ≡ EMPTY → m.id ≡ id → Matches token id m
 
--- an event brings a response to the request of this exchange, from the endpoint that was asked
--- before
+-- an event brings an answer to the request of this exchange, from the endpoint that was asked before
 pub record Meets (setting : Setting) (x : ℕ) (past : List Deed) (event : Event) : Type 0 where
   pub asking : Place
   pub was_asked : IsPlaceOf past asking
   pub asks : Asks setting.salt x asking
-  pub response : Message
-  pub brings : Brings setting.limits.datagram asks.sends.to response event
-  pub matches : Matches (token_of setting.salt x) asks.sends.message.id response
+  pub message : Message
+  pub brings : Brings setting.limits.datagram asks.sends.to message event
+  pub matches : Matches (token_of setting.salt x) asks.sends.message.id message
 
 -- an answer is taken, however it is stored
 abbrev pub takes : Outcome → Bool

@@ -1,8 +1,9 @@
 -- What justifies each entry of a history: the entries before it alone. No table is named.
 use Rattle.std.specs.Prelude.{◌≡◌, ◌≢◌, ◌⊎◌, ℕ, ◌+◌, ◌%◌, ◌<◌, ◌≤◌, Bool, true, false, List, [], ◌∷◌, length, Option, Some, None}
-use Rattle.coap_message.specs.declared.kind.Kind.TheVariants.{Con, Non}
+use Rattle.coap_message.specs.declared.kind.Kind.{Kind}
+use Rattle.coap_message.specs.declared.kind.Kind.TheVariants.{Con, Non, Ack, Rst}
 use Rattle.coap_message.specs.declared.code.Code.{Code}
-use Rattle.coap_message.specs.declared.code.TheConstants.Code.{REQUEST_ENTITY_TOO_LARGE}
+use Rattle.coap_message.specs.declared.code.TheConstants.Code.{EMPTY, REQUEST_ENTITY_TOO_LARGE}
 use Rattle.coap_message.specs.declared.message.Head.{Head}
 use Rattle.coap_message.specs.Message.{Message}
 use Rattle.coap_message.specs.Reading.{head_at}
@@ -15,11 +16,12 @@ use Rattle.coap_dedup.specs.Lists.{record_of}
 use Rattle.coap_cache.specs.Lists.{of_key}
 use Rattle.coap_option.specs.Selection.{sent_on, tags_of}
 use Rattle.coap_model.specs.declared.report.Outcome.{Outcome}
-use Rattle.coap_model.specs.declared.report.Outcome.TheVariants.{Ignored, Rejected, Again, NoRecordRoom, Refused, Hit, Opened, Overloaded, NoId, Answered, SentRequest, Resent, GaveUp, Delivered, Idle}
+use Rattle.coap_model.specs.declared.report.Outcome.TheVariants.{Ignored, Rejected, Again, NoRecordRoom, Refused, Hit, Opened, Overloaded, NoId, Answered, Acked, SentRequest, Resent, GaveUp, Delivered, Idle}
 use Rattle.coap_model.specs.declared.report.Storing.TheVariants.{Kept, TooLarge, NoMemory, NotStored}
 use Rattle.coap_model.specs.Setting.{Setting}
 use Rattle.coap_model.specs.Events.{Event, arrival, tick}
-use Rattle.coap_forward.specs.Messages.{reset, own_reply, busy_reply, at_once, token_of}
+use Rattle.coap_message.specs.Codes.{is_response}
+use Rattle.coap_forward.specs.Messages.{is_recorded, acknowledgement, reset, own_reply, busy_reply, at_once, token_of}
 use Rattle.coap_model.specs.Remembered.{most_remembered, remembered_at}
 use Rattle.coap_forward.specs.Forms.{forwarded}
 use Rattle.coap_model.specs.Keys.{key_sent}
@@ -27,21 +29,56 @@ use Rattle.coap_model.specs.Verdicts.{Verdict, refused_with, may_ask, verdict_of
 use Rattle.coap_forward.specs.Answers.{answer_of, own_answer, gateway_timeout, stored_answer, shown}
 use Rattle.coap_cache.specs.declared.answer.Answer.{Answer}
 use Rattle.coap_model.specs.Cached.{IsObtained, Cached, cached_key, cached_size, cached_here, entry_of_cached, IsCacheOf}
-use Rattle.coap_model.specs.Standing.{HasIds, HasRoomToOpen}
+use Rattle.coap_model.specs.Standing.{sent, stage_of, HasIds, HasRoomToOpen}
 use Rattle.coap_model.specs.Schedules.{sends_by, MayGoOn, SaysAsBefore}
 use Rattle.coap_model.specs.Due.{IsToSend, IsToRepeat, IsToEnd, IsToServe, IsDueAt, IsSooner}
-use Rattle.coap_model.specs.History.{Entry, Act, no_item, admits, moves, serves, Deed, Place, IsPlaceOf, Never, takes, gives_id, opened_in, admitted_in, ids_in, last_of, IsRequestOf, Meets, Gets, GivesUp, Ends, Gives}
+use Rattle.coap_model.specs.History.{Entry, Act, no_item, admits, moves, serves, Deed, Place, IsPlaceOf, Never, takes, gives_id, opened_in, admitted_in, ids_in, last_of, Brings, IsRequestOf, Asks, Meets, Gets, GivesUp, Ends, Gives}
+
+-- ---- what goes out
+
+-- the datagram goes to this endpoint and is this message
+pub record Tells (to : Endpoint) (m : Message) (e : Entry) : Type 0 where
+  pub sent : e.report.send ≡ Some to
+  pub spells : Spells e.bytes m
+
+-- no datagram goes out
+pub record IsSilent (e : Entry) : Type 0 where
+  pub sent : e.report.send ≡ None
+  pub bytes : e.bytes ≡ []
+
+-- A message of this type is taken up, and nothing is replied yet: a Confirmable one is acknowledged
+-- (RFC 7252, 4.2 and 5.2.2).
+abbrev pub TakesUp : Kind → Endpoint → ℕ → Entry → Type 0
+TakesUp Con source id e = Tells source (acknowledgement id) e
+TakesUp _ source id e = IsSilent e
+
+-- ---- messages that are remembered
+
+-- a message of a kind that is remembered comes from this endpoint: a request, or a response in a
+-- Confirmable message
+pub record Comes (setting : Setting) (source : Endpoint) (m : Message) (event : Event)
+    : Type 0 where
+  pub brings : Brings setting.limits.datagram source m event
+  pub recorded : is_recorded m ≡ true
+
+-- what is known of a message
+abbrev pub known_of : List Deed → ℕ → Endpoint → Message → Option Record
+known_of past now source m = record_of source m.id (remembered_at m.kind now past)
+
+-- one more of its type may be remembered
+abbrev pub HasRecordRoom : Setting → List Deed → ℕ → Message → Type 0
+HasRecordRoom setting past now m =
+    length (remembered_at m.kind now past) < most_remembered m.kind setting.limits
+
+-- A message is new: none of this endpoint with its id, of its type, is remembered, and there is
+-- room to remember it.
+pub record IsNew
+    (setting : Setting) (past : List Deed) (now : ℕ) (source : Endpoint) (m : Message)
+    : Type 0 where
+  pub unknown : known_of past now source m ≡ None
+  pub room : HasRecordRoom setting past now m
 
 -- ---- requests
-
--- A request is new: no request of this client with its id, in a message of its type, is remembered,
--- and there is room to remember it.
-pub record IsNew
-    (setting : Setting) (past : List Deed) (now : ℕ) (client : Endpoint) (request : Message)
-    : Type 0 where
-  pub unknown : record_of client request.id (remembered_at request.kind now past) ≡ None
-  pub room :
-      length (remembered_at request.kind now past) < most_remembered request.kind setting.limits
 
 -- there is an id for a reply that goes out at once, where it needs one
 abbrev pub HasIdFor : Message → ℕ → List Deed → Type 0
@@ -54,16 +91,6 @@ verdict_on setting request = verdict_of setting.routes request
 -- what would be sent on for a key fits a datagram
 abbrev pub fits_on : Setting → CacheKey → Message → Bool
 fits_on setting key request = form_fits setting.limits.datagram key.target request
-
--- the datagram goes to this endpoint and is this message
-pub record Tells (to : Endpoint) (m : Message) (e : Entry) : Type 0 where
-  pub sent : e.report.send ≡ Some to
-  pub spells : Spells e.bytes m
-
--- no datagram goes out
-pub record IsSilent (e : Entry) : Type 0 where
-  pub sent : e.report.send ≡ None
-  pub bytes : e.bytes ≡ []
 
 -- an entry of the cache is fresh (RFC 7252, 5.6.1)
 abbrev pub is_fresh_at : ℕ → Cached → Bool
@@ -156,34 +183,6 @@ pub record IsLack (setting : Setting) (past : List Deed) (d : Deed) : Type 0 whe
   pub no_ids : ¬ HasIds 1 d.entry.now past
   pub silent : IsSilent d.entry
 
--- what a duplicate is told: the datagram that is remembered, or nothing
-abbrev pub SaysAgain : Endpoint → Option (List ℕ) → Entry → Type 0
-SaysAgain client None e = IsSilent e
-SaysAgain client (Some reply) e = (e.report.send ≡ Some client) × (e.bytes ≡ reply)
-
--- a duplicate: a request of this client with its id, in a message of its type, is remembered
-pub record IsRepetition (setting : Setting) (past : List Deed) (d : Deed) : Type 0 where
-  pub act : d.act ≡ no_item
-  pub client : Endpoint
-  pub request : Message
-  pub known : Record
-  pub asked : IsRequestOf setting client request d.entry.event
-  pub found :
-      record_of client request.id (remembered_at request.kind d.entry.now past) ≡ Some known
-  pub says_again : SaysAgain client known.reply d.entry
-
--- silence: as many requests are remembered as may be, and this is none of them
-pub record IsForgotten (setting : Setting) (past : List Deed) (d : Deed) : Type 0 where
-  pub act : d.act ≡ no_item
-  pub client : Endpoint
-  pub request : Message
-  pub asked : IsRequestOf setting client request d.entry.event
-  pub unknown : record_of client request.id (remembered_at request.kind d.entry.now past) ≡ None
-  pub full :
-      most_remembered request.kind setting.limits
-      ≤ length (remembered_at request.kind d.entry.now past)
-  pub silent : IsSilent d.entry
-
 -- an exchange is opened: the request may be asked for, what would be sent on fits, and there is
 -- room
 pub record IsOpening (setting : Setting) (past : List Deed) (d : Deed) : Type 0 where
@@ -199,6 +198,80 @@ pub record IsOpening (setting : Setting) (past : List Deed) (d : Deed) : Type 0 
   pub new : IsNew setting past d.entry.now client request
   pub room : HasRoomToOpen setting.limits d.entry.now past
   pub silent : IsSilent d.entry
+
+-- ---- duplicates
+
+-- what a duplicate is told: the datagram that is remembered, or nothing
+abbrev pub SaysAgain : Endpoint → Option (List ℕ) → Entry → Type 0
+SaysAgain source None e = IsSilent e
+SaysAgain source (Some reply) e = (e.report.send ≡ Some source) × (e.bytes ≡ reply)
+
+-- a duplicate: a message of this endpoint with its id, of its type, is remembered
+pub record IsRepetition (setting : Setting) (past : List Deed) (d : Deed) : Type 0 where
+  pub act : d.act ≡ no_item
+  pub source : Endpoint
+  pub message : Message
+  pub known : Record
+  pub comes : Comes setting source message d.entry.event
+  pub found : known_of past d.entry.now source message ≡ Some known
+  pub says_again : SaysAgain source known.reply d.entry
+
+-- ---- what is awaited
+
+-- The request of an exchange, asked at this place, was neither acknowledged nor answered, and was
+-- first sent less than 247 seconds ago: so an acknowledgement or a Reset with its id is one of it
+-- (RFC 7252, 4.2 and 4.4).
+pub record IsUnsettled (past : List Deed) (now exchange : ℕ) (asking : Place) : Type 0 where
+  pub to : Endpoint
+  pub stage : stage_of exchange past ≡ Some (sent to)
+  pub soon : now < asking.deed.entry.now + 247000
+
+-- An exchange awaits the answer that an event brings: it was asked, and neither got nor given up.
+pub record IsAwaited
+    (setting : Setting) (past : List Deed) (now exchange : ℕ) (event : Event) : Type 0 where
+  pub meets : Meets setting exchange past event
+  pub unended : Never (Ends exchange) past
+  pub unsettled : meets.message.kind ≡ Rst → IsUnsettled past now exchange meets.asking
+
+-- an event brings an acknowledgement, and no more, of the request of an exchange, which neither was
+-- acknowledged before nor answered
+pub record Acknowledges
+    (setting : Setting) (past : List Deed) (now exchange : ℕ) (event : Event) : Type 0 where
+  pub asking : Place
+  pub was_asked : IsPlaceOf past asking
+  pub asks : Asks setting.salt exchange asking
+  pub unsettled : IsUnsettled past now exchange asking
+  pub message : Message
+  pub brings : Brings setting.limits.datagram asks.sends.to message event
+  pub kind : message.kind ≡ Ack
+  pub empty : message.code ≡ EMPTY
+  pub id_is : message.id ≡ asks.sends.message.id
+
+-- A request was acknowledged: its answer is to come separately (RFC 7252, 5.2.2). The
+-- acknowledgement is of this request alone.
+pub record IsSettled (setting : Setting) (past : List Deed) (d : Deed) : Type 0 where
+  pub exchange : ℕ
+  pub act : d.act ≡ moves exchange
+  pub acknowledges : Acknowledges setting past d.entry.now exchange d.entry.event
+  pub only :
+      (other : ℕ) → Acknowledges setting past d.entry.now other d.entry.event → other ≡ exchange
+  pub silent : IsSilent d.entry
+
+-- silence: as many messages are remembered as may be, and this is none of them; it is a request, or
+-- an answer in a Confirmable message that an exchange awaits
+pub record IsDropped (setting : Setting) (past : List Deed) (d : Deed) : Type 0 where
+  pub act : d.act ≡ no_item
+  pub source : Endpoint
+  pub message : Message
+  pub comes : Comes setting source message d.entry.event
+  pub wanted :
+      is_response message.code ≡ true
+      → (exchange : ℕ) × IsAwaited setting past d.entry.now exchange d.entry.event
+  pub unknown : known_of past d.entry.now source message ≡ None
+  pub full : ¬ HasRecordRoom setting past d.entry.now message
+  pub silent : IsSilent d.entry
+
+-- ---- ticks
 
 -- what a tick did was due, and nothing was due before it
 pub record IsActing (setting : Setting) (past : List Deed) (d : Deed) : Type 0 where
@@ -261,12 +334,25 @@ pub data IsGivingUp (setting : Setting) (past : List Deed) (d : Deed) : Type 0 w
       → IsSilent d.entry
       → IsGivingUp setting past d
 
--- an answer is got for an exchange that had none
+-- An answer is got for an exchange that had none; one in a Confirmable message is new, and
+-- acknowledged; a Reset is of this request alone.
 pub record IsAnswer (setting : Setting) (past : List Deed) (d : Deed) : Type 0 where
   pub exchange : ℕ
   pub gets : Gets setting exchange (record { before = past; deed = d })
   pub first : Never (Ends exchange) past
-  pub silent : IsSilent d.entry
+  pub unsettled :
+      gets.meets.message.kind ≡ Rst
+      → IsUnsettled past d.entry.now exchange gets.meets.asking
+  pub only :
+      gets.meets.message.kind ≡ Rst
+      → (other : ℕ)
+      → IsAwaited setting past d.entry.now other d.entry.event
+      → other ≡ exchange
+  pub new :
+      gets.meets.message.kind ≡ Con
+      → IsNew setting past d.entry.now gets.meets.asks.sends.to gets.meets.message
+  pub takes_up :
+      TakesUp gets.meets.message.kind gets.meets.asks.sends.to gets.meets.message.id d.entry
 
 -- ---- what is stored
 
@@ -317,7 +403,7 @@ pub data EndsWith (setting : Setting) (x : ℕ) (key : CacheKey) (p : Place) (an
   got :
       (gets : Gets setting x p)
       → key_sent gets.meets.asks.sends.to gets.meets.asks.sends.message ≡ key
-      → answer ≡ answer_of setting.limits.datagram p.deed.entry.now gets.meets.response
+      → answer ≡ answer_of setting.limits.datagram p.deed.entry.now gets.meets.message
       → EndsWith setting x key p answer
   given_up :
       GivesUp x p
@@ -345,18 +431,17 @@ pub record IsDelivery (setting : Setting) (past : List Deed) (d : Deed) : Type 0
 
 -- ---- what isn't processed
 
--- An exchange awaits the response that an event brings: it was asked, and neither got nor given up.
-pub record IsAwaited
-    (setting : Setting) (past : List Deed) (exchange : ℕ) (event : Event) : Type 0 where
-  pub meets : Meets setting exchange past event
-  pub unended : Never (Ends exchange) past
-
--- What came can't be processed: it is neither a request that would be nor a response that an
--- exchange awaits.
-pub record IsUnprocessable (setting : Setting) (past : List Deed) (event : Event) : Type 0 where
+-- What came can't be processed: it is no request that would be, no duplicate of what is remembered,
+-- no answer that an exchange awaits, and no acknowledgement of a request that waits for one.
+pub record IsUnprocessable (setting : Setting) (past : List Deed) (e : Entry) : Type 0 where
   pub no_request :
-      (client : Endpoint) (request : Message) → ¬ IsRequestOf setting client request event
-  pub no_answer : (exchange : ℕ) → ¬ IsAwaited setting past exchange event
+      (client : Endpoint) (request : Message) → ¬ IsRequestOf setting client request e.event
+  pub no_duplicate :
+      (source : Endpoint) (m : Message)
+      → Comes setting source m e.event
+      → known_of past e.now source m ≡ None
+  pub no_answer : (exchange : ℕ) → ¬ IsAwaited setting past e.now exchange e.event
+  pub no_settling : (exchange : ℕ) → ¬ Acknowledges setting past e.now exchange e.event
 
 -- a Reset of a confirmable datagram that can't be processed, with its id
 pub record IsRejection (setting : Setting) (past : List Deed) (d : Deed) : Type 0 where
@@ -367,7 +452,7 @@ pub record IsRejection (setting : Setting) (past : List Deed) (d : Deed) : Type 
   pub came : d.entry.event ≡ arrival source bytes
   pub head_is : head_at bytes ≡ Some head
   pub con : head.kind ≡ Con
-  pub unprocessable : IsUnprocessable setting past d.entry.event
+  pub unprocessable : IsUnprocessable setting past d.entry
   pub tells : Tells source (reset head.id) d.entry
 
 -- What is ignored came, isn't confirmable, and can't be processed.
@@ -377,7 +462,7 @@ pub record IsIgnored (setting : Setting) (past : List Deed) (d : Deed) : Type 0 
   pub bytes : List ℕ
   pub came : d.entry.event ≡ arrival source bytes
   pub no_con : (head : Head) → head_at bytes ≡ Some head → head.kind ≢ Con
-  pub unprocessable : IsUnprocessable setting past d.entry.event
+  pub unprocessable : IsUnprocessable setting past d.entry
   pub silent : IsSilent d.entry
 
 -- nothing was due
@@ -394,7 +479,7 @@ abbrev pub JustifiedBy : Outcome → Setting → List Deed → Deed → Type 0
 JustifiedBy Ignored setting past d = IsIgnored setting past d
 JustifiedBy Rejected setting past d = IsRejection setting past d
 JustifiedBy Again setting past d = IsRepetition setting past d
-JustifiedBy NoRecordRoom setting past d = IsForgotten setting past d
+JustifiedBy NoRecordRoom setting past d = IsDropped setting past d
 JustifiedBy (Refused code) setting past d = IsRefusal setting past d code
 JustifiedBy Hit setting past d = IsHit setting past d
 JustifiedBy Opened setting past d = IsOpening setting past d
@@ -404,6 +489,7 @@ JustifiedBy (Answered Kept) setting past d = IsKept setting past d
 JustifiedBy (Answered TooLarge) setting past d = IsTooLarge setting past d
 JustifiedBy (Answered NoMemory) setting past d = IsWithoutMemory setting past d
 JustifiedBy (Answered NotStored) setting past d = IsNotStored setting past d
+JustifiedBy Acked setting past d = IsSettled setting past d
 JustifiedBy SentRequest setting past d = IsForwarding setting past d
 JustifiedBy Resent setting past d = IsResending setting past d
 JustifiedBy GaveUp setting past d = IsGivingUp setting past d
@@ -423,23 +509,28 @@ AllJustified setting (d ∷ past) =
 abbrev pub IsKeptIfGrown : Outcome → Type 0
 IsKeptIfGrown outcome = (outcome ≡ Answered Kept) ⊎ (outcome ≡ Answered NoMemory)
 
--- What is owed to duplicates and by the cache. What is known of a request is told again, and where
--- there is no room to remember it, there is silence. A request that is new and may be asked for,
+-- What is owed to duplicates and by the cache. What is known of a message is told again, and where
+-- there is no room to remember a request or an answer, there is silence. A request that is new and may be asked for,
 -- whose key has a fresh entry in the cache of what was done before, is answered from it, where it
 -- can be replied to. An answer that was obtained is kept, memory aside, where it counts no more
 -- than may be kept, and is too large where it counts more; any other answer isn't stored.
 pub record IsOwed (setting : Setting) (past : List Deed) (d : Deed) : Type 0 where
   pub again :
-      (client : Endpoint) (request : Message) (known : Record)
-      → IsRequestOf setting client request d.entry.event
-      → record_of client request.id (remembered_at request.kind d.entry.now past) ≡ Some known
+      (source : Endpoint) (m : Message) (known : Record)
+      → Comes setting source m d.entry.event
+      → known_of past d.entry.now source m ≡ Some known
       → d.entry.report.outcome ≡ Again
   pub no_room :
       (client : Endpoint) (request : Message)
       → IsRequestOf setting client request d.entry.event
-      → record_of client request.id (remembered_at request.kind d.entry.now past) ≡ None
-      → most_remembered request.kind setting.limits
-      ≤ length (remembered_at request.kind d.entry.now past)
+      → known_of past d.entry.now client request ≡ None
+      → ¬ HasRecordRoom setting past d.entry.now request
+      → d.entry.report.outcome ≡ NoRecordRoom
+  pub no_answer_room :
+      (exchange : ℕ) (awaited : IsAwaited setting past d.entry.now exchange d.entry.event)
+      → awaited.meets.message.kind ≡ Con
+      → known_of past d.entry.now awaited.meets.asks.sends.to awaited.meets.message ≡ None
+      → ¬ HasRecordRoom setting past d.entry.now awaited.meets.message
       → d.entry.report.outcome ≡ NoRecordRoom
   pub hit :
       (client : Endpoint) (request : Message) (key : CacheKey) (cached : List Cached)

@@ -6,7 +6,9 @@ pub mod Remembered
 pub mod Duplicates
 pub mod World
 pub mod Requests
+pub mod Answers
 pub mod Responses
+pub mod Empties
 pub mod Ticks
 pub mod Step
 pub mod History
@@ -28,6 +30,7 @@ pub mod ReplyExamples
 pub mod DuplicateExamples
 pub mod OptionExamples
 pub mod ReliableExamples
+pub mod ResponseExamples
 pub mod Forged
 pub mod CacheExamples
 pub mod HitExamples

@@ -13,8 +13,6 @@ use Rattle.coap_cache.specs.Entries.{Entry, entry_key}
 use Rattle.coap_cache.specs.Freshness.{is_usable}
 use Rattle.coap_cache.specs.Lists.{of_key, used}
 use Rattle.coap_dedup.specs.declared.record.Record.{Record}
-use Rattle.coap_dedup.specs.Lists.{record_of}
-use Rattle.coap_dedup.specs.Records.{living_at, with_kept}
 use Rattle.coap_forward.specs.Answers.{shown, stored_answer}
 use Rattle.coap_exchange.specs.declared.exchange.ExchangeState.TheVariants.{Queued}
 use Rattle.coap_exchange.specs.declared.exchange.Exchange.{Exchange}
@@ -22,11 +20,11 @@ use Rattle.coap_exchange.specs.declared.waiter.Waiter.{Waiter}
 use Rattle.coap_exchange.specs.declared.waiter.WaiterState.TheVariants.{Waiting}
 use Rattle.coap_exchange.specs.Ids.{called}
 use Rattle.coap_exchange.specs.Table.{Numbered}
-use Rattle.coap_model.specs.declared.report.Outcome.TheVariants.{Again, NoRecordRoom, Refused, Hit, Overloaded, NoId, Opened}
-use Rattle.coap_forward.specs.Messages.{is_con, is_non, own_reply, busy_reply, at_once, told_again, token_of}
+use Rattle.coap_model.specs.declared.report.Outcome.TheVariants.{Refused, Hit, Overloaded, NoId, Opened}
+use Rattle.coap_forward.specs.Messages.{is_con, is_non, own_reply, busy_reply, at_once, token_of}
 use Rattle.coap_forward.specs.Forms.{forwarded}
 use Rattle.coap_model.specs.Verdicts.{Verdict, refused_with, may_ask, verdict_of, form_fits}
-use Rattle.coap_model.specs.World.{World, Step, later, silent, says, records_of, has_record_room, next_id, can_reply, has_room}
+use Rattle.coap_model.specs.World.{World, Step, later, silent, says, known_of, has_record_room, remembers, repeats, drops, next_id, can_reply, has_room}
 
 -- the clock, one event on, in which a request was replied to at once
 abbrev pub replied : World → ℕ → Message → World
@@ -139,56 +137,16 @@ abbrev pub on_verdict : World → ℕ → Endpoint → Message → Verdict → S
 on_verdict w now client m (refused_with code) = turns_down w now client m code
 on_verdict w now client m (may_ask key) = on_key w now client m key
 
--- ---- duplicates
-
--- what is remembered of a request, where this goes out at once
-abbrev pub record_made : ℕ → Endpoint → Message → List ℕ → Record
-record_made now client m bytes =
-    record { from = client; id = m.id; at = now; reply = told_again m.kind bytes }
-
--- the request is remembered, where this goes out at once
-abbrev pub with_record : ℕ → Endpoint → Message → List ℕ → World → World
-with_record now client m bytes w = record w {
-  con_records = if is_con m.kind
-      then with_kept (record_made now client m bytes) w.con_records
-      else w.con_records;
-  non_records = if is_con m.kind
-      then w.non_records
-      else with_kept (record_made now client m bytes) w.non_records;
-}
-
--- and so with what a step sends
-abbrev pub remembers : ℕ → Endpoint → Message → Step → Step
-remembers now client m s = record s { world = with_record now client m s.bytes s.world }
-
 -- a request that is new
 abbrev pub on_new : World → ℕ → Endpoint → Message → Step
 on_new w now client m = on_verdict w now client m (verdict_of w.setting.routes m)
-
--- a duplicate gets what its request got, and nothing else is done
-abbrev pub repeats : World → ℕ → Endpoint → Option (List ℕ) → Step
-repeats w now client None = silent Again (later w now)
-repeats w now client (Some bytes) =
-    record {
-      report = record { send = Some client; outcome = Again };
-      bytes = bytes;
-      world = later w now;
-    }
-
--- there is no room to remember the request: silence
-abbrev pub forgets : World → ℕ → Step
-forgets w now = silent NoRecordRoom (later w now)
 
 abbrev pub on_known : World → ℕ → Endpoint → Message → Option Record → Step
 on_known w now client m None =
     if has_record_room w now m.kind
     then remembers now client m (on_new w now client m)
-    else forgets w now
+    else drops w now
 on_known w now client m (Some known) = repeats w now client known.reply
-
--- what is known of a request
-abbrev pub known_of : World → ℕ → Endpoint → Message → Option Record
-known_of w now client m = record_of client m.id (living_at now (records_of m.kind w))
 
 abbrev pub on_request : World → ℕ → Endpoint → Message → Step
 on_request w now client m = on_known w now client m (known_of w now client m)

@@ -6,7 +6,7 @@ use Rattle.coap_target.specs.declared.endpoint.Endpoint.{Endpoint}
 use Rattle.coap_target.specs.Endpoint.{same_endpoint}
 use Rattle.coap_limits.specs.Limits.{Limits}
 use Rattle.coap_model.specs.declared.report.Outcome.{Outcome}
-use Rattle.coap_model.specs.declared.report.Outcome.TheVariants.{Opened, Answered, SentRequest, GaveUp, Delivered}
+use Rattle.coap_model.specs.declared.report.Outcome.TheVariants.{Opened, Answered, Acked, SentRequest, GaveUp, Delivered}
 use Rattle.coap_model.specs.History.{Act, admits, moves, serves, Deed, gives_id}
 
 -- ---- clients
@@ -84,6 +84,7 @@ abbrev pub open_by : Outcome → Act → Option Endpoint → List Standing → L
 open_by Opened (admits v x) send standing xs =
     xs ++ record { number = x; stage = queued } ∷ []
 open_by SentRequest (moves x) send standing xs = sent_where x send xs
+open_by Acked (moves x) send standing xs = staged x acked xs
 open_by (Answered storing) (moves x) send standing xs = staged x done xs
 open_by GaveUp (moves x) send standing xs = staged x done xs
 open_by Delivered (serves v) send standing xs = awaited standing xs

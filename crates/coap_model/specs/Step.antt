@@ -1,35 +1,32 @@
 -- One step: a datagram or a tick at a moment.
 use Rattle.std.specs.Prelude.{ℕ, ◌&&◌, Bool, nat_le, if◌then◌else◌, List, length, Option, Some, None}
 use Rattle.std.specs.Result.{result_ok}
-use Rattle.coap_message.specs.declared.kind.Kind.{Kind}
 use Rattle.coap_message.specs.declared.message.Head.{Head}
 use Rattle.coap_message.specs.Message.{Message}
 use Rattle.coap_message.specs.Reading.{read_message, head_at}
 use Rattle.coap_target.specs.declared.endpoint.Endpoint.{Endpoint}
-use Rattle.coap_model.specs.declared.report.Outcome.TheVariants.{Rejected}
 use Rattle.coap_model.specs.Events.{Event, arrival, tick}
 use Rattle.coap_message.specs.Codes.{is_request, is_response}
-use Rattle.coap_forward.specs.Messages.{is_con, brings_requests, is_ack, reset}
-use Rattle.coap_model.specs.World.{World, Step, later, says, ignores}
+use Rattle.coap_forward.specs.Messages.{brings_requests, brings_responses, is_bare}
+use Rattle.coap_model.specs.World.{World, Step, ignores, unprocessed}
 use Rattle.coap_model.specs.Requests.{on_request}
 use Rattle.coap_model.specs.Responses.{on_response}
+use Rattle.coap_model.specs.Empties.{on_empty}
 use Rattle.coap_model.specs.Ticks.{on_tick}
 
--- a Reset with the id of what can't be processed (RFC 7252, 4.2)
-abbrev pub rejects : World → ℕ → Endpoint → ℕ → Step
-rejects w now source id = says Rejected source (reset id) (later w now)
-
--- what can't be processed is rejected where it is confirmable, and ignored otherwise
-abbrev pub unprocessed : World → ℕ → Endpoint → Kind → ℕ → Step
-unprocessed w now source kind id = if is_con kind then rejects w now source id else ignores w now
+abbrev pub on_no_response : World → ℕ → Bool → Endpoint → Message → Step
+on_no_response w now grown source m =
+    if is_bare m
+    then on_empty w now grown source m
+    else unprocessed w now source m.kind m.id
 
 abbrev pub on_no_request : World → ℕ → Bool → Endpoint → Message → Step
 on_no_request w now grown source m =
-    if is_ack m.kind && is_response m.code
+    if brings_responses m.kind && is_response m.code
     then on_response w now grown source m
-    else unprocessed w now source m.kind m.id
+    else on_no_response w now grown source m
 
--- Requests, and responses in acknowledgements, are what is processed so far.
+-- a request, a response, or an Empty message; what is none of these isn't processed
 abbrev pub on_message : World → ℕ → Bool → Endpoint → Message → Step
 on_message w now grown source m =
     if brings_requests m.kind && is_request m.code

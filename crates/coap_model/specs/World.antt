@@ -1,11 +1,13 @@
 -- The tables of a proxy as one value, and what a step makes of them.
-use Rattle.std.specs.Prelude.{ℕ, ◌+◌, ◌%◌, ◌&&◌, ◌||◌, Bool, nat_le, nat_lt, if◌then◌else◌, List, [], length, Some, None}
+use Rattle.std.specs.Prelude.{ℕ, ◌+◌, ◌%◌, ◌&&◌, ◌||◌, Bool, nat_le, nat_lt, if◌then◌else◌, List, [], length, Option, Some, None}
 use Rattle.coap_message.specs.Message.{Message}
 use Rattle.coap_message.specs.Spelling.{spelling}
 use Rattle.coap_message.specs.declared.kind.Kind.{Kind}
 use Rattle.coap_target.specs.declared.endpoint.Endpoint.{Endpoint}
 use Rattle.coap_dedup.specs.declared.record.TheConstants.{EXCHANGE_LIFETIME, NON_LIFETIME}
-use Rattle.coap_dedup.specs.Records.{Records, living_at, no_records}
+use Rattle.coap_dedup.specs.declared.record.Record.{Record}
+use Rattle.coap_dedup.specs.Lists.{record_of}
+use Rattle.coap_dedup.specs.Records.{Records, living_at, no_records, with_kept}
 use Rattle.coap_cache.specs.Entries.{Entry, entry_size}
 use Rattle.coap_cache.specs.Lists.{total}
 use Rattle.coap_exchange.specs.declared.exchange.Exchange.{Exchange}
@@ -16,11 +18,11 @@ use Rattle.coap_exchange.specs.Waiters.{is_waiting}
 use Rattle.coap_exchange.specs.Ids.{new_ids, given_in}
 use Rattle.coap_exchange.specs.Table.{Numbered, count}
 use Rattle.coap_model.specs.declared.report.Outcome.{Outcome}
-use Rattle.coap_model.specs.declared.report.Outcome.TheVariants.{Ignored}
+use Rattle.coap_model.specs.declared.report.Outcome.TheVariants.{Ignored, Rejected, Again, NoRecordRoom}
 use Rattle.coap_model.specs.declared.report.Report.{Report}
 use Rattle.coap_model.specs.declared.report.Counts.{Counts}
 use Rattle.coap_model.specs.Setting.{Setting}
-use Rattle.coap_forward.specs.Messages.{is_con}
+use Rattle.coap_forward.specs.Messages.{is_con, reset, acknowledgement, told_again}
 
 pub record World : Type 0 where
   pub setting : Setting
@@ -29,7 +31,7 @@ pub record World : Type 0 where
   pub waiters : List (Numbered Waiter)
   -- the responses that are stored, the most recently used first
   pub store : List Entry
-  -- what is remembered of the Confirmable and of the Non-confirmable requests that came
+  -- what is remembered of the Confirmable and of the Non-confirmable messages that came
   pub con_records : Records
   pub non_records : Records
   -- how many of each there ever were
@@ -80,9 +82,25 @@ says outcome to m w =
 abbrev pub ignores : World → ℕ → Step
 ignores w now = silent Ignored (later w now)
 
--- ---- requests that came before
+-- a Reset with the id of what can't be processed (RFC 7252, 4.2)
+abbrev pub rejects : World → ℕ → Endpoint → ℕ → Step
+rejects w now source id = says Rejected source (reset id) (later w now)
 
--- what is remembered of the requests that came in messages of this type
+-- what can't be processed is rejected where it is confirmable, and ignored otherwise
+abbrev pub unprocessed : World → ℕ → Endpoint → Kind → ℕ → Step
+unprocessed w now source kind id = if is_con kind then rejects w now source id else ignores w now
+
+-- a message is taken up, and nothing is replied yet: a Confirmable one is acknowledged (RFC 7252,
+-- 4.2 and 5.2.2)
+abbrev pub takes_up : Outcome → Endpoint → Message → World → Step
+takes_up outcome source m w =
+    if is_con m.kind
+    then says outcome source (acknowledgement m.id) w
+    else silent outcome w
+
+-- ---- messages that came before
+
+-- what is remembered of the messages of this type that came
 abbrev pub records_of : Kind → World → Records
 records_of kind w = if is_con kind then w.con_records else w.non_records
 
@@ -90,6 +108,44 @@ records_of kind w = if is_con kind then w.con_records else w.non_records
 abbrev pub has_record_room : World → ℕ → Kind → Bool
 has_record_room w now kind =
     nat_lt (length (living_at now (records_of kind w))) (records_of kind w).limit
+
+-- what is known of a message
+abbrev pub known_of : World → ℕ → Endpoint → Message → Option Record
+known_of w now source m = record_of source m.id (living_at now (records_of m.kind w))
+
+-- what is remembered of a message, where this goes out at once
+abbrev pub record_made : ℕ → Endpoint → Message → List ℕ → Record
+record_made now source m bytes =
+    record { from = source; id = m.id; at = now; reply = told_again m.kind bytes }
+
+-- the message is remembered, where this goes out at once
+abbrev pub with_record : ℕ → Endpoint → Message → List ℕ → World → World
+with_record now source m bytes w = record w {
+  con_records = if is_con m.kind
+      then with_kept (record_made now source m bytes) w.con_records
+      else w.con_records;
+  non_records = if is_con m.kind
+      then w.non_records
+      else with_kept (record_made now source m bytes) w.non_records;
+}
+
+-- and so with what a step sends
+abbrev pub remembers : ℕ → Endpoint → Message → Step → Step
+remembers now source m s = record s { world = with_record now source m s.bytes s.world }
+
+-- a duplicate gets what went out at once before, and nothing else is done
+abbrev pub repeats : World → ℕ → Endpoint → Option (List ℕ) → Step
+repeats w now source None = silent Again (later w now)
+repeats w now source (Some bytes) =
+    record {
+      report = record { send = Some source; outcome = Again };
+      bytes = bytes;
+      world = later w now;
+    }
+
+-- there is no room to remember the message: silence
+abbrev pub drops : World → ℕ → Step
+drops w now = silent NoRecordRoom (later w now)
 
 -- ---- message ids
 

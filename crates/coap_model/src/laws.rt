@@ -4,13 +4,13 @@ ghost use Rattle.coap_message.specs.declared.kind.Kind.TheVariants.{Non, Ack, Co
 ghost use Rattle.coap_message.specs.Spelling.{spelling, with_id, Spells};
 ghost use Rattle.coap_limits.specs.Limits.{default_limits, AreLimits};
 ghost use Rattle.coap_model.specs.Setting.{setting_of, Setting};
-ghost use Rattle.coap_model.specs.declared.report.Outcome.TheVariants.{Again, NoRecordRoom, Opened, Idle, Refused, Overloaded, NoId, Answered, Rejected, Hit};
+ghost use Rattle.coap_model.specs.declared.report.Outcome.TheVariants.{Again, NoRecordRoom, Opened, Idle, Refused, Overloaded, NoId, Answered, Acked, Rejected, Hit};
 ghost use Rattle.coap_model.specs.declared.report.Storing.TheVariants.{Kept, TooLarge, NoMemory, NotStored};
 ghost use Rattle.coap_option.specs.Selection.{sent_on, max_age_of};
 ghost use Rattle.coap_forward.specs.Forms.{forwarded, goes_on};
 ghost use Rattle.coap_model.specs.Keys.{request_key, key_sent};
 ghost use Rattle.coap_model.specs.Verdicts.{refusal_of, may_ask};
-ghost use Rattle.coap_forward.specs.Answers.{bad_gateway, greatest_max_age, left_of};
+ghost use Rattle.coap_forward.specs.Answers.{answer_of, bad_gateway, greatest_max_age, left_of};
 ghost use Rattle.coap_model.specs.Events.{tick, arrival, Event, IsEvent};
 ghost use Rattle.coap_model.specs.World.{counts, World, new_world};
 ghost use Rattle.coap_message.specs.declared.code.TheConstants.Code.{BAD_REQUEST, NOT_FOUND};
@@ -19,8 +19,8 @@ ghost use Rattle.coap_routes.specs.declared.error.TargetError.TheVariants.{OutOf
 ghost use Rattle.coap_model.specs.Memory.{takes_memory};
 ghost use Rattle.coap_model.specs.Ticks.{next_due};
 ghost use Rattle.coap_model.specs.History.{comes_con, moves, Act, no_item, serves, takes, opened_in, Deed, Place, IsPlaceOf, Somewhere, Sends, Ends, Serves, last_of, IsInOrder, IsRequestOf, Entry, grown_of, gives_id, ids_in, Gives};
-ghost use Rattle.coap_forward.specs.Messages.{eight_zeros, own_reply, reply_kind, told_again, brings_requests};
-ghost use Rattle.coap_model.specs.Justified.{HaveOneMemory, IsNew, IsUnprocessable, verdict_on, fits_on, IsMiss, IsAwaited, IsActing, IsForwarding, IsDelivery, JustifiedBy, AllJustified, IsOwed, MayFollow, AreOfOneTurn, is_fresh_at, HasIdFor, IsObtainedHere, size_here};
+ghost use Rattle.coap_forward.specs.Messages.{eight_zeros, own_reply, reply_kind, told_again, brings_requests, is_bare, is_recorded, acknowledgement, reset};
+ghost use Rattle.coap_model.specs.Justified.{HaveOneMemory, Comes, known_of, HasRecordRoom, Acknowledges, IsNew, IsUnprocessable, verdict_on, fits_on, IsMiss, IsAwaited, IsActing, IsForwarding, IsDelivery, JustifiedBy, AllJustified, IsOwed, MayFollow, AreOfOneTurn, is_fresh_at, HasIdFor, IsObtainedHere, size_here};
 ghost use Rattle.coap_model.specs.Runs.{turns_of, AreTurns, Taken, new_run, run_of, entry_of, answer_at};
 ghost use Rattle.coap_model.specs.Examples.{nothing, to, get_t, origin, from, tick_at, client, play, proxy, small_proxy, narrow_proxy, first_answer, first_answer_sent, late_answer, late_answer_sent, error, error_sent, fault, fault_sent, changed, changed_sent, valid, replaced_sent, block_in_response, long_max_age, impostor, impostor_sent, refusals, refusals_sent, long_paths, long_paths_sent, long_segments, long_segments_sent, payload_in_get, payload_in_get_sent, full, full_sent, unprocessed_messages, unprocessed_messages_sent, too_long, too_long_sent, payload_of, payload_of_109_sent, spent_proxy, last_id, last_id_sent, wrapping_proxy, wrapping, wrapping_sent, content_for_client};
 ghost use Rattle.coap_model.specs.ReplyExamples.{asks_at, with_token, tokens, tokens_sent, two_faults, two_faults_sent, of_class_3, of_class_3_sent, changed_with_age, changed_with_age_sent, two_ages, beside_an_age, beside_an_age_sent, path_in_response, greatest_age, greatest_age_sent, shorter_age, shorter_age_sent, ten_seconds_after, one_left, none_left, of_one_moment, of_one_moment_sent, request_first, request_first_sent, client_first, client_first_sent};
@@ -28,7 +28,9 @@ ghost use Rattle.coap_model.specs.FormExamples.{after, named, named_form, target
 ghost use Rattle.coap_model.specs.OptionExamples.{others, form_with_others, key_in, key_of_others, odd_form, odd_key, form_with_tag, key_of_temp, get_with_others, get_with_tags, with_tag, held_sent, other_tag_sent, accepted, accepted_sent, observed, observed_sent, long_observed, odd_observe, with_unknown, safe_sent, beside_a_tag, beside_a_tag_sent, forward_proxy, refused_targets, refused_targets_sent, long_without_map, long_without_map_sent, to_sensor, to_sensor_sent};
 ghost use Rattle.coap_model.specs.DuplicateExamples.{con_u, con_not_found, twice_until, refused_with, of_one_id, of_one_id_sent, one_record, two_clients, two_clients_sent, con_asks, con_asks_sent, con_hit, con_hits, con_hits_sent, opened_until, hit_until, hit_sent, con_t, con_busy, non_hit, non_busy, busy_until, busy_sent};
 ghost use Rattle.coap_model.specs.ReliableExamples.{hasty_proxy, patient_proxy, silent_origin, longest_waits, silence_sent, late_ticks, late_ticks_sent, first_again_at, again_in_time, too_late, after_the_last, after_the_last_sent, answered_later, answered_later_sent, deadline, deadline_sent, sent_late, never_sent, never_sent_sent, blocked, blocked_sent, turn_of_the_second, turn_of_the_second_sent, after_the_end, after_the_end_sent, one_at_a_time, one_at_a_time_sent, two_at_a_time, two_at_a_time_sent, two_origins, two_origins_sent, next_window, next_window_sent, over_the_edge, over_the_edge_sent, again_without_id, again_without_id_sent, spent_with_cache, hit_without_id, hit_without_id_sent, greatest_id, after_the_greatest, after_the_greatest_sent, sent_twice, then_answered, history_of, two_windows};
-ghost use Rattle.coap_model.specs.Standing.{outstanding_to, queued_in, window_ids, HasRoomToOpen, open_in, standing_in};
+ghost use Rattle.coap_model.specs.ResponseExamples as responses;
+ghost use Rattle.coap_model.specs.ResponseExamples.{empty_ack, empty_reset, con_got, non_got, acked_as, comes, becomes, taken, ignored, acknowledged_until, silence_after, of_others, of_others_sent, reset_by_origin, reset_by_origin_sent, reset_after, reset_after_sent, con_response, con_response_sent, non_response, non_response_sent, before_acknowledgement, before_acknowledgement_sent, block_in_separate, block_in_separate_sent, of_impostors, of_impostors_sent, after_giving_up, after_giving_up_sent, no_room, no_room_sent, no_room_needed, no_room_needed_sent, lets_go, lets_go_sent, response, request, is_awaited, queued_turns, sent_turns, acked_turns, answered_turns, opened_acting, sent_acting, acked_acting, reset_acting, got_acting, served_acting, non_acting, record_of_response};
+ghost use Rattle.coap_model.specs.Standing.{queued, sent, acked, done, stage_of, outstanding_to, queued_in, window_ids, HasRoomToOpen, open_in, standing_in};
 ghost use Rattle.coap_model.specs.Schedules.{sends_by, next_send, IsSchedule};
 ghost use Rattle.coap_model.specs.Held.{target_bytes, held, most_held};
 ghost use Rattle.coap_model.specs.LimitExamples.{get_u, not_found, got, one_exchange, one_waiter, two_at_once, until_served, until_served_sent, retries_after, two_requests, second_is_told, narrow, long_datagrams, long_datagrams_sent, later_proxy, counted_on, counted_on_sent, after_ids, last_refusal, last_refusal_sent, kept_ids, kept_ids_sent};
@@ -39,10 +41,9 @@ ghost use Rattle.coap_target.specs.declared.endpoint.Endpoint.{Endpoint};
 ghost use Rattle.coap_cache.specs.declared.key.CacheKey.{CacheKey};
 ghost use Rattle.coap_routes.specs.Routes.{AreRoutes};
 ghost use Rattle.coap_dedup.specs.declared.record.Record.{Record};
-ghost use Rattle.coap_dedup.specs.Lists.{record_of};
 ghost use Rattle.coap_option.specs.declared.side.Side.{Side};
 ghost use Rattle.coap_option.specs.Screening.{first_refused};
-ghost use Rattle.coap_model.specs.Remembered.{remembered_at, most_remembered};
+ghost use Rattle.coap_model.specs.Remembered.{remembered_at, is_remembered};
 ghost use Rattle.coap_model.specs.Duplicates.{IsRememberedAt, Repeats};
 ghost use Rattle.coap_model.specs.Due.{IsDueAt, IsNextDue};
 ghost use Rattle.coap_model.specs.Forged as forged;
@@ -283,6 +284,97 @@ pub fn examples_of_reliability()
     ensures second_window { window_ids 1 (history_of two_windows) ≡ 1 }
 {}
 
+/// What origins send, computed: acknowledgements and Resets of requests, until when they count and
+/// what they let go, responses in messages of their own, which are awaited, acknowledged and
+/// remembered, and what the history says of them.
+pub fn examples_of_responses()
+    ensures acked_at_last { play proxy (comes 246999 origin (empty_ack 1)) ≡ becomes (nothing Acked) }
+    ensures acked_too_late { play proxy (comes 247000 origin (empty_ack 1)) ≡ ignored }
+    ensures reset_at_last { play proxy (comes 246999 origin (empty_reset 1))
+        ≡ becomes (nothing (Answered NotStored)) }
+    ensures reset_too_late { play proxy (comes 247000 origin (empty_reset 1)) ≡ ignored }
+    ensures answered_late { play proxy (comes 247000 origin (got 1 1)) ≡ taken }
+    ensures separate_late { play proxy (comes 247000 origin (non_got 1 1)) ≡ taken }
+    ensures acked_again { play patient_proxy (acknowledged_until (2000 ∷ 599999 ∷ 600000 ∷ 600000
+        ∷ 600000 ∷ [])) ≡ silence_after }
+    ensures acked_silence { play proxy (acknowledged_until (2000 ∷ 92999 ∷ 93000 ∷ 93000 ∷ 93000
+        ∷ [])) ≡ silence_after }
+    ensures acked_in_haste { play hasty_proxy (acknowledged_until (5 ∷ 999 ∷ 1000 ∷ 1000 ∷ 1000
+        ∷ [])) ≡ silence_after }
+    ensures of_others { play proxy of_others ≡ of_others_sent }
+    ensures reset_by_origin { play proxy reset_by_origin ≡ reset_by_origin_sent }
+    ensures reset_after { play proxy reset_after ≡ reset_after_sent }
+    ensures con_response { play proxy con_response ≡ con_response_sent }
+    ensures non_response { play proxy non_response ≡ non_response_sent }
+    ensures con_before { play proxy (before_acknowledgement (con_got 1 1))
+        ≡ before_acknowledgement_sent (to (Answered Kept) origin (acked_as 1)) }
+    ensures non_before { play proxy (before_acknowledgement (non_got 1 1))
+        ≡ before_acknowledgement_sent (nothing (Answered Kept)) }
+    ensures block_in_separate { play proxy block_in_separate ≡ block_in_separate_sent }
+    ensures of_impostors { play proxy of_impostors ≡ of_impostors_sent }
+    ensures after_giving_up { play hasty_proxy after_giving_up ≡ after_giving_up_sent }
+    ensures no_room { play one_record no_room ≡ no_room_sent }
+    ensures no_room_needed { play one_record no_room_needed ≡ no_room_needed_sent }
+    ensures one_id { play proxy responses.of_one_id ≡ responses.of_one_id_sent }
+    ensures lets_go_answered { play proxy (lets_go (non_got 2 2))
+        ≡ lets_go_sent (nothing (Answered Kept)) }
+    ensures lets_go_acked { play proxy (lets_go (con_got 2 2))
+        ≡ lets_go_sent (to (Answered Kept) origin (acked_as 2)) }
+    ensures lets_go_reset { play proxy (lets_go (empty_reset 2))
+        ≡ lets_go_sent (nothing (Answered NotStored)) }
+    ensures due_again { next_due (after proxy sent_turns) ≡ Some 2000 }
+    ensures due_at_its_end { next_due (after proxy acked_turns) ≡ Some 93000 }
+    ensures due_to_serve { next_due (after proxy answered_turns) ≡ Some 5 }
+    ensures awaited_con { is_awaited (after proxy sent_turns) origin (response Con 300 1) ≡ true }
+    ensures awaited_non { is_awaited (after proxy sent_turns) origin (response Non 300 1) ≡ true }
+    ensures awaited_ack { is_awaited (after proxy sent_turns) origin (response Ack 1 1) ≡ true }
+    ensures other_id { is_awaited (after proxy sent_turns) origin (response Ack 2 1) ≡ false }
+    ensures other_token { is_awaited (after proxy sent_turns) origin (response Con 1 2) ≡ false }
+    ensures other_source { is_awaited (after proxy sent_turns) (client 1) (response Con 1 1)
+        ≡ false }
+    ensures not_sent { is_awaited (after proxy queued_turns) origin (response Con 1 1) ≡ false }
+    ensures awaited_still { is_awaited (after proxy acked_turns) origin (response Con 300 1)
+        ≡ true }
+    ensures awaited_so { is_awaited (after proxy acked_turns) origin (response Ack 1 1) ≡ true }
+    ensures no_more { is_awaited (after proxy answered_turns) origin (response Con 300 1) ≡ false }
+    ensures bare_ack { is_bare (acknowledgement 7) ≡ true }
+    ensures bare_reset { is_bare (reset 7) ≡ true }
+    ensures not_bare_con { is_bare (record (reset 7) { kind = Con }) ≡ false }
+    ensures not_bare_non { is_bare (record (reset 7) { kind = Non }) ≡ false }
+    ensures not_bare_response { is_bare (response Ack 7 1) ≡ false }
+    ensures recorded_con { is_recorded (response Con 7 1) ≡ true }
+    ensures not_recorded_non { is_recorded (response Non 7 1) ≡ false }
+    ensures not_recorded_ack { is_recorded (response Ack 7 1) ≡ false }
+    ensures recorded_con_request { is_recorded (request Con) ≡ true }
+    ensures recorded_non_request { is_recorded (request Non) ≡ true }
+    ensures not_recorded_request { is_recorded (request Ack) ≡ false }
+    ensures not_recorded_empty { is_recorded (record (reset 7) { kind = Con }) ≡ false }
+    ensures remembers_con { is_remembered (Answered NotStored) Con ≡ true }
+    ensures remembers_no_non { is_remembered (Answered Kept) Non ≡ false }
+    ensures remembers_no_ack { is_remembered (Answered Kept) Ack ≡ false }
+    ensures remembers_no_acked { is_remembered Acked Con ≡ false }
+    ensures no_memory_to_acknowledge { takes_memory Acked ≡ false }
+    ensures answer_of_reset { answer_of 1500 9 (reset 7)
+        ≡ record { message = bad_gateway; got = 9; own = true } }
+    ensures waits { stage_of 1 (history_of opened_acting) ≡ Some queued }
+    ensures is_sent { stage_of 1 (history_of sent_acting) ≡ Some (sent origin) }
+    ensures is_acked { stage_of 1 (history_of acked_acting) ≡ Some acked }
+    ensures is_reset { stage_of 1 (history_of reset_acting) ≡ Some done }
+    ensures is_got { stage_of 1 (history_of got_acting) ≡ Some done }
+    ensures is_closed { stage_of 1 (history_of served_acting) ≡ None }
+    ensures outstanding { outstanding_to origin (history_of sent_acting) ≡ 1 }
+    ensures none_outstanding { outstanding_to origin (history_of acked_acting) ≡ 0 }
+    ensures none_after_reset { outstanding_to origin (history_of reset_acting) ≡ 0 }
+    ensures second_outstanding { outstanding_to origin (history_of served_acting) ≡ 1 }
+    ensures no_id { window_ids 0 (history_of got_acting) ≡ 1 }
+    ensures remembered { remembered_at Con 247008 (history_of served_acting)
+        ≡ record_of_response ∷ [] }
+    ensures forgotten { remembered_at Con 247009 (history_of served_acting) ≡ [] }
+    ensures apart { remembered_at Non 9 (history_of non_acting)
+        ≡ remembered_at Non 9 (history_of acked_acting) }
+    ensures none_of_non { remembered_at Con 9 (history_of non_acting) ≡ [] }
+{}
+
 /// Each request that is sent on has the cache key of the client's request for which it is sent,
 /// read off the bytes that were sent.
 pub fn requests_keep_their_key()
@@ -384,7 +476,7 @@ pub fn memory_is_told()
 
 /// What a proxy counts is what the deeds left of which its tables are made: as many exchanges as are
 /// open and as many clients as wait, the entries and bytes of the cache of these deeds, and as
-/// many records as requests that are still remembered.
+/// many records as messages that are still remembered.
 pub fn counts_are_of_the_history()
     ensures exchanges { (deeds : List Deed) (w : World)
         → Bears deeds w
@@ -471,26 +563,35 @@ pub fn what_is_promised_holds_at_each_place()
         → held w ≤ most_held w.setting.limits }
 {}
 
-/// What is promised gives what is owed, place by place: a request that repeats a place before it is
-/// told again; one that doesn't meets silence where there is no room to remember it; a new one
-/// whose key has a fresh entry is answered from the cache; and an answer is stored by its size
-/// where it was obtained, memory aside, and not stored where it wasn't.
+/// What is promised gives what is owed, place by place: a message that repeats a place before it is
+/// told again; a request that isn't known, or an answer in a Confirmable message, meets silence
+/// where there is no room to remember it; a new request whose key has a fresh entry is answered
+/// from the cache; and an answer is stored by its size where it was obtained, memory aside, and not
+/// stored where it wasn't.
 pub fn what_is_owed_is_given_at_each_place()
     ensures again { (history : List Entry) (w : World) (p : Promised history w)
-        (place former : Place) (client : Endpoint) (request : Message)
+        (place former : Place) (source : Endpoint) (message : Message)
         → IsPlaceOf p.deeds place
-        → IsRequestOf w.setting client request place.deed.entry.event
+        → Comes w.setting source message place.deed.entry.event
         → IsPlaceOf place.before former
-        → Repeats place.deed.entry.now client request former
+        → Repeats place.deed.entry.now source message former
         → place.deed.entry.report.outcome ≡ Again }
     ensures no_room { (history : List Entry) (w : World) (p : Promised history w) (place : Place)
         (client : Endpoint) (request : Message)
         → IsPlaceOf p.deeds place
         → IsRequestOf w.setting client request place.deed.entry.event
-        → record_of client request.id
-        (remembered_at request.kind place.deed.entry.now place.before) ≡ None
-        → most_remembered request.kind w.setting.limits
-        ≤ length (remembered_at request.kind place.deed.entry.now place.before)
+        → known_of place.before place.deed.entry.now client request ≡ None
+        → ¬ HasRecordRoom w.setting place.before place.deed.entry.now request
+        → place.deed.entry.report.outcome ≡ NoRecordRoom }
+    ensures no_answer_room { (history : List Entry) (w : World) (p : Promised history w)
+        (place : Place) (exchange : ℕ)
+        (awaited : IsAwaited w.setting place.before place.deed.entry.now exchange
+        place.deed.entry.event)
+        → IsPlaceOf p.deeds place
+        → awaited.meets.message.kind ≡ Con
+        → known_of place.before place.deed.entry.now awaited.meets.asks.sends.to
+        awaited.meets.message ≡ None
+        → ¬ HasRecordRoom w.setting place.before place.deed.entry.now awaited.meets.message
         → place.deed.entry.report.outcome ≡ NoRecordRoom }
     ensures hit { (history : List Entry) (w : World) (p : Promised history w) (place : Place)
         (client : Endpoint) (request : Message) (key : CacheKey) (cached : List Cached)
@@ -550,12 +651,14 @@ pub fn nothing_is_done_twice()
         → a ≡ b }
 {}
 
-/// What is owed is given, where an entry is justified by what was done before it: a request that is
-/// remembered is told again what it was told, and one for which there is no room to remember it
-/// meets silence; of the others one whose key has a fresh entry is answered from the cache, and one
-/// that may be asked for, with room, is opened; a response that an exchange awaits is its answer,
-/// which is kept by its size where it was obtained; a confirmable datagram that can't be processed
-/// is rejected; and a tick at which something is due does what is due first.
+/// What is owed is given, where an entry is justified by what was done before it: a message that is
+/// remembered is told again what it was told, and a request for which there is no room to remember
+/// it meets silence; of the other requests one whose key has a fresh entry is answered from the
+/// cache, and one that may be asked for, with room, is opened. A message that answers an exchange
+/// is its answer, which is kept by its size where it was obtained; in a Confirmable message it is
+/// taken where it is new, and meets silence where it isn't known and there is no room to remember
+/// it. An acknowledgement of a request that waits for one settles it; a confirmable datagram that
+/// can't be processed is rejected; and a tick at which something is due does what is due first.
 pub fn what_is_owed_is_given()
     ensures owed { (setting : Setting) (past : List Deed) (d : Deed)
         → JustifiedBy d.entry.report.outcome setting past d
@@ -573,9 +676,22 @@ pub fn what_is_owed_is_given()
         → HasRoomToOpen setting.limits d.entry.now past
         → d.entry.report.outcome ≡ Opened }
     ensures answered { (setting : Setting) (past : List Deed) (d : Deed) (exchange : ℕ)
+        (awaited : IsAwaited setting past d.entry.now exchange d.entry.event)
         → JustifiedBy d.entry.report.outcome setting past d
-        → IsAwaited setting past exchange d.entry.event
+        → (awaited.meets.message.kind ≡ Con
+        → IsNew setting past d.entry.now awaited.meets.asks.sends.to awaited.meets.message)
         → takes d.entry.report.outcome ≡ true }
+    ensures settled { (setting : Setting) (past : List Deed) (d : Deed) (exchange : ℕ)
+        → JustifiedBy d.entry.report.outcome setting past d
+        → Acknowledges setting past d.entry.now exchange d.entry.event
+        → d.entry.report.outcome ≡ Acked }
+    ensures no_answer_room { (setting : Setting) (past : List Deed) (d : Deed) (exchange : ℕ)
+        (awaited : IsAwaited setting past d.entry.now exchange d.entry.event)
+        → JustifiedBy d.entry.report.outcome setting past d
+        → awaited.meets.message.kind ≡ Con
+        → known_of past d.entry.now awaited.meets.asks.sends.to awaited.meets.message ≡ None
+        → ¬ HasRecordRoom setting past d.entry.now awaited.meets.message
+        → d.entry.report.outcome ≡ NoRecordRoom }
     ensures rejected { (setting : Setting) (past : List Deed) (d : Deed) (source : Endpoint)
         (bytes : List ℕ)
         (head : Head)
@@ -583,7 +699,7 @@ pub fn what_is_owed_is_given()
         → d.entry.event ≡ arrival source bytes
         → head_at bytes ≡ Some head
         → head.kind ≡ Con
-        → IsUnprocessable setting past d.entry.event
+        → IsUnprocessable setting past d.entry
         → d.entry.report.outcome ≡ Rejected }
     ensures done { (setting : Setting) (past : List Deed) (d : Deed) (act : Act) (at : ℕ)
         → JustifiedBy d.entry.report.outcome setting past d
@@ -593,46 +709,46 @@ pub fn what_is_owed_is_given()
         → IsActing setting past d }
 {}
 
-/// A request is known where it repeats one, by the places of the history, and what is known of it
-/// is what was sent at once there: so a duplicate is told what its request was told, or nothing. It
+/// A message is known where it repeats one, by the places of the history, and what is known of it
+/// is what was sent at once there: so a duplicate is told what its message was told, or nothing. It
 /// repeats one place alone, whichever is looked at; and where it is Confirmable, what was sent
-/// there went to its client.
+/// there went to its source.
 pub fn duplicates_repeat_a_place()
-    ensures known { (past : List Deed) (now : ℕ) (client : Endpoint) (request : Message)
+    ensures known { (past : List Deed) (now : ℕ) (source : Endpoint) (message : Message)
         (known : Record)
-        → record_of client request.id (remembered_at request.kind now past) ≡ Some known
-        → Somewhere (IsRememberedAt now client request known) past }
-    ensures each { (past : List Deed) (now : ℕ) (client : Endpoint) (request : Message) (p : Place)
-        → brings_requests request.kind ≡ true
+        → known_of past now source message ≡ Some known
+        → Somewhere (IsRememberedAt now source message known) past }
+    ensures each { (past : List Deed) (now : ℕ) (source : Endpoint) (message : Message) (p : Place)
+        → brings_requests message.kind ≡ true
         → IsPlaceOf past p
-        → Repeats now client request p
-        → record_of client request.id (remembered_at request.kind now past) ≢ None }
-    ensures one { (setting : Setting) (past : List Deed) (now : ℕ) (client : Endpoint)
-        (request : Message) (p q : Place)
+        → Repeats now source message p
+        → known_of past now source message ≢ None }
+    ensures one { (setting : Setting) (past : List Deed) (now : ℕ) (source : Endpoint)
+        (message : Message) (p q : Place)
         → AllJustified setting past
         → IsInOrder past
         → last_of past ≤ now
         → IsPlaceOf past p
         → IsPlaceOf past q
-        → Repeats now client request p
-        → Repeats now client request q
+        → Repeats now source message p
+        → Repeats now source message q
         → p ≡ q }
-    ensures told { (setting : Setting) (past : List Deed) (now : ℕ) (client : Endpoint)
-        (request : Message) (p : Place) (known : Record)
+    ensures told { (setting : Setting) (past : List Deed) (now : ℕ) (source : Endpoint)
+        (message : Message) (p : Place) (known : Record)
         → AllJustified setting past
         → IsInOrder past
         → last_of past ≤ now
         → IsPlaceOf past p
-        → Repeats now client request p
-        → record_of client request.id (remembered_at request.kind now past) ≡ Some known
-        → known.reply ≡ told_again request.kind p.deed.entry.bytes }
-    ensures sent { (setting : Setting) (past : List Deed) (now : ℕ) (client : Endpoint)
-        (request : Message) (p : Place)
+        → Repeats now source message p
+        → known_of past now source message ≡ Some known
+        → known.reply ≡ told_again message.kind p.deed.entry.bytes }
+    ensures sent { (setting : Setting) (past : List Deed) (now : ℕ) (source : Endpoint)
+        (message : Message) (p : Place)
         → AllJustified setting past
         → IsPlaceOf past p
-        → Repeats now client request p
-        → request.kind ≡ Con
-        → p.deed.entry.report.send ≡ Some client }
+        → Repeats now source message p
+        → message.kind ≡ Con
+        → p.deed.entry.report.send ≡ Some source }
 {}
 
 /// The histories allow one answer: two deeds that may follow the same deeds, of one event at one

@@ -7,8 +7,9 @@ use Rattle.coap_model.proofs.laws.what_is_owed_is_given_at_each_place.Goals as g
 pub returns : goal.returns
 returns c =
     record {
-      again = λ history w p place former client request there. again-there w.setting place former client request (owed-at w.setting p.deeds place p.owed there);
+      again = λ history w p place former source message there. again-there w.setting place former source message (owed-at w.setting p.deeds place p.owed there);
       no_room = λ history w p place client request there. (owed-at w.setting p.deeds place p.owed there).no_room client request;
+      no_answer_room = λ history w p place x awaited there. (owed-at w.setting p.deeds place p.owed there).no_answer_room x awaited;
       hit = λ history w p place client request key cached entry there. (owed-at w.setting p.deeds place p.owed there).hit client request key cached entry;
       kept = λ history w p place o there small some. ⊎_elim (λ (kept : place.deed.entry.report.outcome ≡ Answered Kept). kept) (λ (none : place.deed.entry.report.outcome ≡ Answered NoMemory). absurd (some none)) ((owed-at w.setting p.deeds place p.owed there).small o small);
       too_large = λ history w p place o there. (owed-at w.setting p.deeds place p.owed there).large o;

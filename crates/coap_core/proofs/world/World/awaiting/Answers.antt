@@ -4,7 +4,7 @@ use Rattle.coap_target.specs.Endpoint.{same_endpoint}
 use Rattle.coap_exchange.specs.declared.exchange.Exchange.{Exchange}
 use Rattle.coap_exchange.specs.Table.{Numbered, item_at}
 use Rattle.coap_forward.specs.Messages.{token_of}
-use Rattle.coap_core.proofs.Awaiting.{nobody-awaits, awaits-none, awaits-one, sent-with}
+use Rattle.coap_core.proofs.Awaiting.{nobody-awaits, awaits-none, awaits-one, open-with}
 use Rattle.coap_core.proofs.world.World.awaiting.Given.{Over}
 use Rattle.coap_core.proofs.world.World.awaiting.Goals.{After-get}
 use Rattle.coap_core.proofs.world.World.awaiting.Goals as goal
@@ -33,15 +33,15 @@ pub returns-then-awaits-clause-exact : goal.returns-then-awaits-clause-exact
 returns-then-awaits-clause-exact g c =
     let m = c.args.response.now in
     let got = (goal.at.returns-then-awaits-clause-exact g c).After-get in
-    rw (← c.self.view_is) (sym (awaits-one c.self.inside.salt c.args.source m c.in_ok-number.number c.self.inside.exchanges c.in_ok-number.ensures.small (token g got) c.get.ensures.sound (few g got) c.in_ok-exchange.exchange.now (sym c.in_ok-exchange.ensures.exact) true (rw (← c.response.view_is) c.if-awaits.ensures)))
+    rw (← c.self.view_is) (sym (awaits-one c.self.inside.salt c.args.source m c.in_ok-number.number c.self.inside.exchanges c.in_ok-number.ensures.small (token g got) c.get.ensures.sound (few g got) c.in_ok-exchange.exchange.now (sym c.in_ok-exchange.ensures.exact) true c.if-awaits.ensures))
 
 pub returns-else-awaits-clause-exact : goal.returns-else-awaits-clause-exact
 returns-else-awaits-clause-exact g c =
     let m = c.args.response.now in
     let got = (goal.at.returns-else-awaits-clause-exact g c).After-get in
-    rw (← c.self.view_is) (sym (awaits-one c.self.inside.salt c.args.source m c.in_ok-number.number c.self.inside.exchanges c.in_ok-number.ensures.small (token g got) c.get.ensures.sound (few g got) c.in_ok-exchange.exchange.now (sym c.in_ok-exchange.ensures.exact) false (rw (← c.response.view_is) c.if-awaits.ensures)))
+    rw (← c.self.view_is) (sym (awaits-one c.self.inside.salt c.args.source m c.in_ok-number.number c.self.inside.exchanges c.in_ok-number.ensures.small (token g got) c.get.ensures.sound (few g got) c.in_ok-exchange.exchange.now (sym c.in_ok-exchange.ensures.exact) false c.if-awaits.ensures))
 
-pub returns-then-awaits-clause-sent : goal.returns-then-awaits-clause-sent
-returns-then-awaits-clause-sent g c =
+pub returns-then-awaits-clause-open : goal.returns-then-awaits-clause-open
+returns-then-awaits-clause-open g c =
     let found : item_at c.in_ok-number.number c.args.self.now.exchanges ≡ Some c.in_ok-exchange.exchange.now = rw (← c.self.view_is) (sym c.in_ok-exchange.ensures.exact) in
-    rw found (sent-with c.args.response.now.id c.in_ok-exchange.exchange.now (same_endpoint c.in_ok-exchange.exchange.now.key.target.at c.args.source) (sym (rw (← c.response.view_is) c.if-awaits.ensures)))
+    rw found (open-with c.args.response.now c.in_ok-exchange.exchange.now (same_endpoint c.in_ok-exchange.exchange.now.key.target.at c.args.source) (sym c.if-awaits.ensures))

@@ -1,6 +1,6 @@
 use Rattle.std.proofs.Common.{◌≡◌, sym, ap}
-use Rattle.coap_model.specs.World.{Step}
-use Rattle.coap_model.specs.Requests.{remembers, on_miss, on_key}
+use Rattle.coap_model.specs.World.{Step, remembers}
+use Rattle.coap_model.specs.Requests.{on_miss, on_key}
 use Rattle.coap_core.proofs.Asking.{does-as, fits-as, missed}
 use Rattle.coap_core.proofs.world.World.on_key.Goals as goal
 

@@ -1,7 +1,7 @@
 use Rattle.std.proofs.Common.{◌≡◌, true, false, sym, ap, rules}
 use Rattle.coap_message.specs.declared.code.TheConstants.Code.{REQUEST_ENTITY_TOO_LARGE}
-use Rattle.coap_model.specs.World.{Step}
-use Rattle.coap_model.specs.Requests.{can_open, refuses, overloads, opens, remembers, on_miss}
+use Rattle.coap_model.specs.World.{Step, remembers}
+use Rattle.coap_model.specs.Requests.{can_open, refuses, overloads, opens, on_miss}
 use Rattle.coap_model.proofs.Verdicts.{askable}
 use Rattle.coap_core.proofs.Asking.{does-as, fits-as, too-long, turned-away, opened}
 use Rattle.coap_core.proofs.world.World.on_miss.Goals as goal

@@ -1,6 +1,6 @@
 use Rattle.std.proofs.Common.{◌≡◌, false, refl, sym, ap}
-use Rattle.coap_model.specs.World.{can_reply}
-use Rattle.coap_model.specs.Requests.{lacks_id, remembers, on_new}
+use Rattle.coap_model.specs.World.{can_reply, remembers}
+use Rattle.coap_model.specs.Requests.{lacks_id, on_new}
 use Rattle.coap_core.proofs.Asking.{does-as, lacking}
 use Rattle.coap_core.proofs.world.World.on_new.Goals as goal
 

@@ -1,14 +1,14 @@
-use Rattle.std.proofs.Common.{◌≡◌, true, None, sym}
+use Rattle.std.proofs.Common.{◌≡◌, true, None, refl, sym}
 use Rattle.coap_option.proofs.Picking.{on_err}
-use Rattle.coap_model.specs.World.{has_record_room}
-use Rattle.coap_model.specs.Requests.{known_of, remembers, on_new, on_request}
+use Rattle.coap_model.specs.World.{has_record_room, known_of, remembers}
+use Rattle.coap_model.specs.Requests.{on_new, on_known, on_request}
 use Rattle.coap_core.proofs.Records.{none-some, new-is}
 use Rattle.coap_core.proofs.Asking.{does-as, fits-as, new-takes, repetition-fits}
 use Rattle.coap_core.proofs.world.World.on_request.Goals.{After-has_record_room}
 use Rattle.coap_core.proofs.world.World.on_request.Goals as goal
 
 pub repeat-requires : goal.repeat-requires
-repeat-requires g c = record { fits = repetition-fits c.args.self.now c.args.now c.args.client c.args.request.now c.args.out.now.room c.requires.fits }
+repeat-requires g c = record { fits = repetition-fits c.args.self.now c.args.now c.args.client c.args.request.now (on_known c.args.self.now c.args.now c.args.client c.args.request.now) (λ known. refl) c.args.out.now.room c.requires.fits }
 
 pub returns-clause-exact : goal.returns-clause-exact
 returns-clause-exact g c =

@@ -1,0 +1,92 @@
+//! The step of an Empty message: an acknowledgement or a Reset of a request that was sent (RFC 7252,
+//! 4.2 and 4.3).
+ghost use Rattle.std.specs.Prelude.{◌≡◌, true};
+ghost use Rattle.coap_exchange.specs.Table.{item_at};
+ghost use Rattle.coap_forward.specs.Messages.{is_bare, is_rst};
+ghost use Rattle.coap_model.specs.Empties.{acknowledges, on_exchange, on_empty};
+ghost use Rattle.coap_model.specs.History.{grown_of};
+ghost use Rattle.coap_core.specs.Steps.{Does, CanGoOn, IsSentAt, resets};
+
+use crate::world::{World, silent};
+use coap_cache::Store;
+use coap_forward::bad_gateway;
+use coap_message::{Datagram, Kind, MessageRef};
+use coap_model::{Outcome, Report, Storing};
+use coap_target::Endpoint;
+
+impl<S: Store + Drop> World<S> {
+    pub(crate) fn on_empty(
+        &mut self,
+        now: u64,
+        source: Endpoint,
+        message: &MessageRef<'_>,
+        out: &mut Datagram,
+    ) -> Report
+        requires can { CanGoOn self.old }
+        requires bare { is_bare message.now ≡ true }
+        ensures { Does (on_empty self.old now (grown_of result.outcome) source message.now) result
+            out.old out.new self.new }
+    {
+        match self.exchanges.sent_as(source, message.id, now) {
+            Some(number) => self.on_sent(now, source, number, message, out),
+            None => self.ignore(now, out),
+        }
+    }
+
+    /// The request of the exchange of this number is acknowledged, or reset, unless it was
+    /// acknowledged or answered before.
+    fn on_sent(
+        &mut self,
+        now: u64,
+        source: Endpoint,
+        number: u64,
+        message: &MessageRef<'_>,
+        out: &mut Datagram,
+    ) -> Report
+        requires can { CanGoOn self.old }
+        requires bare { is_bare message.now ≡ true }
+        ensures { Does
+            (on_exchange self.old now (grown_of result.outcome) source message.now number
+            (item_at number self.old.exchanges))
+            result out.old out.new self.new }
+    {
+        let Some(exchange) = self.exchanges.get(number) else {
+            return self.ignore(now, out);
+        };
+        if !exchange.is_sent() {
+            return self.ignore(now, out);
+        }
+        match message.kind {
+            Kind::Ack => self.acknowledge(now, number, out),
+            Kind::Con | Kind::Non | Kind::Rst => self.reset(now, number, out),
+        }
+    }
+
+    /// The request of the exchange of this number is acknowledged: its answer is to come separately.
+    fn acknowledge(&mut self, now: u64, number: u64, out: &mut Datagram) -> Report
+        requires can { CanGoOn self.old }
+        requires sent { IsSentAt number self.old.exchanges }
+        ensures { Does (acknowledges self.old now number) result out.old out.new self.new }
+    {
+        self.exchanges.acked(number);
+        out.clear();
+        self.pass(now);
+        silent(Outcome::Acked)
+    }
+
+    /// The request of the exchange of this number is rejected: the proxy makes its answer (RFC 7252,
+    /// 4.2 and 5.9.3.3). That takes no memory.
+    fn reset(&mut self, now: u64, number: u64, out: &mut Datagram) -> Report
+        requires can { CanGoOn self.old }
+        requires sent { IsSentAt number self.old.exchanges }
+        ensures { Does (resets self.old now number) result out.old out.new self.new }
+    {
+        self.exchanges
+            .answered(number, bad_gateway(self.alloc, now));
+        out.clear();
+        self.pass(now);
+        silent(Outcome::Answered {
+            storing: Storing::NotStored,
+        })
+    }
+}

@@ -1,0 +1,91 @@
+-- What becomes of an answer: whether it is stored, and that the exchange has it (RFC 7252, 5.6).
+use Rattle.std.specs.Prelude.{ℕ, Bool, false, nat_le, if◌then◌else◌, List, Option, Some, None}
+use Rattle.coap_message.specs.Message.{Message}
+use Rattle.coap_target.specs.declared.endpoint.Endpoint.{Endpoint}
+use Rattle.coap_cache.specs.Entries.{Entry, entry_key, entry_size}
+use Rattle.coap_cache.specs.Lists.{of_key, others, put}
+use Rattle.coap_cache.specs.declared.answer.Answer.{Answer}
+use Rattle.coap_exchange.specs.declared.exchange.Exchange.{Exchange}
+use Rattle.coap_exchange.specs.declared.exchange.Sending.{Sending}
+use Rattle.coap_exchange.specs.Exchanges.{answered}
+use Rattle.coap_exchange.specs.Table.{Numbered, changed_at}
+use Rattle.coap_model.specs.declared.report.Outcome.TheVariants.{Answered}
+use Rattle.coap_model.specs.declared.report.Storing.{Storing}
+use Rattle.coap_model.specs.declared.report.Storing.TheVariants.{Kept, TooLarge, NoMemory, NotStored}
+use Rattle.coap_forward.specs.Answers.{answer_of, is_storable}
+use Rattle.coap_model.specs.World.{World, Step, later, takes_up}
+
+-- ---- what is stored
+
+-- an answer that has come: of whom, in which message, and for which exchange
+pub record Arrived : Type 0 where
+  pub source : Endpoint
+  pub message : Message
+  pub exchange : Numbered Exchange
+  pub answer : Answer
+
+-- the number of the event in which the request of an exchange was sent
+abbrev pub asked_of : Option Sending → ℕ
+asked_of None = 0
+asked_of (Some s) = s.asked
+
+-- what is stored of the answer of an exchange
+abbrev pub entry_made : World → ℕ → Numbered Exchange → Answer → Entry
+entry_made w now x a = (
+  x.1.key,
+  record {
+    response = a.message;
+    asked = asked_of x.1.sending;
+    got_no = w.events;
+    got = now;
+    marked = false;
+  },
+)
+
+-- the exchange has its answer, and this is the store then; a message that is confirmable is
+-- acknowledged
+abbrev pub answers_so : World → ℕ → Arrived → Storing → List Entry → Step
+answers_so w now a storing store =
+    takes_up (Answered storing) a.source a.message (record (later w now) {
+      exchanges = changed_at a.exchange.0 (answered a.answer) w.exchanges;
+      store = store;
+    })
+
+-- it stands first in the store, and what no longer fits is given up
+abbrev pub keeps : World → ℕ → Arrived → Step
+keeps w now a =
+    answers_so w now a Kept (put entry_key entry_size
+    w.setting.limits.cache_bytes w.setting.limits.cache_entries
+    (entry_made w now a.exchange a.answer) w.store)
+
+-- only a key without an entry can want memory
+abbrev pub keeps_if : World → ℕ → Bool → Arrived → Option Entry → Step
+keeps_if w now grown a None =
+    if grown then keeps w now a else answers_so w now a NoMemory w.store
+keeps_if w now grown a (Some entry) = keeps w now a
+
+-- an answer that alone counts more bytes than the store may keep isn't kept, nor what it replaces
+abbrev pub stores : World → ℕ → Bool → Arrived → Step
+stores w now grown a =
+    if nat_le (entry_size (entry_made w now a.exchange a.answer)) w.setting.limits.cache_bytes
+    then keeps_if w now grown a (of_key entry_key a.exchange.1.key w.store)
+    else answers_so w now a TooLarge (others entry_key a.exchange.1.key w.store)
+
+abbrev pub answers_with : World → ℕ → Bool → Arrived → Step
+answers_with w now grown a =
+    if is_storable a.answer
+    then stores w now grown a
+    else answers_so w now a NotStored w.store
+
+-- ---- the answer
+
+-- The exchange has its answer, which a response gives, or a Reset. `grown` says whether there is
+-- memory for one entry more.
+abbrev pub answers : World → ℕ → Bool → Endpoint → Message → Numbered Exchange → Step
+answers w now grown source m x =
+    answers_with w now grown (record {
+      source = source;
+      message = m;
+      exchange = x;
+      answer = answer_of w.setting.limits.datagram now m;
+    })
