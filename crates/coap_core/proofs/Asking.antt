@@ -1,6 +1,6 @@
 -- What becomes of a request, told apart as the program does: each branch is a step of the model.
-use Rattle.std.proofs.Common.{◌≡◌, ℕ, ◌+◌, ◌≤◌, Bool, true, false, cond, leb, List, length, Option, Some, None, Result, refl, sym, ap, ◌∙◌, subst, arith}
-use Rattle.std.specs.Prelude.{◌&&◌, IfOk, IfSome, is_some, option_map}
+use Rattle.std.proofs.Common.{◌≡◌, ℕ, ◌+◌, ◌≤◌, Bool, true, false, cond, leb, length, Option, Some, None, Result, refl, sym, ap, ◌∙◌, subst, arith}
+use Rattle.std.specs.Prelude.{◌&&◌, IfOk, IfSome, option_map}
 use Rattle.std.specs.Option.{option_map_or}
 use Rattle.std.proofs.lemmas.Bool.{leb-false, lt-leb}
 use Rattle.std.proofs.lemmas.Result.{IfOk-weaker}
@@ -17,13 +17,15 @@ use Rattle.coap_cache.specs.Entries.{Entry, entry_key, has_usable}
 use Rattle.coap_cache.specs.Freshness.{is_usable}
 use Rattle.coap_cache.specs.Lists.{of_key}
 use Rattle.coap_dedup.specs.declared.record.Record.{Record}
+use Rattle.coap_exchange.specs.Exchanges.{is_joinable}
 use Rattle.coap_exchange.specs.Ids.{given_in}
+use Rattle.coap_exchange.specs.Table.{first_that}
 use Rattle.coap_model.specs.declared.report.Report.{Report}
 use Rattle.coap_model.specs.Memory.{takes_memory}
 use Rattle.coap_model.specs.Verdicts.{Verdict, refused_with, may_ask, verdict_of, form_fits}
-use Rattle.coap_model.specs.World.{World, Step, later, reserved, has_ids, can_reply, known_of, repeats}
-use Rattle.coap_model.specs.Requests.{lacks_id, refuses, overloads, opens, turns_down, turns_away, hits, can_open, on_miss, on_entry, on_key, on_verdict, on_new}
-use Rattle.coap_core.specs.Steps.{Does, IsSaid, repetition_of}
+use Rattle.coap_model.specs.World.{World, Step, reserved, has_ids, can_reply, known_of, repeats}
+use Rattle.coap_model.specs.Requests.{lacks_id, refuses, overloads, opens, turns_down, turns_away, hits, can_join, can_open, joins, on_wanted, on_joinable, on_miss, on_entry, on_key, on_verdict, on_new}
+use Rattle.coap_core.specs.Steps.{Does, repetition_of}
 use Rattle.coap_core.proofs.Records.{held-same}
 
 -- what is done in a step is done in one that is equal, where the datagram was written to before
@@ -47,18 +49,6 @@ module _ (w : World) (now : ℕ) (source : Endpoint) (m : Message) (step : Optio
       go None f = tt
       go (Some known) f = subst (λ (s : Step). length s.bytes ≤ room) (again known) f
 
-  -- it is the whole step
-  pub repetition-does : (report : Report) (old new : Datagram) → is_some (known_of w now source m) ≡ true → IfSome (repetition_of w now source m) (λ s. IsSaid s report old new) → Does (step (known_of w now source m)) report old new (later w now)
-  repetition-does report old new known said = go (known_of w now source m) known said
-    where
-      after : (reply : Option (List ℕ)) → later w now ≡ (repeats w now source reply).world
-      after None = refl
-      after (Some bytes) = refl
-
-      go : (o : Option Record) → is_some o ≡ true → IfSome (option_map (λ k. repeats w now source k.reply) o) (λ s. IsSaid s report old new) → Does (step o) report old new (later w now)
-      go None e d = absurd cc
-      go (Some k) e d = subst (λ (s : Step). Does s report old new (later w now)) (sym (again k)) (d.0, d.1, after k.reply)
-
 module _ (w : World) (now : ℕ) (client : Endpoint) (m : Message) where
   -- ---- memory
 
@@ -72,11 +62,21 @@ module _ (w : World) (now : ℕ) (client : Endpoint) (m : Message) where
   down-takes : (code : Code) → Takes (turns_down w now client m code)
   down-takes code = either-takes (can_reply w now m.kind) (refuses w now client m code) (lacks_id w now) refl refl
 
-  miss-takes : (key : CacheKey) → Takes (on_miss w now client m key)
-  miss-takes key =
+  away-takes : Takes (turns_away w now client m)
+  away-takes = either-takes (can_reply w now m.kind) (overloads w now client m) (lacks_id w now) refl refl
+
+  wanted-takes : (key : CacheKey) → Takes (on_wanted w now client m key)
+  wanted-takes key =
       either-takes (form_fits w.setting.limits.datagram key.target m) (cond (can_open w now m.kind) (opens w now client m key) (turns_away w now client m)) (turns_down w now client m REQUEST_ENTITY_TOO_LARGE)
-      (either-takes (can_open w now m.kind) (opens w now client m key) (turns_away w now client m) refl (either-takes (can_reply w now m.kind) (overloads w now client m) (lacks_id w now) refl refl))
+      (either-takes (can_open w now m.kind) (opens w now client m key) (turns_away w now client m) refl away-takes)
       (down-takes REQUEST_ENTITY_TOO_LARGE)
+
+  joinable-takes : (key : CacheKey) (o : Option ℕ) → Takes (on_joinable w now client m key o)
+  joinable-takes key None = wanted-takes key
+  joinable-takes key (Some exchange) = either-takes (can_join w now m.kind) (joins w now client m exchange) (turns_away w now client m) refl away-takes
+
+  miss-takes : (key : CacheKey) → Takes (on_miss w now client m key)
+  miss-takes key = joinable-takes key (first_that (is_joinable key) w.exchanges)
 
   entry-takes : (key : CacheKey) (o : Option Entry) → Takes (on_entry w now client m key o)
   entry-takes key None = miss-takes key
@@ -97,15 +97,15 @@ module _ (w : World) (now : ℕ) (client : Endpoint) (m : Message) where
 
   module _ (key : CacheKey) where
     -- the form is too long
-    pub too-long : can_reply w now m.kind ≡ true → form_fits w.setting.limits.datagram key.target m ≡ false → on_miss w now client m key ≡ refuses w now client m REQUEST_ENTITY_TOO_LARGE
+    pub too-long : can_reply w now m.kind ≡ true → form_fits w.setting.limits.datagram key.target m ≡ false → on_wanted w now client m key ≡ refuses w now client m REQUEST_ENTITY_TOO_LARGE
     too-long reply fits = rw (fits, reply) refl
 
     -- there is no room, or it is one that isn't asked for yet
-    pub turned-away : can_reply w now m.kind ≡ true → form_fits w.setting.limits.datagram key.target m ≡ true → can_open w now m.kind ≡ false → on_miss w now client m key ≡ overloads w now client m
+    pub turned-away : can_reply w now m.kind ≡ true → form_fits w.setting.limits.datagram key.target m ≡ true → can_open w now m.kind ≡ false → on_wanted w now client m key ≡ overloads w now client m
     turned-away reply fits closed = rw (fits, closed, reply) refl
 
     -- it is asked for
-    pub opened : form_fits w.setting.limits.datagram key.target m ≡ true → can_open w now m.kind ≡ true → on_miss w now client m key ≡ opens w now client m key
+    pub opened : form_fits w.setting.limits.datagram key.target m ≡ true → can_open w now m.kind ≡ true → on_wanted w now client m key ≡ opens w now client m key
     opened fits free = rw (fits, free) refl
 
     -- what is stored for it, if anything is, can't be shown
@@ -126,21 +126,30 @@ module _ (w : World) (now : ℕ) (client : Endpoint) (m : Message) where
   pub refused : (code : Code) → can_reply w now m.kind ≡ true → verdict_of w.setting.routes m ≡ refused_with code → on_new w now client m ≡ refuses w now client m code
   refused code reply verdict = rw (verdict, reply) refl
 
-  -- where no id is free for a reply none is for an exchange
+  -- where no id is free for a reply none is for a client that waits, and none for an exchange
+  last-false : (a b c : Bool) → c ≡ false → (a && (b && c)) ≡ false
+  last-false true true c e = e
+  last-false true false c e = refl
+  last-false false b c e = refl
+
+  apart : can_reply w now m.kind ≡ false → can_join w now m.kind ≡ false
+  apart none = go m.kind none
+    where
+      go : (kind : Kind) → can_reply w now kind ≡ false → can_join w now kind ≡ false
+      go Con e = absurd cc
+      go Non e = last-false true _ (has_ids 1 w now) e
+      go Ack e = refl
+      go Rst e = refl
+
   shut : can_reply w now m.kind ≡ false → can_open w now m.kind ≡ false
   shut none = go m.kind none
     where
       few : leb (given_in now w.ids + reserved w + 1) 32768 ≡ false → leb (given_in now w.ids + reserved w + 2) 32768 ≡ false
       few e = let more = leb-false _ _ e in lt-leb _ _ (omega (arith, more))
 
-      last : (a b c : Bool) → c ≡ false → (a && (b && c)) ≡ false
-      last true true c e = e
-      last true false c e = refl
-      last false b c e = refl
-
       go : (kind : Kind) → can_reply w now kind ≡ false → can_open w now kind ≡ false
       go Con e = absurd cc
-      go Non e = last _ _ (has_ids 2 w now) (few e)
+      go Non e = last-false _ _ (has_ids 2 w now) (few e)
       go Ack e = refl
       go Rst e = refl
 
@@ -148,17 +157,24 @@ module _ (w : World) (now : ℕ) (client : Endpoint) (m : Message) where
   pub lacking : can_reply w now m.kind ≡ false → on_new w now client m ≡ lacks_id w now
   lacking none = of (verdict_of w.setting.routes m)
     where
-      miss : (key : CacheKey) (b : Bool) → form_fits w.setting.limits.datagram key.target m ≡ b → on_miss w now client m key ≡ lacks_id w now
-      miss key true e = rw (e, shut none, none) refl
-      miss key false e = rw (e, none) refl
+      wants : (key : CacheKey) (b : Bool) → form_fits w.setting.limits.datagram key.target m ≡ b → on_wanted w now client m key ≡ lacks_id w now
+      wants key true e = rw (e, shut none, none) refl
+      wants key false e = rw (e, none) refl
+
+      join : (key : CacheKey) (o : Option ℕ) → on_joinable w now client m key o ≡ lacks_id w now
+      join key None = wants key (form_fits w.setting.limits.datagram key.target m) refl
+      join key (Some exchange) = rw (apart none, none) refl
+
+      miss : (key : CacheKey) → on_miss w now client m key ≡ lacks_id w now
+      miss key = join key (first_that (is_joinable key) w.exchanges)
 
       entry : (key : CacheKey) (o : Option Entry) → on_entry w now client m key o ≡ lacks_id w now
-      entry key None = miss key (form_fits w.setting.limits.datagram key.target m) refl
+      entry key None = miss key
       entry key (Some stored) = usable (is_usable now stored.1) refl
         where
           usable : (b : Bool) → is_usable now stored.1 ≡ b → on_entry w now client m key (Some stored) ≡ lacks_id w now
           usable true e = rw (e, none) refl
-          usable false e = rw e (miss key (form_fits w.setting.limits.datagram key.target m) refl)
+          usable false e = rw e (miss key)
 
       of : (v : Verdict) → on_verdict w now client m v ≡ lacks_id w now
       of (refused_with code) = rw none refl

@@ -1,5 +1,5 @@
 -- What the calls of a core answer and leave.
-use Rattle.std.specs.Prelude.{◌≡◌, ℕ, ◌+◌, ◌<◌, ◌≤◌, ◌^◌, true, false, List, [], ◌∷◌, Option, Some, None, IfSome, option_map}
+use Rattle.std.specs.Prelude.{◌≡◌, ℕ, ◌+◌, ◌<◌, ◌≤◌, ◌^◌, true, false, List, [], ◌∷◌, Option, Some, None, IfSome, option_map, if◌then◌else◌}
 use Rattle.coap_message.specs.Datagram.{Datagram, holding}
 use Rattle.coap_message.specs.Message.{Message}
 use Rattle.coap_exchange.specs.declared.exchange.Exchange.{Exchange}
@@ -23,6 +23,7 @@ use Rattle.coap_target.specs.declared.endpoint.Endpoint.{Endpoint}
 use Rattle.coap_dedup.specs.Lists.{AreUpTo}
 use Rattle.coap_dedup.specs.Records.{AreRecords}
 use Rattle.coap_model.specs.World.{World, Step, later, silent, records_of, reserved, known_of, repeats}
+use Rattle.coap_model.specs.Requests.{can_join, joins, turns_away}
 use Rattle.coap_core.specs.declared.requests.Verdict.{Verdict}
 use Rattle.coap_core.specs.declared.requests.Verdict.TheVariants.{RefusedWith, MayAsk}
 use Rattle.coap_model.specs.Ticks.{idles, sends, on_fire, on_answer}
@@ -103,6 +104,11 @@ verdict_seen MayAsk key = verdicts.may_ask key
 pub record IsAsked (w : World) (m : Message) (asked : Asked) : Type 0 where
   pub key : verdicts.verdict_of w.setting.routes m ≡ verdicts.may_ask asked.key
   pub tags : asked.tags ≡ tags_of m
+
+-- the step of a request for whose key the exchange of this number is under way
+abbrev pub joinable_step : World → ℕ → Endpoint → Message → ℕ → Step
+joinable_step w now client m exchange =
+    if can_join w now m.kind then joins w now client m exchange else turns_away w now client m
 
 -- ---- what is due, by its number
 

@@ -13,10 +13,10 @@ ghost use Rattle.coap_forward.specs.Forms.{forwarded};
 ghost use Rattle.coap_model.specs.Verdicts.{form_fits, verdict_of};
 ghost use Rattle.coap_cache.specs.Entries.{has_usable};
 ghost use Rattle.coap_message.specs.Datagram.{holding};
-ghost use Rattle.coap_model.specs.Requests.{lacks_id, refuses, overloads, opens, next_token, on_key, on_miss, on_new, on_request};
+ghost use Rattle.coap_model.specs.Requests.{lacks_id, refuses, overloads, opens, next_token, joins, on_key, on_miss, on_wanted, on_new, on_request};
 ghost use Rattle.coap_model.specs.World.{can_reply, remembers};
 ghost use Rattle.coap_core.specs.Forms.{says_uri, seen};
-ghost use Rattle.coap_core.specs.Steps.{Does, CanGoOn, CanRemember, IsAsked, verdict_seen};
+ghost use Rattle.coap_core.specs.Steps.{Does, CanGoOn, CanRemember, IsAsked, joinable_step, verdict_seen};
 ghost use Rattle.coap_core.specs.declared.requests.Verdict.TheVariants as verdicts;
 
 use crate::known::reply_kind;
@@ -240,9 +240,8 @@ impl<S: Store + Drop> World<S> {
         }
     }
 
-    /// An exchange is wanted for a key: the length of what is sent on decides, then the room. A
-    /// Confirmable request isn't asked for yet. What a request asks for is copied where it is opened
-    /// alone, in no more room than it needs.
+    /// What is stored for a key, if something is, doesn't answer: an exchange of the key that is
+    /// under way is joined, or else one is wanted.
     fn on_miss(
         &mut self,
         now: u64,
@@ -268,11 +267,78 @@ impl<S: Store + Drop> World<S> {
         ensures err { OnErr result (self.new ≡ self.old) }
         ensures kept { out.new.room ≡ out.old.room }
     {
+        match self.exchanges.joinable(&asked.key) {
+            Some(exchange) => self.on_joinable(now, client, request, exchange, asked, out),
+            None => self.on_wanted(now, client, request, asked, out),
+        }
+    }
+
+    /// The exchange of this number is joined, if there is room for the client. A Confirmable request
+    /// doesn't wait yet.
+    fn on_joinable(
+        &mut self,
+        now: u64,
+        client: Endpoint,
+        request: &MessageRef<'_>,
+        exchange: u64,
+        asked: &Asked,
+        out: &mut Datagram,
+    ) -> Result<Report, OutOfMemory>
+        requires can { CanGoOn self.old }
+        requires onward { self.old.last ≤ now }
+        requires new { CanRemember now client request.now self.old }
+        requires ids { can_reply self.old now request.now.kind ≡ true }
+        requires tags { asked.now.tags ≡ tags_of request.now }
+        requires fits { length (joinable_step self.old now client request.now exchange).bytes
+            ≤ out.old.room }
+        ensures exact { IfOk result (λ report.
+            Does
+            (remembers now client request.now
+            (joinable_step self.old now client request.now exchange))
+            report out.old out.new self.new) }
+        ensures err { OnErr result (self.new ≡ self.old) }
+        ensures kept { out.new.room ≡ out.old.room }
+    {
+        if request.kind != Kind::Non || !self.has_room_to_join(now) {
+            return self.overload(now, client, request, out);
+        }
+        let tags = asked.tags.clone()?;
+        self.join(now, client, request, exchange, tags, out)
+    }
+
+    /// An exchange is wanted for a key: the length of what is sent on decides, then the room. A
+    /// Confirmable request isn't asked for yet. What a request asks for is copied where it is opened
+    /// alone, in no more room than it needs.
+    fn on_wanted(
+        &mut self,
+        now: u64,
+        client: Endpoint,
+        request: &MessageRef<'_>,
+        asked: &Asked,
+        out: &mut Datagram,
+    ) -> Result<Report, OutOfMemory>
+        requires can { CanGoOn self.old }
+        requires onward { self.old.last ≤ now }
+        requires moment { now ≤ 2 ^ 62 }
+        requires new { CanRemember now client request.now self.old }
+        requires ids { can_reply self.old now request.now.kind ≡ true }
+        requires asked { IsAsked self.old request.now asked.now }
+        requires room { self.old.setting.limits.datagram ≤ out.old.room }
+        requires fits { length (on_wanted self.old now client request.now asked.now.key).bytes
+            ≤ out.old.room }
+        ensures exact { IfOk result (λ report.
+            Does
+            (remembers now client request.now
+            (on_wanted self.old now client request.now asked.now.key))
+            report out.old out.new self.new) }
+        ensures err { OnErr result (self.new ≡ self.old) }
+        ensures kept { out.new.room ≡ out.old.room }
+    {
         if !self.fits(request, &asked.key.target, out) {
             let code = Code::REQUEST_ENTITY_TOO_LARGE;
             return self.refuse(now, client, request, code, out);
         }
-        if request.kind != Kind::Non || !self.has_room(now) {
+        if request.kind != Kind::Non || !self.has_room_to_open(now) {
             return self.overload(now, client, request, out);
         }
         let key = asked.key.copied()?;
@@ -439,5 +505,41 @@ impl<S: Store + Drop> World<S> {
         }
         self.pass(now);
         Ok(silent(Outcome::Opened))
+    }
+
+    /// The client waits for the exchange of this number.
+    fn join(
+        &mut self,
+        now: u64,
+        client: Endpoint,
+        request: &MessageRef<'_>,
+        exchange: u64,
+        tags: Pieces,
+        out: &mut Datagram,
+    ) -> Result<Report, OutOfMemory>
+        requires can { CanGoOn self.old }
+        requires new { CanRemember now client request.now self.old }
+        requires tags { tags ≡ tags_of request.now }
+        ensures exact { IfOk result (λ report.
+            Does (remembers now client request.now (joins self.old now client request.now exchange))
+            report out.old out.new self.new) }
+        ensures err { OnErr result (self.new ≡ self.old) }
+        ensures kept { out.new.room ≡ out.old.room }
+    {
+        let (kind, token) = (request.kind, request.token);
+        if self
+            .waiters
+            .admit(client, kind, token, tags, exchange)
+            .is_err()
+        {
+            return Err(OutOfMemory);
+        }
+        out.clear();
+        if self.remember(now, client, request, out.bytes()).is_err() {
+            self.waiters.withdraw();
+            return Err(OutOfMemory);
+        }
+        self.pass(now);
+        Ok(silent(Outcome::Joined))
     }
 }

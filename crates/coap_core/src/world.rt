@@ -6,7 +6,7 @@ ghost use Rattle.coap_exchange.specs.Ids.{called, left_of};
 ghost use Rattle.coap_exchange.specs.Table.{empty_table};
 ghost use Rattle.coap_limits.specs.Limits.{AreLimits};
 ghost use Rattle.coap_model.specs.Setting.{setting_of};
-ghost use Rattle.coap_model.specs.World.{next_id, later, reserved, has_ids, has_room, new_world, counts};
+ghost use Rattle.coap_model.specs.World.{next_id, later, reserved, has_ids, has_waiter_room, has_room_to_join, has_room_to_open, new_world, counts};
 ghost use Rattle.coap_core.specs.Steps.{CanGoOn};
 
 use crate::request_target::Asked;
@@ -187,14 +187,30 @@ impl<S: Store + Drop> World<S> {
         self.reserved() + count <= u64::from(self.ids.left(now))
     }
 
-    /// Whether there is room for an exchange and its client.
-    pub(crate) fn has_room(&self, now: u64) -> bool
+    /// Whether there is room for one more client that waits.
+    fn has_waiter_room(&self) -> bool
+        ensures { result ≡ has_waiter_room self.now }
+    {
+        (self.waiters.len() as u64) < self.limits.values().waiters
+    }
+
+    /// Whether one more client may wait for an exchange that is under way.
+    pub(crate) fn has_room_to_join(&self, now: u64) -> bool
         requires can { CanGoOn self.now }
         requires onward { self.now.last ≤ now }
-        ensures { result ≡ has_room self.now now }
+        ensures { result ≡ has_room_to_join self.now now }
+    {
+        self.has_waiter_room() && self.has_ids(1, now)
+    }
+
+    /// Whether there is room for an exchange and its client.
+    pub(crate) fn has_room_to_open(&self, now: u64) -> bool
+        requires can { CanGoOn self.now }
+        requires onward { self.now.last ≤ now }
+        ensures { result ≡ has_room_to_open self.now now }
     {
         (self.exchanges.len() as u64) < self.limits.values().exchanges
-            && (self.waiters.len() as u64) < self.limits.values().waiters
+            && self.has_waiter_room()
             && self.has_ids(2, now)
     }
 

@@ -137,6 +137,8 @@ module _ (w : World) (history : List Deed) (c : Bears history w) (now draw : ℕ
         verdict = f.verdict;
         form_is = f.form_is;
         form_short = f.form_short;
+        is_get = f.is_get;
+        untainted = f.untainted;
         state = record {
           ending = p;
           was_ended = inl refl;
@@ -229,6 +231,8 @@ keeps_acknowledging w history c now draw source bytes m x onward fits read about
       verdict = f.verdict;
       form_is = f.form_is;
       form_short = f.form_short;
+      is_get = f.is_get;
+      untainted = f.untainted;
       state = record { sending = flight.sending; sending_is = flight.sending_is; asked = asked_frame e quiet was; unended = ((λ ended. let k = ended.outcome in absurd cc), flight.unended) };
     })
     (staged-seen x.0 acked stage.acked w.exchanges (All-weaken (λ y. Has y w.exchanges) (λ y. y.0 ≡ x.0 → stage.acked ≡ stage.acked) w.exchanges (λ y there same. refl) (Has-all w.exchanges)))

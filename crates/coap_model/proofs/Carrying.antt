@@ -9,12 +9,12 @@ use Rattle.coap_model.specs.Step.{step_of}
 use Rattle.coap_model.specs.History.{Entry, Act, no_item, admits, moves, serves, Deed, opened_in, admitted_in}
 use Rattle.coap_model.specs.Runs.{entry_of}
 use Rattle.coap_model.specs.Carries.{Ids, Bears, Carries}
-use Rattle.coap_model.proofs.Rules.{Rule, refusing, lacking, overloading, hitting, opening, repeating, dropping, answering, answering_con, acknowledging, rejecting, ignoring, forwarding, resending, giving_up, delivering, idling, stuck, rule_of}
+use Rattle.coap_model.proofs.Rules.{Rule, refusing, lacking, overloading, hitting, joining, opening, repeating, dropping, answering, answering_con, acknowledging, rejecting, ignoring, forwarding, resending, giving_up, delivering, idling, stuck, rule_of}
 use Rattle.coap_model.proofs.Replying.{keeps_refusing, keeps_overloading, keeps_lacking, keeps_repeating, keeps_dropping, keeps_rejecting, keeps_ignoring}
 use Rattle.coap_model.proofs.Places.{doing}
 use Rattle.coap_model.proofs.Idling.{keeps_idling, not-stuck}
 use Rattle.coap_model.proofs.Repeating.{keeps_resending, keeps_giving_up}
-use Rattle.coap_model.proofs.Opening.{keeps_opening}
+use Rattle.coap_model.proofs.Opening.{keeps_joining, keeps_opening}
 use Rattle.coap_model.proofs.Hitting.{keeps_hitting}
 use Rattle.coap_model.proofs.Stores.{store-empty}
 use Rattle.coap_model.proofs.Forwarding.{keeps_forwarding}
@@ -30,8 +30,9 @@ pub record IsKept (history : List Deed) (e : Entry) (w : World) : Type 0 where
 keeps_rule : {w : World} {now draw : ℕ} {grown : Bool} {event : Event} {s : Step} (history : List Deed) → Bears history w → w.last ≤ now → Rule w now draw grown event s → IsKept history (entry_of now draw event s) s.world
 keeps_rule {w = w} {now = now} {draw = draw} history c onward (refusing client bytes m code first denied free) = record { act = no_item; bears = keeps_refusing w history c now draw client bytes m onward first code denied free }
 keeps_rule {w = w} {now = now} {draw = draw} history c onward (lacking client bytes m first free) = record { act = no_item; bears = keeps_lacking w history c now draw client bytes m onward first free }
-keeps_rule {w = w} {now = now} {draw = draw} history c onward (overloading client bytes m key first verdict none short full free) = record { act = no_item; bears = keeps_overloading w history c now draw client bytes m onward first key verdict none short full free }
+keeps_rule {w = w} {now = now} {draw = draw} history c onward (overloading client bytes m key first verdict lacks free) = record { act = no_item; bears = keeps_overloading w history c now draw client bytes m onward first key verdict lacks free }
 keeps_rule {w = w} {now = now} {draw = draw} history c onward (hitting client bytes m key entry first verdict found usable free) = record { act = no_item; bears = keeps_hitting w history c now draw client bytes m key entry onward first verdict found usable free }
+keeps_rule {w = w} {now = now} {draw = draw} history c onward (joining client bytes m key exchange first verdict none found room) = record { act = admits (admitted_in history + 1) exchange; bears = keeps_joining w history c now draw client bytes m key exchange onward first verdict none found room }
 keeps_rule {w = w} {now = now} {draw = draw} history c onward (opening client bytes m key first verdict none short room) = record { act = admits (admitted_in history + 1) (opened_in history + 1); bears = keeps_opening w history c now draw client bytes m key onward first verdict none short room }
 keeps_rule {w = w} {now = now} {draw = draw} history c onward (repeating client bytes m known fits asked found) = record { act = no_item; bears = keeps_repeating w history c now draw client bytes m known onward fits asked found }
 keeps_rule {w = w} {now = now} {draw = draw} history c onward (dropping source bytes m fits recorded wanted unknown full) = record { act = no_item; bears = keeps_dropping w history c now draw source bytes m onward fits recorded wanted unknown full }

@@ -15,7 +15,7 @@ use Rattle.coap_model.specs.History.{Entry, Deed, Place}
 use Rattle.coap_model.specs.Carries.{Bears, Carries}
 use Rattle.coap_model.proofs.Showing.{answer-fits}
 use Rattle.coap_model.proofs.Spelled.{acknowledgement-short}
-use Rattle.coap_model.proofs.Rules.{Rule, refusing, lacking, overloading, hitting, opening, repeating, dropping, answering, answering_con, acknowledging, rejecting, ignoring, forwarding, resending, giving_up, delivering, idling, stuck, rule_of}
+use Rattle.coap_model.proofs.Rules.{Rule, refusing, lacking, overloading, hitting, joining, opening, repeating, dropping, answering, answering_con, acknowledging, rejecting, ignoring, forwarding, resending, giving_up, delivering, idling, stuck, rule_of}
 use Rattle.coap_model.proofs.Turns.{turn-exchange}
 use Rattle.coap_model.proofs.Getting.{timeout-fits}
 use Rattle.coap_cache.specs.declared.key.CacheKey.{CacheKey}
@@ -56,8 +56,9 @@ ending-fits w now id x key p a token tags wide (given_up gives is) short =
 rule_fits : {w : World} {now draw : ℕ} {grown : Bool} {event : Event} {s : Step} (history : List Deed) → Bears history w → AreLimits w.setting.limits → Rule w now draw grown event s → length s.bytes ≤ w.setting.limits.datagram
 rule_fits {w = w} history c are (refusing client bytes m code first denied free) = let came = request-came w client bytes m first.fits first.asked in omega (arith, (are Datagram).0, own-short m code (next_id w) m.token came.brings.spells.message.token)
 rule_fits {w = w} history c are (lacking client bytes m first free) = omega arith
-rule_fits {w = w} history c are (overloading client bytes m key first verdict none short full free) = let came = request-came w client bytes m first.fits first.asked in omega (arith, (are Datagram).0, busy-short m w.setting.limits.retry_s (next_id w) m.token came.brings.spells.message.token)
+rule_fits {w = w} history c are (overloading client bytes m key first verdict lacks free) = let came = request-came w client bytes m first.fits first.asked in omega (arith, (are Datagram).0, busy-short m w.setting.limits.retry_s (next_id w) m.token came.brings.spells.message.token)
 rule_fits {w = w} {now = now} history c are (hitting client bytes m key entry first verdict found usable free) = let came = request-came w client bytes m first.fits first.asked in hit-fits w history c key entry found w.setting.limits.datagram now m (next_id w) m.token (tags_of m) (are Datagram).0 (omega arith) came.brings.spells.message.token
+rule_fits {w = w} history c are (joining client bytes m key exchange first verdict none found room) = omega arith
 rule_fits {w = w} history c are (opening client bytes m key first verdict none short room) = omega arith
 rule_fits {w = w} {now = now} history c are (repeating client bytes m known fits asked found) = go m.kind refl
   where

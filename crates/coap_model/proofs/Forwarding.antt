@@ -88,6 +88,8 @@ keeps_forwarding w history c now draw at number x onward turn queued early =
       verdict = f.verdict;
       form_is = bytes_are;
       form_short = let short = f.form_short in omega (arith, short, length-with_id id x.form);
+      is_get = f.is_get;
+      untainted = f.untainted;
       state = record {
         sending = sending;
         sending_is = refl;

@@ -158,6 +158,8 @@ exchange_frame setting history e x other f =
       verdict = f.verdict;
       form_is = f.form_is;
       form_short = f.form_short;
+      is_get = f.is_get;
+      untainted = f.untainted;
       state = state_frame setting history e x x.1.state other f.state;
     }
 

@@ -1,17 +1,35 @@
--- What the store misses the cache of the history misses.
-use Rattle.std.proofs.Common.{◌≡◌, ℕ, Bool, true, false, List, refl}
-use Rattle.std.specs.Prelude.{◌&&◌, not}
+-- What the tables miss the history misses: what is cached, and exchanges that may be joined.
+use Rattle.std.proofs.Common.{◌≡◌, ℕ, ◌≤◌, Bool, true, false, List, Option, Some, None, refl, sym, ap, ◌∙◌, subst}
+use Rattle.std.specs.Prelude.{◌&&◌, not, find, option_map}
+use Rattle.std.proofs.lemmas.Bool.{and_parts, and_from}
+use Rattle.std.proofs.lemmas.Option.{same_Some}
+use Rattle.coap_message.specs.declared.kind.Kind.{Kind}
 use Rattle.coap_message.specs.declared.code.Code.{Code}
 use Rattle.coap_message.specs.Message.{Message}
 use Rattle.coap_cache.specs.declared.key.CacheKey.{CacheKey}
 use Rattle.coap_cache.specs.Freshness.{is_fresh}
+use Rattle.coap_cache.specs.Keys.{same_key}
+use Rattle.coap_cache.proofs.Keys.{same_key-only, same_key-itself}
+use Rattle.coap_target.proofs.Lists.{none-found}
+use Rattle.coap_exchange.specs.declared.exchange.Exchange.{Exchange}
+use Rattle.coap_exchange.specs.declared.exchange.ExchangeState.{ExchangeState}
+use Rattle.coap_exchange.specs.declared.exchange.ExchangeState.TheVariants.{Queued, Sent, Acked, Done}
+use Rattle.coap_exchange.specs.Exchanges.{answer_in_state, answer_at, is_missing, is_joinable}
+use Rattle.coap_exchange.specs.Table.{Numbered, first_that}
+use Rattle.coap_model.specs.Setting.{Setting}
+use Rattle.coap_model.specs.Verdicts.{may_ask}
+use Rattle.coap_model.specs.Requests.{can_join, can_open}
 use Rattle.coap_model.specs.World.{World}
-use Rattle.coap_model.specs.History.{Deed}
+use Rattle.coap_model.specs.History.{Deed, Never, Ends}
 use Rattle.coap_model.specs.Cached.{entry_of_cached}
-use Rattle.coap_model.specs.Justified.{IsMiss, Deserves, by_verdict, by_length}
-use Rattle.coap_model.specs.Carries.{Bears}
+use Rattle.coap_model.specs.Justified.{verdict_on, IsMiss, IsJoinable, IsUnanswered, Deserves, by_verdict, by_length, LacksRoom, to_join, to_open}
+use Rattle.coap_model.specs.Carries.{HasNumber, IsState, IsExchangeOf, Bears}
 use Rattle.coap_model.proofs.Rules as rules
-use Rattle.coap_model.proofs.Rules.{IsMissed, IsDenied}
+use Rattle.coap_model.proofs.Rules.{IsMissed, IsDenied, IsFull}
+use Rattle.coap_model.proofs.Lists.{find-holds, Has, All-there, Has-holds}
+use Rattle.coap_model.proofs.Places.{Never-at, one-opened}
+use Rattle.coap_model.proofs.Room.{join-none, room-none}
+use Rattle.coap_model.proofs.Tables.{Has-number, at-number}
 use Rattle.coap_model.proofs.Stores.{cached-found}
 
 -- what isn't usable and wasn't marked isn't fresh
@@ -29,7 +47,76 @@ missed w history c now key none =
       stale = λ entry found. stale-at (is_fresh now (entry_of_cached entry).1) (none (entry_of_cached entry) (cached-found w.store s.cached key entry s.each found));
     }
 
--- so a request that is denied deserves its code
+-- ---- exchanges that may be joined
+
+-- an exchange whose answer hasn't come hasn't ended
+unended-missing : (setting : Setting) (history : List Deed) (x : Numbered Exchange) (s : ExchangeState) → IsState setting history x s → is_missing (answer_in_state s) ≡ true → Never (Ends x.0) history
+unended-missing setting history x Queued s none = s.unended
+unended-missing setting history x Sent s none = s.unended
+unended-missing setting history x Acked s none = s.unended
+unended-missing setting history x (Done a) s none = absurd cc
+
+-- and the answer of one that hasn't ended hasn't come
+missing-unended : (setting : Setting) (history : List Deed) (x : Numbered Exchange) (s : ExchangeState) → IsState setting history x s → Never (Ends x.0) history → is_missing (answer_in_state s) ≡ true
+missing-unended setting history x Queued s never = refl
+missing-unended setting history x Sent s never = refl
+missing-unended setting history x Acked s never = refl
+missing-unended setting history x (Done a) s never = absurd (Never-at (Ends x.0) history s.ending never s.was_ended s.ends)
+
+-- what the search finds may be joined by the history too, and is there
+pub joinable-found : (w : World) (history : List Deed) (c : Bears history w) (key : CacheKey) (n : ℕ) → first_that (is_joinable key) w.exchanges ≡ Some n → IsJoinable w.setting history key n × HasNumber n w.exchanges
+joinable-found w history c key n e = go (find (λ (x : Numbered Exchange). is_joinable key x.1) w.exchanges) refl e
+  where
+    go : (o : Option (Numbered Exchange)) → find (λ (x : Numbered Exchange). is_joinable key x.1) w.exchanges ≡ o → option_map (λ (x : Numbered Exchange). x.0) o ≡ Some n → IsJoinable w.setting history key n × HasNumber n w.exchanges
+    go None is f = absurd cc
+    go (Some x) is f =
+        let h = find-holds (λ y. IsExchangeOf w.setting history y × Has y w.exchanges) (λ (y : Numbered Exchange). is_joinable key y.1) w.exchanges x (All-there (IsExchangeOf w.setting history) w.exchanges c.exchanges) is in
+        let get = and_parts x.1.is_get (not x.1.tainted && (is_missing (answer_at x.1) && same_key x.1.key key)) h.1 in
+        let clean = and_parts (not x.1.tainted) (is_missing (answer_at x.1) && same_key x.1.key key) get.1 in
+        let rest = and_parts (is_missing (answer_at x.1)) (same_key x.1.key key) clean.1 in
+        subst (λ (k : ℕ). IsJoinable w.setting history key k × HasNumber k w.exchanges) (same_Some x.0 n f) (
+          record {
+            opened = h.0.0.opened;
+            verdict = h.0.0.verdict ∙ ap may_ask (same_key-only x.1.key key rest.1);
+            unended = unended-missing w.setting history x x.1.state h.0.0.state rest.0;
+          },
+          Has-number w.exchanges x h.0.1,
+        )
+
+-- where it finds none, none may be joined
+pub none-joinable : (w : World) (history : List Deed) (c : Bears history w) (key : CacheKey) → first_that (is_joinable key) w.exchanges ≡ None → (x : ℕ) → IsJoinable w.setting history key x → ⊥
+none-joinable w history c key e x j = go (find (λ (y : Numbered Exchange). is_joinable key y.1) w.exchanges) refl e
+  where
+    go : (o : Option (Numbered Exchange)) → find (λ (y : Numbered Exchange). is_joinable key y.1) w.exchanges ≡ o → option_map (λ (y : Numbered Exchange). y.0) o ≡ None → ⊥
+    go (Some y) is f = absurd cc
+    go None is f =
+        let has = c.whole.unended x (record { place = j.opened.opening; is_there = j.opened.was_opened; holds = j.opened.opens }) j.unended in
+        let there = at-number (IsExchangeOf w.setting history) x w.exchanges has c.exchanges in
+        let y = there.0 in
+        let own = there.2 in
+        let one = one-opened there.1 j.opened own.opened in
+        let keys : may_ask y.1.key ≡ may_ask key = sym own.verdict ∙ ap (verdict_on w.setting) (sym one.2) ∙ j.verdict in
+        let same = same_asked y.1.key key keys in
+        let missing = missing-unended w.setting history y y.1.state own.state (subst (λ (k : ℕ). Never (Ends k) history) there.1 j.unended) in
+        let passes = and_from y.1.is_get (not y.1.tainted && (is_missing (answer_at y.1) && same_key y.1.key key)) own.is_get (and_from (not y.1.tainted) (is_missing (answer_at y.1) && same_key y.1.key key) (ap not own.untainted) (and_from (is_missing (answer_at y.1)) (same_key y.1.key key) missing (subst (λ (k : CacheKey). same_key y.1.key k ≡ true) same (same_key-itself y.1.key)))) in
+        let fails = Has-holds (λ (z : Numbered Exchange). is_joinable key z.1 ≡ false) w.exchanges y (none-found (λ (z : Numbered Exchange). is_joinable key z.1) w.exchanges is) there.3 in
+        absurd (let both : true ≡ false = sym passes ∙ fails in cc)
+      where
+        same_asked : (a b : CacheKey) → may_ask a ≡ may_ask b → a ≡ b
+        same_asked a b f = cc
+
+-- so what nothing answers here nothing answers by the history
+pub unanswered : (w : World) (history : List Deed) (c : Bears history w) (now : ℕ) (key : CacheKey) → rules.IsUnanswered w now key → IsUnanswered w.setting history now key
+unanswered w history c now key none = record { miss = missed w history c now key none.missed; alone = none-joinable w history c key none.alone }
+
+-- ---- what a request is turned away for
+
+-- a request that is denied deserves its code
 pub deserves : (w : World) (history : List Deed) (c : Bears history w) (now : ℕ) (m : Message) (code : Code) → IsDenied w now m code → Deserves w.setting history now m code
 deserves w history c now m code (rules.by_verdict verdict) = by_verdict verdict
-deserves w history c now m code (rules.by_length key verdict none long is) = by_length key verdict (missed w history c now key none) long is
+deserves w history c now m code (rules.by_length key verdict none long is) = by_length key verdict (unanswered w history c now key none) long is
+
+-- where the tables have no room for it, nor has the history
+pub lacks_room : (w : World) (history : List Deed) (c : Bears history w) (now : ℕ) (key : CacheKey) (m : Message) → w.last ≤ now → IsFull w now key m → LacksRoom w.setting history now key m
+lacks_room w history c now key m onward (rules.to_join exchange none found full) = to_join exchange (missed w history c now key none) (joinable-found w history c key exchange found).0 (λ non. join-none now history w c onward (subst (λ (k : Kind). can_join w now k ≡ false) non full))
+lacks_room w history c now key m onward (rules.to_open none short full) = to_open (unanswered w history c now key none) short (λ non. room-none now history w c onward (subst (λ (k : Kind). can_open w now k ≡ false) non full))

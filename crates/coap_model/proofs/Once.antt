@@ -1,12 +1,13 @@
 -- What is done at one place alone.
-use Rattle.std.proofs.Common.{◌≡◌, ℕ, true, List, refl, sym, ◌∙◌, subst}
+use Rattle.std.proofs.Common.{◌≡◌, ⊎_elim, ℕ, ◌+◌, true, List, refl, sym, ap, ◌∙◌, subst}
 use Rattle.coap_model.specs.declared.report.Outcome.{Outcome}
-use Rattle.coap_model.specs.declared.report.Outcome.TheVariants.{Answered, SentRequest, GaveUp, Delivered}
+use Rattle.coap_model.specs.declared.report.Outcome.TheVariants.{Opened, Answered, SentRequest, GaveUp, Delivered}
+use Rattle.coap_cache.specs.declared.key.CacheKey.{CacheKey}
 use Rattle.coap_model.specs.Setting.{Setting}
-use Rattle.coap_model.specs.History.{moves, Deed, Place, IsPlaceOf, Never, ends, Sends, Ends, Serves}
-use Rattle.coap_model.specs.Justified.{IsForwarding, IsDelivery, IsGivingUp, overdue, unheard, JustifiedBy, AllJustified}
-use Rattle.coap_model.proofs.Owing.{taken-so}
-use Rattle.coap_model.proofs.Places.{first-once, same_moves, same_serves, justified-at}
+use Rattle.coap_model.specs.History.{moves, Deed, Place, IsPlaceOf, Never, opened_in, ends, Sends, Ends, Serves}
+use Rattle.coap_model.specs.Justified.{verdict_on, IsJoinable, IsOpening, IsForwarding, IsDelivery, IsGivingUp, overdue, unheard, JustifiedBy, AllJustified}
+use Rattle.coap_model.proofs.Owing.{one_key, taken-so}
+use Rattle.coap_model.proofs.Places.{first-once, same_moves, same_serves, never-before, in-order, request-unique, justified-at}
 use Rattle.coap_model.proofs.Stages.{all-before, queued-unsent}
 
 -- an exchange was never sent before the place where its request is
@@ -52,3 +53,35 @@ ended-once setting history x a b all at_a at_b ends_a ends_b =
 pub served-once : (setting : Setting) (history : List Deed) (v : ℕ) (a b : Place) → AllJustified setting history → IsPlaceOf history a → IsPlaceOf history b → Serves v a → Serves v b → a ≡ b
 served-once setting history v a b all at_a at_b serves_a serves_b =
     first-once (Serves v) history a b at_a at_b serves_a serves_b (served-first setting history v a all at_a serves_a) (served-first setting history v b all at_b serves_b)
+
+-- an exchange that may be joined could be joined at each place that came after it was opened
+joinable-before : (setting : Setting) (history : List Deed) (key : CacheKey) (x : ℕ) (p : Place) → IsPlaceOf history p → (j : IsJoinable setting history key x) → IsPlaceOf p.before j.opened.opening → IsJoinable setting p.before key x
+joinable-before setting history key x p at j before =
+    let o = j.opened in
+    record {
+      opened = record { opening = o.opening; client = o.client; request = o.request; was_opened = before; opens = o.opens; asked = o.asked };
+      verdict = j.verdict;
+      unended = never-before (Ends x) history p j.unended at;
+    }
+
+-- so none was opened after it for its key
+none-after : {A : Type 0} (setting : Setting) (history : List Deed) (key : CacheKey) (x y : ℕ) → AllJustified setting history → (later : IsJoinable setting history key x) (former : IsJoinable setting history key y) → IsPlaceOf later.opened.opening.before former.opened.opening → A
+none-after setting history key x y all later former before =
+    let o = later.opened in
+    let p = o.opening in
+    let j : IsOpening setting p.before p.deed = justified-at setting history p Opened all o.was_opened o.opens.0 in
+    let one = (request-unique setting p.deed.entry.event o.client j.client o.request j.request o.asked j.asked).1 in
+    let same : key ≡ j.key = one_key (sym later.verdict ∙ ap (verdict_on setting) one ∙ j.verdict) in
+    absurd (j.unanswered.alone y (subst (λ (k : CacheKey). IsJoinable setting p.before k y) same (joinable-before setting history key y p o.was_opened former before)))
+
+-- one exchange of a key may be joined
+pub one-joinable : (setting : Setting) (history : List Deed) (key : CacheKey) (x y : ℕ) → AllJustified setting history → IsJoinable setting history key x → IsJoinable setting history key y → x ≡ y
+one-joinable setting history key x y all a b =
+    ⊎_elim
+    (λ (same : a.opened.opening ≡ b.opened.opening). a.opened.opens.1 ∙ ap (λ (p : Place). opened_in p.before + 1) same ∙ sym b.opened.opens.1)
+    (λ order.
+    ⊎_elim
+    (λ (before : IsPlaceOf a.opened.opening.before b.opened.opening). none-after setting history key x y all a b before)
+    (λ (before : IsPlaceOf b.opened.opening.before a.opened.opening). none-after setting history key y x all b a before)
+    order)
+    (in-order history a.opened.opening b.opened.opening a.opened.was_opened b.opened.was_opened)

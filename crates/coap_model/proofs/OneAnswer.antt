@@ -15,7 +15,7 @@ use Rattle.coap_target.specs.declared.endpoint.Endpoint.{Endpoint}
 use Rattle.coap_target.specs.declared.target.Target.{Target}
 use Rattle.coap_option.specs.Selection.{sent_on, tags_of}
 use Rattle.coap_model.specs.declared.report.Outcome.{Outcome}
-use Rattle.coap_model.specs.declared.report.Outcome.TheVariants.{Ignored, Rejected, Again, NoRecordRoom, Refused, Hit, Opened, Overloaded, NoId, Answered, Acked, SentRequest, Resent, GaveUp, Delivered, Idle}
+use Rattle.coap_model.specs.declared.report.Outcome.TheVariants.{Ignored, Rejected, Again, NoRecordRoom, Refused, Hit, Joined, Opened, Overloaded, NoId, Answered, Acked, SentRequest, Resent, GaveUp, Delivered, Idle}
 use Rattle.coap_model.specs.declared.report.Storing.{Storing}
 use Rattle.coap_model.specs.Setting.{Setting}
 use Rattle.coap_dedup.specs.declared.record.Record.{Record}
@@ -23,15 +23,15 @@ use Rattle.coap_model.specs.Events.{Event}
 use Rattle.coap_forward.specs.Messages.{is_con, brings_requests, acknowledgement, reset, own_reply, busy_reply, at_once, reply_kind, reply_id, token_of}
 use Rattle.coap_forward.specs.Forms.{forwarded}
 use Rattle.coap_forward.specs.Answers.{answer_of, own_answer, gateway_timeout, stored_answer, shown}
-use Rattle.coap_model.specs.History.{Entry, Act, no_item, admits, moves, serves, Deed, Place, ids_in, opened_in, comes_con, ids_given, takes, Brings, Meets, Gets, Ends, Gives, IsRequestOf}
-use Rattle.coap_model.specs.Standing.{HasIds, HasRoomToOpen, queued, stage_of}
+use Rattle.coap_model.specs.History.{Entry, Act, no_item, admits, moves, serves, Deed, Place, ids_in, opened_in, admitted_in, comes_con, ids_given, takes, Brings, Meets, Gets, Ends, Gives, IsRequestOf}
+use Rattle.coap_model.specs.Standing.{HasIds, HasRoomToJoin, HasRoomToOpen, queued, stage_of}
 use Rattle.coap_model.specs.Schedules.{sends_by, MayGoOn, SaysAsBefore}
 use Rattle.coap_model.specs.Due.{IsToEnd, IsToRepeat, IsDueAt, ComesBefore}
 use Rattle.coap_model.specs.Verdicts.{verdict_of}
 use Rattle.coap_cache.specs.declared.answer.Answer.{Answer}
-use Rattle.coap_model.specs.Justified.{Comes, known_of, HasRecordRoom, IsMiss, Deserves, HaveOneMemory, is_fresh_at, verdict_on, IsNew, HasIdFor, SaysAgain, Tells, IsSilent, TakesUp, IsAwaited, Acknowledges, IsDropped, IsAnswer, IsActing, InTime, IsForwarding, IsResending, IsGivingUp, overdue, unheard, EndsWith, got, given_up as was_given_up, IsDelivery, IsUnprocessable, JustifiedBy, AllJustified, MayFollow, AreOfOneTurn}
+use Rattle.coap_model.specs.Justified.{Comes, known_of, HasRecordRoom, IsMiss, IsJoinable, IsUnanswered, LacksRoom, Deserves, HaveOneMemory, is_fresh_at, verdict_on, IsNew, HasIdFor, SaysAgain, Tells, IsSilent, TakesUp, IsAwaited, Acknowledges, IsDropped, IsAnswer, IsActing, InTime, IsForwarding, IsResending, IsGivingUp, overdue, unheard, EndsWith, got, given_up as was_given_up, IsDelivery, IsUnprocessable, JustifiedBy, AllJustified, MayFollow, AreOfOneTurn}
 use Rattle.coap_model.proofs.Places.{here, same_moves, same_serves, arrival-same, one-brought, request-unique, one-opened, one-admitted}
-use Rattle.coap_model.proofs.Once.{ended-once}
+use Rattle.coap_model.proofs.Once.{ended-once, one-joinable}
 use Rattle.coap_model.proofs.Stages.{opened-before, sent-number}
 use Rattle.coap_forward.proofs.Tokens.{token-same}
 use Rattle.coap_model.proofs.Cached.{cache-unique}
@@ -41,7 +41,7 @@ use Rattle.coap_cache.specs.Lists.{of_key}
 use Rattle.coap_model.specs.Cached.{cached_key, entry_of_cached}
 use Rattle.coap_model.proofs.Arrivals.{request_con}
 use Rattle.coap_model.proofs.Sorts.{recorded-sorts, token-or-reset}
-use Rattle.coap_model.proofs.Owing.{one_key, taken-so, answer-awaited, given_again, given_dropped, given_no_room, given_settled, given_hit, given_refused, given_overloaded, given_no_id, given_opened, given_answered, given_rejected, given_ignored, given_up-so, OnTick, sent as sending, resent, given_up, delivered, idle, on-tick}
+use Rattle.coap_model.proofs.Owing.{one_key, taken-so, answer-awaited, given_again, given_dropped, given_no_room, given_settled, given_hit, given_refused, given_overloaded, given_no_id, given_joined, given_opened, given_answered, given_rejected, given_ignored, given_up-so, OnTick, sent as sending, resent, given_up, delivered, idle, on-tick}
 
 -- ---- what is said
 
@@ -401,7 +401,7 @@ one-answer setting past d e all few f g turn =
         record { outcome = is ∙ sym o; act = j.act ∙ sym k.act; say = told-same d.entry e.entry j.client k.client _ _ j.tells k.tells one.0 same }
     by_outcome Overloaded is j =
         let r = same_request j.client j.request j.asked in
-        let o = given_overloaded e.entry.report.outcome setting past e j.client j.request g.justified r (new_too j.client j.request j.new) j.key j.verdict (same_miss j.key j.miss) j.fits (subst (λ (n : ℕ). j.request.kind ≡ Non → ¬ HasRoomToOpen setting.limits n past) turn.now j.no_room) (same_ids j.request j.ids) in
+        let o = given_overloaded e.entry.report.outcome setting past e j.client j.request g.justified r (new_too j.client j.request j.new) j.key j.verdict (subst (λ (n : ℕ). LacksRoom setting past n j.key j.request) turn.now j.no_room) (same_ids j.request j.ids) in
         let k = holds Overloaded o in
         let one = request-unique setting e.entry.event j.client k.client j.request k.request r k.asked in
         let token : j.request.token ≡ k.request.token = ap (λ (m : Message). m.token) one.1 in
@@ -413,8 +413,16 @@ one-answer setting past d e all few f g turn =
         let o = given_no_id e.entry.report.outcome setting past e j.client j.request g.justified (same_request j.client j.request j.asked) (new_too j.client j.request j.new) j.kind (subst (λ (n : ℕ). ¬ HasIds 1 n past) turn.now j.no_ids) in
         let k = holds NoId o in
         record { outcome = is ∙ sym o; act = j.act ∙ sym k.act; say = silent-same d.entry e.entry j.silent k.silent }
+    by_outcome Joined is j =
+        let r = same_request j.client j.request j.asked in
+        let o = given_joined e.entry.report.outcome setting past e j.client j.request g.justified r (new_too j.client j.request j.new) j.kind j.key j.exchange j.verdict (same_miss j.key j.miss) j.joinable (subst (λ (n : ℕ). HasRoomToJoin setting.limits n past) turn.now j.room) in
+        let k = holds Joined o in
+        let one = request-unique setting e.entry.event j.client k.client j.request k.request r k.asked in
+        let key : j.key ≡ k.key = one_key (sym j.verdict ∙ ap (verdict_on setting) one.1 ∙ k.verdict) in
+        let exchange = one-joinable setting past k.key j.exchange k.exchange all (subst (λ (c : CacheKey). IsJoinable setting past c j.exchange) key j.joinable) k.joinable in
+        record { outcome = is ∙ sym o; act = j.act ∙ ap (admits (admitted_in past + 1)) exchange ∙ sym k.act; say = silent-same d.entry e.entry j.silent k.silent }
     by_outcome Opened is j =
-        let o = given_opened e.entry.report.outcome setting past e j.client j.request g.justified (same_request j.client j.request j.asked) (new_too j.client j.request j.new) j.kind j.key j.verdict (same_miss j.key j.miss) j.fits (subst (λ (n : ℕ). HasRoomToOpen setting.limits n past) turn.now j.room) in
+        let o = given_opened e.entry.report.outcome setting past e j.client j.request g.justified (same_request j.client j.request j.asked) (new_too j.client j.request j.new) j.kind j.key j.verdict (subst (λ (n : ℕ). IsUnanswered setting past n j.key) turn.now j.unanswered) j.fits (subst (λ (n : ℕ). HasRoomToOpen setting.limits n past) turn.now j.room) in
         let k = holds Opened o in
         record { outcome = is ∙ sym o; act = j.act ∙ sym k.act; say = silent-same d.entry e.entry j.silent k.silent }
     by_outcome Hit is j =
@@ -515,4 +523,3 @@ one-answer setting past d e all few f g turn =
         go o (given_up k) = absurd (later (given_up-so setting past e k))
         go o (delivered k) = absurd (later k.acting)
         go o (idle k) = record { outcome = is ∙ sym o; act = j.act ∙ sym k.act; say = silent-same d.entry e.entry j.silent k.silent }
-    by_outcome _ is j = absurd j

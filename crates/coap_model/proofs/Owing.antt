@@ -8,7 +8,7 @@ use Rattle.coap_message.specs.Reading.{head_at}
 use Rattle.coap_target.specs.declared.endpoint.Endpoint.{Endpoint}
 use Rattle.coap_cache.specs.declared.key.CacheKey.{CacheKey}
 use Rattle.coap_model.specs.declared.report.Outcome.{Outcome}
-use Rattle.coap_model.specs.declared.report.Outcome.TheVariants.{Ignored, Rejected, Again, NoRecordRoom, Refused, Hit, Opened, Overloaded, NoId, Answered, Acked, SentRequest, Resent, GaveUp, Delivered, Idle}
+use Rattle.coap_model.specs.declared.report.Outcome.TheVariants.{Ignored, Rejected, Again, NoRecordRoom, Refused, Hit, Joined, Opened, Overloaded, NoId, Answered, Acked, SentRequest, Resent, GaveUp, Delivered, Idle}
 use Rattle.coap_model.specs.declared.report.Storing.{Storing}
 use Rattle.coap_model.specs.declared.report.Storing.TheVariants.{Kept, TooLarge, NoMemory, NotStored}
 use Rattle.coap_model.specs.Setting.{Setting}
@@ -16,13 +16,13 @@ use Rattle.coap_dedup.specs.declared.record.Record.{Record}
 use Rattle.coap_model.specs.Events.{Event, arrival, tick}
 use Rattle.coap_forward.specs.Messages.{is_recorded}
 use Rattle.coap_model.specs.Verdicts.{may_ask}
-use Rattle.coap_model.specs.Standing.{HasIds, HasRoomToOpen}
+use Rattle.coap_model.specs.Standing.{HasIds, HasRoomToJoin, HasRoomToOpen}
 use Rattle.coap_model.specs.History.{Act, Deed, takes, Brings, IsRequestOf, Meets, Matches}
 use Rattle.coap_cache.specs.Lists.{of_key}
 use Rattle.coap_model.specs.Cached.{Cached, cached_key, IsCacheOf}
 use Rattle.coap_model.proofs.Cached.{cache-unique}
 use Rattle.coap_model.specs.Due.{IsDueAt}
-use Rattle.coap_model.specs.Justified.{Comes, known_of, HasRecordRoom, IsNew, HasIdFor, IsRepetition, IsDropped, Acknowledges, verdict_on, fits_on, Deserves, by_verdict, by_length, IsMiss, is_fresh_at, IsRefusal, IsHit, IsAnswer, IsOverload, IsLack, IsOpening, IsAwaited, IsForwarding, IsResending, IsGivingUp, overdue, unheard, IsDelivery, IsIdle, IsUnprocessable, IsActing, JustifiedBy}
+use Rattle.coap_model.specs.Justified.{Comes, known_of, HasRecordRoom, IsNew, HasIdFor, IsRepetition, IsDropped, Acknowledges, verdict_on, fits_on, Deserves, by_verdict, by_length, IsMiss, IsJoinable, IsUnanswered, is_fresh_at, IsRefusal, IsHit, IsAnswer, LacksRoom, to_join, to_open, IsOverload, IsLack, IsJoining, IsOpening, IsAwaited, IsForwarding, IsResending, IsGivingUp, overdue, unheard, IsDelivery, IsIdle, IsUnprocessable, IsActing, JustifiedBy}
 use Rattle.coap_model.proofs.Arrivals.{no_tick, one_kind}
 use Rattle.coap_model.proofs.Places.{arrival-same, one-brought, request-unique}
 use Rattle.coap_model.proofs.Sorts.{ack-no-request, answer-no-request, answer-no-ack, recorded-sorts, recorded-kind, answer-recorded}
@@ -72,17 +72,19 @@ data OnRequest (setting : Setting) (past : List Deed) (d : Deed) : Outcome → T
   refused : (code : Code) → IsRefusal setting past d code → OnRequest setting past d (Refused code)
   overloaded : IsOverload setting past d → OnRequest setting past d Overloaded
   lacking : IsLack setting past d → OnRequest setting past d NoId
+  joined : IsJoining setting past d → OnRequest setting past d Joined
   opened : IsOpening setting past d → OnRequest setting past d Opened
   hit : IsHit setting past d → OnRequest setting past d Hit
   repeated : IsRepetition setting past d → OnRequest setting past d Again
   dropped : IsDropped setting past d → OnRequest setting past d NoRecordRoom
 
--- a request is refused, answered from the cache, told to come later, met with silence, opened, a
--- duplicate or not remembered, and nothing else
+-- a request is refused, answered from the cache, told to come later, met with silence, joined,
+-- opened, a duplicate or not remembered, and nothing else
 on-request : (o : Outcome) (setting : Setting) (past : List Deed) (d : Deed) (client : Endpoint) (request : Message) → JustifiedBy o setting past d → IsRequestOf setting client request d.entry.event → OnRequest setting past d o
 on-request Ignored setting past d client request j r = absurd (j.unprocessable.no_request client request r)
 on-request Rejected setting past d client request j r = absurd (j.unprocessable.no_request client request r)
 on-request (Refused code) setting past d client request j r = refused code j
+on-request Joined setting past d client request j r = joined j
 on-request Opened setting past d client request j r = opened j
 on-request Overloaded setting past d client request j r = overloaded j
 on-request NoId setting past d client request j r = lacking j
@@ -96,7 +98,6 @@ on-request Resent setting past d client request j r = no_tick r.brings.came j.ac
 on-request GaveUp setting past d client request j r = no_tick r.brings.came (given_up-so setting past d j).ticked
 on-request Delivered setting past d client request j r = no_tick r.brings.came j.acting.ticked
 on-request Idle setting past d client request j r = no_tick r.brings.came j.ticked
-on-request _ setting past d client request j r = absurd j
 
 -- what may be asked for has one key
 pub one_key : {a b : CacheKey} → may_ask a ≡ may_ask b → a ≡ b
@@ -107,23 +108,52 @@ pub missed-or-hit : {A : Type 0} (setting : Setting) (past : List Deed) (now : �
 missed-or-hit setting past now key other cached entry miss same is found fresh =
     absurd (let one = cache-unique setting past cached miss.cached is miss.is_cache in let back = sym same in let stale = miss.stale entry (sym (λ i. of_key cached_key (back i) (one i)) ∙ found) in let e = sym fresh ∙ stale in cc)
 
+-- where nothing answers a key, no exchange of it may be joined
+none-joinable : {A : Type 0} (setting : Setting) (past : List Deed) (now x : ℕ) (key other : CacheKey) → IsUnanswered setting past now key → key ≡ other → IsJoinable setting past other x → A
+none-joinable setting past now x key other unanswered same joinable = absurd (unanswered.alone x (subst (λ (k : CacheKey). IsJoinable setting past k x) (sym same) joinable))
+
 -- a request that fits deserves no code
 fits_well : {A : Type 0} (setting : Setting) (past : List Deed) (now : ℕ) (request : Message) (code : Code) (key : CacheKey) → Deserves setting past now request code → verdict_on setting request ≡ may_ask key → fits_on setting key request ≡ true → A
 fits_well setting past now request code key (by_verdict refusal) verdict short = absurd (let e = sym refusal ∙ verdict in cc)
-fits_well setting past now request code key (by_length other asked miss long is) verdict short =
+fits_well setting past now request code key (by_length other asked unanswered long is) verdict short =
     absurd (let same = one_key (sym asked ∙ verdict) in let e = sym long ∙ ap (λ (k : CacheKey). fits_on setting k request) same ∙ short in cc)
 
 -- nor does one that hits
 hits_well : {A : Type 0} (setting : Setting) (past : List Deed) (now : ℕ) (request : Message) (code : Code) (key : CacheKey) (cached : List Cached) (entry : Cached) → Deserves setting past now request code → verdict_on setting request ≡ may_ask key → IsCacheOf setting past cached → of_key cached_key key cached ≡ Some entry → is_fresh_at now entry ≡ true → A
 hits_well setting past now request code key cached entry (by_verdict refusal) verdict is found fresh = absurd (let e = sym refusal ∙ verdict in cc)
-hits_well setting past now request code key cached entry (by_length other asked miss long same) verdict is found fresh = missed-or-hit setting past now other key cached entry miss (one_key (sym asked ∙ verdict)) is found fresh
+hits_well setting past now request code key cached entry (by_length other asked unanswered long same) verdict is found fresh = missed-or-hit setting past now other key cached entry unanswered.miss (one_key (sym asked ∙ verdict)) is found fresh
+
+-- nor does one whose key has an exchange that may be joined
+joins_well : {A : Type 0} (setting : Setting) (past : List Deed) (now x : ℕ) (request : Message) (code : Code) (key : CacheKey) → Deserves setting past now request code → verdict_on setting request ≡ may_ask key → IsJoinable setting past key x → A
+joins_well setting past now x request code key (by_verdict refusal) verdict joinable = absurd (let e = sym refusal ∙ verdict in cc)
+joins_well setting past now x request code key (by_length other asked unanswered long is) verdict joinable = none-joinable setting past now x other key unanswered (one_key (sym asked ∙ verdict)) joinable
+
+-- nor does one for which there is no room
+lacks_well : {A : Type 0} (setting : Setting) (past : List Deed) (now : ℕ) (request : Message) (code : Code) (key : CacheKey) → Deserves setting past now request code → verdict_on setting request ≡ may_ask key → LacksRoom setting past now key request → A
+lacks_well setting past now request code key deserved verdict (to_join x miss joinable full) = joins_well setting past now x request code key deserved verdict joinable
+lacks_well setting past now request code key deserved verdict (to_open unanswered short full) = fits_well setting past now request code key deserved verdict short
+
+-- where there is no room, the cache has nothing
+lacks-miss : {setting : Setting} {past : List Deed} {now : ℕ} {key : CacheKey} {request : Message} → LacksRoom setting past now key request → IsMiss setting past key now
+lacks-miss (to_join x miss joinable full) = miss
+lacks-miss (to_open unanswered short full) = unanswered.miss
+
+-- where nothing answers, and there is room to open an exchange, room isn't lacking
+roomy-open : {A : Type 0} (setting : Setting) (past : List Deed) (now : ℕ) (key other : CacheKey) (request : Message) → IsUnanswered setting past now key → HasRoomToOpen setting.limits now past → request.kind ≡ Non → key ≡ other → LacksRoom setting past now other request → A
+roomy-open setting past now key other request unanswered room kind same (to_join x miss joinable full) = none-joinable setting past now x key other unanswered same joinable
+roomy-open setting past now key other request unanswered room kind same (to_open also short full) = absurd (full kind room)
+
+-- nor is it where an exchange may be joined, and there is room to join it
+roomy-join : {A : Type 0} (setting : Setting) (past : List Deed) (now x : ℕ) (key other : CacheKey) (request : Message) → IsJoinable setting past key x → HasRoomToJoin setting.limits now past → request.kind ≡ Non → key ≡ other → LacksRoom setting past now other request → A
+roomy-join setting past now x key other request joinable room kind same (to_join y miss also full) = absurd (full kind room)
+roomy-join setting past now x key other request joinable room kind same (to_open unanswered short full) = none-joinable setting past now x other key unanswered (sym same) joinable
 
 -- a request deserves one code
 one_code : (setting : Setting) (past : List Deed) (now : ℕ) (request : Message) (a b : Code) → Deserves setting past now request a → Deserves setting past now request b → a ≡ b
 one_code setting past now request a b (by_verdict p) (by_verdict q) = let e = sym p ∙ q in cc
-one_code setting past now request a b (by_verdict p) (by_length key q miss long is) = absurd (let e = sym p ∙ q in cc)
-one_code setting past now request a b (by_length key p miss long is) (by_verdict q) = absurd (let e = sym p ∙ q in cc)
-one_code setting past now request a b (by_length key p miss long is) (by_length other q none longer same) = is ∙ sym same
+one_code setting past now request a b (by_verdict p) (by_length key q unanswered long is) = absurd (let e = sym p ∙ q in cc)
+one_code setting past now request a b (by_length key p unanswered long is) (by_verdict q) = absurd (let e = sym p ∙ q in cc)
+one_code setting past now request a b (by_length key p unanswered long is) (by_length other q none longer same) = is ∙ sym same
 
 -- an event brings one request, which deserves the same code under either name
 same_deserved : (setting : Setting) (past : List Deed) (now : ℕ) (d : Deed) (a b : Endpoint) (r s : Message) (code : Code) → IsRequestOf setting a r d.entry.event → IsRequestOf setting b s d.entry.event → Deserves setting past now r code → Deserves setting past now s code
@@ -165,6 +195,7 @@ given_again o setting past d source m known j comes found = go o j
     go Ignored k = unprocessed k.unprocessable
     go Rejected k = unprocessed k.unprocessable
     go (Refused code) k = new k.client k.request k.asked.brings k.new.unknown
+    go Joined k = new k.client k.request k.asked.brings k.new.unknown
     go Opened k = new k.client k.request k.asked.brings k.new.unknown
     go Overloaded k = new k.client k.request k.asked.brings k.new.unknown
     go NoId k = new k.client k.request k.asked.brings k.new.unknown
@@ -181,7 +212,6 @@ given_again o setting past d source m known j comes found = go o j
     go GaveUp k = no_tick comes.brings.came (given_up-so setting past d k).ticked
     go Delivered k = no_tick comes.brings.came k.acting.ticked
     go Idle k = no_tick comes.brings.came k.ticked
-    go _ k = absurd k
 
 -- ---- requests that are new
 
@@ -204,6 +234,7 @@ module _ (o : Outcome) (setting : Setting) (past : List Deed) (d : Deed) (client
       go (refused code k) = not-new k.client k.request k.asked k.new
       go (overloaded k) = not-new k.client k.request k.asked k.new
       go (lacking k) = not-new k.client k.request k.asked k.new
+      go (joined k) = not-new k.client k.request k.asked k.new
       go (opened k) = not-new k.client k.request k.asked k.new
       go (hit k) = not-new k.client k.request k.asked k.new
       go (repeated k) = new-known setting.limits.datagram past d client k.source request k.message k.known r.brings k.comes.brings unknown k.found
@@ -223,8 +254,9 @@ module _ (o : Outcome) (setting : Setting) (past : List Deed) (d : Deed) (client
       where
         go : {p : Outcome} → OnRequest setting past d p → p ≡ Refused code
         go (refused other k) = ap Refused (one_code setting past now request other code (same_deserved setting past now d k.client client k.request request other k.asked r k.deserved) deserved)
-        go (overloaded k) = fits_well setting past now k.request code k.key (same_deserved setting past now d client k.client request k.request code r k.asked deserved) k.verdict k.fits
+        go (overloaded k) = lacks_well setting past now k.request code k.key (same_deserved setting past now d client k.client request k.request code r k.asked deserved) k.verdict k.no_room
         go (lacking k) = absurd (k.no_ids (ids (sym (ap (λ (m : Message). m.kind) (one k.client k.request k.asked)) ∙ k.kind)))
+        go (joined k) = joins_well setting past now k.exchange k.request code k.key (same_deserved setting past now d client k.client request k.request code r k.asked deserved) k.verdict k.joinable
         go (opened k) = fits_well setting past now k.request code k.key (same_deserved setting past now d client k.client request k.request code r k.asked deserved) k.verdict k.fits
         go (hit k) = hits_well setting past now k.request code k.key k.cached k.entry (same_deserved setting past now d client k.client request k.request code r k.asked deserved) k.verdict k.is_cache k.found k.fresh
         go (repeated k) = not-again k
@@ -236,23 +268,25 @@ module _ (o : Outcome) (setting : Setting) (past : List Deed) (d : Deed) (client
       where
         go : {p : Outcome} → OnRequest setting past d p → p ≡ Hit
         go (refused code k) = hits_well setting past now request code key cached entry (same_deserved setting past now d k.client client k.request request code k.asked r k.deserved) verdict is found fresh
-        go (overloaded k) = missed-or-hit setting past now k.key key cached entry k.miss (key-of setting d k.client client k.request request k.key key k.asked r k.verdict verdict) is found fresh
+        go (overloaded k) = missed-or-hit setting past now k.key key cached entry (lacks-miss k.no_room) (key-of setting d k.client client k.request request k.key key k.asked r k.verdict verdict) is found fresh
         go (lacking k) = absurd (k.no_ids (ids (sym (ap (λ (m : Message). m.kind) (one k.client k.request k.asked)) ∙ k.kind)))
-        go (opened k) = missed-or-hit setting past now k.key key cached entry k.miss (key-of setting d k.client client k.request request k.key key k.asked r k.verdict verdict) is found fresh
+        go (joined k) = missed-or-hit setting past now k.key key cached entry k.miss (key-of setting d k.client client k.request request k.key key k.asked r k.verdict verdict) is found fresh
+        go (opened k) = missed-or-hit setting past now k.key key cached entry k.unanswered.miss (key-of setting d k.client client k.request request k.key key k.asked r k.verdict verdict) is found fresh
         go (hit k) = refl
         go (repeated k) = not-again k
         go (dropped k) = not-dropped k
 
-    -- one that is missed is told to come later where there is no room
-    pub given_overloaded : (key : CacheKey) → verdict_on setting request ≡ may_ask key → IsMiss setting past key d.entry.now → fits_on setting key request ≡ true → (request.kind ≡ Non → ¬ HasRoomToOpen setting.limits d.entry.now past) → HasIdFor request d.entry.now past → o ≡ Overloaded
-    given_overloaded key verdict miss short full ids = go (on-request o setting past d client request j r)
+    -- one that may be asked for is told to come later where there is no room
+    pub given_overloaded : (key : CacheKey) → verdict_on setting request ≡ may_ask key → LacksRoom setting past d.entry.now key request → HasIdFor request d.entry.now past → o ≡ Overloaded
+    given_overloaded key verdict lacks ids = go (on-request o setting past d client request j r)
       where
         go : {p : Outcome} → OnRequest setting past d p → p ≡ Overloaded
-        go (refused code k) = fits_well setting past now request code key (same_deserved setting past now d k.client client k.request request code k.asked r k.deserved) verdict short
+        go (refused code k) = lacks_well setting past now request code key (same_deserved setting past now d k.client client k.request request code k.asked r k.deserved) verdict lacks
         go (overloaded k) = refl
         go (lacking k) = absurd (k.no_ids (ids (sym (ap (λ (m : Message). m.kind) (one k.client k.request k.asked)) ∙ k.kind)))
-        go (opened k) = absurd (full (sym (ap (λ (m : Message). m.kind) (one k.client k.request k.asked)) ∙ k.kind) k.room)
-        go (hit k) = missed-or-hit setting past now key k.key k.cached k.entry miss (key-of setting d client k.client request k.request key k.key r k.asked verdict k.verdict) k.is_cache k.found k.fresh
+        go (joined k) = roomy-join setting past now k.exchange k.key key request k.joinable k.room (ap (λ (m : Message). m.kind) (sym (one k.client k.request k.asked)) ∙ k.kind) (key-of setting d k.client client k.request request k.key key k.asked r k.verdict verdict) lacks
+        go (opened k) = roomy-open setting past now k.key key request k.unanswered k.room (ap (λ (m : Message). m.kind) (sym (one k.client k.request k.asked)) ∙ k.kind) (key-of setting d k.client client k.request request k.key key k.asked r k.verdict verdict) lacks
+        go (hit k) = missed-or-hit setting past now key k.key k.cached k.entry (lacks-miss lacks) (key-of setting d client k.client request k.request key k.key r k.asked verdict k.verdict) k.is_cache k.found k.fresh
         go (repeated k) = not-again k
         go (dropped k) = not-dropped k
 
@@ -268,20 +302,36 @@ module _ (o : Outcome) (setting : Setting) (past : List Deed) (d : Deed) (client
           go (refused code k) = absurd (none (k.ids (non k.client k.request k.asked)))
           go (overloaded k) = absurd (none (k.ids (non k.client k.request k.asked)))
           go (lacking k) = refl
+          go (joined k) = absurd (none k.room.ids)
           go (opened k) = absurd (none (fewer_ids d.entry.now past k.room.ids))
           go (hit k) = absurd (none (k.ids (non k.client k.request k.asked)))
           go (repeated k) = not-again k
           go (dropped k) = not-dropped k
 
-      -- one that is missed, with room, is opened
-      pub given_opened : (key : CacheKey) → verdict_on setting request ≡ may_ask key → IsMiss setting past key d.entry.now → fits_on setting key request ≡ true → HasRoomToOpen setting.limits d.entry.now past → o ≡ Opened
-      given_opened key verdict miss short room = go (on-request o setting past d client request j r)
+      -- one that nothing answers, with room, is opened
+      pub given_opened : (key : CacheKey) → verdict_on setting request ≡ may_ask key → IsUnanswered setting past d.entry.now key → fits_on setting key request ≡ true → HasRoomToOpen setting.limits d.entry.now past → o ≡ Opened
+      given_opened key verdict unanswered short room = go (on-request o setting past d client request j r)
         where
           go : {p : Outcome} → OnRequest setting past d p → p ≡ Opened
           go (refused code k) = fits_well setting past now request code key (same_deserved setting past now d k.client client k.request request code k.asked r k.deserved) verdict short
-          go (overloaded k) = absurd (k.no_room (non k.client k.request k.asked) room)
+          go (overloaded k) = roomy-open setting past now key k.key k.request unanswered room (non k.client k.request k.asked) (key-of setting d client k.client request k.request key k.key r k.asked verdict k.verdict) k.no_room
           go (lacking k) = absurd (k.no_ids (fewer_ids d.entry.now past room.ids))
+          go (joined k) = none-joinable setting past now k.exchange key k.key unanswered (key-of setting d client k.client request k.request key k.key r k.asked verdict k.verdict) k.joinable
           go (opened k) = refl
+          go (hit k) = missed-or-hit setting past now key k.key k.cached k.entry unanswered.miss (key-of setting d client k.client request k.request key k.key r k.asked verdict k.verdict) k.is_cache k.found k.fresh
+          go (repeated k) = not-again k
+          go (dropped k) = not-dropped k
+
+      -- one that is missed, and whose key has an exchange that may be joined, is joined, with room
+      pub given_joined : (key : CacheKey) (x : ℕ) → verdict_on setting request ≡ may_ask key → IsMiss setting past key d.entry.now → IsJoinable setting past key x → HasRoomToJoin setting.limits d.entry.now past → o ≡ Joined
+      given_joined key x verdict miss joinable room = go (on-request o setting past d client request j r)
+        where
+          go : {p : Outcome} → OnRequest setting past d p → p ≡ Joined
+          go (refused code k) = joins_well setting past now x request code key (same_deserved setting past now d k.client client k.request request code k.asked r k.deserved) verdict joinable
+          go (overloaded k) = roomy-join setting past now x key k.key k.request joinable room (non k.client k.request k.asked) (key-of setting d client k.client request k.request key k.key r k.asked verdict k.verdict) k.no_room
+          go (lacking k) = absurd (k.no_ids room.ids)
+          go (joined k) = refl
+          go (opened k) = none-joinable setting past now x k.key key k.unanswered (key-of setting d k.client client k.request request k.key key k.asked r k.verdict verdict) joinable
           go (hit k) = missed-or-hit setting past now key k.key k.cached k.entry miss (key-of setting d client k.client request k.request key k.key r k.asked verdict k.verdict) k.is_cache k.found k.fresh
           go (repeated k) = not-again k
           go (dropped k) = not-dropped k
@@ -297,6 +347,7 @@ module _ (o : Outcome) (setting : Setting) (past : List Deed) (d : Deed) (x : �
       go Ignored k = absurd (k.unprocessable.no_answer x a)
       go Rejected k = absurd (k.unprocessable.no_answer x a)
       go (Refused code) k = no_answer a.meets k.asked
+      go Joined k = no_answer a.meets k.asked
       go Opened k = no_answer a.meets k.asked
       go Overloaded k = no_answer a.meets k.asked
       go NoId k = no_answer a.meets k.asked
@@ -310,7 +361,6 @@ module _ (o : Outcome) (setting : Setting) (past : List Deed) (d : Deed) (x : �
       go GaveUp k = no_tick a.meets.brings.came (given_up-so setting past d k).ticked
       go Delivered k = no_tick a.meets.brings.came k.acting.ticked
       go Idle k = no_tick a.meets.brings.came k.ticked
-      go _ k = absurd k
 
   -- one in a Confirmable message that isn't known, and that there is no room to remember, meets silence
   pub given_no_room : a.meets.message.kind ≡ Con → known_of past d.entry.now a.meets.asks.sends.to a.meets.message ≡ None → ¬ HasRecordRoom setting past d.entry.now a.meets.message → o ≡ NoRecordRoom
@@ -320,6 +370,7 @@ module _ (o : Outcome) (setting : Setting) (past : List Deed) (d : Deed) (x : �
       go Ignored k = absurd (k.unprocessable.no_answer x a)
       go Rejected k = absurd (k.unprocessable.no_answer x a)
       go (Refused code) k = no_answer a.meets k.asked
+      go Joined k = no_answer a.meets k.asked
       go Opened k = no_answer a.meets k.asked
       go Overloaded k = no_answer a.meets k.asked
       go NoId k = no_answer a.meets k.asked
@@ -333,7 +384,6 @@ module _ (o : Outcome) (setting : Setting) (past : List Deed) (d : Deed) (x : �
       go GaveUp k = no_tick a.meets.brings.came (given_up-so setting past d k).ticked
       go Delivered k = no_tick a.meets.brings.came k.acting.ticked
       go Idle k = no_tick a.meets.brings.came k.ticked
-      go _ k = absurd k
 
 -- an acknowledgement of a request that waits for one settles it
 pub given_settled : (o : Outcome) (setting : Setting) (past : List Deed) (d : Deed) (x : ℕ) → JustifiedBy o setting past d → Acknowledges setting past d.entry.now x d.entry.event → o ≡ Acked
@@ -343,6 +393,7 @@ given_settled o setting past d x j a = go o j
     go Ignored k = absurd (k.unprocessable.no_settling x a)
     go Rejected k = absurd (k.unprocessable.no_settling x a)
     go (Refused code) k = no_ack a k.asked
+    go Joined k = no_ack a k.asked
     go Opened k = no_ack a k.asked
     go Overloaded k = no_ack a k.asked
     go NoId k = no_ack a k.asked
@@ -356,7 +407,6 @@ given_settled o setting past d x j a = go o j
     go GaveUp k = no_tick a.brings.came (given_up-so setting past d k).ticked
     go Delivered k = no_tick a.brings.came k.acting.ticked
     go Idle k = no_tick a.brings.came k.ticked
-    go _ k = absurd k
 
 -- ---- what isn't processed
 
@@ -385,6 +435,7 @@ module _ (o : Outcome) (setting : Setting) (past : List Deed) (d : Deed) (source
       go Ignored k = let same = arrival-same source k.source bytes k.bytes (sym came ∙ k.came) in absurd (k.no_con head (sym (ap head_at same.1) ∙ is) con)
       go Rejected k = refl
       go (Refused code) k = absurd (not.no_request k.client k.request k.asked)
+      go Joined k = absurd (not.no_request k.client k.request k.asked)
       go Opened k = absurd (not.no_request k.client k.request k.asked)
       go Overloaded k = absurd (not.no_request k.client k.request k.asked)
       go NoId k = absurd (not.no_request k.client k.request k.asked)
@@ -398,7 +449,6 @@ module _ (o : Outcome) (setting : Setting) (past : List Deed) (d : Deed) (source
       go GaveUp k = no_tick came (given_up-so setting past d k).ticked
       go Delivered k = no_tick came k.acting.ticked
       go Idle k = no_tick came k.ticked
-      go _ k = absurd k
 
   -- what can't be processed and isn't confirmable is ignored
   pub given_ignored : ((head : Head) → head_at bytes ≡ Some head → head.kind ≢ Con) → IsUnprocessable setting past d.entry → o ≡ Ignored
@@ -408,6 +458,7 @@ module _ (o : Outcome) (setting : Setting) (past : List Deed) (d : Deed) (source
       go Ignored k = refl
       go Rejected k = let same = arrival-same source k.source bytes k.bytes (sym came ∙ k.came) in absurd (no_con k.head (ap head_at same.1 ∙ k.head_is) k.con)
       go (Refused code) k = absurd (not.no_request k.client k.request k.asked)
+      go Joined k = absurd (not.no_request k.client k.request k.asked)
       go Opened k = absurd (not.no_request k.client k.request k.asked)
       go Overloaded k = absurd (not.no_request k.client k.request k.asked)
       go NoId k = absurd (not.no_request k.client k.request k.asked)
@@ -421,7 +472,6 @@ module _ (o : Outcome) (setting : Setting) (past : List Deed) (d : Deed) (source
       go GaveUp k = no_tick came (given_up-so setting past d k).ticked
       go Delivered k = no_tick came k.acting.ticked
       go Idle k = no_tick came k.ticked
-      go _ k = absurd k
 
 -- ---- ticks
 
@@ -438,6 +488,7 @@ pub on-tick : (o : Outcome) (setting : Setting) (past : List Deed) (d : Deed) �
 on-tick Ignored setting past d j ticked = no_tick j.came ticked
 on-tick Rejected setting past d j ticked = no_tick j.came ticked
 on-tick (Refused code) setting past d j ticked = no_tick j.asked.brings.came ticked
+on-tick Joined setting past d j ticked = no_tick j.asked.brings.came ticked
 on-tick Opened setting past d j ticked = no_tick j.asked.brings.came ticked
 on-tick Overloaded setting past d j ticked = no_tick j.asked.brings.came ticked
 on-tick NoId setting past d j ticked = no_tick j.asked.brings.came ticked
@@ -451,7 +502,6 @@ on-tick Resent setting past d j ticked = resent j
 on-tick GaveUp setting past d j ticked = given_up j
 on-tick Delivered setting past d j ticked = delivered j
 on-tick Idle setting past d j ticked = idle j
-on-tick _ setting past d j ticked = absurd j
 
 -- a tick at which something is due does what is due first
 pub given_done : (o : Outcome) (setting : Setting) (past : List Deed) (d : Deed) (a : Act) (at : ℕ) → JustifiedBy o setting past d → d.entry.event ≡ tick → IsDueAt setting past a at → at ≤ d.entry.now → IsActing setting past d

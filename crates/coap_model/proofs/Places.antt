@@ -58,6 +58,15 @@ place-before (e ∷ past) p q at_p at_q =
     (λ (there : IsPlaceOf past p). inr (place-before past p q there at_q))
     at_p
 
+-- what never was wasn't before a place either
+pub never-before : (P : Place → Type 0) (history : List Deed) (p : Place) → Never P history → IsPlaceOf history p → Never P p.before
+never-before P [] p never at = absurd at
+never-before P (e ∷ past) p never at =
+    ⊎_elim
+    (λ (same : record { before = past; deed = e } ≡ p). subst (λ (r : Place). Never P r.before) same never.1)
+    (λ (there : IsPlaceOf past p). never-before P past p never.1 there)
+    at
+
 -- of two places one is the other, or came before it
 pub in-order : (history : List Deed) (p q : Place) → IsPlaceOf history p → IsPlaceOf history q → (p ≡ q) ⊎ (IsPlaceOf p.before q ⊎ IsPlaceOf q.before p)
 in-order [] p q at_p at_q = absurd at_p

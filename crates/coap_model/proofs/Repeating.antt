@@ -158,6 +158,8 @@ keeps_resending w history c now draw at number x onward turn sent early fire =
       verdict = f.verdict;
       form_is = f.form_is ∙ ap (λ (n : ℕ). spelling (forwarded (token_of w.setting.salt number) x.key.target (sent_on f.opened.request) n)) (sym id);
       form_short = f.form_short;
+      is_get = f.is_get;
+      untainted = f.untainted;
       state = subst (IsState w.setting (e ∷ history) (number, fired_exchange now x)) (sym sent) (
           record {
             sending = fired_sending now s;
@@ -249,6 +251,8 @@ keeps_giving_up w history c now draw at number x onward turn over =
       verdict = f.verdict;
       form_is = f.form_is;
       form_short = f.form_short;
+      is_get = f.is_get;
+      untainted = f.untainted;
       state = record { ending = here history e; was_ended = inl refl; ends = record { act = refl; outcome = refl }; with = given_up (record { act = refl; outcome = refl }) refl; got = refl; was_sent = sent_frame w.setting history number x.key x.form x.sending e (sends-quiet (moves number) history e refl) (was-sent w.setting history (number, x) x.state f.state) };
     })
     (ended-seen number a w.exchanges)

@@ -57,6 +57,7 @@ new-here : (o : Outcome) (setting : Setting) (past : List Deed) (d : Deed) (sour
 new-here (Refused code) setting past d source bytes former j came head kept = record { source = j.client; message = j.request; brings = j.asked.brings; kind = j.asked.kind; unknown = j.new.unknown; sent = λ con. j.tells.sent }
 new-here Hit setting past d source bytes former j came head kept = record { source = j.client; message = j.request; brings = j.asked.brings; kind = j.asked.kind; unknown = j.new.unknown; sent = λ con. j.tells.sent }
 new-here Overloaded setting past d source bytes former j came head kept = record { source = j.client; message = j.request; brings = j.asked.brings; kind = j.asked.kind; unknown = j.new.unknown; sent = λ con. j.tells.sent }
+new-here Joined setting past d source bytes former j came head kept = record { source = j.client; message = j.request; brings = j.asked.brings; kind = j.asked.kind; unknown = j.new.unknown; sent = λ con. not-both j.kind con }
 new-here Opened setting past d source bytes former j came head kept = record { source = j.client; message = j.request; brings = j.asked.brings; kind = j.asked.kind; unknown = j.new.unknown; sent = λ con. not-both j.kind con }
 new-here NoId setting past d source bytes former j came head kept = record { source = j.client; message = j.request; brings = j.asked.brings; kind = j.asked.kind; unknown = j.new.unknown; sent = λ con. not-both j.kind con }
 new-here (Answered s) setting past d source bytes former j came head kept = let a = taken-so s setting past d j in answer-new setting past d a (head_kind a.gets.meets.brings came head ∙ con-so former.kind kept)
@@ -64,7 +65,6 @@ new-here Ignored setting past d source bytes former j came head kept = absurd cc
 new-here Rejected setting past d source bytes former j came head kept = absurd cc
 new-here Again setting past d source bytes former j came head kept = absurd cc
 new-here NoRecordRoom setting past d source bytes former j came head kept = absurd cc
-new-here Joined setting past d source bytes former j came head kept = absurd j
 new-here Acked setting past d source bytes former j came head kept = absurd cc
 new-here SentRequest setting past d source bytes former j came head kept = absurd cc
 new-here Resent setting past d source bytes former j came head kept = absurd cc

@@ -26,10 +26,9 @@ use Rattle.coap_forward.specs.Messages.{is_con, brings_requests, reset, own_repl
 use Rattle.coap_model.specs.Remembered.{remembered_at}
 use Rattle.coap_model.specs.Verdicts.{may_ask}
 use Rattle.coap_model.specs.World.{World, next_id, known_of, has_record_room, remembers, repeats, drops, reserved, has_ids, can_reply, ignores, rejects}
-use Rattle.coap_model.specs.Requests.{lacks_id, refuses, overloads, can_open}
+use Rattle.coap_model.specs.Requests.{lacks_id, refuses, overloads}
 use Rattle.coap_model.specs.Step.{message_in}
 use Rattle.coap_model.specs.History.{Entry, no_item, Deed, comes_con, gives_id, ids_in, IsRequestOf}
-use Rattle.coap_model.specs.Standing.{HasRoomToOpen}
 use Rattle.coap_exchange.specs.declared.ids.Ids.{Ids as Given}
 use Rattle.coap_exchange.specs.Ids.{given_in, called}
 use Rattle.coap_model.specs.Justified.{Comes, IsNew, HasIdFor, SaysAgain, IsAwaited, Acknowledges, IsUnprocessable}
@@ -39,11 +38,11 @@ use Rattle.coap_model.proofs.Giving.{ids-kept, ids-given, room-called}
 use Rattle.coap_model.proofs.Spelled.{reset-is, own_reply-is, busy_reply-is, message_in-is, message_in-again}
 use Rattle.coap_model.proofs.Places.{doing, arrival-same}
 use Rattle.coap_model.proofs.Verdicts.{deserved-code}
-use Rattle.coap_model.proofs.Rules.{by_response, recorded-kind, recorded-response, Asked, Recorded, IsFirst, IsNotCon, IsNothing, verdict_in, fits_in, IsMissed, IsDenied, head_of_read}
+use Rattle.coap_model.proofs.Rules.{by_response, recorded-kind, recorded-response, Asked, Recorded, IsFirst, IsNotCon, IsNothing, verdict_in, IsDenied, IsFull, head_of_read}
 use Rattle.coap_model.proofs.OwnReplies.{at_once-is, own-short, busy-short, reply-due, free-one, free-none}
 use Rattle.coap_model.proofs.Remembering.{known-is, limit-is, first-new, first-remembered}
-use Rattle.coap_model.proofs.Missing.{missed, deserves}
-use Rattle.coap_model.proofs.Room.{ids-free, ids-none, room-none}
+use Rattle.coap_model.proofs.Missing.{deserves, lacks_room}
+use Rattle.coap_model.proofs.Room.{ids-free, ids-none}
 use Rattle.coap_model.proofs.Stores.{store-otherwise}
 use Rattle.coap_model.proofs.Awaiting.{awaited-by, not-known, not-ignored, not-settled}
 use Rattle.coap_model.proofs.Quiet.{room-still, keeps_still, keeps_quiet}
@@ -134,19 +133,18 @@ module _ (w : World) (history : List Deed) (c : Bears history w) (now draw : ℕ
       (record { act = refl; client = client; request = m; id = next_id w; asked = came; new = is_new; deserved = deserved; ids = has-id free; tells = record { sent = refl; spells = spells } }, c.past)
 
   -- so does 5.03
-  pub keeps_overloading : (key : CacheKey) → verdict_in w m ≡ may_ask key → IsMissed w now key → fits_in w key m ≡ true → can_open w now m.kind ≡ false → can_reply w now m.kind ≡ true
+  pub keeps_overloading : (key : CacheKey) → verdict_in w m ≡ may_ask key → IsFull w now key m → can_reply w now m.kind ≡ true
       → Bears (doing no_item (entry_of now draw (arrival client bytes) (overloads w now client m)) ∷ history) (remembers now client m (overloads w now client m)).world
-  keeps_overloading key verdict none short full free =
+  keeps_overloading key verdict full free =
       let s = overloads w now client m in
       let e = doing no_item (entry_of now draw (arrival client bytes) s) in
       let reply = busy_reply w.setting.limits.retry_s (next_id w) m.token in
       let spells : Spells s.bytes (at_once m reply) = spelled (at_once m reply) (at_once-is m reply (busy_reply-is w.setting.limits.retry_s (next_id w) m.token short_token)) in
       let gives : gives_id e.entry ≡ (if is_con m.kind then 0 else 1) = ap (λ (b : Bool). if b then 0 else 1) takes-ids in
-      let no_room : m.kind ≡ Non → ¬ HasRoomToOpen w.setting.limits now history = λ non. room-none now history w c onward (subst (λ (k : Kind). can_open w now k ≡ false) non full) in
       keeps_still w history c e ids_after w.store _ _ (record { act = refl; opens = refl; admits = refl; sends = refl; leaves_open = λ standing xs. refl; stands = λ standing. refl }) onward (reply-ids e _ reply refl gives spells refl free refl refl) (reply-room free)
       (store-otherwise w.setting history w.store e refl c.store)
       (first-remembered w history c now client bytes m onward draw no_item s first refl (λ most wide long. omega (arith, wide, busy-short m w.setting.limits.retry_s (next_id w) m.token short_token)))
-      (record { act = refl; client = client; request = m; key = key; id = next_id w; asked = came; verdict = verdict; miss = missed w history c now key none; fits = short; no_room = no_room; new = is_new; ids = has-id free; tells = record { sent = refl; spells = spells } }, c.past)
+      (record { act = refl; client = client; request = m; key = key; id = next_id w; asked = came; verdict = verdict; no_room = lacks_room w history c now key m onward full; new = is_new; ids = has-id free; tells = record { sent = refl; spells = spells } }, c.past)
 
   -- and silence for want of an id
   pub keeps_lacking : can_reply w now m.kind ≡ false

@@ -1,5 +1,5 @@
 -- Room: what the tables count is what the history counts.
-use Rattle.std.proofs.Common.{◌≡◌, ℕ, ◌+◌, ◌≤◌, List, length, true, false, ltb, refl, sym, ap, ◌∙◌, arith}
+use Rattle.std.proofs.Common.{◌≡◌, ℕ, ◌+◌, ◌<◌, ◌≤◌, List, length, true, false, refl, sym, ap, ◌∙◌, arith}
 use Rattle.std.specs.Prelude.{◌/◌, ◌&&◌}
 use Rattle.std.specs.List.{AllByRecursion}
 use Rattle.std.proofs.lemmas.Bool.{leb-true, leb-false, ltb-true, ltb-false, and_parts}
@@ -14,9 +14,9 @@ use Rattle.coap_exchange.specs.Waiters.{is_waiting, is_waiting_state}
 use Rattle.coap_exchange.specs.Ids.{given_in}
 use Rattle.coap_exchange.specs.Table.{Numbered, count}
 use Rattle.coap_model.specs.Setting.{Setting}
-use Rattle.coap_model.specs.World.{World, reserved, has_ids, has_room}
+use Rattle.coap_model.specs.World.{World, reserved, has_ids, has_exchange_room, has_waiter_room, has_room_to_join, has_room_to_open}
 use Rattle.coap_model.specs.History.{Deed}
-use Rattle.coap_model.specs.Standing.{is_queued, is_sent_to, open_in, standing_in, count_open, queued_in, outstanding_to, window_ids, HasIds, HasRoomToOpen}
+use Rattle.coap_model.specs.Standing.{is_queued, is_sent_to, open_in, standing_in, count_open, queued_in, outstanding_to, window_ids, HasIds, HasRoomToJoin, HasRoomToOpen}
 use Rattle.coap_model.specs.Carries.{stage_seen, standing_seen, IsWaiterIn, IsWaiterOf, Bears}
 use Rattle.coap_model.proofs.Seen.{counted-seen, queued-same, sent-same, all-wait}
 use Rattle.coap_model.proofs.Splitting.{one_false}
@@ -71,24 +71,45 @@ ids-free k now history w c onward e = record { free = let sum = ids-sum k now hi
 pub ids-none : (k now : ℕ) (history : List Deed) (w : World) → Bears history w → w.last ≤ now → has_ids k w now ≡ false → HasIds k now history → ⊥
 ids-none k now history w c onward e h = let sum = ids-sum k now history w c onward in let lt = leb-false (given_in now w.ids + reserved w + k) 32768 e in let free = h.free in omega arith
 
--- ---- room to open an exchange
+-- ---- room for a client and for an exchange
 
--- where the tables have room, so has the history
-pub room-there : (now : ℕ) (history : List Deed) (w : World) → Bears history w → w.last ≤ now → has_room w now ≡ true → HasRoomToOpen w.setting.limits now history
+-- where the tables have room for a client, so has the history
+waiter-there : (history : List Deed) (w : World) → Bears history w → has_waiter_room w ≡ true → length (standing_in history) < w.setting.limits.waiters
+waiter-there history w c e = rw (← waiters-length history w c) (ltb-true _ _ e)
+
+-- and where they have none, nor has it
+waiter-none : (history : List Deed) (w : World) → Bears history w → has_waiter_room w ≡ false → length (standing_in history) < w.setting.limits.waiters → ⊥
+waiter-none history w c e lt = let le = ltb-false _ _ e in let n = waiters-length history w c in omega arith
+
+-- where the tables have room for one more client at an exchange, so has the history
+pub join-there : (now : ℕ) (history : List Deed) (w : World) → Bears history w → w.last ≤ now → has_room_to_join w now ≡ true → HasRoomToJoin w.setting.limits now history
+join-there now history w c onward e =
+    let a = and_parts (has_waiter_room w) (has_ids 1 w now) e in
+    record { waiter = waiter-there history w c a.0; ids = ids-free 1 now history w c onward a.1 }
+
+-- and where they have none, nor has it
+pub join-none : (now : ℕ) (history : List Deed) (w : World) → Bears history w → w.last ≤ now → has_room_to_join w now ≡ false → HasRoomToJoin w.setting.limits now history → ⊥
+join-none now history w c onward e h =
+    one_false (has_waiter_room w) (has_ids 1 w now) e
+    (λ f. waiter-none history w c f h.waiter)
+    (λ f. ids-none 1 now history w c onward f h.ids)
+
+-- where the tables have room to open an exchange, so has the history
+pub room-there : (now : ℕ) (history : List Deed) (w : World) → Bears history w → w.last ≤ now → has_room_to_open w now ≡ true → HasRoomToOpen w.setting.limits now history
 room-there now history w c onward e =
-    let a = and_parts (ltb (length w.exchanges) w.setting.limits.exchanges) (ltb (length w.waiters) w.setting.limits.waiters && has_ids 2 w now) e in
-    let b = and_parts (ltb (length w.waiters) w.setting.limits.waiters) (has_ids 2 w now) a.1 in
+    let a = and_parts (has_exchange_room w) (has_waiter_room w && has_ids 2 w now) e in
+    let b = and_parts (has_waiter_room w) (has_ids 2 w now) a.1 in
     record {
       exchange = rw (← exchanges-length history w c) (ltb-true _ _ a.0);
-      waiter = rw (← waiters-length history w c) (ltb-true _ _ b.0);
+      waiter = waiter-there history w c b.0;
       ids = ids-free 2 now history w c onward b.1;
     }
 
 -- and where they have none, nor has it
-pub room-none : (now : ℕ) (history : List Deed) (w : World) → Bears history w → w.last ≤ now → has_room w now ≡ false → HasRoomToOpen w.setting.limits now history → ⊥
+pub room-none : (now : ℕ) (history : List Deed) (w : World) → Bears history w → w.last ≤ now → has_room_to_open w now ≡ false → HasRoomToOpen w.setting.limits now history → ⊥
 room-none now history w c onward e h =
-    one_false (ltb (length w.exchanges) w.setting.limits.exchanges) (ltb (length w.waiters) w.setting.limits.waiters && has_ids 2 w now) e
+    one_false (has_exchange_room w) (has_waiter_room w && has_ids 2 w now) e
     (λ f. let le = ltb-false _ _ f in let n = exchanges-length history w c in let lt = h.exchange in omega arith)
-    (λ f. one_false (ltb (length w.waiters) w.setting.limits.waiters) (has_ids 2 w now) f
-    (λ g. let le = ltb-false _ _ g in let n = waiters-length history w c in let lt = h.waiter in omega arith)
+    (λ f. one_false (has_waiter_room w) (has_ids 2 w now) f
+    (λ g. waiter-none history w c g h.waiter)
     (λ g. ids-none 2 now history w c onward g h.ids))

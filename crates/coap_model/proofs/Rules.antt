@@ -31,7 +31,7 @@ use Rattle.coap_forward.specs.Messages.{is_con, brings_requests, brings_response
 use Rattle.coap_model.specs.Verdicts.{Verdict, refused_with, may_ask, verdict_of, form_fits}
 use Rattle.coap_dedup.specs.declared.record.Record.{Record}
 use Rattle.coap_model.specs.World.{World, Step, has_record_room, can_reply, known_of, remembers, repeats, drops, ignores, rejects, unprocessed, silent, says, later}
-use Rattle.coap_model.specs.Requests.{lacks_id, refuses, overloads, opens, turns_down, turns_away, hits, can_open, on_miss, on_entry, on_verdict, on_new, on_known, on_request}
+use Rattle.coap_model.specs.Requests.{lacks_id, refuses, overloads, joins, opens, turns_down, turns_away, hits, can_join, can_open, on_wanted, on_joinable, on_miss, on_entry, on_verdict, on_new, on_known, on_request}
 use Rattle.coap_model.specs.Answers.{Arrived, entry_made, answers_so, keeps_if, stores, answers_with, answers}
 use Rattle.coap_model.specs.Responses.{awaiting, on_awaited, on_separate, on_unknown, on_response_in, on_response}
 use Rattle.coap_model.specs.Empties.{acknowledges, settles, on_sent, on_empty}
@@ -44,7 +44,7 @@ use Rattle.coap_exchange.specs.declared.timer.Fire.TheVariants.{Again, GiveUp}
 use Rattle.coap_exchange.specs.declared.waiter.WaiterState.{WaiterState}
 use Rattle.coap_exchange.specs.declared.waiter.WaiterState.TheVariants.{Waiting, Delivering}
 use Rattle.coap_exchange.specs.Exchanges as exchanges
-use Rattle.coap_exchange.specs.Exchanges.{deadline, answer_in, fire_of_sending, is_sent, was_sent_as}
+use Rattle.coap_exchange.specs.Exchanges.{deadline, answer_in, fire_of_sending, is_sent, is_joinable, was_sent_as}
 use Rattle.coap_model.specs.declared.due.DueItem.{DueItem}
 use Rattle.coap_model.specs.declared.due.DueItem.TheVariants.{OfExchange, OfWaiter}
 use Rattle.coap_model.specs.Ticks.{item_due, if_due, sends, resends, gives_up, on_fire, in_time, on_exchange, delivers, on_answer, on_waiting, on_waiter, idles, on_item}
@@ -107,10 +107,20 @@ fits_in w key m = form_fits w.setting.limits.datagram key.target m
 abbrev pub IsMissed : World → ℕ → CacheKey → Type 0
 IsMissed w now key = (entry : Entry) → of_key entry_key key w.store ≡ Some entry → is_usable now entry.1 ≡ false
 
+-- nothing answers a request of the key: it is missed, and no exchange may be joined
+pub record IsUnanswered (w : World) (now : ℕ) (key : CacheKey) : Type 0 where
+  pub missed : IsMissed w now key
+  pub alone : first_that (is_joinable key) w.exchanges ≡ None
+
 -- a request deserves a code in this world
 pub data IsDenied (w : World) (now : ℕ) (m : Message) (code : Code) : Type 0 where
   by_verdict : verdict_in w m ≡ refused_with code → IsDenied w now m code
-  by_length : (key : CacheKey) → verdict_in w m ≡ may_ask key → IsMissed w now key → fits_in w key m ≡ false → code ≡ REQUEST_ENTITY_TOO_LARGE → IsDenied w now m code
+  by_length : (key : CacheKey) → verdict_in w m ≡ may_ask key → IsUnanswered w now key → fits_in w key m ≡ false → code ≡ REQUEST_ENTITY_TOO_LARGE → IsDenied w now m code
+
+-- there is no room for what is wanted: to join the exchange that is found, or to open one
+pub data IsFull (w : World) (now : ℕ) (key : CacheKey) (m : Message) : Type 0 where
+  to_join : (exchange : ℕ) → IsMissed w now key → first_that (is_joinable key) w.exchanges ≡ Some exchange → can_join w now m.kind ≡ false → IsFull w now key m
+  to_open : IsUnanswered w now key → fits_in w key m ≡ true → can_open w now m.kind ≡ false → IsFull w now key m
 
 -- what is done with an answer towards the store, and the store then
 pub data IsStoring (w : World) (now : ℕ) (grown : Bool) (x : Numbered Exchange) (a : Answer) : Storing → List Entry → Type 0 where
@@ -146,8 +156,9 @@ answered_world w now n a store = record (later w now) { exchanges = changed_at n
 pub data Rule (w : World) (now draw : ℕ) (grown : Bool) : Event → Step → Type 0 where
   refusing : (client : Endpoint) (bytes : List ℕ) (m : Message) (code : Code) → IsFirst w now client bytes m → IsDenied w now m code → can_reply w now m.kind ≡ true → Rule w now draw grown (arrival client bytes) (remembers now client m (refuses w now client m code))
   lacking : (client : Endpoint) (bytes : List ℕ) (m : Message) → IsFirst w now client bytes m → can_reply w now m.kind ≡ false → Rule w now draw grown (arrival client bytes) (remembers now client m (lacks_id w now))
-  overloading : (client : Endpoint) (bytes : List ℕ) (m : Message) (key : CacheKey) → IsFirst w now client bytes m → verdict_in w m ≡ may_ask key → IsMissed w now key → fits_in w key m ≡ true → can_open w now m.kind ≡ false → can_reply w now m.kind ≡ true → Rule w now draw grown (arrival client bytes) (remembers now client m (overloads w now client m))
-  opening : (client : Endpoint) (bytes : List ℕ) (m : Message) (key : CacheKey) → IsFirst w now client bytes m → verdict_in w m ≡ may_ask key → IsMissed w now key → fits_in w key m ≡ true → can_open w now m.kind ≡ true → Rule w now draw grown (arrival client bytes) (remembers now client m (opens w now client m key))
+  overloading : (client : Endpoint) (bytes : List ℕ) (m : Message) (key : CacheKey) → IsFirst w now client bytes m → verdict_in w m ≡ may_ask key → IsFull w now key m → can_reply w now m.kind ≡ true → Rule w now draw grown (arrival client bytes) (remembers now client m (overloads w now client m))
+  joining : (client : Endpoint) (bytes : List ℕ) (m : Message) (key : CacheKey) (exchange : ℕ) → IsFirst w now client bytes m → verdict_in w m ≡ may_ask key → IsMissed w now key → first_that (is_joinable key) w.exchanges ≡ Some exchange → can_join w now m.kind ≡ true → Rule w now draw grown (arrival client bytes) (remembers now client m (joins w now client m exchange))
+  opening : (client : Endpoint) (bytes : List ℕ) (m : Message) (key : CacheKey) → IsFirst w now client bytes m → verdict_in w m ≡ may_ask key → IsUnanswered w now key → fits_in w key m ≡ true → can_open w now m.kind ≡ true → Rule w now draw grown (arrival client bytes) (remembers now client m (opens w now client m key))
   hitting : (client : Endpoint) (bytes : List ℕ) (m : Message) (key : CacheKey) (entry : Entry) → IsFirst w now client bytes m → verdict_in w m ≡ may_ask key → of_key entry_key key w.store ≡ Some entry → is_usable now entry.1 ≡ true → can_reply w now m.kind ≡ true → Rule w now draw grown (arrival client bytes) (remembers now client m (hits w now client m key entry.1))
   repeating : (source : Endpoint) (bytes : List ℕ) (m : Message) (known : Record) → IsBytes bytes → Recorded w bytes m → known_of w now source m ≡ Some known → Rule w now draw grown (arrival source bytes) (repeats w now source known.reply)
   dropping : (source : Endpoint) (bytes : List ℕ) (m : Message) → IsBytes bytes → Recorded w bytes m → (is_response m.code ≡ true → (x : Numbered Exchange) × (awaiting w source m ≡ Some x)) → known_of w now source m ≡ None → has_record_room w now m.kind ≡ false → Rule w now draw grown (arrival source bytes) (drops w now)
@@ -258,21 +269,37 @@ rule_refusal w now draw grown client bytes m code first denied = go (can_reply w
     go true free = refusing client bytes m code first denied free
     go false free = lacking client bytes m first free
 
--- a request for a key that is missed is a case by its length and by room
-rule_miss : (w : World) (now draw : ℕ) (grown : Bool) (client : Endpoint) (bytes : List ℕ) (m : Message) (key : CacheKey) → IsFirst w now client bytes m → verdict_in w m ≡ may_ask key → IsMissed w now key → Rule w now draw grown (arrival client bytes) (remembers now client m (on_miss w now client m key))
-rule_miss w now draw grown client bytes m key first e missed = by_fit (fits_in w key m) refl
+-- where there is no room for what a request wants, it is turned away
+rule_full : (w : World) (now draw : ℕ) (grown : Bool) (client : Endpoint) (bytes : List ℕ) (m : Message) (key : CacheKey) → IsFirst w now client bytes m → verdict_in w m ≡ may_ask key → IsFull w now key m → Rule w now draw grown (arrival client bytes) (remembers now client m (turns_away w now client m))
+rule_full w now draw grown client bytes m key first e full = go (can_reply w now m.kind) refl
   where
-    ids : fits_in w key m ≡ true → can_open w now m.kind ≡ false → (b : Bool) → can_reply w now m.kind ≡ b → Rule w now draw grown (arrival client bytes) (remembers now client m (cond b (overloads w now client m) (lacks_id w now)))
-    ids short full true free = overloading client bytes m key first e missed short full free
-    ids short full false free = lacking client bytes m first free
+    go : (b : Bool) → can_reply w now m.kind ≡ b → Rule w now draw grown (arrival client bytes) (remembers now client m (cond b (overloads w now client m) (lacks_id w now)))
+    go true free = overloading client bytes m key first e full free
+    go false free = lacking client bytes m first free
 
+-- a request that nothing answers is a case by its length and by room
+rule_wanted : (w : World) (now draw : ℕ) (grown : Bool) (client : Endpoint) (bytes : List ℕ) (m : Message) (key : CacheKey) → IsFirst w now client bytes m → verdict_in w m ≡ may_ask key → IsUnanswered w now key → Rule w now draw grown (arrival client bytes) (remembers now client m (on_wanted w now client m key))
+rule_wanted w now draw grown client bytes m key first e none = by_fit (fits_in w key m) refl
+  where
     room : fits_in w key m ≡ true → (b : Bool) → can_open w now m.kind ≡ b → Rule w now draw grown (arrival client bytes) (remembers now client m (cond b (opens w now client m key) (turns_away w now client m)))
-    room short true there = opening client bytes m key first e missed short there
-    room short false full = ids short full (can_reply w now m.kind) refl
+    room short true there = opening client bytes m key first e none short there
+    room short false full = rule_full w now draw grown client bytes m key first e (to_open none short full)
 
     by_fit : (b : Bool) → fits_in w key m ≡ b → Rule w now draw grown (arrival client bytes) (remembers now client m (cond b (cond (can_open w now m.kind) (opens w now client m key) (turns_away w now client m)) (turns_down w now client m REQUEST_ENTITY_TOO_LARGE)))
     by_fit true short = room short (can_open w now m.kind) refl
-    by_fit false long = rule_refusal w now draw grown client bytes m REQUEST_ENTITY_TOO_LARGE first (by_length key e missed long refl)
+    by_fit false long = rule_refusal w now draw grown client bytes m REQUEST_ENTITY_TOO_LARGE first (by_length key e none long refl)
+
+-- a request for a key that is missed is a case by the exchange that may be joined, and by room
+rule_miss : (w : World) (now draw : ℕ) (grown : Bool) (client : Endpoint) (bytes : List ℕ) (m : Message) (key : CacheKey) → IsFirst w now client bytes m → verdict_in w m ≡ may_ask key → IsMissed w now key → Rule w now draw grown (arrival client bytes) (remembers now client m (on_miss w now client m key))
+rule_miss w now draw grown client bytes m key first e missed = by_search (first_that (is_joinable key) w.exchanges) refl
+  where
+    room : (exchange : ℕ) → first_that (is_joinable key) w.exchanges ≡ Some exchange → (b : Bool) → can_join w now m.kind ≡ b → Rule w now draw grown (arrival client bytes) (remembers now client m (cond b (joins w now client m exchange) (turns_away w now client m)))
+    room exchange found true there = joining client bytes m key exchange first e missed found there
+    room exchange found false full = rule_full w now draw grown client bytes m key first e (to_join exchange missed found full)
+
+    by_search : (o : Option ℕ) → first_that (is_joinable key) w.exchanges ≡ o → Rule w now draw grown (arrival client bytes) (remembers now client m (on_joinable w now client m key o))
+    by_search None none = rule_wanted w now draw grown client bytes m key first e (record { missed = missed; alone = none })
+    by_search (Some exchange) found = room exchange found (can_join w now m.kind) refl
 
 -- a request for a key is a case by the entry of the key
 rule_entry : (w : World) (now draw : ℕ) (grown : Bool) (client : Endpoint) (bytes : List ℕ) (m : Message) (key : CacheKey) → IsFirst w now client bytes m → verdict_in w m ≡ may_ask key → (o : Option Entry) → of_key entry_key key w.store ≡ o → Rule w now draw grown (arrival client bytes) (remembers now client m (on_entry w now client m key o))

@@ -8,7 +8,7 @@ use Rattle.coap_model.specs.Step.{step_of}
 use Rattle.coap_model.specs.Carries.{Carries}
 use Rattle.coap_model.specs.Promised.{Promised}
 use Rattle.coap_model.specs.Runs.{Taken, turns_of, AreTurns, Run, new_run, one_turn, run_of}
-use Rattle.coap_model.proofs.Rules.{Rule, refusing, lacking, overloading, hitting, opening, repeating, dropping, answering, answering_con, acknowledging, rejecting, ignoring, forwarding, resending, giving_up, delivering, idling, stuck, rule_of}
+use Rattle.coap_model.proofs.Rules.{Rule, refusing, lacking, overloading, hitting, joining, opening, repeating, dropping, answering, answering_con, acknowledging, rejecting, ignoring, forwarding, resending, giving_up, delivering, idling, stuck, rule_of}
 use Rattle.coap_model.proofs.Carrying.{keeps_step, starts}
 use Rattle.coap_model.proofs.Promising.{promises}
 
@@ -16,8 +16,9 @@ use Rattle.coap_model.proofs.Promising.{promises}
 rule_setting : {w : World} {now draw : ℕ} {grown : Bool} {event : Event} {s : Step} → Rule w now draw grown event s → s.world.setting ≡ w.setting
 rule_setting (refusing client bytes m code first denied free) = refl
 rule_setting (lacking client bytes m first free) = refl
-rule_setting (overloading client bytes m key first verdict none short full free) = refl
+rule_setting (overloading client bytes m key first verdict lacks free) = refl
 rule_setting (hitting client bytes m key entry first verdict found usable free) = refl
+rule_setting (joining client bytes m key exchange first verdict none found room) = refl
 rule_setting (opening client bytes m key first verdict none short room) = refl
 rule_setting {w = w} {now = now} (repeating client bytes m known fits asked found) = repeated known.reply
   where
@@ -49,8 +50,9 @@ IsOneOn w now v = (v.last ≡ now) × (v.events ≡ w.events + 1)
 rule_clock : {w : World} {now draw : ℕ} {grown : Bool} {event : Event} {s : Step} → Rule w now draw grown event s → IsOneOn w now s.world
 rule_clock (refusing client bytes m code first denied free) = (refl, refl)
 rule_clock (lacking client bytes m first free) = (refl, refl)
-rule_clock (overloading client bytes m key first verdict none short full free) = (refl, refl)
+rule_clock (overloading client bytes m key first verdict lacks free) = (refl, refl)
 rule_clock (hitting client bytes m key entry first verdict found usable free) = (refl, refl)
+rule_clock (joining client bytes m key exchange first verdict none found room) = (refl, refl)
 rule_clock (opening client bytes m key first verdict none short room) = (refl, refl)
 rule_clock {w = w} {now = now} (repeating client bytes m known fits asked found) = repeated known.reply
   where

@@ -12,7 +12,7 @@ use Rattle.coap_model.specs.Ticks.{moment_of, next_due, item_due, if_due, on_ite
 use Rattle.coap_model.specs.History.{Entry, Deed}
 use Rattle.coap_model.specs.Carries.{Bears, Carries}
 use Rattle.coap_model.proofs.Idling.{not-stuck}
-use Rattle.coap_model.proofs.Rules.{Rule, refusing, lacking, overloading, hitting, opening, repeating, dropping, answering, answering_con, acknowledging, rejecting, ignoring, forwarding, resending, giving_up, delivering, idling, stuck, rule_of}
+use Rattle.coap_model.proofs.Rules.{Rule, refusing, lacking, overloading, hitting, joining, opening, repeating, dropping, answering, answering_con, acknowledging, rejecting, ignoring, forwarding, resending, giving_up, delivering, idling, stuck, rule_of}
 
 -- where no tick is wanted, a tick is idle
 pub idle-none : (w : World) (now draw : ℕ) (grown : Bool) → next_due w ≡ None → (step_of w now draw grown tick).report.outcome ≡ Idle
@@ -34,8 +34,9 @@ idle-later w now draw at grown e later = go (item_due w) e
 acts : {w : World} {now draw : ℕ} {grown : Bool} {event : Event} {s : Step} (history : List Deed) → Bears history w → Rule w now draw grown event s → event ≡ tick → if_due now (item_due w) ≢ None → s.report.outcome ≢ Idle
 acts history c (refusing client bytes m code first denied free) ticked due = λ o. cc
 acts history c (lacking client bytes m first free) ticked due = λ o. cc
-acts history c (overloading client bytes m key first verdict none short full free) ticked due = λ o. cc
+acts history c (overloading client bytes m key first verdict lacks free) ticked due = λ o. cc
 acts history c (hitting client bytes m key entry first verdict found usable free) ticked due = λ o. cc
+acts history c (joining client bytes m key exchange first verdict none found room) ticked due = λ o. cc
 acts history c (opening client bytes m key first verdict none short room) ticked due = λ o. cc
 acts history c (repeating source bytes m known fits recorded found) ticked due = λ o. absurd cc
 acts history c (dropping source bytes m fits recorded wanted unknown full) ticked due = λ o. cc

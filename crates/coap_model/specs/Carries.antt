@@ -1,5 +1,5 @@
 -- A proxy carries a history: each part of its tables is what the history says.
-use Rattle.std.specs.Prelude.{◌≡◌, ◌⊎◌, ℕ, ◌+◌, ◌*◌, ◌^◌, ◌/◌, ◌%◌, ◌<◌, ◌≤◌, List, [], ◌∷◌, length, map, Option, Some, None}
+use Rattle.std.specs.Prelude.{◌≡◌, ◌⊎◌, ℕ, ◌+◌, ◌*◌, ◌^◌, ◌/◌, ◌%◌, ◌<◌, ◌≤◌, true, false, List, [], ◌∷◌, length, map, Option, Some, None}
 use Rattle.std.specs.List.{AllByRecursion}
 use Rattle.coap_message.specs.Spelling.{spelling}
 use Rattle.coap_option.specs.Selection.{sent_on, tags_of}
@@ -187,6 +187,9 @@ pub record IsExchangeOf
       (forwarded (token_of setting.salt x.0) x.1.key.target (sent_on opened.request)
       (form_id x.1.sending))
   pub form_short : length x.1.form ≤ setting.limits.datagram
+  -- it may be joined until it ends: no resource is changed yet
+  pub is_get : x.1.is_get ≡ true
+  pub untainted : x.1.tainted ≡ false
   pub state : IsState setting history x x.1.state
 
 -- ---- waiters

@@ -98,11 +98,12 @@ non_hit = 0x50 ∷ 0x45 ∷ 0 ∷ 3 ∷ 0xD1 ∷ 1 ∷ 9 ∷ 0xFF ∷ 0x32 ∷ 0
 abbrev pub non_busy : ℕ → List ℕ
 non_busy id = 0x50 ∷ 0xA3 ∷ 0 ∷ id ∷ 0xD1 ∷ 1 ∷ 5 ∷ []
 
--- one that is told to come later, while another client's exchange is under way
+-- one that asks for something else, and is told to come later, while another client's exchange is
+-- under way
 abbrev pub busy_until : ℕ → List Turn
 busy_until later =
-    from 0 (client 1) (get_t []) ∷ from 0 (client 2) (get_t [])
-    ∷ from later (client 2) (get_t []) ∷ []
+    from 0 (client 1) (get_t []) ∷ from 0 (client 2) (get_t (1 ∷ 0x78 ∷ []))
+    ∷ from later (client 2) (get_t (1 ∷ 0x78 ∷ [])) ∷ []
 
 abbrev pub busy_sent : Sent → List Sent
 busy_sent then = nothing Opened ∷ to Overloaded (client 2) (non_busy 1) ∷ then ∷ []

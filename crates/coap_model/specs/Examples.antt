@@ -228,10 +228,10 @@ payload_in_get = from 0 (client 1) (get_t (0xFF ∷ 0x39 ∷ [])) ∷ tick_at 0 
 abbrev pub payload_in_get_sent : List Sent
 payload_in_get_sent = nothing Opened ∷ to SentRequest origin (get_temp []) ∷ []
 
--- two clients where there is room for one exchange: the second is told to try again after five
--- seconds
+-- two clients where there is room for one exchange: the second, which asks for something else, is
+-- told to try again after five seconds
 abbrev pub full : List Turn
-full = from 0 (client 1) (get_t []) ∷ from 0 (client 3) (get_t []) ∷ []
+full = from 0 (client 1) (get_t []) ∷ from 0 (client 3) (get_t (1 ∷ 0x78 ∷ [])) ∷ []
 
 abbrev pub full_sent : List Sent
 full_sent = nothing Opened ∷ to Overloaded (client 3) (0x50 ∷ 0xA3 ∷ 0 ∷ 1 ∷ 0xD1 ∷ 1 ∷ 5 ∷ []) ∷ []

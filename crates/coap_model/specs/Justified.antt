@@ -16,7 +16,7 @@ use Rattle.coap_dedup.specs.Lists.{record_of}
 use Rattle.coap_cache.specs.Lists.{of_key}
 use Rattle.coap_option.specs.Selection.{sent_on, tags_of}
 use Rattle.coap_model.specs.declared.report.Outcome.{Outcome}
-use Rattle.coap_model.specs.declared.report.Outcome.TheVariants.{Ignored, Rejected, Again, NoRecordRoom, Refused, Hit, Opened, Overloaded, NoId, Answered, Acked, SentRequest, Resent, GaveUp, Delivered, Idle}
+use Rattle.coap_model.specs.declared.report.Outcome.TheVariants.{Ignored, Rejected, Again, NoRecordRoom, Refused, Hit, Joined, Opened, Overloaded, NoId, Answered, Acked, SentRequest, Resent, GaveUp, Delivered, Idle}
 use Rattle.coap_model.specs.declared.report.Storing.TheVariants.{Kept, TooLarge, NoMemory, NotStored}
 use Rattle.coap_model.specs.Setting.{Setting}
 use Rattle.coap_model.specs.Events.{Event, arrival, tick}
@@ -29,10 +29,10 @@ use Rattle.coap_model.specs.Verdicts.{Verdict, refused_with, may_ask, verdict_of
 use Rattle.coap_forward.specs.Answers.{answer_of, own_answer, gateway_timeout, stored_answer, shown}
 use Rattle.coap_cache.specs.declared.answer.Answer.{Answer}
 use Rattle.coap_model.specs.Cached.{IsObtained, Cached, cached_key, cached_size, cached_here, entry_of_cached, IsCacheOf}
-use Rattle.coap_model.specs.Standing.{sent, stage_of, HasIds, HasRoomToOpen}
+use Rattle.coap_model.specs.Standing.{sent, stage_of, HasIds, HasRoomToJoin, HasRoomToOpen}
 use Rattle.coap_model.specs.Schedules.{sends_by, MayGoOn, SaysAsBefore}
 use Rattle.coap_model.specs.Due.{IsToSend, IsToRepeat, IsToEnd, IsToServe, IsDueAt, IsSooner}
-use Rattle.coap_model.specs.History.{Entry, Act, no_item, admits, moves, serves, Deed, Place, IsPlaceOf, Never, takes, gives_id, opened_in, admitted_in, ids_in, last_of, Brings, IsRequestOf, Asks, Meets, Gets, GivesUp, Ends, Gives}
+use Rattle.coap_model.specs.History.{Entry, Act, no_item, admits, moves, serves, Deed, Place, IsPlaceOf, Never, takes, gives_id, opened_in, admitted_in, ids_in, last_of, Brings, IsRequestOf, WasOpened, Asks, Meets, Gets, GivesUp, Ends, Gives}
 
 -- ---- what goes out
 
@@ -103,6 +103,20 @@ pub record IsMiss (setting : Setting) (past : List Deed) (key : CacheKey) (now :
   pub stale :
       (entry : Cached) → of_key cached_key key cached ≡ Some entry → is_fresh_at now entry ≡ false
 
+-- An exchange may be joined: it was opened for a request of the key, and was neither got nor given
+-- up.
+pub record IsJoinable (setting : Setting) (past : List Deed) (key : CacheKey) (x : ℕ)
+    : Type 0 where
+  pub opened : WasOpened setting past x
+  pub verdict : verdict_on setting opened.request ≡ may_ask key
+  pub unended : Never (Ends x) past
+
+-- nothing answers a request of the key: the cache has nothing for it, and no exchange may be joined
+pub record IsUnanswered (setting : Setting) (past : List Deed) (now : ℕ) (key : CacheKey)
+    : Type 0 where
+  pub miss : IsMiss setting past key now
+  pub alone : (x : ℕ) → ¬ IsJoinable setting past key x
+
 -- A request deserves a code: by its verdict, or since what would be sent on, where nothing answers
 -- it, is too long for a datagram.
 pub data Deserves
@@ -113,7 +127,7 @@ pub data Deserves
   by_length :
       (key : CacheKey)
       → verdict_on setting request ≡ may_ask key
-      → IsMiss setting past key now
+      → IsUnanswered setting past now key
       → fits_on setting key request ≡ false
       → code ≡ REQUEST_ENTITY_TOO_LARGE
       → Deserves setting past now request code
@@ -154,8 +168,24 @@ pub record IsHit (setting : Setting) (past : List Deed) (d : Deed) : Type 0 wher
       (shown d.entry.now (stored_answer (entry_of_cached entry).1) id request.token
       (tags_of request))) d.entry
 
--- 5.03: an exchange could be opened, but there is no room, or the request is Confirmable, which is
--- not asked for yet
+-- there is no room for what is wanted: to join an exchange that may be joined, or to open one; and
+-- for a Confirmable request nothing is done of that yet
+pub data LacksRoom
+    (setting : Setting) (past : List Deed) (now : ℕ) (key : CacheKey) (request : Message)
+    : Type 0 where
+  to_join :
+      (exchange : ℕ)
+      → IsMiss setting past key now
+      → IsJoinable setting past key exchange
+      → (request.kind ≡ Non → ¬ HasRoomToJoin setting.limits now past)
+      → LacksRoom setting past now key request
+  to_open :
+      IsUnanswered setting past now key
+      → fits_on setting key request ≡ true
+      → (request.kind ≡ Non → ¬ HasRoomToOpen setting.limits now past)
+      → LacksRoom setting past now key request
+
+-- 5.03: there is no room
 pub record IsOverload (setting : Setting) (past : List Deed) (d : Deed) : Type 0 where
   pub act : d.act ≡ no_item
   pub client : Endpoint
@@ -164,9 +194,7 @@ pub record IsOverload (setting : Setting) (past : List Deed) (d : Deed) : Type 0
   pub id : ℕ
   pub asked : IsRequestOf setting client request d.entry.event
   pub verdict : verdict_on setting request ≡ may_ask key
-  pub miss : IsMiss setting past key d.entry.now
-  pub fits : fits_on setting key request ≡ true
-  pub no_room : request.kind ≡ Non → ¬ HasRoomToOpen setting.limits d.entry.now past
+  pub no_room : LacksRoom setting past d.entry.now key request
   pub new : IsNew setting past d.entry.now client request
   pub ids : HasIdFor request d.entry.now past
   pub tells :
@@ -183,8 +211,23 @@ pub record IsLack (setting : Setting) (past : List Deed) (d : Deed) : Type 0 whe
   pub no_ids : ¬ HasIds 1 d.entry.now past
   pub silent : IsSilent d.entry
 
--- an exchange is opened: the request may be asked for, what would be sent on fits, and there is
--- room
+-- an exchange that may be joined is joined: there is room for one more client
+pub record IsJoining (setting : Setting) (past : List Deed) (d : Deed) : Type 0 where
+  pub exchange : ℕ
+  pub act : d.act ≡ admits (admitted_in past + 1) exchange
+  pub client : Endpoint
+  pub request : Message
+  pub key : CacheKey
+  pub asked : IsRequestOf setting client request d.entry.event
+  pub verdict : verdict_on setting request ≡ may_ask key
+  pub miss : IsMiss setting past key d.entry.now
+  pub joinable : IsJoinable setting past key exchange
+  pub kind : request.kind ≡ Non
+  pub new : IsNew setting past d.entry.now client request
+  pub room : HasRoomToJoin setting.limits d.entry.now past
+  pub silent : IsSilent d.entry
+
+-- an exchange is opened: nothing answers the request, what would be sent on fits, and there is room
 pub record IsOpening (setting : Setting) (past : List Deed) (d : Deed) : Type 0 where
   pub act : d.act ≡ admits (admitted_in past + 1) (opened_in past + 1)
   pub client : Endpoint
@@ -192,7 +235,7 @@ pub record IsOpening (setting : Setting) (past : List Deed) (d : Deed) : Type 0 
   pub key : CacheKey
   pub asked : IsRequestOf setting client request d.entry.event
   pub verdict : verdict_on setting request ≡ may_ask key
-  pub miss : IsMiss setting past key d.entry.now
+  pub unanswered : IsUnanswered setting past d.entry.now key
   pub fits : fits_on setting key request ≡ true
   pub kind : request.kind ≡ Non
   pub new : IsNew setting past d.entry.now client request
@@ -482,6 +525,7 @@ JustifiedBy Again setting past d = IsRepetition setting past d
 JustifiedBy NoRecordRoom setting past d = IsDropped setting past d
 JustifiedBy (Refused code) setting past d = IsRefusal setting past d code
 JustifiedBy Hit setting past d = IsHit setting past d
+JustifiedBy Joined setting past d = IsJoining setting past d
 JustifiedBy Opened setting past d = IsOpening setting past d
 JustifiedBy Overloaded setting past d = IsOverload setting past d
 JustifiedBy NoId setting past d = IsLack setting past d
@@ -495,7 +539,6 @@ JustifiedBy Resent setting past d = IsResending setting past d
 JustifiedBy GaveUp setting past d = IsGivingUp setting past d
 JustifiedBy Delivered setting past d = IsDelivery setting past d
 JustifiedBy Idle setting past d = IsIdle setting past d
-JustifiedBy _ setting past d = ⊥
 
 -- Each deed is justified by the deeds before it.
 abbrev pub AllJustified : Setting → List Deed → Type 0

@@ -31,6 +31,7 @@ pub mod DuplicateExamples
 pub mod OptionExamples
 pub mod ReliableExamples
 pub mod ResponseExamples
+pub mod JoiningExamples
 pub mod Forged
 pub mod CacheExamples
 pub mod HitExamples

@@ -62,12 +62,12 @@ not_found high low = 0x50 ∷ 0x84 ∷ high ∷ low ∷ []
 abbrev pub busy : ℕ → List ℕ → List ℕ
 busy id after = 0x50 ∷ 0xA3 ∷ 0 ∷ id ∷ after
 
--- a full proxy: 5.03 until its one client is served; what is refused for another cause is refused
--- so
+-- a full proxy: 5.03 for what else is asked for, until its one client is served; what is refused
+-- for another cause is refused so
 abbrev pub until_served : List Turn
 until_served =
-    from 0 (client 1) (get_t []) ∷ from 0 (client 3) (get_t []) ∷ tick_at 1
-    ∷ from 2 (client 3) (0x51 ∷ 1 ∷ 0 ∷ 2 ∷ 0xAA ∷ 0xB1 ∷ 0x74 ∷ [])
+    from 0 (client 1) (get_t []) ∷ from 0 (client 3) (get_t (1 ∷ 0x78 ∷ [])) ∷ tick_at 1
+    ∷ from 2 (client 3) (0x51 ∷ 1 ∷ 0 ∷ 2 ∷ 0xAA ∷ 0xB1 ∷ 0x74 ∷ 1 ∷ 0x78 ∷ [])
     ∷ from 3 origin (got_stale 2 1) ∷ from 3 (client 3) (get_t_as 8 [])
     ∷ from 3 (client 3) (get_u 4)
     ∷ tick_at 3 ∷ from 3 (client 3) (get_t_as 9 []) ∷ tick_at 4
@@ -89,7 +89,7 @@ abbrev pub retries_after : ℕ → World
 retries_after seconds = proxy_of (record default_limits { exchanges = 1; retry_s = seconds })
 
 abbrev pub two_requests : List Turn
-two_requests = from 0 (client 1) (get_t []) ∷ from 0 (client 3) (get_t []) ∷ []
+two_requests = from 0 (client 1) (get_t []) ∷ from 0 (client 3) (get_t (1 ∷ 0x78 ∷ [])) ∷ []
 
 abbrev pub second_is_told : List ℕ → List Sent
 second_is_told after = nothing Opened ∷ to Overloaded (client 3) (busy 1 after) ∷ []

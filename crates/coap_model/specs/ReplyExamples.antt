@@ -2,12 +2,12 @@
 -- no law would catch a fault that both have: a client's token, two faults in one request, what a
 -- response gives at some age, and what is due first. The bytes are those of RFC 7252 (3, 3.1,
 -- 5.10), written out.
-use Rattle.std.specs.Prelude.{ℕ, List, [], ◌∷◌, replicate}
+use Rattle.std.specs.Prelude.{ℕ, List, [], ◌∷◌, ◌++◌, replicate}
 use Rattle.coap_message.specs.declared.code.TheConstants.Code.{METHOD_NOT_ALLOWED, BAD_OPTION, NOT_FOUND}
 use Rattle.coap_model.specs.declared.report.Outcome.TheVariants.{Refused, Opened, Overloaded, Answered, SentRequest, Delivered}
 use Rattle.coap_model.specs.declared.report.Storing.TheVariants.{Kept, NotStored}
 use Rattle.coap_model.specs.Runs.{Turn}
-use Rattle.coap_model.specs.Examples.{Sent, origin, client, from, tick_at, nothing, to, answer, answered_by, delivered_as, delivered_once}
+use Rattle.coap_model.specs.Examples.{Sent, origin, client, from, tick_at, nothing, to, get_t, answer, answered_by, delivered_as, delivered_once}
 use Rattle.coap_model.specs.LimitExamples.{asked, got, got_stale, stale_for_client}
 
 -- ---- a client's token
@@ -16,12 +16,13 @@ use Rattle.coap_model.specs.LimitExamples.{asked, got, got_stale, stale_for_clie
 abbrev pub with_token : ℕ → List ℕ
 with_token segment = 0x52 ∷ 1 ∷ 0 ∷ segment ∷ 0xAA ∷ 0xBB ∷ 0xB1 ∷ segment ∷ []
 
--- it stands in a refusal, in a 5.03 and in what is delivered (with room for one exchange)
+-- It stands in a refusal, in a 5.03 and in what is delivered, with room for one exchange: the
+-- second client asks for something else.
 abbrev pub tokens : List Turn
 tokens =
     from 0 (client 1) (with_token 0x75) ∷ from 0 (client 1) (with_token 0x74)
-    ∷ from 0 (client 2) (with_token 0x74) ∷ tick_at 0 ∷ from 0 origin (got 3 1)
-    ∷ tick_at 0 ∷ []
+    ∷ from 0 (client 2) (with_token 0x74 ++ (1 ∷ 0x78 ∷ [])) ∷ tick_at 0
+    ∷ from 0 origin (got 3 1) ∷ tick_at 0 ∷ []
 
 abbrev pub tokens_sent : List Sent
 tokens_sent =
@@ -109,14 +110,15 @@ one_left = delivered_as (0x50 ∷ 0x45 ∷ 0 ∷ 2 ∷ 0xD1 ∷ 1 ∷ 1 ∷ [])
 abbrev pub asks_at : ℕ → ℕ → Turn
 asks_at now n = from now (client n) (0x50 ∷ 1 ∷ 0 ∷ 7 ∷ 0xB1 ∷ 0x74 ∷ [])
 
--- two requests of one moment, where two may be sent at once: in order of number
+-- two requests of one moment for two resources, where two may be sent at once: in order of number
 abbrev pub of_one_moment : List Turn
-of_one_moment = asks_at 0 1 ∷ asks_at 0 2 ∷ tick_at 0 ∷ tick_at 0 ∷ []
+of_one_moment =
+    asks_at 0 1 ∷ from 0 (client 2) (get_t (1 ∷ 0x78 ∷ [])) ∷ tick_at 0 ∷ tick_at 0 ∷ []
 
 abbrev pub of_one_moment_sent : List Sent
 of_one_moment_sent =
     nothing Opened ∷ nothing Opened ∷ to SentRequest origin (asked 1 1)
-    ∷ to SentRequest origin (asked 2 2) ∷ []
+    ∷ to SentRequest origin (asked 2 2 ++ (1 ∷ 0x78 ∷ [])) ∷ []
 
 -- a client that is to be served, and a request that is to be sent from the same moment on: the
 -- request comes first

@@ -18,13 +18,14 @@ use Rattle.coap_exchange.specs.declared.exchange.ExchangeState.TheVariants.{Queu
 use Rattle.coap_exchange.specs.declared.exchange.Exchange.{Exchange}
 use Rattle.coap_exchange.specs.declared.waiter.Waiter.{Waiter}
 use Rattle.coap_exchange.specs.declared.waiter.WaiterState.TheVariants.{Waiting}
+use Rattle.coap_exchange.specs.Exchanges.{is_joinable}
 use Rattle.coap_exchange.specs.Ids.{called}
-use Rattle.coap_exchange.specs.Table.{Numbered}
-use Rattle.coap_model.specs.declared.report.Outcome.TheVariants.{Refused, Hit, Overloaded, NoId, Opened}
+use Rattle.coap_exchange.specs.Table.{Numbered, first_that}
+use Rattle.coap_model.specs.declared.report.Outcome.TheVariants.{Refused, Hit, Joined, Overloaded, NoId, Opened}
 use Rattle.coap_forward.specs.Messages.{is_con, is_non, own_reply, busy_reply, at_once, token_of}
 use Rattle.coap_forward.specs.Forms.{forwarded}
 use Rattle.coap_model.specs.Verdicts.{Verdict, refused_with, may_ask, verdict_of, form_fits}
-use Rattle.coap_model.specs.World.{World, Step, later, silent, says, known_of, has_record_room, remembers, repeats, drops, next_id, can_reply, has_room}
+use Rattle.coap_model.specs.World.{World, Step, later, silent, says, known_of, has_record_room, remembers, repeats, drops, next_id, can_reply, has_room_to_join, has_room_to_open}
 
 -- the clock, one event on, in which a request was replied to at once
 abbrev pub replied : World → ℕ → Message → World
@@ -66,24 +67,32 @@ new_exchange w now m key = (
   },
 )
 
-abbrev pub new_waiter : World → Endpoint → Message → Numbered Waiter
-new_waiter w client m = (
+abbrev pub new_waiter : World → Endpoint → Message → ℕ → Numbered Waiter
+new_waiter w client m exchange = (
   w.admitted + 1,
   record {
     client = client;
     kind = m.kind;
     token = m.token;
     tags = tags_of m;
-    state = Waiting (w.opened + 1);
+    state = Waiting exchange;
   },
 )
+
+-- the client waits for an exchange that is under way
+abbrev pub joins : World → ℕ → Endpoint → Message → ℕ → Step
+joins w now client m exchange =
+    silent Joined (record (later w now) {
+      waiters = w.waiters ++ new_waiter w client m exchange ∷ [];
+      admitted = w.admitted + 1;
+    })
 
 -- an exchange is opened, and the client waits for it
 abbrev pub opens : World → ℕ → Endpoint → Message → CacheKey → Step
 opens w now client m key =
     silent Opened (record (later w now) {
       exchanges = w.exchanges ++ new_exchange w now m key ∷ [];
-      waiters = w.waiters ++ new_waiter w client m ∷ [];
+      waiters = w.waiters ++ new_waiter w client m (w.opened + 1) ∷ [];
       opened = w.opened + 1;
       admitted = w.admitted + 1;
     })
@@ -110,17 +119,31 @@ abbrev pub hits : World → ℕ → Endpoint → Message → CacheKey → Stored
 hits w now client m key stored =
     shows (record w { store = used entry_key key w.store }) now client m stored
 
--- an exchange may be opened for a request that came in a message of this type; a Confirmable one
--- isn't asked for yet
+-- a request that came in a message of this type may wait for an exchange that is under way, and one
+-- may be opened for it; a Confirmable one isn't asked for yet
+abbrev pub can_join : World → ℕ → Kind → Bool
+can_join w now kind = is_non kind && has_room_to_join w now
+
 abbrev pub can_open : World → ℕ → Kind → Bool
-can_open w now kind = is_non kind && has_room w now
+can_open w now kind = is_non kind && has_room_to_open w now
 
 -- an exchange is wanted for the key
-abbrev pub on_miss : World → ℕ → Endpoint → Message → CacheKey → Step
-on_miss w now client m key =
+abbrev pub on_wanted : World → ℕ → Endpoint → Message → CacheKey → Step
+on_wanted w now client m key =
     if form_fits w.setting.limits.datagram key.target m
     then (if can_open w now m.kind then opens w now client m key else turns_away w now client m)
     else turns_down w now client m REQUEST_ENTITY_TOO_LARGE
+
+-- an exchange of the key that is under way, by its number, is joined (RFC 7252, 5.7.1)
+abbrev pub on_joinable : World → ℕ → Endpoint → Message → CacheKey → Option ℕ → Step
+on_joinable w now client m key None = on_wanted w now client m key
+on_joinable w now client m key (Some exchange) =
+    if can_join w now m.kind then joins w now client m exchange else turns_away w now client m
+
+-- what is stored for the key, if something is, doesn't answer
+abbrev pub on_miss : World → ℕ → Endpoint → Message → CacheKey → Step
+on_miss w now client m key =
+    on_joinable w now client m key (first_that (is_joinable key) w.exchanges)
 
 -- an entry of the key that is usable answers
 abbrev pub on_entry : World → ℕ → Endpoint → Message → CacheKey → Option Entry → Step

@@ -6,7 +6,7 @@ use Rattle.coap_target.specs.declared.endpoint.Endpoint.{Endpoint}
 use Rattle.coap_target.specs.Endpoint.{same_endpoint}
 use Rattle.coap_limits.specs.Limits.{Limits}
 use Rattle.coap_model.specs.declared.report.Outcome.{Outcome}
-use Rattle.coap_model.specs.declared.report.Outcome.TheVariants.{Opened, Answered, Acked, SentRequest, GaveUp, Delivered}
+use Rattle.coap_model.specs.declared.report.Outcome.TheVariants.{Joined, Opened, Answered, Acked, SentRequest, GaveUp, Delivered}
 use Rattle.coap_model.specs.History.{Act, admits, moves, serves, Deed, gives_id}
 
 -- ---- clients
@@ -23,6 +23,7 @@ others_than v standing = filter (λ s. not (s.number == v)) standing
 -- what an entry of this outcome, acting on this, makes of those that wait
 abbrev pub standing_by : Outcome → Act → List Standing → List Standing
 standing_by Opened (admits v x) standing = standing ++ record { number = v; exchange = x } ∷ []
+standing_by Joined (admits v x) standing = standing ++ record { number = v; exchange = x } ∷ []
 standing_by Delivered (serves v) standing = others_than v standing
 standing_by _ _ standing = standing
 
@@ -131,6 +132,11 @@ pub record HasIds (k now : ℕ) (history : List Deed) : Type 0 where
   pub free :
       window_ids (now / 247000) history + (length (standing_in history) + queued_in history) + k
       ≤ 32768
+
+-- there is room for one more client at an exchange that is open
+pub record HasRoomToJoin (limits : Limits) (now : ℕ) (history : List Deed) : Type 0 where
+  pub waiter : length (standing_in history) < limits.waiters
+  pub ids : HasIds 1 now history
 
 -- there is room for an exchange and for its client
 pub record HasRoomToOpen (limits : Limits) (now : ℕ) (history : List Deed) : Type 0 where

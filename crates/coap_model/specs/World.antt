@@ -169,11 +169,19 @@ can_reply w now kind = is_con kind || has_ids 1 w now
 
 -- ---- room
 
+abbrev pub has_exchange_room : World → Bool
+has_exchange_room w = nat_lt (length w.exchanges) w.setting.limits.exchanges
+
+abbrev pub has_waiter_room : World → Bool
+has_waiter_room w = nat_lt (length w.waiters) w.setting.limits.waiters
+
+-- one more client may wait for an exchange
+abbrev pub has_room_to_join : World → ℕ → Bool
+has_room_to_join w now = has_waiter_room w && has_ids 1 w now
+
 -- an exchange may be opened for a client
-abbrev pub has_room : World → ℕ → Bool
-has_room w now =
-    nat_lt (length w.exchanges) w.setting.limits.exchanges
-    && (nat_lt (length w.waiters) w.setting.limits.waiters && has_ids 2 w now)
+abbrev pub has_room_to_open : World → ℕ → Bool
+has_room_to_open w now = has_exchange_room w && (has_waiter_room w && has_ids 2 w now)
 
 -- ---- how much a proxy holds
 

@@ -4,7 +4,7 @@ ghost use Rattle.coap_message.specs.declared.kind.Kind.TheVariants.{Non, Ack, Co
 ghost use Rattle.coap_message.specs.Spelling.{spelling, with_id, Spells};
 ghost use Rattle.coap_limits.specs.Limits.{default_limits, AreLimits};
 ghost use Rattle.coap_model.specs.Setting.{setting_of, Setting};
-ghost use Rattle.coap_model.specs.declared.report.Outcome.TheVariants.{Again, NoRecordRoom, Opened, Idle, Refused, Overloaded, NoId, Answered, Acked, Rejected, Hit};
+ghost use Rattle.coap_model.specs.declared.report.Outcome.TheVariants.{Again, NoRecordRoom, Joined, Opened, Idle, Refused, Overloaded, NoId, Answered, Acked, Rejected, Hit};
 ghost use Rattle.coap_model.specs.declared.report.Storing.TheVariants.{Kept, TooLarge, NoMemory, NotStored};
 ghost use Rattle.coap_option.specs.Selection.{sent_on, max_age_of};
 ghost use Rattle.coap_forward.specs.Forms.{forwarded, goes_on};
@@ -20,7 +20,7 @@ ghost use Rattle.coap_model.specs.Memory.{takes_memory};
 ghost use Rattle.coap_model.specs.Ticks.{next_due};
 ghost use Rattle.coap_model.specs.History.{comes_con, moves, Act, no_item, serves, takes, opened_in, Deed, Place, IsPlaceOf, Somewhere, Sends, Ends, Serves, last_of, IsInOrder, IsRequestOf, Entry, grown_of, gives_id, ids_in, Gives};
 ghost use Rattle.coap_forward.specs.Messages.{eight_zeros, own_reply, reply_kind, told_again, brings_requests, is_bare, is_recorded, acknowledgement, reset};
-ghost use Rattle.coap_model.specs.Justified.{HaveOneMemory, Comes, known_of, HasRecordRoom, Acknowledges, IsNew, IsUnprocessable, verdict_on, fits_on, IsMiss, IsAwaited, IsActing, IsForwarding, IsDelivery, JustifiedBy, AllJustified, IsOwed, MayFollow, AreOfOneTurn, is_fresh_at, HasIdFor, IsObtainedHere, size_here};
+ghost use Rattle.coap_model.specs.Justified.{HaveOneMemory, Comes, known_of, HasRecordRoom, Acknowledges, IsNew, IsUnprocessable, verdict_on, fits_on, IsMiss, IsJoinable, IsUnanswered, IsAwaited, IsActing, IsForwarding, IsDelivery, JustifiedBy, AllJustified, IsOwed, MayFollow, AreOfOneTurn, is_fresh_at, HasIdFor, IsObtainedHere, size_here};
 ghost use Rattle.coap_model.specs.Runs.{turns_of, AreTurns, Taken, new_run, run_of, entry_of, answer_at};
 ghost use Rattle.coap_model.specs.Examples.{nothing, to, get_t, origin, from, tick_at, client, play, proxy, small_proxy, narrow_proxy, first_answer, first_answer_sent, late_answer, late_answer_sent, error, error_sent, fault, fault_sent, changed, changed_sent, valid, replaced_sent, block_in_response, long_max_age, impostor, impostor_sent, refusals, refusals_sent, long_paths, long_paths_sent, long_segments, long_segments_sent, payload_in_get, payload_in_get_sent, full, full_sent, unprocessed_messages, unprocessed_messages_sent, too_long, too_long_sent, payload_of, payload_of_109_sent, spent_proxy, last_id, last_id_sent, wrapping_proxy, wrapping, wrapping_sent, content_for_client};
 ghost use Rattle.coap_model.specs.ReplyExamples.{asks_at, with_token, tokens, tokens_sent, two_faults, two_faults_sent, of_class_3, of_class_3_sent, changed_with_age, changed_with_age_sent, two_ages, beside_an_age, beside_an_age_sent, path_in_response, greatest_age, greatest_age_sent, shorter_age, shorter_age_sent, ten_seconds_after, one_left, none_left, of_one_moment, of_one_moment_sent, request_first, request_first_sent, client_first, client_first_sent};
@@ -30,7 +30,8 @@ ghost use Rattle.coap_model.specs.DuplicateExamples.{con_u, con_not_found, twice
 ghost use Rattle.coap_model.specs.ReliableExamples.{hasty_proxy, patient_proxy, silent_origin, longest_waits, silence_sent, late_ticks, late_ticks_sent, first_again_at, again_in_time, too_late, after_the_last, after_the_last_sent, answered_later, answered_later_sent, deadline, deadline_sent, sent_late, never_sent, never_sent_sent, blocked, blocked_sent, turn_of_the_second, turn_of_the_second_sent, after_the_end, after_the_end_sent, one_at_a_time, one_at_a_time_sent, two_at_a_time, two_at_a_time_sent, two_origins, two_origins_sent, next_window, next_window_sent, over_the_edge, over_the_edge_sent, again_without_id, again_without_id_sent, spent_with_cache, hit_without_id, hit_without_id_sent, greatest_id, after_the_greatest, after_the_greatest_sent, sent_twice, then_answered, history_of, two_windows};
 ghost use Rattle.coap_model.specs.ResponseExamples as responses;
 ghost use Rattle.coap_model.specs.ResponseExamples.{empty_ack, empty_reset, con_got, non_got, acked_as, comes, becomes, taken, ignored, acknowledged_until, silence_after, of_others, of_others_sent, reset_by_origin, reset_by_origin_sent, reset_after, reset_after_sent, con_response, con_response_sent, non_response, non_response_sent, before_acknowledgement, before_acknowledgement_sent, block_in_separate, block_in_separate_sent, of_impostors, of_impostors_sent, after_giving_up, after_giving_up_sent, no_room, no_room_sent, no_room_needed, no_room_needed_sent, lets_go, lets_go_sent, response, request, is_awaited, queued_turns, sent_turns, acked_turns, answered_turns, opened_acting, sent_acting, acked_acting, reset_acting, got_acting, served_acting, non_acting, record_of_response};
-ghost use Rattle.coap_model.specs.Standing.{queued, sent, acked, done, stage_of, outstanding_to, queued_in, window_ids, HasRoomToOpen, open_in, standing_in};
+ghost use Rattle.coap_model.specs.JoiningExamples as joining;
+ghost use Rattle.coap_model.specs.Standing.{queued, sent, acked, done, stage_of, outstanding_to, queued_in, window_ids, HasRoomToJoin, HasRoomToOpen, open_in, standing_in};
 ghost use Rattle.coap_model.specs.Schedules.{sends_by, next_send, IsSchedule};
 ghost use Rattle.coap_model.specs.Held.{target_bytes, held, most_held};
 ghost use Rattle.coap_model.specs.LimitExamples.{get_u, not_found, got, one_exchange, one_waiter, two_at_once, until_served, until_served_sent, retries_after, two_requests, second_is_told, narrow, long_datagrams, long_datagrams_sent, later_proxy, counted_on, counted_on_sent, after_ids, last_refusal, last_refusal_sent, kept_ids, kept_ids_sent};
@@ -139,14 +140,15 @@ pub fn examples_of_forms_and_tables()
         (after proxy (asks_at 0 1 ∷ tick_at 0 ∷ from 0 origin (got 1 1) ∷ []))
         ≡ 100 }
     ensures bound { most_held default_limits ≡ 16998400 }
-    ensures counted { counts (after proxy (asks_at 0 1 ∷ asks_at 0 2 ∷ []))
+    ensures counted { counts (after proxy (asks_at 0 1 ∷ asks_at 0 2
+        ∷ from 0 (client 3) (get_t (1 ∷ 0x78 ∷ [])) ∷ []))
         ≡ record {
           cached_bytes = 0;
           entries = 0;
           con_records = 0;
-          non_records = 2;
+          non_records = 3;
           exchanges = 2;
-          waiters = 2;
+          waiters = 3;
         } }
     ensures no_memory_to_repeat { takes_memory Again ≡ false }
     ensures no_memory_to_forget { takes_memory NoRecordRoom ≡ false }
@@ -288,7 +290,8 @@ pub fn examples_of_reliability()
 /// what they let go, responses in messages of their own, which are awaited, acknowledged and
 /// remembered, and what the history says of them.
 pub fn examples_of_responses()
-    ensures acked_at_last { play proxy (comes 246999 origin (empty_ack 1)) ≡ becomes (nothing Acked) }
+    ensures acked_at_last { play proxy (comes 246999 origin (empty_ack 1))
+        ≡ becomes (nothing Acked) }
     ensures acked_too_late { play proxy (comes 247000 origin (empty_ack 1)) ≡ ignored }
     ensures reset_at_last { play proxy (comes 246999 origin (empty_reset 1))
         ≡ becomes (nothing (Answered NotStored)) }
@@ -373,6 +376,62 @@ pub fn examples_of_responses()
     ensures apart { remembered_at Non 9 (history_of non_acting)
         ≡ remembered_at Non 9 (history_of acked_acting) }
     ensures none_of_non { remembered_at Con 9 (history_of non_acting) ≡ [] }
+{}
+
+/// Clients that ask for the same, computed: one request to the origin, and each client served once
+/// and by itself; until when an exchange is joined, and by whom; where there is no room to; and what
+/// the history says of them.
+pub fn examples_of_joining()
+    ensures collapsing { play proxy joining.collapsing ≡ joining.collapsing_sent }
+    ensures joined_twice { play proxy joining.joined_twice ≡ joining.joined_twice_sent }
+    ensures joined_until { play proxy joining.joined_until ≡ joining.joined_until_sent }
+    ensures joined_in_turn { play proxy joining.joined_in_turn ≡ joining.joined_in_turn_sent }
+    ensures then_cached { play proxy joining.then_cached ≡ joining.then_cached_sent }
+    ensures then_anew { play proxy joining.then_anew ≡ joining.then_anew_sent }
+    ensures given_up { play hasty_proxy joining.given_up ≡ joining.given_up_sent }
+    ensures reset_for_all { play proxy joining.reset_for_all ≡ joining.reset_for_all_sent }
+    ensures one_waits { play one_waiter joining.one_waits ≡ joining.one_waits_sent }
+    ensures full_tables { play joining.two_waiters joining.full_tables ≡ joining.full_tables_sent }
+    ensures last_id_joins { play (after_ids 32765) joining.last_id_joins
+        ≡ joining.last_id_joins_sent }
+    ensures other_keys { play proxy joining.other_keys ≡ joining.other_keys_sent }
+    ensures own_tags { play proxy joining.own_tags ≡ joining.own_tags_sent }
+    ensures long_joiner { play narrow_proxy joining.long_joiner ≡ joining.long_joiner_sent }
+    ensures all_wait { counts (after proxy joining.three_wait)
+        ≡ record {
+          cached_bytes = 0;
+          entries = 0;
+          con_records = 0;
+          non_records = 3;
+          exchanges = 1;
+          waiters = 3;
+        } }
+    ensures one_left { counts (after proxy joining.two_served)
+        ≡ record {
+          cached_bytes = 0;
+          entries = 0;
+          con_records = 0;
+          non_records = 3;
+          exchanges = 1;
+          waiters = 1;
+        } }
+    ensures none_left { counts (after proxy (joining.two_served ++ tick_at 0 ∷ []))
+        ≡ record {
+          cached_bytes = 0;
+          entries = 0;
+          con_records = 0;
+          non_records = 3;
+          exchanges = 0;
+          waiters = 0;
+        } }
+    ensures one_queued { queued_in (history_of joining.queued_acting) ≡ 1 }
+    ensures one_open { length (open_in (history_of joining.queued_acting)) ≡ 1 }
+    ensures two_stand { length (standing_in (history_of joining.queued_acting)) ≡ 2 }
+    ensures one_stands { standing_in (history_of joining.one_left_acting)
+        ≡ record { number = 3; exchange = 1 } ∷ [] }
+    ensures is_open { stage_of 1 (history_of joining.one_left_acting) ≡ Some done }
+    ensures none_stands { standing_in (history_of joining.none_left_acting) ≡ [] }
+    ensures is_closed { stage_of 1 (history_of joining.none_left_acting) ≡ None }
 {}
 
 /// Each request that is sent on has the cache key of the client's request for which it is sent,
@@ -509,9 +568,9 @@ pub fn what_is_carried_is_promised()
 {}
 
 /// What is promised, place by place: each deed is justified by those before it, comes no earlier
-/// than they did, and gives the message id that is due, which no other gave within 247 seconds; each request is sent by
-/// its schedule, and at most so many to one endpoint as may be; the history tells of
-/// these deeds and of nothing else; and what the proxy counts and holds is within its limits.
+/// than they did, and gives the message id that is due, which no other gave within 247 seconds; each
+/// request is sent by its schedule, and at most so many to one endpoint as may be; the history tells
+/// of these deeds and of nothing else; and what the proxy counts and holds is within its limits.
 pub fn what_is_promised_holds_at_each_place()
     ensures justified { (history : List Entry) (w : World) (p : Promised history w) (place : Place)
         → IsPlaceOf p.deeds place
@@ -654,11 +713,13 @@ pub fn nothing_is_done_twice()
 /// What is owed is given, where an entry is justified by what was done before it: a message that is
 /// remembered is told again what it was told, and a request for which there is no room to remember
 /// it meets silence; of the other requests one whose key has a fresh entry is answered from the
-/// cache, and one that may be asked for, with room, is opened. A message that answers an exchange
-/// is its answer, which is kept by its size where it was obtained; in a Confirmable message it is
-/// taken where it is new, and meets silence where it isn't known and there is no room to remember
-/// it. An acknowledgement of a request that waits for one settles it; a confirmable datagram that
-/// can't be processed is rejected; and a tick at which something is due does what is due first.
+/// cache, one whose key has none, but an exchange that may be joined, joins it, with room, and one
+/// that may be asked for and that nothing answers, with room, is opened. A message that answers an
+/// exchange is its answer, which is kept by its size where it was obtained; in a Confirmable
+/// message it is taken where it is new, and meets silence where it isn't known and there is no room
+/// to remember it. An acknowledgement of a request that waits for one settles it; a confirmable
+/// datagram that can't be processed is rejected; and a tick at which something is due does what is
+/// due first.
 pub fn what_is_owed_is_given()
     ensures owed { (setting : Setting) (past : List Deed) (d : Deed)
         → JustifiedBy d.entry.report.outcome setting past d
@@ -671,10 +732,22 @@ pub fn what_is_owed_is_given()
         → IsNew setting past d.entry.now client request
         → request.kind ≡ Non
         → verdict_on setting request ≡ may_ask key
-        → IsMiss setting past key d.entry.now
+        → IsUnanswered setting past d.entry.now key
         → fits_on setting key request ≡ true
         → HasRoomToOpen setting.limits d.entry.now past
         → d.entry.report.outcome ≡ Opened }
+    ensures joined { (setting : Setting) (past : List Deed) (d : Deed) (client : Endpoint)
+        (request : Message)
+        (key : CacheKey) (exchange : ℕ)
+        → JustifiedBy d.entry.report.outcome setting past d
+        → IsRequestOf setting client request d.entry.event
+        → IsNew setting past d.entry.now client request
+        → request.kind ≡ Non
+        → verdict_on setting request ≡ may_ask key
+        → IsMiss setting past key d.entry.now
+        → IsJoinable setting past key exchange
+        → HasRoomToJoin setting.limits d.entry.now past
+        → d.entry.report.outcome ≡ Joined }
     ensures answered { (setting : Setting) (past : List Deed) (d : Deed) (exchange : ℕ)
         (awaited : IsAwaited setting past d.entry.now exchange d.entry.event)
         → JustifiedBy d.entry.report.outcome setting past d

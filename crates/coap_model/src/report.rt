@@ -15,7 +15,7 @@ pub enum Storing {
     NotStored,
 }
 
-/// What a step did. `Joined` doesn't come yet.
+/// What a step did.
 #[derive(Clone, Copy, Debug, PartialEq, Eq)]
 pub enum Outcome {
     /// Nothing: the datagram is no one's business.

@@ -1,10 +1,10 @@
 use Rattle.std.proofs.Common.{◌≡◌, true, false, sym, ap, rules}
 use Rattle.coap_message.specs.declared.code.TheConstants.Code.{REQUEST_ENTITY_TOO_LARGE}
 use Rattle.coap_model.specs.World.{Step, remembers}
-use Rattle.coap_model.specs.Requests.{can_open, refuses, overloads, opens, on_miss}
+use Rattle.coap_model.specs.Requests.{can_open, refuses, overloads, opens, on_wanted}
 use Rattle.coap_model.proofs.Verdicts.{askable}
 use Rattle.coap_core.proofs.Asking.{does-as, fits-as, too-long, turned-away, opened}
-use Rattle.coap_core.proofs.world.World.on_miss.Goals as goal
+use Rattle.coap_core.proofs.world.World.on_wanted.Goals as goal
 
 pub fits-requires-clause-get : goal.fits-requires-clause-get
 fits-requires-clause-get g c = (askable c.args.self.now.setting.routes c.args.request.now c.requires.can.routes c.args.asked.now.key c.requires.asked.key).get
@@ -20,7 +20,7 @@ refuse-requires-clause-fits g c =
     let w = c.args.self.now in
     let m = c.args.request.now in
     let refused : Step = refuses w c.args.now c.args.client m REQUEST_ENTITY_TOO_LARGE in
-    let missed : Step = on_miss w c.args.now c.args.client m c.args.asked.now.key in
+    let missed : Step = on_wanted w c.args.now c.args.client m c.args.asked.now.key in
     let long : missed ≡ refused = too-long w c.args.now c.args.client m c.args.asked.now.key c.requires.ids (sym c.if-not-fits.ensures.exact) in
     fits-as refused missed c.args.out.now.room c.fits.new.out.room long c.fits.ensures.kept c.requires.fits
 
@@ -29,7 +29,7 @@ returns-then-not-fits-clause-exact g c =
     let w = c.args.self.now in
     let m = c.args.request.now in
     let refused : Step = refuses w c.args.now c.args.client m REQUEST_ENTITY_TOO_LARGE in
-    let missed : Step = on_miss w c.args.now c.args.client m c.args.asked.now.key in
+    let missed : Step = on_wanted w c.args.now c.args.client m c.args.asked.now.key in
     let long : missed ≡ refused = too-long w c.args.now c.args.client m c.args.asked.now.key c.requires.ids (sym c.if-not-fits.ensures.exact) in
     does-as (remembers c.args.now c.args.client m refused) (remembers c.args.now c.args.client m missed) c.refuse.result c.args.out.now c.fits.new.out c.refuse.new.out c.refuse.new.self (ap (remembers c.args.now c.args.client m) long) c.fits.ensures.kept c.refuse.ensures.exact
 
@@ -38,7 +38,7 @@ overload-requires-clause-fits g c =
     let w = c.args.self.now in
     let m = c.args.request.now in
     let busy : Step = overloads w c.args.now c.args.client m in
-    let missed : Step = on_miss w c.args.now c.args.client m c.args.asked.now.key in
+    let missed : Step = on_wanted w c.args.now c.args.client m c.args.asked.now.key in
     let closed : can_open w c.args.now m.kind ≡ false = rw (← c.request.view_is) (search rules) in
     let away : missed ≡ busy = turned-away w c.args.now c.args.client m c.args.asked.now.key c.requires.ids (sym c.if-not-fits.ensures.exact) closed in
     fits-as busy missed c.args.out.now.room c.fits.new.out.room away c.fits.ensures.kept c.requires.fits
@@ -48,7 +48,7 @@ returns-then-ne-clause-exact g c =
     let w = c.args.self.now in
     let m = c.args.request.now in
     let busy : Step = overloads w c.args.now c.args.client m in
-    let missed : Step = on_miss w c.args.now c.args.client m c.args.asked.now.key in
+    let missed : Step = on_wanted w c.args.now c.args.client m c.args.asked.now.key in
     let closed : can_open w c.args.now m.kind ≡ false = rw (← c.request.view_is) (search rules) in
     let away : missed ≡ busy = turned-away w c.args.now c.args.client m c.args.asked.now.key c.requires.ids (sym c.if-not-fits.ensures.exact) closed in
     does-as (remembers c.args.now c.args.client m busy) (remembers c.args.now c.args.client m missed) c.overload.result c.args.out.now c.fits.new.out c.overload.new.out c.overload.new.self (ap (remembers c.args.now c.args.client m) away) c.fits.ensures.kept c.overload.ensures.exact
@@ -59,7 +59,7 @@ returns-clause-exact g c =
     let m = c.args.request.now in
     let key = c.args.asked.now.key in
     let asked : Step = opens w c.args.now c.args.client m key in
-    let missed : Step = on_miss w c.args.now c.args.client m key in
+    let missed : Step = on_wanted w c.args.now c.args.client m key in
     let free : can_open w c.args.now m.kind ≡ true = rw (← c.request.view_is) (search rules) in
     let is : missed ≡ asked = opened w c.args.now c.args.client m key (sym c.if-not-fits.ensures.exact) free in
     does-as (remembers c.args.now c.args.client m asked) (remembers c.args.now c.args.client m missed) c.open.result c.args.out.now c.fits.new.out c.open.new.out c.open.new.self (ap (remembers c.args.now c.args.client m) is) c.fits.ensures.kept (rw c.in_ok-key.ensures at c.open.ensures.exact)
