@@ -20,12 +20,13 @@ use Rattle.coap_dedup.specs.declared.record.Record.{Record}
 use Rattle.coap_exchange.specs.Exchanges.{is_joinable}
 use Rattle.coap_exchange.specs.Ids.{given_in}
 use Rattle.coap_exchange.specs.Table.{first_that}
+use Rattle.coap_model.specs.declared.report.Outcome.TheVariants.{Joined, Opened}
 use Rattle.coap_model.specs.declared.report.Report.{Report}
-use Rattle.coap_model.specs.Memory.{takes_memory}
 use Rattle.coap_model.specs.Verdicts.{Verdict, refused_with, may_ask, verdict_of, form_fits}
-use Rattle.coap_model.specs.World.{World, Step, reserved, has_ids, can_reply, known_of, repeats}
-use Rattle.coap_model.specs.Requests.{lacks_id, refuses, overloads, opens, turns_down, turns_away, hits, can_join, can_open, joins, on_wanted, on_joinable, on_miss, on_entry, on_key, on_verdict, on_new}
-use Rattle.coap_core.specs.Steps.{Does, repetition_of}
+use Rattle.coap_model.specs.World.{World, Step, reserved, has_ids, can_reply, has_exchange_room, has_waiter_room, has_room_to_join, has_room_to_open, known_of, repeats}
+use Rattle.coap_model.specs.Requests.{lacks_id, refuses, overloads, opens, turns_down, turns_away, hits, joins, on_wanted, on_joinable, on_miss, on_entry, on_key, on_verdict, on_new}
+use Rattle.coap_core.specs.Steps.{Does, repetition_of, wants_memory}
+use Rattle.coap_core.proofs.Puts.{taken-takes}
 use Rattle.coap_core.proofs.Records.{held-same}
 
 -- what is done in a step is done in one that is equal, where the datagram was written to before
@@ -53,7 +54,7 @@ module _ (w : World) (now : ℕ) (client : Endpoint) (m : Message) where
   -- ---- memory
 
   abbrev Takes : Step → Type 0
-  Takes s = takes_memory s.report.outcome ≡ true
+  Takes s = wants_memory s ≡ true
 
   either-takes : (b : Bool) (s t : Step) → Takes s → Takes t → Takes (cond b s t)
   either-takes true s t p q = p
@@ -67,13 +68,13 @@ module _ (w : World) (now : ℕ) (client : Endpoint) (m : Message) where
 
   wanted-takes : (key : CacheKey) → Takes (on_wanted w now client m key)
   wanted-takes key =
-      either-takes (form_fits w.setting.limits.datagram key.target m) (cond (can_open w now m.kind) (opens w now client m key) (turns_away w now client m)) (turns_down w now client m REQUEST_ENTITY_TOO_LARGE)
-      (either-takes (can_open w now m.kind) (opens w now client m key) (turns_away w now client m) refl away-takes)
+      either-takes (form_fits w.setting.limits.datagram key.target m) (cond (has_room_to_open w now) (opens w now client m key) (turns_away w now client m)) (turns_down w now client m REQUEST_ENTITY_TOO_LARGE)
+      (either-takes (has_room_to_open w now) (opens w now client m key) (turns_away w now client m) (taken-takes Opened client m _ (λ bytes. refl)) away-takes)
       (down-takes REQUEST_ENTITY_TOO_LARGE)
 
   joinable-takes : (key : CacheKey) (o : Option ℕ) → Takes (on_joinable w now client m key o)
   joinable-takes key None = wanted-takes key
-  joinable-takes key (Some exchange) = either-takes (can_join w now m.kind) (joins w now client m exchange) (turns_away w now client m) refl away-takes
+  joinable-takes key (Some exchange) = either-takes (has_room_to_join w now) (joins w now client m exchange) (turns_away w now client m) (taken-takes Joined client m _ (λ bytes. refl)) away-takes
 
   miss-takes : (key : CacheKey) → Takes (on_miss w now client m key)
   miss-takes key = joinable-takes key (first_that (is_joinable key) w.exchanges)
@@ -90,7 +91,7 @@ module _ (w : World) (now : ℕ) (client : Endpoint) (m : Message) where
   verdict-takes (may_ask key) = entry-takes key (of_key entry_key key w.store)
 
   -- whatever becomes of a request that is new takes memory
-  pub new-takes : takes_memory (on_new w now client m).report.outcome ≡ true
+  pub new-takes : wants_memory (on_new w now client m) ≡ true
   new-takes = verdict-takes (verdict_of w.setting.routes m)
 
   -- ---- requests for a key
@@ -100,12 +101,12 @@ module _ (w : World) (now : ℕ) (client : Endpoint) (m : Message) where
     pub too-long : can_reply w now m.kind ≡ true → form_fits w.setting.limits.datagram key.target m ≡ false → on_wanted w now client m key ≡ refuses w now client m REQUEST_ENTITY_TOO_LARGE
     too-long reply fits = rw (fits, reply) refl
 
-    -- there is no room, or it is one that isn't asked for yet
-    pub turned-away : can_reply w now m.kind ≡ true → form_fits w.setting.limits.datagram key.target m ≡ true → can_open w now m.kind ≡ false → on_wanted w now client m key ≡ overloads w now client m
+    -- there is no room
+    pub turned-away : can_reply w now m.kind ≡ true → form_fits w.setting.limits.datagram key.target m ≡ true → has_room_to_open w now ≡ false → on_wanted w now client m key ≡ overloads w now client m
     turned-away reply fits closed = rw (fits, closed, reply) refl
 
     -- it is asked for
-    pub opened : form_fits w.setting.limits.datagram key.target m ≡ true → can_open w now m.kind ≡ true → on_wanted w now client m key ≡ opens w now client m key
+    pub opened : form_fits w.setting.limits.datagram key.target m ≡ true → has_room_to_open w now ≡ true → on_wanted w now client m key ≡ opens w now client m key
     opened fits free = rw (fits, free) refl
 
     -- what is stored for it, if anything is, can't be shown
@@ -127,31 +128,27 @@ module _ (w : World) (now : ℕ) (client : Endpoint) (m : Message) where
   refused code reply verdict = rw (verdict, reply) refl
 
   -- where no id is free for a reply none is for a client that waits, and none for an exchange
-  last-false : (a b c : Bool) → c ≡ false → (a && (b && c)) ≡ false
-  last-false true true c e = e
-  last-false true false c e = refl
-  last-false false b c e = refl
+  last-false : (a b : Bool) → b ≡ false → (a && b) ≡ false
+  last-false true b e = e
+  last-false false b e = refl
 
-  apart : can_reply w now m.kind ≡ false → can_join w now m.kind ≡ false
-  apart none = go m.kind none
+  without-id : can_reply w now m.kind ≡ false → has_ids 1 w now ≡ false
+  without-id none = go m.kind none
     where
-      go : (kind : Kind) → can_reply w now kind ≡ false → can_join w now kind ≡ false
+      go : (kind : Kind) → can_reply w now kind ≡ false → has_ids 1 w now ≡ false
       go Con e = absurd cc
-      go Non e = last-false true _ (has_ids 1 w now) e
-      go Ack e = refl
-      go Rst e = refl
+      go Non e = e
+      go Ack e = e
+      go Rst e = e
 
-  shut : can_reply w now m.kind ≡ false → can_open w now m.kind ≡ false
-  shut none = go m.kind none
+  apart : can_reply w now m.kind ≡ false → has_room_to_join w now ≡ false
+  apart none = last-false (has_waiter_room w) (has_ids 1 w now) (without-id none)
+
+  shut : can_reply w now m.kind ≡ false → has_room_to_open w now ≡ false
+  shut none = last-false (has_exchange_room w) _ (last-false (has_waiter_room w) (has_ids 2 w now) (few (without-id none)))
     where
       few : leb (given_in now w.ids + reserved w + 1) 32768 ≡ false → leb (given_in now w.ids + reserved w + 2) 32768 ≡ false
       few e = let more = leb-false _ _ e in lt-leb _ _ (omega (arith, more))
-
-      go : (kind : Kind) → can_reply w now kind ≡ false → can_open w now kind ≡ false
-      go Con e = absurd cc
-      go Non e = last-false _ _ (has_ids 2 w now) (few e)
-      go Ack e = refl
-      go Rst e = refl
 
   -- so nothing is said, whatever the verdict
   pub lacking : can_reply w now m.kind ≡ false → on_new w now client m ≡ lacks_id w now

@@ -1,6 +1,7 @@
 pub mod Asking
 pub mod Carried
 pub mod Ticking
+pub mod Serving
 pub mod Records
 pub mod Keeping
 pub mod Awaiting

@@ -1,5 +1,5 @@
 -- What becomes of an answer: what the store makes of it, the step says.
-use Rattle.std.proofs.Common.{◌≡◌, ◌⊎◌, inl, inr, ℕ, Bool, true, false, cond, List, Option, Some, None, refl, sym, ap, ◌∙◌, subst}
+use Rattle.std.proofs.Common.{◌≡◌, ◌⊎◌, inl, inr, ℕ, ◌≤◌, Bool, true, false, cond, List, [], length, Option, Some, None, refl, sym, ap, ◌∙◌, subst, arith}
 use Rattle.std.specs.Prelude.{◌&&◌, ◌||◌, IfSome, option_map, nat_le}
 use Rattle.std.proofs.lemmas.Bool.{le-leb, lt-leb}
 use Rattle.coap_message.specs.declared.kind.Kind.{Kind}
@@ -7,6 +7,7 @@ use Rattle.coap_message.specs.declared.kind.Kind.TheVariants.{Con, Non, Ack, Rst
 use Rattle.coap_message.specs.Datagram.{Datagram, holding}
 use Rattle.coap_message.specs.Message.{Message}
 use Rattle.coap_message.specs.Spelling.{spelling}
+use Rattle.coap_message.proofs.Spellings.{spelling-length}
 use Rattle.coap_target.specs.declared.endpoint.Endpoint.{Endpoint}
 use Rattle.coap_cache.specs.Entries.{Entry, entry_key, entry_size}
 use Rattle.coap_cache.specs.Lists.{of_key, others}
@@ -28,7 +29,7 @@ use Rattle.coap_model.specs.World.{World, Step, later, silent, says, takes_up, h
 use Rattle.coap_model.specs.Empties.{on_exchange}
 use Rattle.coap_model.specs.Responses.{awaiting, on_awaited, on_separate}
 use Rattle.coap_core.proofs.Awaiting.{awaited}
-use Rattle.coap_core.specs.Steps.{Does, resets}
+use Rattle.coap_core.specs.Steps.{Does, resets, wants_memory}
 use Rattle.coap_core.specs.Storing.{IsKept, IsPut, answering, answering_at, awaited_step, separate_step, if_storable, taken_up, taken_up_bytes, taken_up_to}
 
 -- the choice of a test that is known
@@ -166,41 +167,41 @@ module _ (w : World) (now : ℕ) (grown : Bool) (source : Endpoint) (m : Message
 
 -- ---- memory
 
--- whether it is acknowledged or not, its outcome is the same
-taken-takes : (outcome : Outcome) (source : Endpoint) (m : Message) (w : World) → takes_memory outcome ≡ true → takes_memory (takes_up outcome source m w).report.outcome ≡ true
+-- whether it is acknowledged or not, what is taken up wants memory where its outcome does
+pub taken-takes : (outcome : Outcome) (source : Endpoint) (m : Message) (w : World) → ((bytes : List ℕ) → takes_memory outcome bytes ≡ true) → wants_memory (takes_up outcome source m w) ≡ true
 taken-takes outcome source m w takes = go (is_con m.kind)
   where
-    go : (b : Bool) → takes_memory (cond b (says outcome source (acknowledgement m.id) w) (silent outcome w)).report.outcome ≡ true
-    go true = takes
-    go false = takes
+    go : (b : Bool) → wants_memory (cond b (says outcome source (acknowledgement m.id) w) (silent outcome w)) ≡ true
+    go true = takes (spelling (acknowledgement m.id))
+    go false = takes []
 
 module _ (w : World) (now : ℕ) (grown : Bool) (a : Arrived) where
-  so-takes : (storing : Storing) (store : List Entry) → takes_memory (answers_so w now a storing store).report.outcome ≡ true
-  so-takes storing store = taken-takes (Answered storing) a.source a.message _ refl
+  so-takes : (storing : Storing) (store : List Entry) → wants_memory (answers_so w now a storing store) ≡ true
+  so-takes storing store = taken-takes (Answered storing) a.source a.message _ (λ bytes. refl)
 
-  keeps-takes : takes_memory (keeps w now a).report.outcome ≡ true
-  keeps-takes = taken-takes (Answered Kept) a.source a.message _ refl
+  keeps-takes : wants_memory (keeps w now a) ≡ true
+  keeps-takes = taken-takes (Answered Kept) a.source a.message _ (λ bytes. refl)
 
   -- an answer that is kept takes memory, or wants it
-  kept-takes : (g : Bool) (o : Option Entry) → takes_memory (keeps_if w now g a o).report.outcome ≡ true
+  kept-takes : (g : Bool) (o : Option Entry) → wants_memory (keeps_if w now g a o) ≡ true
   kept-takes true None = keeps-takes
   kept-takes false None = so-takes NoMemory w.store
   kept-takes g (Some entry) = keeps-takes
 
   -- whatever becomes of an answer takes memory
-  with-takes : takes_memory (answers_with w now grown a).report.outcome ≡ true
+  with-takes : wants_memory (answers_with w now grown a) ≡ true
   with-takes = storable (is_storable a.answer) refl
     where
-      short : (b : Bool) → nat_le (entry_size (entry_made w now a.exchange a.answer)) w.setting.limits.cache_bytes ≡ b → takes_memory (stores w now grown a).report.outcome ≡ true
+      short : (b : Bool) → nat_le (entry_size (entry_made w now a.exchange a.answer)) w.setting.limits.cache_bytes ≡ b → wants_memory (stores w now grown a) ≡ true
       short true e = rw e (kept-takes grown (of_key entry_key a.exchange.1.key w.store))
       short false e = rw e (so-takes TooLarge (others entry_key a.exchange.1.key w.store))
 
-      storable : (b : Bool) → is_storable a.answer ≡ b → takes_memory (answers_with w now grown a).report.outcome ≡ true
+      storable : (b : Bool) → is_storable a.answer ≡ b → wants_memory (answers_with w now grown a) ≡ true
       storable true e = rw e (short (nat_le (entry_size (entry_made w now a.exchange a.answer)) w.setting.limits.cache_bytes) refl)
       storable false e = rw e (so-takes NotStored w.store)
 
 -- an answer takes memory
-pub answer-takes : (w : World) (now : ℕ) (grown : Bool) (source : Endpoint) (m : Message) (x : Numbered Exchange) → takes_memory (answers w now grown source m x).report.outcome ≡ true
+pub answer-takes : (w : World) (now : ℕ) (grown : Bool) (source : Endpoint) (m : Message) (x : Numbered Exchange) → wants_memory (answers w now grown source m x) ≡ true
 answer-takes w now grown source m x = with-takes w now grown (record { source = source; message = m; exchange = x; answer = answer_of w.setting.limits.datagram now m })
 
 -- ---- a Reset
@@ -242,3 +243,13 @@ pub reset-step : (w : World) (now : ℕ) (grown : Bool) (source : Endpoint) (m :
     → on_exchange w now grown source m number (item_at number w.exchanges) ≡ resets w now number
 reset-step w now grown source m number x found sent other rst =
     ap (on_exchange w now grown source m number) found ∙ (pick-true (is_sent x) _ _ sent ∙ (pick-false (is_ack m.kind) _ _ other ∙ reset-is w now grown source m number x rst))
+
+-- ---- what is taken up
+
+-- what goes out at once is short
+pub taken-fits : (m : Message) (room : ℕ) → 128 ≤ room → length (taken_up_bytes m) ≤ room
+taken-fits m room wide = go (is_con m.kind)
+  where
+    go : (b : Bool) → length (cond b (spelling (acknowledgement m.id)) []) ≤ room
+    go true = omega (arith, spelling-length (acknowledgement m.id), wide)
+    go false = omega arith

@@ -14,13 +14,15 @@ use Rattle.coap_exchange.specs.Exchanges.{sent, answer_in_state, is_missing, is_
 use Rattle.coap_exchange.specs.Ids.{called}
 use Rattle.coap_exchange.specs.Table.{Numbered, IsRising, item_at, changed_at}
 use Rattle.coap_exchange.specs.Timers.{started, goes_on, sent_again}
+use Rattle.coap_exchange.specs.declared.waiter.Waiter.{Waiter}
+use Rattle.coap_exchange.specs.Waiters.{due_after}
 use Rattle.coap_exchange.proofs.Changes.{changed_at-below}
 use Rattle.coap_model.specs.declared.due.DueItem.{DueItem}
 use Rattle.coap_model.specs.declared.due.DueItem.TheVariants.{OfExchange, OfWaiter}
 use Rattle.coap_model.specs.World.{World, later, next_id}
 use Rattle.coap_model.specs.Ticks.{exchange_due, waiter_due, first_item, item_due, if_due, sends, resends, gives_up, on_fire, on_exchange, on_waiter, on_item, on_tick}
 use Rattle.coap_model.proofs.FirstDue.{first_due-holds}
-use Rattle.coap_core.specs.Steps.{IsExchangeDue, IsDueAt, sending_at, firing_at, form_at}
+use Rattle.coap_core.specs.Steps.{IsExchangeDue, IsDueAt, sending_at, firing_at, form_at, IsClientDueAt}
 
 -- ---- items of a table
 
@@ -86,6 +88,20 @@ exchange-first (Some x) (Some v) at number e = go (nat_le x.0 v.0) e
     go true f = one-first x at number f
     go false f = absurd cc
 
+second-first : (v : ℕ × ℕ) (at number : ℕ) → Some (OfWaiter v.0 v.1) ≡ Some (OfWaiter at number) → Some v ≡ Some (at, number)
+second-first v at number e = let p : v.0 ≡ at = cc in let q : v.1 ≡ number = cc in λ i. Some (p i, q i)
+
+-- it is a client: that is what is due first of the clients
+waiter-first : (a b : Option (ℕ × ℕ)) (at number : ℕ) → first_item a b ≡ Some (OfWaiter at number) → b ≡ Some (at, number)
+waiter-first None None at number e = absurd cc
+waiter-first None (Some v) at number e = second-first v at number e
+waiter-first (Some x) None at number e = absurd cc
+waiter-first (Some x) (Some v) at number e = go (nat_le x.0 v.0) e
+  where
+    go : (b : Bool) → cond b (Some (OfExchange x.0 x.1)) (Some (OfWaiter v.0 v.1)) ≡ Some (OfWaiter at number) → Some v ≡ Some (at, number)
+    go true f = absurd cc
+    go false f = second-first v at number f
+
 module _ (w : World) (now draw : ℕ) where
   -- an exchange is due
   pub of-exchange : (at number : ℕ) → Some (OfExchange at number) ≡ item_due w → at ≤ now → on_tick w now draw ≡ on_exchange w now draw number (item_at number w.exchanges)
@@ -94,7 +110,7 @@ module _ (w : World) (now draw : ℕ) where
       ap (λ (o : Option DueItem). on_item w now draw (if_due now o)) (sym e) ∙ rw due refl
 
   -- a client is due
-  pub of-waiter : (at number : ℕ) → Some (OfWaiter at number) ≡ item_due w → at ≤ now → on_tick w now draw ≡ on_waiter w now number (item_at number w.waiters)
+  pub of-waiter : (at number : ℕ) → Some (OfWaiter at number) ≡ item_due w → at ≤ now → on_tick w now draw ≡ on_waiter w now draw number (item_at number w.waiters)
   of-waiter at number e le =
       let due : leb at now ≡ true = le-leb _ _ le in
       ap (λ (o : Option DueItem). on_item w now draw (if_due now o)) (sym e) ∙ rw due refl
@@ -106,6 +122,15 @@ due-at w now at number rising e le =
     let found = first_due-holds (λ (x : Numbered Exchange). item_at x.0 w.exchanges ≡ Some x.1) (due_among w.setting.limits.nstart w.setting.limits.exchange_ms w.exchanges) w.exchanges (at, number) (items-found 0 w.exchanges rising) first in
     let x = found.0.1 in
     let here : item_at number w.exchanges ≡ Some x = subst (λ (n : ℕ). item_at n w.exchanges ≡ Some x) found.2 found.1 in
+    rw here (record { at = at; due = found.3; past = le })
+
+-- so is the client that is due first
+pub client-due-at : (w : World) (now at number : ℕ) → IsRising 0 w.waiters → Some (OfWaiter at number) ≡ item_due w → at ≤ now → IsClientDueAt w now number
+client-due-at w now at number rising e le =
+    let first : waiter_due w ≡ Some (at, number) = waiter-first (exchange_due w) (waiter_due w) at number (sym e) in
+    let found = first_due-holds (λ (v : Numbered Waiter). item_at v.0 w.waiters ≡ Some v.1) (due_after w.exchanges) w.waiters (at, number) (items-found 0 w.waiters rising) first in
+    let v = found.0.1 in
+    let here : item_at number w.waiters ≡ Some v = subst (λ (n : ℕ). item_at n w.waiters ≡ Some v) found.2 found.1 in
     rw here (record { at = at; due = found.3; past = le })
 
 -- ---- an exchange that is due

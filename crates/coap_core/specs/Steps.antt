@@ -1,13 +1,20 @@
 -- What the calls of a core answer and leave.
-use Rattle.std.specs.Prelude.{◌≡◌, ℕ, ◌+◌, ◌<◌, ◌≤◌, ◌^◌, true, false, List, [], ◌∷◌, Option, Some, None, IfSome, option_map, if◌then◌else◌}
+use Rattle.std.specs.Prelude.{◌≡◌, ℕ, ◌+◌, ◌<◌, ◌≤◌, ◌^◌, Bool, true, false, List, [], ◌∷◌, Option, Some, None, IfSome, option_map, if◌then◌else◌}
 use Rattle.coap_message.specs.Datagram.{Datagram, holding}
 use Rattle.coap_message.specs.Message.{Message}
+use Rattle.coap_message.specs.declared.kind.Kind.{Kind}
 use Rattle.coap_exchange.specs.declared.exchange.Exchange.{Exchange}
 use Rattle.coap_exchange.specs.Exchanges.{is_done, is_sent, answered, due_among, answer_in, fire_of_sending}
 use Rattle.coap_exchange.specs.Ids.{given_in}
-use Rattle.coap_exchange.specs.Table.{Numbered, IsRising, changed_at, item_at}
+use Rattle.coap_exchange.specs.declared.waiter.Waiter.{Waiter}
+use Rattle.coap_exchange.specs.declared.waiter.WaiterState.{WaiterState}
+use Rattle.coap_exchange.specs.declared.waiter.WaiterState.TheVariants.{Waiting, Delivering}
+use Rattle.coap_exchange.specs.Table.{Numbered, IsRising, changed_at, item_at, without}
+use Rattle.coap_exchange.specs.Timers.{started, fire_of}
+use Rattle.coap_exchange.specs.Waiters.{delivered, due_after}
 use Rattle.coap_forward.specs.Answers.{own_answer, bad_gateway}
-use Rattle.coap_model.specs.declared.report.Outcome.TheVariants.{Answered}
+use Rattle.coap_forward.specs.Messages.{is_con}
+use Rattle.coap_model.specs.declared.report.Outcome.TheVariants.{Answered, Delivered}
 use Rattle.coap_model.specs.declared.report.Report.{Report}
 use Rattle.coap_model.specs.declared.report.Storing.TheVariants.{NotStored}
 use Rattle.coap_model.specs.Verdicts as verdicts
@@ -16,21 +23,30 @@ use Rattle.coap_option.specs.Selection.{tags_of}
 use Rattle.coap_cache.specs.declared.key.CacheKey.{CacheKey}
 use Rattle.coap_core.specs.declared.request_target.Asked.{Asked}
 use Rattle.coap_model.specs.Events.{Event}
-use Rattle.coap_model.specs.History.{Entry}
+use Rattle.coap_model.specs.History.{Entry, is_con_datagram}
+use Rattle.coap_model.specs.Memory.{takes_memory}
 use Rattle.coap_model.specs.Carries.{Carries}
 use Rattle.coap_model.specs.Promised.{Promised}
 use Rattle.coap_target.specs.declared.endpoint.Endpoint.{Endpoint}
 use Rattle.coap_dedup.specs.Lists.{AreUpTo}
 use Rattle.coap_dedup.specs.Records.{AreRecords}
-use Rattle.coap_model.specs.World.{World, Step, later, silent, records_of, reserved, known_of, repeats}
-use Rattle.coap_model.specs.Requests.{can_join, joins, turns_away}
+use Rattle.coap_model.specs.World.{World, Step, later, silent, records_of, reserved, known_of, repeats, next_id, has_room_to_join}
+use Rattle.coap_model.specs.Requests.{joins, turns_away}
 use Rattle.coap_core.specs.declared.requests.Verdict.{Verdict}
 use Rattle.coap_core.specs.declared.requests.Verdict.TheVariants.{RefusedWith, MayAsk}
-use Rattle.coap_model.specs.Ticks.{idles, sends, on_fire, on_answer}
+use Rattle.coap_model.specs.Ticks.{idles, sends, on_fire, on_answer, on_unheard}
 
 -- the report, the datagram and the tables after it are those of the step
 abbrev pub Does : Step → Report → Datagram → Datagram → World → Type 0
 Does s report old new world = (report ≡ s.report) × (new ≡ holding old s.bytes) × (world ≡ s.world)
+
+-- whether a step may want memory
+abbrev pub wants_memory : Step → Bool
+wants_memory s = takes_memory s.report.outcome s.bytes
+
+-- a client is given its answer in a Confirmable message, which is kept until it is acknowledged
+abbrev pub GivesConfirmable : Step → Type 0
+GivesConfirmable s = (s.report.outcome ≡ Delivered) × (is_con_datagram s.bytes ≡ true)
 
 -- what the outside saw of a step
 abbrev pub entry_told : ℕ → ℕ → Event → Report → List ℕ → Entry
@@ -108,7 +124,7 @@ pub record IsAsked (w : World) (m : Message) (asked : Asked) : Type 0 where
 -- the step of a request for whose key the exchange of this number is under way
 abbrev pub joinable_step : World → ℕ → Endpoint → Message → ℕ → Step
 joinable_step w now client m exchange =
-    if can_join w now m.kind then joins w now client m exchange else turns_away w now client m
+    if has_room_to_join w now then joins w now client m exchange else turns_away w now client m
 
 -- ---- what is due, by its number
 
@@ -121,6 +137,16 @@ pub record IsExchangeDue (w : World) (now : ℕ) (x : Exchange) : Type 0 where
 -- so is the one of this number, if there is one
 abbrev pub IsDueAt : World → ℕ → ℕ → Type 0
 IsDueAt w now number = IfSome (item_at number w.exchanges) (IsExchangeDue w now)
+
+-- a client is due at a moment, since then or since before
+pub record IsClientDue (w : World) (now : ℕ) (v : Waiter) : Type 0 where
+  pub at : ℕ
+  pub due : due_after w.exchanges v ≡ Some at
+  pub past : at ≤ now
+
+-- so is the one of this number, if there is one
+abbrev pub IsClientDueAt : World → ℕ → ℕ → Type 0
+IsClientDueAt w now number = IfSome (item_at number w.waiters) (IsClientDue w now)
 
 -- the step of an item that is looked up: where there is none, nothing is done
 abbrev pub step_with : {A : Type 0} → World → ℕ → (A → Step) → Option A → Step
@@ -139,10 +165,27 @@ firing_at w now number =
     (item_at number w.exchanges)
 
 -- the client of this number is given the answer of this exchange
-abbrev pub delivery_at : World → ℕ → ℕ → ℕ → Step
-delivery_at w now number exchange =
-    step_with w now (λ v. on_answer w now number v exchange (answer_in exchange w.exchanges))
+abbrev pub delivery_at : World → ℕ → ℕ → ℕ → ℕ → Step
+delivery_at w now draw number exchange =
+    step_with w now (λ v. on_answer w now draw number v exchange (answer_in exchange w.exchanges))
     (item_at number w.waiters)
+
+-- the clients, after the one of this number was given a message of this type with the next id
+abbrev pub told_in : World → ℕ → ℕ → ℕ → Kind → List ℕ → List (Numbered Waiter)
+told_in w now draw number kind bytes =
+    if is_con kind
+    then changed_at number (delivered bytes (next_id w) (started now draw)) w.waiters
+    else without number w.waiters
+
+-- the timeout has ended that ran since a client was given its answer
+abbrev pub unheard : World → ℕ → ℕ → Waiter → WaiterState → Step
+unheard w now number v (Waiting exchange) = idles w now
+unheard w now number v (Delivering bytes id timer) =
+    on_unheard w now number v bytes (fire_of now timer)
+
+-- the client of this number
+abbrev pub unheard_at : World → ℕ → ℕ → Step
+unheard_at w now number = step_with w now (λ v. unheard w now number v v.state) (item_at number w.waiters)
 
 -- the bytes of the request of the exchange of this number
 abbrev pub form_of : Option Exchange → List ℕ
@@ -151,3 +194,15 @@ form_of (Some x) = x.form
 
 abbrev pub form_at : ℕ → List (Numbered Exchange) → List ℕ
 form_at number exchanges = form_of (item_at number exchanges)
+
+-- and of the answer that the client of this number was given
+abbrev pub answer_in_state : WaiterState → List ℕ
+answer_in_state (Waiting exchange) = []
+answer_in_state (Delivering bytes id timer) = bytes
+
+abbrev pub answer_given : Option Waiter → List ℕ
+answer_given None = []
+answer_given (Some v) = answer_in_state v.state
+
+abbrev pub answer_at : ℕ → List (Numbered Waiter) → List ℕ
+answer_at number waiters = answer_given (item_at number waiters)

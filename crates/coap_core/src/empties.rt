@@ -1,9 +1,9 @@
-//! The step of an Empty message: an acknowledgement or a Reset of a request that was sent (RFC 7252,
-//! 4.2 and 4.3).
+//! The step of an Empty message: an acknowledgement or a Reset of a request that was sent, or of an
+//! answer (RFC 7252, 4.2 and 4.3).
 ghost use Rattle.std.specs.Prelude.{◌≡◌, true};
 ghost use Rattle.coap_exchange.specs.Table.{item_at};
 ghost use Rattle.coap_forward.specs.Messages.{is_bare, is_rst};
-ghost use Rattle.coap_model.specs.Empties.{acknowledges, on_exchange, on_empty};
+ghost use Rattle.coap_model.specs.Empties.{acknowledges, closes, on_client, on_exchange, on_empty};
 ghost use Rattle.coap_model.specs.History.{grown_of};
 ghost use Rattle.coap_core.specs.Steps.{Does, CanGoOn, IsSentAt, resets};
 
@@ -29,12 +29,12 @@ impl<S: Store + Drop> World<S> {
     {
         match self.exchanges.sent_as(source, message.id, now) {
             Some(number) => self.on_sent(now, source, number, message, out),
-            None => self.ignore(now, out),
+            None => self.on_client(now, source, message, out),
         }
     }
 
-    /// The request of the exchange of this number is acknowledged, or reset, unless it was
-    /// acknowledged or answered before.
+    /// The request of the exchange of this number is acknowledged, or reset. Where it was
+    /// acknowledged or answered before, what came is of no request.
     fn on_sent(
         &mut self,
         now: u64,
@@ -51,10 +51,10 @@ impl<S: Store + Drop> World<S> {
             result out.old out.new self.new }
     {
         let Some(exchange) = self.exchanges.get(number) else {
-            return self.ignore(now, out);
+            return self.on_client(now, source, message, out);
         };
         if !exchange.is_sent() {
-            return self.ignore(now, out);
+            return self.on_client(now, source, message, out);
         }
         match message.kind {
             Kind::Ack => self.acknowledge(now, number, out),
@@ -88,5 +88,33 @@ impl<S: Store + Drop> World<S> {
         silent(Outcome::Answered {
             storing: Storing::NotStored,
         })
+    }
+
+    /// An acknowledgement or a Reset of an answer that a client was sent.
+    fn on_client(
+        &mut self,
+        now: u64,
+        source: Endpoint,
+        message: &MessageRef<'_>,
+        out: &mut Datagram,
+    ) -> Report
+        requires can { CanGoOn self.old }
+        ensures { Does (on_client self.old now source message.now) result out.old out.new self.new }
+    {
+        match self.waiters.sent_as(source, message.id, now) {
+            Some(number) => self.close_client(now, number, out),
+            None => self.ignore(now, out),
+        }
+    }
+
+    /// The client of this number has its answer, or doesn't know what that is for: it is let go.
+    fn close_client(&mut self, now: u64, number: u64, out: &mut Datagram) -> Report
+        requires { CanGoOn self.old }
+        ensures { Does (closes self.old now number) result out.old out.new self.new }
+    {
+        self.waiters.close(number);
+        out.clear();
+        self.pass(now);
+        silent(Outcome::Acked)
     }
 }

@@ -1,16 +1,20 @@
 //! Messages that came before, and what goes out at once to those that are new (RFC 7252, 4.2, 4.3
 //! and 4.5).
 ghost use Rattle.std.specs.Prelude.{◌≡◌, ◌≤◌, true, length, Some, is_some, IfOk, IfSome, OnOk, OnErr};
+ghost use Rattle.coap_message.specs.Datagram.{holding};
+ghost use Rattle.coap_message.specs.Spelling.{spelling};
 ghost use Rattle.coap_message.specs.declared.message.Head.{Head};
-ghost use Rattle.coap_forward.specs.Messages.{reply_kind, reply_id};
+ghost use Rattle.coap_forward.specs.Messages.{acknowledgement, reply_kind, reply_id};
 ghost use Rattle.coap_model.specs.World.{next_id, records_of, has_record_room, can_reply, drops, known_of, with_record};
 ghost use Rattle.coap_model.specs.Requests.{replied};
 ghost use Rattle.coap_core.specs.Steps.{CanGoOn, CanRemember, Does, IsSaid, repetition_of};
+ghost use Rattle.coap_core.specs.Storing.{taken_up_bytes, taken_up_to};
 
 use crate::world::{World, silent};
 use coap_cache::Store;
 use coap_dedup::{Records, Seen};
-use coap_message::{Code, Datagram, Head, Kind, MessageRef, OutOfMemory, Seq};
+use coap_forward::put_bare;
+use coap_message::{Code, Datagram, Head, Kind, MessageRef, OutOfMemory, Seq, Token};
 use coap_model::{Outcome, Report};
 use coap_target::Endpoint;
 
@@ -21,6 +25,42 @@ pub(crate) fn reply_kind(kind: Kind) -> Kind
     match kind {
         Kind::Con => Kind::Ack,
         Kind::Non | Kind::Ack | Kind::Rst => Kind::Non,
+    }
+}
+
+/// Writes an Empty acknowledgement of a message with this id.
+fn put_acknowledgement(id: u16, out: &mut Datagram)
+    requires { length (spelling (acknowledgement id)) ≤ out.old.room }
+    ensures { out.new ≡ holding out.old (spelling (acknowledgement id)) }
+{
+    let head = Head {
+        kind: Kind::Ack,
+        code: Code::EMPTY,
+        id,
+    };
+    put_bare(out, head, &Token::empty());
+}
+
+/// Writes what goes out at once to a message of this endpoint that is taken up, and answers to whom
+/// it goes: a Confirmable one is acknowledged (RFC 7252, 4.2 and 5.2.2).
+pub(crate) fn put_taken_up(
+    to: Endpoint,
+    message: &MessageRef<'_>,
+    out: &mut Datagram,
+) -> Option<Endpoint>
+    requires fits { length (taken_up_bytes message.now) ≤ out.old.room }
+    ensures send { result ≡ taken_up_to to message.now }
+    ensures said { out.new ≡ holding out.old (taken_up_bytes message.now) }
+{
+    match message.kind {
+        Kind::Con => {
+            put_acknowledgement(message.id, out);
+            Some(to)
+        }
+        Kind::Non | Kind::Ack | Kind::Rst => {
+            out.clear();
+            None
+        }
     }
 }
 

@@ -6,15 +6,14 @@ ghost use Rattle.coap_cache.specs.Lists.{total};
 ghost use Rattle.coap_dedup.specs.Records.{living_at};
 ghost use Rattle.coap_model.specs.Events.{tick};
 ghost use Rattle.coap_model.specs.Held.{held, most_held};
-ghost use Rattle.coap_model.specs.Memory.{takes_memory};
 ghost use Rattle.coap_model.specs.Setting.{setting_of};
 ghost use Rattle.coap_model.specs.World.{new_world, counts};
-ghost use Rattle.coap_model.specs.Ticks.{next_due};
+ghost use Rattle.coap_model.specs.Ticks.{next_due, on_tick};
 ghost use Rattle.coap_model.specs.History.{grown_of};
 ghost use Rattle.coap_model.specs.Step.{step_of};
 ghost use Rattle.coap_model.specs.Carries.{Carries};
 ghost use Rattle.coap_core.specs.Events.{IsUnread, seen};
-ghost use Rattle.coap_core.specs.Steps.{CarriesOn, Does, PromisesOn, entry_told};
+ghost use Rattle.coap_core.specs.Steps.{CarriesOn, Does, GivesConfirmable, PromisesOn, entry_told, wants_memory};
 
 use crate::event::Event;
 use crate::world::World;
@@ -86,15 +85,17 @@ impl<S: Store + Drop> Core<S> {
     }
 
     /// One step: what is made of an event at a moment, with a random draw, by which the first timeout
-    /// of a request is longer than two seconds (RFC 7252, 4.2). The datagram that it sends, if it
-    /// sends one, is in `out`, which is empty otherwise.
+    /// of a request or an answer is longer than two seconds (RFC 7252, 4.2). The datagram that it
+    /// sends, if it sends one, is in `out`, which is empty otherwise.
     ///
     /// `now` is in milliseconds, at most 2^62, and doesn't go back; `draw` is at most 1,000; `out`
     /// has room for `datagram()` bytes; fewer than 2^63 steps were done.
     ///
     /// # Errors
     /// Want of memory, which changes nothing. It is answered only where a request that is new was
-    /// to be remembered, or an answer to be kept.
+    /// to be remembered, an answer that came to be kept, or one to be given to a client in a
+    /// Confirmable message, which is kept until it is acknowledged. A tick that found no memory can
+    /// come again: what was due is due still.
     pub fn step(
         &mut self,
         now: u64,
@@ -144,12 +145,12 @@ impl<S: Store + Drop> Core<S> {
         ensures none { OnErr result (out.new ≡ holding out.old []) }
 
         // It can be missing only where a request that is new is remembered, or an answer is kept:
-        // whatever else is done needs none. So a tick needs none, nor does a duplicate, or a
-        // datagram without a message.
+        // whatever else is done needs none. So a tick needs none but to give a client its answer in
+        // a Confirmable message, and a duplicate needs none, nor does a datagram without a message.
         ensures memory { OnErr result
-            (takes_memory (step_of self.old now draw true (seen event.entry)).report.outcome
-            ≡ true) }
-        ensures ticks { seen event.entry ≡ tick → IsOk result }
+            (wants_memory (step_of self.old now draw true (seen event.entry)) ≡ true) }
+        ensures ticks { seen event.entry ≡ tick
+            → OnErr result (GivesConfirmable (on_tick self.old now draw)) }
         ensures unread { IsUnread self.old.setting.limits.datagram (seen event.entry)
             → IsOk result }
     {

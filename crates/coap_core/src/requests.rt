@@ -1,5 +1,5 @@
 //! The step of a request (RFC 7252, 5.7.3).
-ghost use Rattle.std.specs.Prelude.{◌≡◌, ◌⊎◌, ◌+◌, ◌≤◌, ◌^◌, true, length, None, Ok, Err, IfOk, IfErr, IfSome, IsSome, OnErr};
+ghost use Rattle.std.specs.Prelude.{◌≡◌, ◌⊎◌, ◌+◌, ◌<◌, ◌≤◌, ◌^◌, true, length, None, Ok, Err, IfOk, IfErr, IfSome, IsSome, OnErr};
 ghost use Rattle.coap_message.specs.declared.code.TheConstants.Code.{GET};
 ghost use Rattle.coap_message.specs.Spelling.{spelling};
 ghost use Rattle.coap_option.specs.declared.side.Side.{Side};
@@ -8,23 +8,23 @@ ghost use Rattle.coap_option.specs.Selection.{sent_on, tags_of};
 ghost use Rattle.coap_target.specs.Target.{IsTarget};
 ghost use Rattle.coap_routes.specs.declared.error.TargetError.TheVariants as errors;
 ghost use Rattle.coap_routes.specs.Request.{request_target};
-ghost use Rattle.coap_model.specs.Memory.{takes_memory};
 ghost use Rattle.coap_forward.specs.Forms.{forwarded};
 ghost use Rattle.coap_model.specs.Verdicts.{form_fits, verdict_of};
 ghost use Rattle.coap_cache.specs.Entries.{has_usable};
 ghost use Rattle.coap_message.specs.Datagram.{holding};
 ghost use Rattle.coap_model.specs.Requests.{lacks_id, refuses, overloads, opens, next_token, joins, on_key, on_miss, on_wanted, on_new, on_request};
-ghost use Rattle.coap_model.specs.World.{can_reply, remembers};
+ghost use Rattle.coap_model.specs.World.{can_reply, later, remembers, takes_up};
 ghost use Rattle.coap_core.specs.Forms.{says_uri, seen};
-ghost use Rattle.coap_core.specs.Steps.{Does, CanGoOn, CanRemember, IsAsked, joinable_step, verdict_seen};
+ghost use Rattle.coap_core.specs.Steps.{Does, CanGoOn, CanRemember, IsAsked, joinable_step, verdict_seen, wants_memory};
+ghost use Rattle.coap_core.specs.Storing.{taken_up_bytes};
 ghost use Rattle.coap_core.specs.declared.requests.Verdict.TheVariants as verdicts;
 
-use crate::known::reply_kind;
+use crate::known::{put_taken_up, reply_kind};
 use crate::request_target::{Asked, RequestTarget};
 use crate::world::{World, silent};
 use coap_cache::{CacheKey, Store};
 use coap_forward::{put_bare, put_forwarded, put_stored, put_with_max_age, token_of};
-use coap_message::{Code, Datagram, Kind, MessageRef, OutOfMemory, Pieces, Seq};
+use coap_message::{Code, Datagram, MessageRef, OutOfMemory, Pieces, Seq};
 use coap_model::{Outcome, Report};
 use coap_option::{numbers, screen_request};
 use coap_routes::TargetError;
@@ -72,7 +72,7 @@ impl<S: Store + Drop> World<S> {
         ensures err { OnErr result (self.new ≡ self.old) }
         ensures kept { out.new.room ≡ out.old.room }
         ensures memory { OnErr result
-            (takes_memory (on_request self.old now client request.now).report.outcome ≡ true) }
+            (wants_memory (on_request self.old now client request.now) ≡ true) }
     {
         if let Some(report) = self.repeat(now, client, request, out) {
             self.pass(now);
@@ -273,8 +273,7 @@ impl<S: Store + Drop> World<S> {
         }
     }
 
-    /// The exchange of this number is joined, if there is room for the client. A Confirmable request
-    /// doesn't wait yet.
+    /// The exchange of this number is joined, if there is room for the client.
     fn on_joinable(
         &mut self,
         now: u64,
@@ -299,16 +298,15 @@ impl<S: Store + Drop> World<S> {
         ensures err { OnErr result (self.new ≡ self.old) }
         ensures kept { out.new.room ≡ out.old.room }
     {
-        if request.kind != Kind::Non || !self.has_room_to_join(now) {
+        if !self.has_room_to_join(now) {
             return self.overload(now, client, request, out);
         }
         let tags = asked.tags.clone()?;
         self.join(now, client, request, exchange, tags, out)
     }
 
-    /// An exchange is wanted for a key: the length of what is sent on decides, then the room. A
-    /// Confirmable request isn't asked for yet. What a request asks for is copied where it is opened
-    /// alone, in no more room than it needs.
+    /// An exchange is wanted for a key: the length of what is sent on decides, then the room. What a
+    /// request asks for is copied where it is opened alone, in no more room than it needs.
     fn on_wanted(
         &mut self,
         now: u64,
@@ -338,7 +336,7 @@ impl<S: Store + Drop> World<S> {
             let code = Code::REQUEST_ENTITY_TOO_LARGE;
             return self.refuse(now, client, request, code, out);
         }
-        if request.kind != Kind::Non || !self.has_room_to_open(now) {
+        if !self.has_room_to_open(now) {
             return self.overload(now, client, request, out);
         }
         let key = asked.key.copied()?;
@@ -457,9 +455,36 @@ impl<S: Store + Drop> World<S> {
         ensures kept { out.new.room ≡ out.old.room }
     {
         out.clear();
-        self.remember(now, client, request, out.bytes())?;
+        self.remember(now, client, request, &[])?;
         self.pass(now);
         Ok(silent(Outcome::NoId))
+    }
+
+    /// A request that is new is taken up: a Confirmable one is acknowledged, and what goes out is
+    /// remembered (RFC 7252, 4.2 and 5.2.2).
+    fn take_up_request(
+        &mut self,
+        now: u64,
+        client: Endpoint,
+        request: &MessageRef<'_>,
+        outcome: Outcome,
+        out: &mut Datagram,
+    ) -> Result<Report, OutOfMemory>
+        requires events { self.old.events < 2 ^ 63 }
+        requires new { CanRemember now client request.now self.old }
+        requires fits { length (taken_up_bytes request.now) ≤ out.old.room }
+        ensures exact { IfOk result (λ report.
+            Does
+            (remembers now client request.now
+            (takes_up outcome client request.now (later self.old now)))
+            report out.old out.new self.new) }
+        ensures err { OnErr result (self.new ≡ self.old) }
+        ensures kept { out.new.room ≡ out.old.room }
+    {
+        let send = put_taken_up(client, request, out);
+        self.remember(now, client, request, out.bytes())?;
+        self.pass(now);
+        Ok(Report { send, outcome })
     }
 
     /// An exchange is opened for a key, and the client waits for it. `out` holds what is sent on.
@@ -476,6 +501,7 @@ impl<S: Store + Drop> World<S> {
         requires moment { now ≤ 2 ^ 62 }
         requires new { CanRemember now client request.now self.old }
         requires tags { tags ≡ tags_of request.now }
+        requires fits { length (opens self.old now client request.now key).bytes ≤ out.old.room }
         requires form { out.old.bytes
             ≡ spelling (forwarded (next_token self.old) key.target (sent_on request.now) 0) }
         ensures exact { IfOk result (λ report.
@@ -497,14 +523,12 @@ impl<S: Store + Drop> World<S> {
             self.exchanges.withdraw();
             return Err(OutOfMemory);
         }
-        out.clear();
-        if self.remember(now, client, request, out.bytes()).is_err() {
+        let done = self.take_up_request(now, client, request, Outcome::Opened, out);
+        if done.is_err() {
             self.waiters.withdraw();
             self.exchanges.withdraw();
-            return Err(OutOfMemory);
         }
-        self.pass(now);
-        Ok(silent(Outcome::Opened))
+        done
     }
 
     /// The client waits for the exchange of this number.
@@ -520,6 +544,8 @@ impl<S: Store + Drop> World<S> {
         requires can { CanGoOn self.old }
         requires new { CanRemember now client request.now self.old }
         requires tags { tags ≡ tags_of request.now }
+        requires fits { length (joins self.old now client request.now exchange).bytes
+            ≤ out.old.room }
         ensures exact { IfOk result (λ report.
             Does (remembers now client request.now (joins self.old now client request.now exchange))
             report out.old out.new self.new) }
@@ -534,12 +560,10 @@ impl<S: Store + Drop> World<S> {
         {
             return Err(OutOfMemory);
         }
-        out.clear();
-        if self.remember(now, client, request, out.bytes()).is_err() {
+        let done = self.take_up_request(now, client, request, Outcome::Joined, out);
+        if done.is_err() {
             self.waiters.withdraw();
-            return Err(OutOfMemory);
         }
-        self.pass(now);
-        Ok(silent(Outcome::Joined))
+        done
     }
 }

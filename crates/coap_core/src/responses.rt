@@ -2,22 +2,21 @@
 //! 5.2.1, 5.2.2 and 5.3.2).
 ghost use Rattle.std.specs.Prelude.{◌≡◌, ◌≤◌, ◌&&◌, true, false, length, option_map, IfOk, IfSome, OnOk, OnErr};
 ghost use Rattle.coap_message.specs.Datagram.{holding};
-ghost use Rattle.coap_message.specs.Spelling.{spelling};
 ghost use Rattle.coap_target.specs.Endpoint.{same_endpoint};
-ghost use Rattle.coap_forward.specs.Messages.{is_con, acknowledgement};
+ghost use Rattle.coap_forward.specs.Messages.{is_con};
 ghost use Rattle.coap_model.specs.Answers.{asked_of};
-ghost use Rattle.coap_model.specs.Memory.{takes_memory};
 ghost use Rattle.coap_model.specs.Responses.{is_in_flight, was_sent_with, has_id, awaiting, on_response};
 ghost use Rattle.coap_exchange.specs.Table.{item_at};
 ghost use Rattle.coap_model.specs.History.{grown_of};
 ghost use Rattle.coap_core.specs.Storing.{IsKept, answering_at, awaited_step, confirmable_step, separate_step, if_storable, taken_up, taken_up_bytes, taken_up_to};
-ghost use Rattle.coap_core.specs.Steps.{Does, CanGoOn, CanRemember, IsOpenAt};
+ghost use Rattle.coap_core.specs.Steps.{Does, CanGoOn, CanRemember, IsOpenAt, wants_memory};
 
+use crate::known::put_taken_up;
 use crate::world::World;
 use coap_cache::{CacheKey, Put, Store, Stored};
 use coap_exchange::{Answer, Exchange, Sending};
-use coap_forward::{answer_of, is_storable, number_of, put_bare};
-use coap_message::{Code, Datagram, Head, Kind, Message, MessageRef, OutOfMemory, Token};
+use coap_forward::{answer_of, is_storable, number_of};
+use coap_message::{Datagram, Kind, Message, MessageRef, OutOfMemory};
 use coap_model::{Outcome, Report, Storing};
 use coap_target::Endpoint;
 
@@ -70,19 +69,6 @@ fn asked_of(sending: &Option<Sending>) -> u64
     }
 }
 
-/// Writes an Empty acknowledgement of a message with this id.
-fn put_acknowledgement(id: u16, out: &mut Datagram)
-    requires { 128 ≤ out.old.room }
-    ensures { out.new ≡ holding out.old (spelling (acknowledgement id)) }
-{
-    let head = Head {
-        kind: Kind::Ack,
-        code: Code::EMPTY,
-        id,
-    };
-    put_bare(out, head, &Token::empty());
-}
-
 /// The same message once more.
 fn copied(message: &Message) -> Result<Message, OutOfMemory>
     ensures { IfOk result (λ copy. copy ≡ message.now) }
@@ -109,8 +95,7 @@ impl<S: Store + Drop> World<S> {
         ensures err { OnErr result (self.new ≡ self.old) }
         ensures kept { out.new.room ≡ out.old.room }
         ensures memory { OnErr result
-            (takes_memory (on_response self.old now true source response.now).report.outcome
-            ≡ true) }
+            (wants_memory (on_response self.old now true source response.now) ≡ true) }
     {
         match response.kind {
             Kind::Con => self.on_confirmable(now, source, response, out),
@@ -136,9 +121,7 @@ impl<S: Store + Drop> World<S> {
         ensures err { OnErr result (self.new ≡ self.old) }
         ensures kept { out.new.room ≡ out.old.room }
         ensures memory { OnErr result
-            (takes_memory
-            (awaited_step self.old now true source response.now).report.outcome
-            ≡ true) }
+            (wants_memory (awaited_step self.old now true source response.now) ≡ true) }
     {
         match self.awaiting(source, response) {
             Some(number) => self.answer(now, source, number, response, out),
@@ -168,9 +151,7 @@ impl<S: Store + Drop> World<S> {
         ensures err { OnErr result (self.new ≡ self.old) }
         ensures kept { out.new.room ≡ out.old.room }
         ensures memory { OnErr result
-            (takes_memory
-            (confirmable_step self.old now true source response.now).report.outcome
-            ≡ true) }
+            (wants_memory (confirmable_step self.old now true source response.now) ≡ true) }
     {
         if let Some(report) = self.repeat(now, source, response, out) {
             self.pass(now);
@@ -202,9 +183,7 @@ impl<S: Store + Drop> World<S> {
         ensures err { OnErr result (self.new ≡ self.old) }
         ensures kept { out.new.room ≡ out.old.room }
         ensures memory { OnErr result
-            (takes_memory
-            (separate_step self.old now true source response.now).report.outcome
-            ≡ true) }
+            (wants_memory (separate_step self.old now true source response.now) ≡ true) }
     {
         let Some(number) = self.awaiting(source, response) else {
             return Ok(self.reject(now, source, response.id, out));
@@ -282,17 +261,11 @@ impl<S: Store + Drop> World<S> {
         ensures err { OnErr result (self.new ≡ self.old) }
         ensures kept { out.new.room ≡ out.old.room }
     {
-        match response.kind {
-            Kind::Con => {
-                put_acknowledgement(response.id, out);
-                self.remember(now, source, response, out.bytes())?;
-                Ok(Some(source))
-            }
-            Kind::Non | Kind::Ack | Kind::Rst => {
-                out.clear();
-                Ok(None)
-            }
+        let send = put_taken_up(source, response, out);
+        if response.kind == Kind::Con {
+            self.remember(now, source, response, out.bytes())?;
         }
+        Ok(send)
     }
 
     /// What is to be stored of an answer for the key of its exchange, if it may be.

@@ -3,12 +3,12 @@ ghost use Rattle.std.specs.Prelude.{◌≡◌, ◌≤◌, ◌<◌, ◌^◌, [], 
 ghost use Rattle.coap_model.specs.Events.{tick};
 ghost use Rattle.coap_message.specs.declared.kind.Kind.{Kind};
 ghost use Rattle.coap_message.specs.Datagram.{holding};
-ghost use Rattle.coap_model.specs.Memory.{takes_memory};
 ghost use Rattle.coap_model.specs.History.{grown_of};
 ghost use Rattle.coap_model.specs.World.{ignores, rejects, unprocessed};
 ghost use Rattle.coap_model.specs.Step.{message_in, on_message, on_datagram, step_of};
+ghost use Rattle.coap_model.specs.Ticks.{on_tick};
 ghost use Rattle.coap_core.specs.Events.{IsUnread, seen};
-ghost use Rattle.coap_core.specs.Steps.{Does, CanGoOn};
+ghost use Rattle.coap_core.specs.Steps.{Does, CanGoOn, GivesConfirmable, wants_memory};
 
 use crate::event::Event;
 use crate::world::{World, silent};
@@ -39,15 +39,15 @@ impl<S: Store + Drop> World<S> {
         ensures err { OnErr result (self.new ≡ self.old) }
         ensures none { OnErr result (out.new ≡ holding out.old []) }
         ensures memory { OnErr result
-            (takes_memory (step_of self.old now draw true (seen event.entry)).report.outcome
-            ≡ true) }
-        ensures ticks { seen event.entry ≡ tick → IsOk result }
+            (wants_memory (step_of self.old now draw true (seen event.entry)) ≡ true) }
+        ensures ticks { seen event.entry ≡ tick
+            → OnErr result (GivesConfirmable (on_tick self.old now draw)) }
         ensures unread { IsUnread self.old.setting.limits.datagram (seen event.entry)
             → IsOk result }
     {
         let done = match event {
             Event::Datagram { from, bytes } => self.on_datagram(now, from, bytes, out),
-            Event::Tick => Ok(self.on_tick(now, draw, out)),
+            Event::Tick => self.on_tick(now, draw, out),
         };
         if done.is_err() {
             out.clear();
@@ -74,8 +74,7 @@ impl<S: Store + Drop> World<S> {
         ensures err { OnErr result (self.new ≡ self.old) }
         ensures kept { out.new.room ≡ out.old.room }
         ensures memory { OnErr result
-            (takes_memory (on_datagram self.old now true source bytes.now).report.outcome
-            ≡ true) }
+            (wants_memory (on_datagram self.old now true source bytes.now) ≡ true) }
         ensures unread { message_in self.old.setting.limits.datagram bytes.now ≡ None
             → IsOk result }
     {
@@ -119,8 +118,7 @@ impl<S: Store + Drop> World<S> {
         ensures err { OnErr result (self.new ≡ self.old) }
         ensures kept { out.new.room ≡ out.old.room }
         ensures memory { OnErr result
-            (takes_memory (on_message self.old now true source message.now).report.outcome
-            ≡ true) }
+            (wants_memory (on_message self.old now true source message.now) ≡ true) }
     {
         match message.kind {
             Kind::Con | Kind::Non if message.code.is_request() => {

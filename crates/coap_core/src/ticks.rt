@@ -1,34 +1,55 @@
 //! The step of a tick: what is due is done, one thing at a time (RFC 7252, 4.2 and 4.7).
-ghost use Rattle.std.specs.Prelude.{◌≡◌, ◌≤◌, ◌<◌, ◌^◌, true, false, nat_le, length, IfSome};
+ghost use Rattle.std.specs.Prelude.{◌≡◌, ◌≤◌, ◌<◌, ◌^◌, true, false, nat_le, length, IfOk, IfSome, OnOk, OnErr};
 ghost use Rattle.coap_exchange.specs.Exchanges.{deadline, is_done, is_queued, IsDue};
 ghost use Rattle.coap_exchange.specs.Table.{item_at};
 ghost use Rattle.coap_exchange.specs.declared.waiter.WaiterState.TheVariants.{Waiting};
 ghost use Rattle.coap_message.specs.Datagram.{holding};
-ghost use Rattle.coap_model.specs.Ticks.{item_due, next_due, gives_up, idles, on_exchange, on_waiter, on_tick};
-ghost use Rattle.coap_core.specs.Steps.{Does, CanGoOn, IsDueAt, delivery_at, firing_at, form_at, sending_at};
+ghost use Rattle.coap_forward.specs.Messages.{is_con};
+ghost use Rattle.coap_model.specs.Ticks.{abandons, item_due, next_due, gives_up, idles, on_exchange, on_waiter, on_tick, without_idle};
+ghost use Rattle.coap_exchange.specs.Waiters as waiters;
+ghost use Rattle.coap_exchange.specs.Waiters.{is_waiting};
+ghost use Rattle.coap_core.specs.Steps.{Does, CanGoOn, GivesConfirmable, IsClientDueAt, IsDueAt, answer_at, delivery_at, firing_at, form_at, sending_at, told_in, unheard_at};
 
 use crate::world::{World, silent};
 use coap_cache::Store;
 use coap_exchange::{Exchange, ExchangeState, Fire, Sending, Timer, WaiterState};
 use coap_forward::{gateway_timeout, put_shown};
-use coap_message::Datagram;
+use coap_message::{Datagram, Kind, OutOfMemory, Seq, Token};
 use coap_model::{DueItem, Outcome, Report};
 
+// Nothing is done: a proof learns here that a token has at most eight bytes.
+fn is_short(token: &Token)
+    ensures { length token.now ≤ 8 }
+{
+    let _bytes = token.as_slice();
+}
+
 impl<S: Store + Drop> World<S> {
-    pub(crate) fn on_tick(&mut self, now: u64, draw: u16, out: &mut Datagram) -> Report
+    pub(crate) fn on_tick(
+        &mut self,
+        now: u64,
+        draw: u16,
+        out: &mut Datagram,
+    ) -> Result<Report, OutOfMemory>
         requires can { CanGoOn self.old }
         requires onward { self.old.last ≤ now }
         requires moment { now ≤ 2 ^ 62 }
         requires draw { draw ≤ 1000 }
         requires fits { length (on_tick self.old now draw).bytes ≤ out.old.room }
-        ensures { Does (on_tick self.old now draw) result out.old out.new self.new }
+        ensures exact { IfOk result (λ report.
+            Does (on_tick self.old now draw) report out.old out.new self.new) }
+        ensures err { OnErr result (self.new ≡ self.old) }
+        ensures kept { out.new.room ≡ out.old.room }
+        ensures memory { OnErr result (GivesConfirmable (on_tick self.old now draw)) }
     {
         match self.first_due() {
             Some(DueItem::OfExchange { at, number }) if at <= now => {
-                self.on_exchange(now, draw, number, out)
+                Ok(self.on_exchange(now, draw, number, out))
             }
-            Some(DueItem::OfWaiter { at, number }) if at <= now => self.on_waiter(now, number, out),
-            _ => self.idle(now, out),
+            Some(DueItem::OfWaiter { at, number }) if at <= now => {
+                self.on_waiter(now, draw, number, out)
+            }
+            _ => Ok(self.idle(now, out)),
         }
     }
 
@@ -192,62 +213,180 @@ impl<S: Store + Drop> World<S> {
 
     // ---- clients
 
-    /// The client of this number is due: it is given the answer of its exchange.
-    fn on_waiter(&mut self, now: u64, number: u64, out: &mut Datagram) -> Report
+    /// The client of this number is due: one that waits is given the answer of its exchange, and one
+    /// that was given it is given it again, or given up.
+    fn on_waiter(
+        &mut self,
+        now: u64,
+        draw: u16,
+        number: u64,
+        out: &mut Datagram,
+    ) -> Result<Report, OutOfMemory>
         requires can { CanGoOn self.old }
         requires onward { self.old.last ≤ now }
+        requires moment { now ≤ 2 ^ 62 }
+        requires draw { draw ≤ 1000 }
+        requires due { IsClientDueAt self.old now number }
         requires fits { length
-            (on_waiter self.old now number (item_at number self.old.waiters)).bytes
+            (on_waiter self.old now draw number (item_at number self.old.waiters)).bytes
             ≤ out.old.room }
-        ensures { Does (on_waiter self.old now number (item_at number self.old.waiters))
-            result out.old out.new self.new }
+        ensures exact { IfOk result (λ report.
+            Does (on_waiter self.old now draw number (item_at number self.old.waiters))
+            report out.old out.new self.new) }
+        ensures err { OnErr result (self.new ≡ self.old) }
+        ensures kept { out.new.room ≡ out.old.room }
+        ensures memory { OnErr result (GivesConfirmable
+            (on_waiter self.old now draw number (item_at number self.old.waiters))) }
     {
         let Some(waiter) = self.waiters.get(number) else {
-            return self.idle(now, out);
+            return Ok(self.idle(now, out));
         };
         match &waiter.state {
             WaiterState::Waiting(exchange) => {
                 let exchange = *exchange;
-                self.deliver(now, number, exchange, out)
+                self.deliver(now, draw, number, exchange, out)
             }
-            WaiterState::Delivering { .. } => self.idle(now, out),
+            WaiterState::Delivering { .. } => Ok(self.on_unheard(now, number, out)),
         }
     }
 
-    /// The client of this number, which waits for this exchange, is given its answer, with a new
-    /// id. When nobody waits for the exchange any more, it is closed.
-    fn deliver(&mut self, now: u64, number: u64, exchange: u64, out: &mut Datagram) -> Report
+    /// The client of this number, which waits for this exchange, is given its answer, with a new id,
+    /// in a message of the type of its request. When nobody waits for the exchange any more, it is
+    /// closed.
+    fn deliver(
+        &mut self,
+        now: u64,
+        draw: u16,
+        number: u64,
+        exchange: u64,
+        out: &mut Datagram,
+    ) -> Result<Report, OutOfMemory>
         requires can { CanGoOn self.old }
         requires onward { self.old.last ≤ now }
+        requires moment { now ≤ 2 ^ 62 }
+        requires draw { draw ≤ 1000 }
         requires waits { IfSome (item_at number self.old.waiters) (λ v.
             v.state ≡ Waiting exchange) }
-        requires fits { length (delivery_at self.old now number exchange).bytes ≤ out.old.room }
-        ensures { Does (delivery_at self.old now number exchange) result out.old out.new self.new }
+        requires fits { length (delivery_at self.old now draw number exchange).bytes
+            ≤ out.old.room }
+        ensures exact { IfOk result (λ report.
+            Does (delivery_at self.old now draw number exchange) report
+            out.old out.new self.new) }
+        ensures err { OnErr result (self.new ≡ self.old) }
+        ensures kept { out.new.room ≡ out.old.room }
+        ensures memory { OnErr result
+            (GivesConfirmable (delivery_at self.old now draw number exchange)) }
+    {
+        let Some(waiter) = self.waiters.get(number) else {
+            return Ok(self.idle(now, out));
+        };
+        let Some(answer) = self.exchanges.answer_of(exchange) else {
+            return Ok(self.idle(now, out));
+        };
+        let (client, kind, id) = (waiter.client, waiter.kind, self.next_id());
+        is_short(&waiter.token);
+        put_shown(out, now, answer, kind, id, &waiter.token, &waiter.tags);
+        self.tell(now, draw, number, kind, out)?;
+        self.take_id(now);
+        self.let_go(exchange);
+        self.pass(now);
+        Ok(Report {
+            send: Some(client),
+            outcome: Outcome::Delivered,
+        })
+    }
+
+    /// The client of this number, which waits, is given what `out` holds, a message of this type
+    /// with the next id. A Confirmable one is kept, to be sent again until it is acknowledged (RFC
+    /// 7252, 4.2).
+    fn tell(
+        &mut self,
+        now: u64,
+        draw: u16,
+        number: u64,
+        kind: Kind,
+        out: &Datagram,
+    ) -> Result<(), OutOfMemory>
+        requires moment { now ≤ 2 ^ 62 }
+        requires draw { draw ≤ 1000 }
+        requires waits { IfSome (item_at number self.old.waiters) (λ v. is_waiting v ≡ true) }
+        ensures ok { OnOk result
+            (self.new
+            ≡ record self.old { waiters = told_in self.old now draw number kind out.now.bytes }) }
+        ensures err { OnErr result (self.new ≡ self.old) }
+        ensures memory { OnErr result (is_con kind ≡ true) }
+    {
+        match kind {
+            Kind::Con => {
+                let bytes = Seq::from_slice(self.alloc, out.bytes())?;
+                let (id, timer) = (self.next_id(), Timer::start(now, draw));
+                self.waiters.deliver(number, bytes, id, timer);
+            }
+            Kind::Non | Kind::Ack | Kind::Rst => self.waiters.close(number),
+        }
+        Ok(())
+    }
+
+    /// An exchange for which nobody waits any more is closed.
+    fn let_go(&mut self, exchange: u64)
+        ensures { self.new
+            ≡ record self.old {
+              exchanges = without_idle exchange self.old.waiters self.old.exchanges;
+            } }
+    {
+        if self.waiters.waiting_for(exchange) == 0 {
+            self.exchanges.close(exchange);
+        }
+    }
+
+    /// The timeout has ended that ran since the client of this number was given its answer: it is
+    /// given it again, the same bytes, or given up (RFC 7252, 4.2).
+    fn on_unheard(&mut self, now: u64, number: u64, out: &mut Datagram) -> Report
+        requires can { CanGoOn self.old }
+        requires moment { now ≤ 2 ^ 62 }
+        requires due { IfSome (item_at number self.old.waiters) (waiters.IsDue now) }
+        requires fits { length (unheard_at self.old now number).bytes ≤ out.old.room }
+        ensures { Does (unheard_at self.old now number) result out.old out.new self.new }
     {
         let Some(waiter) = self.waiters.get(number) else {
             return self.idle(now, out);
         };
-        let Some(answer) = self.exchanges.answer_of(exchange) else {
-            return self.idle(now, out);
-        };
         let client = waiter.client;
-        put_shown(
-            out,
-            now,
-            answer,
-            self.next_id(),
-            &waiter.token,
-            &waiter.tags,
-        );
-        self.take_id(now);
+        match self.waiters.fire(number, now) {
+            Fire::GiveUp => self.abandon(now, number, out),
+            Fire::Again => {
+                self.put_answer(number, out);
+                self.pass(now);
+                Report {
+                    send: Some(client),
+                    outcome: Outcome::Resent,
+                }
+            }
+        }
+    }
+
+    /// Writes the answer that the client of this number was given.
+    fn put_answer(&self, number: u64, out: &mut Datagram)
+        requires { length (answer_at number self.now.waiters) ≤ out.old.room }
+        ensures { out.new ≡ holding out.old (answer_at number self.now.waiters) }
+    {
+        out.clear();
+        let Some(waiter) = self.waiters.get(number) else {
+            return;
+        };
+        if let WaiterState::Delivering { bytes, .. } = &waiter.state {
+            out.put(bytes.as_slice());
+        }
+    }
+
+    /// The client of this number didn't acknowledge its answer in time: it is given up.
+    fn abandon(&mut self, now: u64, number: u64, out: &mut Datagram) -> Report
+        requires { self.old.events < 2 ^ 63 }
+        ensures { Does (abandons self.old now number) result out.old out.new self.new }
+    {
         self.waiters.close(number);
-        if self.waiters.waiting_for(exchange) == 0 {
-            self.exchanges.close(exchange);
-        }
+        out.clear();
         self.pass(now);
-        Report {
-            send: Some(client),
-            outcome: Outcome::Delivered,
-        }
+        silent(Outcome::GaveUp)
     }
 }

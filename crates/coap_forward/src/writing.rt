@@ -5,8 +5,7 @@ ghost use Rattle.coap_message.specs.Datagram.{Appends, holding};
 ghost use Rattle.coap_message.specs.Message.{message_of};
 ghost use Rattle.coap_message.specs.Spelling.{spelling};
 ghost use Rattle.coap_cache.specs.Renewing.{max_age_option};
-ghost use Rattle.coap_forward.specs.Answers.{shown, stored_answer};
-ghost use Rattle.coap_forward.specs.Answers.{shown_as};
+ghost use Rattle.coap_forward.specs.Answers.{shown_as, stored_answer};
 
 use crate::answers::left_told;
 use coap_cache::{Answer, Stored, put_max_age, show_into};
@@ -62,21 +61,24 @@ fn try_with_max_age(
 
 // ---- what clients are shown
 
-/// Writes what a client with these tags is given for an answer.
+/// Writes what a client with these tags is given for an answer, in a message of this type.
 pub fn put_shown(
     out: &mut Datagram,
     now: u64,
     answer: &Answer,
+    kind: Kind,
     id: u16,
     token: &Token,
     tags: &Pieces,
 )
-    requires fits { length (spelling (shown now answer.now id token.now tags.now)) ≤ out.old.room }
-    ensures { out.new ≡ holding out.old (spelling (shown now answer.now id token.now tags.now)) }
+    requires fits { length (spelling (shown_as kind now answer.now id token.now tags.now))
+        ≤ out.old.room }
+    ensures { out.new
+        ≡ holding out.old (spelling (shown_as kind now answer.now id token.now tags.now)) }
 {
     let left = left_told(now, answer);
     let room = out.room();
-    if show_into(&answer.message, Kind::Non, id, token, left, tags, out, room).is_err() {
+    if show_into(&answer.message, kind, id, token, left, tags, out, room).is_err() {
         unreachable!();
     }
 }

@@ -26,18 +26,18 @@ use Rattle.coap_model.specs.Verdicts.{may_ask}
 use Rattle.coap_model.specs.World.{World}
 use Rattle.coap_model.specs.Ticks as ticks
 use Rattle.coap_model.specs.Ticks.{exchange_due, waiter_due, first_item, item_due, if_due, next_due}
-use Rattle.coap_model.specs.Standing.{Stage, Open, queued, sent, stage_of}
+use Rattle.coap_model.specs.Standing.{Stage, Open, queued, sent, stage_of, Standing, Service, told, service_of}
 use Rattle.coap_model.specs.Schedules.{sends_by, next_send}
-use Rattle.coap_model.specs.Due.{IsToSend, IsToRepeat, IsToEnd, IsExchangeDue, to_send, to_repeat, to_end, IsToServe, IsDueAt, ComesBefore, IsSooner, IsNextDue}
+use Rattle.coap_model.specs.Due.{IsToSend, IsToRepeat, IsToEnd, IsExchangeDue, to_send, to_repeat, to_end, IsToServe, IsToServeAgain, IsClientDue, to_serve, to_serve_again, IsDueAt, ComesBefore, IsSooner, IsNextDue}
 use Rattle.coap_model.specs.Justified.{IsActing, verdict_on}
-use Rattle.coap_model.specs.History.{Entry, Act, no_item, admits, moves, serves, Deed, Place, Never, Ends}
-use Rattle.coap_model.specs.Carries.{HasNumber, stage_at, exchange_in, IsTimer, IsState, IsExchangeOf, IsWaiterIn, IsWaiterOf, Bears}
+use Rattle.coap_model.specs.History.{Entry, Act, no_item, admits, moves, serves, Deed, Place, Never, Ends, Serves}
+use Rattle.coap_model.specs.Carries.{HasNumber, HasExchange, stage_at, service_in, IsTimer, IsState, IsExchangeOf, IsWaiterIn, IsWaiterOf, Bears}
 use Rattle.coap_model.proofs.FirstDue.{Due, NotBefore, IsNotBefore, first_due-holds, first_due-none, first_due-least}
 use Rattle.coap_model.proofs.Lists.{Has, Has-holds, All-there}
 use Rattle.coap_model.proofs.Once.{ended-once}
 use Rattle.coap_model.proofs.Places.{Never-at, one-opened, one-admitted}
 use Rattle.coap_model.proofs.Room.{sent-count}
-use Rattle.coap_model.proofs.Seen.{stage-found, found-stage}
+use Rattle.coap_model.proofs.Seen.{stage-found, found-stage, service-found, found-service}
 use Rattle.coap_model.proofs.Tables.{Has-item, Has-number, at-number, item-holds, one-item}
 
 -- what an item is in the history
@@ -73,6 +73,14 @@ stage-is w history c x there = ap (λ (os : List Open). option_map (λ (o : Open
 -- where the history has a stage, there is the exchange
 pub staged-there : (w : World) (history : List Deed) → Bears history w → (n : ℕ) (stage : Stage) → stage_of n history ≡ Some stage → HasNumber n w.exchanges
 staged-there w history c n stage is = found-stage n w.exchanges (λ none. let e = sym none ∙ ap (λ (os : List Open). option_map (λ (o : Open). o.stage) (find (λ (o : Open). o.number == n) os)) c.whole.exchanges ∙ is in cc)
+
+-- how far the history served each client
+pub service-is : (w : World) (history : List Deed) → Bears history w → (v : Numbered Waiter) → Has v w.waiters → service_of v.0 history ≡ Some (service_in v.1.state)
+service-is w history c v there = ap (λ (ss : List Standing). option_map (λ (s : Standing). s.service) (find (λ (s : Standing). s.number == v.0) ss)) (sym c.whole.waiters) ∙ service-found v.0 w.waiters v.1 (Has-item 0 w.waiters v c.whole.waiters_rise there)
+
+-- where the history says how far one was served, there is the client
+pub served-there : (w : World) (history : List Deed) → Bears history w → (n : ℕ) (service : Service) → service_of n history ≡ Some service → HasNumber n w.waiters
+served-there w history c n service is = found-service n w.waiters (λ none. let e = sym none ∙ ap (λ (ss : List Standing). option_map (λ (s : Standing). s.service) (find (λ (s : Standing). s.number == n) ss)) c.whole.waiters ∙ is in cc)
 
 -- ---- what is due by the tables is due by the history
 
@@ -129,9 +137,9 @@ answer-of P n xs a all e = go (item_at n xs) refl e
     go None is f = absurd cc
     go (Some x) is f = (x, item-holds P n xs x all is, state x x.state refl f, is)
 
--- a client that is due is to be served
-pub client-due : (w : World) (history : List Deed) → Bears history w → (v : Numbered Waiter) → IsWaiterOf w.setting history v → (at : ℕ) → due_after w.exchanges v.1 ≡ Some at → IsDueAt w.setting history (serves v.0) at
-client-due w history c v f at due = go v.1.state f due
+-- a client that is due is to be served, or to be served again
+pub client-due : (w : World) (history : List Deed) → Bears history w → (v : Numbered Waiter) → Has v w.waiters → IsWaiterOf w.setting history v → (at : ℕ) → due_after w.exchanges v.1 ≡ Some at → IsDueAt w.setting history (serves v.0) at
+client-due w history c v there f at due = go v.1.state refl f due
   where
     moment : (exchange : ℕ) → IsWaiterIn w.setting history v (Waiting exchange) → (o : Option Answer) → answer_in exchange w.exchanges ≡ o → moment_of o ≡ Some at → IsToServe w.setting history v.0 at
     moment exchange g None is e = absurd cc
@@ -147,9 +155,9 @@ client-due w history c v f at due = go v.1.state f due
           at_is = sym (same_Some a.got at e) ∙ state.got;
         }
 
-    go : (s : WaiterState) → IsWaiterIn w.setting history v s → waiters.due_in s w.exchanges ≡ Some at → IsToServe w.setting history v.0 at
-    go (Waiting exchange) g e = moment exchange g (answer_in exchange w.exchanges) refl e
-    go (Delivering bytes id timer) g e = absurd g
+    go : (s : WaiterState) → v.1.state ≡ s → IsWaiterIn w.setting history v s → waiters.due_in s w.exchanges ≡ Some at → IsClientDue w.setting history v.0 at
+    go (Waiting exchange) is g e = to_serve (moment exchange g (answer_in exchange w.exchanges) refl e)
+    go (Delivering bytes id timer) is g e = to_serve_again (record { service = service-is w history c v there ∙ ap (λ (s : WaiterState). Some (service_in s)) is; at_is = sym (same_Some timer.due at e) ∙ timer-due timer _ g.timer_is })
 
 -- ---- what is due by the history is due by the tables, or was due before
 
@@ -291,10 +299,29 @@ serve-listed w history c v at d = go u.1.state refl t.2
 
     go : (s : WaiterState) → u.1.state ≡ s → IsWaiterIn w.setting history u s → IsListed w (serves v) at
     go (Waiting exchange) is g =
-        let has = (at-number (λ z. HasNumber (exchange_in z.1.state) w.exchanges) u.0 w.waiters (Has-number w.waiters u t.3) c.whole.awaited) in
+        let has = (at-number (λ z. HasExchange z.1.state w.exchanges) u.0 w.waiters (Has-number w.waiters u t.3) c.whole.awaited) in
         let same = one-item 0 w.waiters has.0 u c.whole.waiters_rise has.3 t.3 (sym has.1) in
-        answered exchange is g (subst (λ (s : WaiterState). HasNumber (exchange_in s) w.exchanges) is (subst (λ (a : Waiter). HasNumber (exchange_in a.state) w.exchanges) same has.2))
-    go (Delivering bytes id timer) is g = absurd g
+        answered exchange is g (subst (λ (s : WaiterState). HasExchange s w.exchanges) is (subst (λ (a : Waiter). HasExchange a.state w.exchanges) same has.2))
+    go (Delivering bytes id timer) is g = absurd (Never-at (Serves v) history g.serving d.unserved g.was_served (subst (λ (n : ℕ). Serves n g.serving) (sym t.1) g.is_serving))
+
+-- one that is to be served again is due by the tables
+serve-again-listed : (w : World) (history : List Deed) → Bears history w → (v at : ℕ) → IsToServeAgain history v at → IsListed w (serves v) at
+serve-again-listed w history c v at d = go u.1.state refl t.2
+  where
+    t : (u : Numbered Waiter) × (v ≡ u.0) × IsWaiterOf w.setting history u × Has u w.waiters
+    t = at-number (IsWaiterOf w.setting history) v w.waiters (served-there w history c v told d.service) c.waiters
+
+    u : Numbered Waiter
+    u = t.0
+
+    service : Some (service_in u.1.state) ≡ Some told
+    service = sym (service-is w history c u t.3) ∙ ap (λ (n : ℕ). service_of n history) (sym t.1) ∙ d.service
+
+    go : (s : WaiterState) → u.1.state ≡ s → IsWaiterIn w.setting history u s → IsListed w (serves v) at
+    go (Waiting exchange) is g = absurd (let e = ap (λ (s : WaiterState). Some (service_in s)) (sym is) ∙ service in cc)
+    go (Delivering bytes id timer) is g =
+        let moment : timer.due ≡ at = timer-due timer _ g.timer_is ∙ ap (λ (n : ℕ). next_send (sends_by (serves n) history)) (sym t.1) ∙ sym d.at_is in
+        of_client u timer.due t.3 (ap serves (sym t.1)) (ap (λ (s : WaiterState). waiters.due_in s w.exchanges) is) (omega (arith, moment))
 
 -- whatever is due by the history is due by the tables
 pub listed : (w : World) (history : List Deed) → Bears history w → (a : Act) (at : ℕ) → IsDueAt w.setting history a at → IsListed w a at
@@ -303,7 +330,8 @@ listed w history c (admits v x) at d = absurd d
 listed w history c (moves x) at (to_send d) = send-listed w history c x at d
 listed w history c (moves x) at (to_repeat d) = repeat-listed w history c x at d
 listed w history c (moves x) at (to_end d) = end-listed w history c x at d
-listed w history c (serves v) at d = serve-listed w history c v at d
+listed w history c (serves v) at (to_serve d) = serve-listed w history c v at d
+listed w history c (serves v) at (to_serve_again d) = serve-again-listed w history c v at d
 
 -- ---- what is due first
 
@@ -338,8 +366,8 @@ module _ (w : World) (history : List Deed) (c : Bears history w) where
 
   client-first : (d : Due) → waiter_due w ≡ Some d → IsDueAt w.setting history (serves d.1) d.0
   client-first d e =
-      let f = first_due-holds (IsWaiterOf w.setting history) (due_after w.exchanges) w.waiters d c.waiters e in
-      subst (λ (n : ℕ). IsDueAt w.setting history (serves n) d.0) f.2 (client-due w history c f.0 f.1 d.0 f.3)
+      let f = first_due-holds (λ u. IsWaiterOf w.setting history u × Has u w.waiters) (due_after w.exchanges) w.waiters d (All-there (IsWaiterOf w.setting history) w.waiters c.waiters) e in
+      subst (λ (n : ℕ). IsDueAt w.setting history (serves n) d.0) f.2 (client-due w history c f.0 f.1.1 f.1.0 d.0 f.3)
 
   -- what is due first is due by the history
   pub least-due : (i : DueItem) → item_due w ≡ Some i → IsDueAt w.setting history (act_of i) (ticks.moment_of i)

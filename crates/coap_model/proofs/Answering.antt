@@ -1,7 +1,6 @@
 -- An answer that is got keeps what is carried.
 use Rattle.std.proofs.Common.{◌≡◌, inl, ℕ, Bool, ◌<◌, ◌≤◌, true, false, List, [], ◌∷◌, Option, Some, None, refl, sym, ap, ◌∙◌, subst, arith}
-use Rattle.coap_message.specs.declared.kind.Kind.{Kind}
-use Rattle.coap_message.specs.declared.kind.Kind.TheVariants.{Con, Non, Ack, Rst}
+use Rattle.coap_message.specs.declared.kind.Kind.TheVariants.{Con, Non}
 use Rattle.coap_message.specs.Uint.{IsBytes}
 use Rattle.coap_message.specs.Message.{Message}
 use Rattle.coap_message.specs.Spelling.{spelling}
@@ -23,12 +22,11 @@ use Rattle.coap_model.specs.declared.report.Storing.{Storing}
 use Rattle.coap_model.specs.declared.report.Storing.TheVariants.{Kept, TooLarge, NoMemory, NotStored}
 use Rattle.coap_forward.specs.Answers.{answer_of, is_storable}
 use Rattle.coap_model.specs.Cached.{leaves, cached_here, entry_of_cached, IsObtained, IsStoreOf}
-use Rattle.coap_model.specs.Justified.{Tells, IsSilent, TakesUp, IsNew, Acknowledges, IsAnswer, IsObtainedHere, JustifiedBy, got}
+use Rattle.coap_model.specs.Justified.{TakesUp, IsNew, Acknowledges, to_acknowledge, to_reset, a_request, IsAnswer, IsObtainedHere, JustifiedBy, got}
 use Rattle.coap_model.specs.World.{World, silent, says, known_of, has_record_room, remembers}
 use Rattle.coap_model.specs.Step.{message_in}
 use Rattle.coap_model.specs.Answers.{asked_of, entry_made}
 use Rattle.coap_model.specs.Empties.{acknowledges}
-use Rattle.coap_model.specs.History as history
 use Rattle.coap_model.specs.History.{moves, Deed, Gets, last_of}
 use Rattle.coap_model.specs.Standing as stage
 use Rattle.coap_model.specs.Runs.{entry_of}
@@ -40,7 +38,7 @@ use Rattle.coap_model.proofs.Giving.{ids-kept, ids-differ}
 use Rattle.coap_model.proofs.Lists.{Has, Has-all}
 use Rattle.coap_model.proofs.Moving.{moved_world, keeps_moving}
 use Rattle.coap_model.specs.Promised.{IdsDiffer}
-use Rattle.coap_model.proofs.OneRequest.{settled-once, reset-once}
+use Rattle.coap_model.proofs.OneMeant.{one-meant}
 use Rattle.coap_model.proofs.Places.{here, doing, opened-later, one-brought}
 use Rattle.coap_model.proofs.Quiet.{remembered-still, room-still}
 use Rattle.coap_model.proofs.Remembering.{remembered-on, record-new, now-remembered, answer-leaves}
@@ -49,6 +47,7 @@ use Rattle.coap_model.proofs.Rules.{Recorded, IsAbout, IsAnswerFor, recorded-kin
 use Rattle.coap_model.proofs.Seen.{staged-seen}
 use Rattle.coap_model.proofs.Sendings.{was-sent}
 use Rattle.coap_model.proofs.Spelled.{message_in-is, acknowledgement-is, acknowledgement-short}
+use Rattle.coap_model.proofs.TakingUp.{silent-up, told-up}
 use Rattle.coap_model.proofs.Stores.{store-kept, store-too_large, store-otherwise, none-found}
 
 -- ---- what is stored
@@ -86,11 +85,11 @@ module _ (w : World) (history : List Deed) (c : Bears history w) (now : ℕ) (gr
 -- ---- one request
 
 -- ids don't come back too soon
-differ : (w : World) (history : List Deed) → Bears history w → IdsDiffer history
+pub differ : (w : World) (history : List Deed) → Bears history w → IdsDiffer history
 differ w history c = ids-differ w.setting.first_id history c.ids.are_ids c.ids.windows c.clock.in_order
 
 -- the last moment has come
-last-now : (w : World) (history : List Deed) → Bears history w → (now : ℕ) → w.last ≤ now → last_of history ≤ now
+pub last-now : (w : World) (history : List Deed) → Bears history w → (now : ℕ) → w.last ≤ now → last_of history ≤ now
 last-now w history c now onward = let h = c.clock.last in omega (arith, h, onward)
 
 -- ---- the answer
@@ -124,7 +123,7 @@ module _ (w : World) (history : List Deed) (c : Bears history w) (now draw : ℕ
         gets = gets;
         first = flight.unended;
         unsettled = a.2;
-        only = λ reset other also. reset-once w.setting history now (differ w history c) c.clock.in_order (last-now w history c now onward) other x.0 (arrival source bytes) also (awaited-by w history c now source m x bytes fits read for) (sym (ap (λ (k : Message). k.kind) (one-brought gets.meets.brings also.meets.brings).1) ∙ reset);
+        only = λ reset other also. one-meant w.setting history now (arrival source bytes) other (moves x.0) (differ w history c) c.clock.in_order (last-now w history c now onward) also (to_reset x.0 (awaited-by w history c now source m x bytes fits read for) refl (sym (ap (λ (k : Message). k.kind) (one-brought gets.meets.brings (awaited-by w history c now source m x bytes fits read for).meets.brings).1) ∙ reset));
         new = λ is. subst (λ (to : Endpoint). IsNew w.setting history now to m) from (new is);
         takes_up = subst (λ (to : Endpoint). TakesUp m.kind to m.id e.entry) from taken;
       } in
@@ -156,20 +155,6 @@ module _ (w : World) (history : List Deed) (c : Bears history w) (now draw : ℕ
       (stored-then w history c now grown x result e storing store flight.sending flight.sending_is was refl refl obtains stored)
       remembered
       (answered-so w history c now grown x result e storing store flight.sending flight.sending_is was refl refl answer obtains only stored, c.past)
-
--- of what isn't Confirmable nothing is sent at once
-silent-up : (k : Kind) (source : Endpoint) (id : ℕ) (e : history.Entry) → is_con k ≡ false → IsSilent e → TakesUp k source id e
-silent-up Con source id e other silent = absurd cc
-silent-up Non source id e other silent = silent
-silent-up Ack source id e other silent = silent
-silent-up Rst source id e other silent = silent
-
--- what is Confirmable is acknowledged
-told-up : (k : Kind) (source : Endpoint) (id : ℕ) (e : history.Entry) → is_con k ≡ true → Tells source (acknowledgement id) e → TakesUp k source id e
-told-up Con source id e con tells = tells
-told-up Non source id e con tells = absurd cc
-told-up Ack source id e con tells = absurd cc
-told-up Rst source id e con tells = absurd cc
 
 -- an answer that isn't Confirmable keeps what is carried
 pub keeps_answering : (w : World) (history : List Deed) (c : Bears history w) → (now draw : ℕ) (source : Endpoint) (bytes : List ℕ) (grown : Bool) (m : Message) (x : Numbered Exchange) (storing : Storing) (store : List Entry) → w.last ≤ now → IsBytes bytes → message_in w.setting.limits.datagram bytes ≡ Some m → IsAnswerFor w now source m x → is_con m.kind ≡ false → IsStoring w now grown x (answer_of w.setting.limits.datagram now m) storing store
@@ -243,10 +228,8 @@ keeps_acknowledging w history c now draw source bytes m x onward fits read about
     (store-otherwise w.setting history w.store e refl c.store)
     (remembered-still w history c e onward (λ k. refl)) (
       record {
-        exchange = x.0;
-        act = refl;
-        acknowledges = acknowledges_it;
-        only = λ other also. settled-once w.setting history now (differ w history c) c.clock.in_order (last-now w history c now onward) other x.0 (arrival source bytes) also acknowledges_it;
+        settles = a_request x.0 refl acknowledges_it;
+        only = λ other also. one-meant w.setting history now (arrival source bytes) other (moves x.0) (differ w history c) c.clock.in_order (last-now w history c now onward) also (to_acknowledge x.0 refl acknowledges_it);
         silent = record { sent = refl; bytes = refl };
       },
       c.past,

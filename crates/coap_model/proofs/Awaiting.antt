@@ -1,9 +1,9 @@
 -- What is awaited: what the history awaits is found in the tables, and what is found there the history awaits.
-use Rattle.std.proofs.Common.{◌≡◌, ℕ, ◌-◌, ◌<◌, ◌≤◌, Bool, true, false, List, length, Option, Some, None, refl, sym, ap, ◌∙◌, subst, arith}
+use Rattle.std.proofs.Common.{◌≡◌, ◌⊎◌, inl, inr, ⊎_elim, ℕ, ◌-◌, ◌<◌, ◌≤◌, Bool, true, false, List, length, Option, Some, None, refl, sym, ap, ◌∙◌, subst, arith}
 use Rattle.std.specs.Prelude.{◌&&◌, ◌||◌, ◌==◌, find, nat_lt, if◌then◌else◌, option_map}
 use Rattle.std.proofs.lemmas.Cmp.{nat_list_eq_equiv}
 use Rattle.std.specs.Cmp.Lexicographic.{same_text}
-use Rattle.std.proofs.lemmas.Bool.{eq-eqb, eqb-true, ltb-true, and_from, and_parts}
+use Rattle.std.proofs.lemmas.Bool.{eq-eqb, eqb-true, ltb-true, lt-ltb, and_from, and_parts}
 use Rattle.std.proofs.lemmas.Option.{same_Some}
 use Rattle.coap_message.specs.declared.kind.Kind.{Kind}
 use Rattle.coap_message.specs.declared.kind.Kind.TheVariants.{Con, Non, Ack, Rst}
@@ -22,6 +22,12 @@ use Rattle.coap_exchange.specs.declared.exchange.Exchange.{Exchange}
 use Rattle.coap_exchange.specs.declared.exchange.ExchangeState.{ExchangeState}
 use Rattle.coap_exchange.specs.declared.exchange.ExchangeState.TheVariants.{Queued, Sent, Acked, Done}
 use Rattle.coap_exchange.specs.declared.exchange.Sending.{Sending}
+use Rattle.coap_exchange.specs.declared.timer.Timer.{Timer}
+use Rattle.coap_exchange.specs.declared.waiter.Waiter.{Waiter}
+use Rattle.coap_exchange.specs.declared.waiter.WaiterState.{WaiterState}
+use Rattle.coap_exchange.specs.declared.waiter.WaiterState.TheVariants.{Waiting, Delivering}
+use Rattle.coap_exchange.specs.Waiters as waiters
+use Rattle.coap_exchange.specs.Waiters.{is_delivered_as}
 use Rattle.coap_exchange.specs.Exchanges.{is_sent_state, is_acked, is_acked_state, is_as, is_some_as, was_sent_as}
 use Rattle.coap_exchange.specs.Table.{Numbered, IsRising, first_that, item_at}
 use Rattle.coap_model.specs.Setting.{Setting}
@@ -31,14 +37,14 @@ use Rattle.coap_forward.specs.Messages.{is_ack, is_rst, is_bare, is_empty, bring
 use Rattle.coap_model.specs.World.{World, records_of}
 use Rattle.coap_model.specs.Step.{message_in}
 use Rattle.coap_model.specs.Responses.{is_in_flight, was_sent_with, has_id, awaits, awaiting}
-use Rattle.coap_model.specs.Standing.{sent, stage_of}
+use Rattle.coap_model.specs.Standing.{sent, stage_of, told, service_of}
 use Rattle.coap_dedup.specs.Lists.{record_of}
 use Rattle.coap_dedup.specs.Records.{living_at}
-use Rattle.coap_model.specs.History.{last_of, Deed, Place, IsPlaceOf, Never, Somewhere, Opens, Sends, Asks, Matches, in_acknowledgement, separate, by_reset, Brings, Meets, Ends}
-use Rattle.coap_model.specs.Justified.{Comes, known_of, IsUnsettled, IsAwaited, Acknowledges, AllJustified}
+use Rattle.coap_model.specs.History.{last_of, Deed, Place, IsPlaceOf, Never, Somewhere, Opens, Sends, Asks, Serves, Matches, in_acknowledgement, separate, by_reset, Brings, Meets, Ends}
+use Rattle.coap_model.specs.Justified.{Comes, known_of, IsUnsettled, IsAwaited, Acknowledges, Closes, AllJustified}
 use Rattle.coap_model.specs.declared.report.Outcome.TheVariants.{SentRequest}
-use Rattle.coap_model.specs.Carries.{stage_at, IsState, IsInFlight, IsExchangeOf, HasNumber, Bears}
-use Rattle.coap_model.proofs.Acting.{stage-is, staged-there}
+use Rattle.coap_model.specs.Carries.{stage_at, service_in, IsState, IsInFlight, IsExchangeOf, HasNumber, IsDelivering, IsWaiterIn, IsWaiterOf, Bears}
+use Rattle.coap_model.proofs.Acting.{stage-is, staged-there, service-is, served-there}
 use Rattle.coap_model.proofs.Lists.{find-holds, Has, Has-all, All-both, All-there}
 use Rattle.coap_model.proofs.Sendings.{started-asking, asked-as, as-found}
 use Rattle.coap_model.proofs.Verdicts.{code-same}
@@ -47,7 +53,7 @@ use Rattle.coap_model.proofs.Spelled.{message_in-is, message_in-again}
 use Rattle.coap_model.proofs.Places.{first-once, same_moves, place-before, justified-at, Never-at, arrival-same}
 use Rattle.coap_model.proofs.Rules as rules
 use Rattle.coap_model.proofs.Remembering.{known-is}
-use Rattle.coap_model.proofs.Rules.{IsAbout, IsAnswerFor, IsNothing, recorded-kind, request-brings}
+use Rattle.coap_model.proofs.Rules.{IsAbout, IsOfAnswer, IsAnswerFor, IsNothing, recorded-kind, request-brings}
 
 -- what was asked was opened before
 pub asked-opened : (setting : Setting) (history : List Deed) → AllJustified setting history → (x : ℕ) (p : Place) → IsPlaceOf history p → Sends setting.salt x p → Somewhere (Opens x) history
@@ -357,3 +363,124 @@ module _ (w : World) (history : List Deed) (c : Bears history w) (now : ℕ) (so
   -- nor is it an acknowledgement of a request that waits for one
   pub not-settled : (x : ℕ) → Acknowledges w.setting history now x (arrival source bytes) → ⊥
   not-settled x a = not-about x a.asking a.was_asked a.asks a.unsettled a.message a.brings (bare-so a.message a.empty (ap (λ (k : Kind). is_ack k || is_rst k) a.kind)) a.id_is
+
+-- ---- the answers of clients
+
+-- a client was given its answer in these bytes, with this id, by this timer
+pub record WasDelivered (setting : Setting) (history : List Deed) (v : Numbered Waiter) : Type 0 where
+  pub bytes : List ℕ
+  pub id : ℕ
+  pub timer : Timer
+  pub state_is : v.1.state ≡ Delivering bytes id timer
+  pub delivering : IsDelivering setting history v bytes id timer
+
+-- one that has still to acknowledge its answer was
+pub told-delivered : (setting : Setting) (history : List Deed) (v : Numbered Waiter) → IsWaiterOf setting history v → service_in v.1.state ≡ told → WasDelivered setting history v
+told-delivered setting history v f e = go v.1.state refl e f
+  where
+    go : (s : WaiterState) → v.1.state ≡ s → service_in s ≡ told → IsWaiterIn setting history v s → WasDelivered setting history v
+    go (Waiting exchange) is e g = absurd cc
+    go (Delivering bytes id timer) is e g = record { bytes = bytes; id = id; timer = timer; state_is = is; delivering = g }
+
+-- and one that was sent its answer with an id was
+sent-delivered : (setting : Setting) (history : List Deed) (v : Numbered Waiter) (id now : ℕ) → IsWaiterOf setting history v → is_delivered_as id now v.1.state ≡ true → WasDelivered setting history v
+sent-delivered setting history v id now f e = go v.1.state refl e f
+  where
+    go : (s : WaiterState) → v.1.state ≡ s → is_delivered_as id now s ≡ true → IsWaiterIn setting history v s → WasDelivered setting history v
+    go (Waiting exchange) is e g = absurd cc
+    go (Delivering bytes other timer) is e g = record { bytes = bytes; id = other; timer = timer; state_is = is; delivering = g }
+
+-- ---- from the table to the history
+
+-- what brings no more than this is an acknowledgement or a Reset
+bare-kind : (k : Kind) → (is_ack k || is_rst k) ≡ true → (k ≡ Ack) ⊎ (k ≡ Rst)
+bare-kind Con e = absurd cc
+bare-kind Non e = absurd cc
+bare-kind Ack e = inl refl
+bare-kind Rst e = inr refl
+
+module _ (w : World) (history : List Deed) (c : Bears history w) (now : ℕ) (source : Endpoint) (bytes : List ℕ) where
+  -- an Empty message closes the client whose answer went there with its id
+  closes-one : (m : Message) (v : Numbered Waiter) → IsBytes bytes → message_in w.setting.limits.datagram bytes ≡ Some m → is_bare m ≡ true → IsWaiterOf w.setting history v → Has v w.waiters → waiters.was_sent_as source m.id now v.1 ≡ true → Closes w.setting history now v.0 (arrival source bytes)
+  closes-one m v fits read bare f there passes =
+      let came = message_in-is w.setting.limits.datagram bytes m fits read in
+      let parts = and_parts (same_endpoint v.1.client source) (is_delivered_as m.id now v.1.state) passes in
+      let client = Tells-endpoint.only v.1.client source parts.0 in
+      let was = sent-delivered w.setting history v m.id now f parts.1 in
+      let d = was.delivering in
+      let test : is_delivered_as m.id now (Delivering was.bytes was.id was.timer) ≡ true = ap (is_delivered_as m.id now) (sym was.state_is) ∙ parts.1 in
+      let both = and_parts (was.id == m.id) (nat_lt (now - was.timer.started) 247000) test in
+      let began = d.started in
+      let since : now - was.timer.started < 247000 = ltb-true (now - was.timer.started) 247000 both.1 in
+      record {
+        serving = d.serving;
+        was_served = d.was_served;
+        serves = d.is_serving;
+        service = service-is w history c v there ∙ ap (λ (s : WaiterState). Some (service_in s)) was.state_is;
+        soon = omega (arith, began, since);
+        to = v.1.client;
+        sent = d.sent;
+        answer = d.answer;
+        spells = d.spells;
+        message = m;
+        brings = record { bytes = bytes; came = ap (λ (to : Endpoint). arrival to bytes) (sym client); spells = came.0; short = came.1 };
+        kind = bare-kind m.kind (and_parts (is_empty m.code) (is_ack m.kind || is_rst m.kind) bare).1;
+        empty = empty-is m bare;
+        id_is = sym (eqb-true was.id m.id both.0) ∙ d.id_is;
+      }
+
+  -- so the client that is found is closed
+  pub closes-here : (m : Message) (n : ℕ) → IsBytes bytes → message_in w.setting.limits.datagram bytes ≡ Some m → IsOfAnswer w now source m n → Closes w.setting history now n (arrival source bytes)
+  closes-here m n fits read about = go (find (λ (v : Numbered Waiter). waiters.was_sent_as source m.id now v.1) w.waiters) refl about.first
+    where
+      go : (o : Option (Numbered Waiter)) → find (λ (v : Numbered Waiter). waiters.was_sent_as source m.id now v.1) w.waiters ≡ o → option_map (λ (v : Numbered Waiter). v.0) o ≡ Some n → Closes w.setting history now n (arrival source bytes)
+      go None is e = absurd cc
+      go (Some v) is e =
+          let f = find-holds (λ u. IsWaiterOf w.setting history u × Has u w.waiters) (λ (u : Numbered Waiter). waiters.was_sent_as source m.id now u.1) w.waiters v (All-there (IsWaiterOf w.setting history) w.waiters c.waiters) is in
+          subst (λ (k : ℕ). Closes w.setting history now k (arrival source bytes)) (same_Some v.0 n e) (closes-one m v fits read about.bare f.0.0 f.0.1 f.1)
+
+  -- what is read of a datagram that closes a client
+  closing-read : {n : ℕ} (k : Closes w.setting history now n (arrival source bytes)) → (source ≡ k.to) × (message_in w.setting.limits.datagram bytes ≡ Some k.message)
+  closing-read k =
+      let b = k.brings in
+      let came = arrival-same source k.to bytes b.bytes b.came in
+      (came.0, message_in-again w.setting.limits.datagram bytes k.message (ap read_message came.1 ∙ read_again b.bytes k.message b.spells) (rw came.1 b.short))
+
+  -- it is Empty
+  closing-bare : {n : ℕ} (k : Closes w.setting history now n (arrival source bytes)) → is_bare k.message ≡ true
+  closing-bare k =
+      bare-so k.message k.empty
+      (⊎_elim (λ (ack : k.message.kind ≡ Ack). ap (λ (kind : Kind). is_ack kind || is_rst kind) ack) (λ (reset : k.message.kind ≡ Rst). ap (λ (kind : Kind). is_ack kind || is_rst kind) reset) k.kind)
+
+  -- a client that is closed passes the test
+  closed-passes : {n : ℕ} (k : Closes w.setting history now n (arrival source bytes)) (v : Numbered Waiter) → n ≡ v.0 → IsWaiterOf w.setting history v → Has v w.waiters → waiters.was_sent_as source k.message.id now v.1 ≡ true
+  closed-passes {n} k v number f there =
+      let e = sym (service-is w history c v there) ∙ ap (λ (u : ℕ). service_of u history) (sym number) ∙ k.service in
+      let was = told-delivered w.setting history v f (same_Some (service_in v.1.state) told e) in
+      let d = was.delivering in
+      let place = d.only k.serving k.was_served (subst (λ (u : ℕ). Serves u k.serving) number k.serves) in
+      let to : v.1.client ≡ k.to = same_Some v.1.client k.to (sym d.sent ∙ ap (λ (p : Place). p.deed.entry.report.send) (sym place) ∙ k.sent) in
+      let answer = one_message d.serving.deed.entry.bytes k.answer d.answer (subst (λ (p : Place). Spells p.deed.entry.bytes k.answer) place k.spells) d.spells in
+      let id : was.id ≡ k.message.id = d.id_is ∙ ap (λ (m : Message). m.id) (sym answer) ∙ sym k.id_is in
+      let began = d.started in
+      let moment = ap (λ (p : Place). p.deed.entry.now) place in
+      let soon = k.soon in
+      let test : is_delivered_as k.message.id now (Delivering was.bytes was.id was.timer) ≡ true = and_from (was.id == k.message.id) (nat_lt (now - was.timer.started) 247000) (eq-eqb was.id k.message.id id) (lt-ltb (now - was.timer.started) 247000 (omega (arith, soon, began, moment))) in
+      and_from (same_endpoint v.1.client source) (is_delivered_as k.message.id now v.1.state) ((Tells-both same_endpoint Tells-endpoint v.1.client source).1 (to ∙ sym (closing-read k).0)) (ap (is_delivered_as k.message.id now) was.state_is ∙ test)
+
+  -- so nothing that is ignored closes a client
+  pub not-closed : IsNothing w now source bytes → (n : ℕ) → Closes w.setting history now n (arrival source bytes) → ⊥
+  not-closed none n k = in_table (served-there w history c n told k.service)
+    where
+      test : Numbered Waiter → Bool
+      test v = waiters.was_sent_as source k.message.id now v.1
+
+      missed : (o : Option (Numbered Waiter)) → find test w.waiters ≡ o → find test w.waiters ≡ None
+      missed None is = is
+      missed (Some v) is = absurd ((none k.message (closing-read k).1).answer v.0 (record { bare = closing-bare k; first = ap (option_map (λ (u : Numbered Waiter). u.0)) is }))
+
+      in_table : HasNumber n w.waiters → ⊥
+      in_table has =
+          let f = at-number (λ v. (IsWaiterOf w.setting history v × Has v w.waiters) × (test v ≡ false)) n w.waiters has (All-both (λ v. IsWaiterOf w.setting history v × Has v w.waiters) (λ v. test v ≡ false) w.waiters (All-there (IsWaiterOf w.setting history) w.waiters c.waiters) (none-found test w.waiters (missed (find test w.waiters) refl))) in
+          let e : true ≡ false = sym (closed-passes k f.0 f.1 f.2.0.0 f.2.0.1) ∙ f.2.1 in
+          absurd cc

@@ -34,7 +34,7 @@ use Rattle.coap_model.specs.CacheExamples.{content_for, get_for, answered, kept_
 use Rattle.coap_model.proofs.Places.{here, same_moves}
 
 -- numbers that are below 256 are bytes
-are-bytes : (bytes : List ℕ) → list_all (λ b. nat_lt b 256) bytes ≡ true → IsBytes bytes
+pub are-bytes : (bytes : List ℕ) → list_all (λ b. nat_lt b 256) bytes ≡ true → IsBytes bytes
 are-bytes [] all i = omega arith
 are-bytes (b ∷ bytes) all zero = ltb-true b 256 (and_parts (nat_lt b 256) (list_all (λ c. nat_lt c 256) bytes) all).0
 are-bytes (b ∷ bytes) all (suc i) = are-bytes bytes (and_parts (nat_lt b 256) (list_all (λ c. nat_lt c 256) bytes) all).1 i
@@ -42,11 +42,11 @@ are-bytes (b ∷ bytes) all (suc i) = are-bytes bytes (and_parts (nat_lt b 256) 
 -- ---- what was asked
 
 -- nothing was sent where nothing is told to be
-unsent : (x : ℕ) (before : List Deed) (d : Deed) → d.entry.report.outcome ≢ SentRequest → ¬ Sends 0 x (here before d)
+pub unsent : (x : ℕ) (before : List Deed) (d : Deed) → d.entry.report.outcome ≢ SentRequest → ¬ Sends 0 x (here before d)
 unsent x before d not s = not s.outcome
 
 -- the first request spells the first exchange's
-first_sent : Spells (get_temp []) (get_for 1 1)
+pub first_sent : Spells (get_temp []) (get_for 1 1)
 unfolding read_message body_at options_within option_at extended token_of target_options uint_spelling
 first_sent = read_is (get_temp []) (get_for 1 1) (are-bytes (get_temp []) refl) refl
 
@@ -82,7 +82,7 @@ second_asks = record {
 -- ---- what was got
 
 -- the answers spell what they say
-first_got : Spells (limited.got 1 1) (content_for 1 1)
+pub first_got : Spells (limited.got 1 1) (content_for 1 1)
 unfolding read_message body_at options_within option_at extended token_of
 first_got = read_is (limited.got 1 1) (content_for 1 1) (are-bytes (limited.got 1 1) refl) refl
 

@@ -9,7 +9,7 @@ use Rattle.coap_model.specs.Step.{step_of}
 use Rattle.coap_model.specs.History.{Entry, Act, no_item, admits, moves, serves, Deed, opened_in, admitted_in}
 use Rattle.coap_model.specs.Runs.{entry_of}
 use Rattle.coap_model.specs.Carries.{Ids, Bears, Carries}
-use Rattle.coap_model.proofs.Rules.{Rule, refusing, lacking, overloading, hitting, joining, opening, repeating, dropping, answering, answering_con, acknowledging, rejecting, ignoring, forwarding, resending, giving_up, delivering, idling, stuck, rule_of}
+use Rattle.coap_model.proofs.Rules.{Rule, refusing, lacking, overloading, hitting, joining, opening, repeating, dropping, answering, answering_con, acknowledging, closing, rejecting, ignoring, forwarding, resending, giving_up, delivering, redelivering, abandoning, idling, stuck, rule_of}
 use Rattle.coap_model.proofs.Replying.{keeps_refusing, keeps_overloading, keeps_lacking, keeps_repeating, keeps_dropping, keeps_rejecting, keeps_ignoring}
 use Rattle.coap_model.proofs.Places.{doing}
 use Rattle.coap_model.proofs.Idling.{keeps_idling, not-stuck}
@@ -20,6 +20,7 @@ use Rattle.coap_model.proofs.Stores.{store-empty}
 use Rattle.coap_model.proofs.Forwarding.{keeps_forwarding}
 use Rattle.coap_model.proofs.Answering.{keeps_answering, keeps_answering_con, keeps_acknowledging}
 use Rattle.coap_model.proofs.Delivering.{keeps_delivering}
+use Rattle.coap_model.proofs.Clients.{keeps_closing, keeps_redelivering, keeps_abandoning}
 
 -- the tables after an entry are what it did, in front of what was done before
 pub record IsKept (history : List Deed) (e : Entry) (w : World) : Type 0 where
@@ -32,19 +33,22 @@ keeps_rule {w = w} {now = now} {draw = draw} history c onward (refusing client b
 keeps_rule {w = w} {now = now} {draw = draw} history c onward (lacking client bytes m first free) = record { act = no_item; bears = keeps_lacking w history c now draw client bytes m onward first free }
 keeps_rule {w = w} {now = now} {draw = draw} history c onward (overloading client bytes m key first verdict lacks free) = record { act = no_item; bears = keeps_overloading w history c now draw client bytes m onward first key verdict lacks free }
 keeps_rule {w = w} {now = now} {draw = draw} history c onward (hitting client bytes m key entry first verdict found usable free) = record { act = no_item; bears = keeps_hitting w history c now draw client bytes m key entry onward first verdict found usable free }
-keeps_rule {w = w} {now = now} {draw = draw} history c onward (joining client bytes m key exchange first verdict none found room) = record { act = admits (admitted_in history + 1) exchange; bears = keeps_joining w history c now draw client bytes m key exchange onward first verdict none found room }
-keeps_rule {w = w} {now = now} {draw = draw} history c onward (opening client bytes m key first verdict none short room) = record { act = admits (admitted_in history + 1) (opened_in history + 1); bears = keeps_opening w history c now draw client bytes m key onward first verdict none short room }
+keeps_rule {w = w} {now = now} {draw = draw} history c onward (joining client bytes m key exchange send told first verdict none found room up) = record { act = admits (admitted_in history + 1) exchange; bears = keeps_joining w history c now draw client bytes m key exchange send told onward first verdict none found room up }
+keeps_rule {w = w} {now = now} {draw = draw} history c onward (opening client bytes m key send told first verdict none short room up) = record { act = admits (admitted_in history + 1) (opened_in history + 1); bears = keeps_opening w history c now draw client bytes m key send told onward first verdict none short room up }
 keeps_rule {w = w} {now = now} {draw = draw} history c onward (repeating client bytes m known fits asked found) = record { act = no_item; bears = keeps_repeating w history c now draw client bytes m known onward fits asked found }
 keeps_rule {w = w} {now = now} {draw = draw} history c onward (dropping source bytes m fits recorded wanted unknown full) = record { act = no_item; bears = keeps_dropping w history c now draw source bytes m onward fits recorded wanted unknown full }
 keeps_rule {w = w} {now = now} {draw = draw} {grown = grown} history c onward (answering source bytes m x storing store fits read for other stored) = record { act = moves x.0; bears = keeps_answering w history c now draw source bytes grown m x storing store onward fits read for other stored }
 keeps_rule {w = w} {now = now} {draw = draw} {grown = grown} history c onward (answering_con source bytes m x storing store fits recorded for con unknown room stored) = record { act = moves x.0; bears = keeps_answering_con w history c now draw source bytes grown m x storing store onward fits recorded for con unknown room stored }
 keeps_rule {w = w} {now = now} {draw = draw} history c onward (acknowledging source bytes m x fits read about ack) = record { act = moves x.0; bears = keeps_acknowledging w history c now draw source bytes m x onward fits read about ack }
+keeps_rule {w = w} {now = now} {draw = draw} history c onward (closing source bytes m number fits read of_answer) = record { act = serves number; bears = keeps_closing w history c now draw source bytes m number onward fits read of_answer }
 keeps_rule {w = w} {now = now} {draw = draw} history c onward (rejecting source bytes head is con none) = record { act = no_item; bears = keeps_rejecting w history c now draw source bytes head onward is con none }
 keeps_rule {w = w} {now = now} {draw = draw} history c onward (ignoring source bytes quiet none) = record { act = no_item; bears = keeps_ignoring w history c now draw source bytes onward quiet none }
 keeps_rule {w = w} {now = now} {draw = draw} history c onward (forwarding at number x turn is early) = record { act = moves number; bears = keeps_forwarding w history c now draw at number x onward turn is early }
 keeps_rule {w = w} {now = now} {draw = draw} history c onward (resending at number x turn is early fire) = record { act = moves number; bears = keeps_resending w history c now draw at number x onward turn is early fire }
 keeps_rule {w = w} {now = now} {draw = draw} history c onward (giving_up at number x turn over) = record { act = moves number; bears = keeps_giving_up w history c now draw at number x onward turn over }
-keeps_rule {w = w} {now = now} {draw = draw} history c onward (delivering at number exchange v a due found waits answer) = record { act = serves number; bears = keeps_delivering w history c now draw at number exchange v a onward due found waits answer }
+keeps_rule {w = w} {now = now} {draw = draw} history c onward (delivering at number exchange v a left due found waits answer told) = record { act = serves number; bears = keeps_delivering w history c now draw at number exchange v a left onward due found waits answer told }
+keeps_rule {w = w} {now = now} {draw = draw} history c onward (redelivering at number v bytes id timer turn fire) = record { act = serves number; bears = keeps_redelivering w history c now draw at number v bytes id timer onward turn fire }
+keeps_rule {w = w} {now = now} {draw = draw} history c onward (abandoning at number v bytes id timer turn fire) = record { act = serves number; bears = keeps_abandoning w history c now draw at number v bytes id timer onward turn fire }
 keeps_rule {w = w} {now = now} {draw = draw} history c onward (idling nothing) = record { act = no_item; bears = keeps_idling w history c now draw onward nothing }
 keeps_rule {w = w} {now = now} {draw = draw} history c onward (stuck s) = not-stuck w history c now s
 

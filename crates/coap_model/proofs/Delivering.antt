@@ -1,10 +1,16 @@
 -- Serving a client keeps what is carried.
-use Rattle.std.proofs.Common.{◌≡◌, ◌≢◌, ◌⊎◌, inl, inr, ⊎_elim, ℕ, ◌+◌, ◌<◌, ◌≤◌, Bool, true, false, cond, eqb, List, [], ◌∷◌, length, map, Some, refl, sym, ap, ◌∙◌, subst, arith}
+use Rattle.std.proofs.Common.{◌≡◌, ◌≢◌, ◌⊎◌, inl, ⊎_elim, ℕ, ◌+◌, ◌<◌, ◌≤◌, Bool, true, false, cond, eqb, List, [], ◌∷◌, length, map, Option, Some, None, refl, sym, ap, ◌∙◌, subst, arith}
 use Rattle.std.specs.Prelude.{not}
 use Rattle.std.specs.List.{AllByRecursion, list_any}
 use Rattle.std.proofs.lemmas.Bool.{eqb-true, eqb-false, eq-eqb, ne_eqb}
+use Rattle.std.specs.Option.{option_map_or}
+use Rattle.coap_message.specs.declared.kind.Kind.{Kind}
+use Rattle.coap_message.specs.declared.message.Head.{Head}
+use Rattle.coap_message.specs.Message.{Message}
 use Rattle.coap_message.specs.Spelling.{IsMessage, Spells, spelling}
-use Rattle.coap_message.proofs.Spellings.{spelled}
+use Rattle.coap_message.proofs.Spellings.{spelled, spelling-length}
+use Rattle.coap_message.proofs.WholeMessages.{head_read, read_again}
+use Rattle.coap_option.specs.Selection.{tags_of}
 use Rattle.coap_target.proofs.Lists.{All-weaken}
 use Rattle.coap_cache.specs.declared.answer.Answer.{Answer}
 use Rattle.coap_cache.specs.declared.key.CacheKey.{CacheKey}
@@ -13,40 +19,45 @@ use Rattle.coap_exchange.specs.declared.waiter.Waiter.{Waiter}
 use Rattle.coap_exchange.specs.declared.waiter.WaiterState.{WaiterState}
 use Rattle.coap_exchange.specs.declared.waiter.WaiterState.TheVariants.{Waiting, Delivering}
 use Rattle.coap_exchange.specs.Exchanges.{is_queued, is_sent_to, answer_in}
-use Rattle.coap_exchange.specs.Waiters.{is_waiting, is_waiting_state, waits_for, waits_in_state, moment_of, due_in, due_after}
-use Rattle.coap_exchange.specs.Table.{Numbered, IsRising, item_at, without, count, passes}
-use Rattle.coap_exchange.proofs.Counts.{one_if, count-without}
+use Rattle.coap_exchange.specs.declared.timer.Timer.{Timer}
+use Rattle.coap_exchange.specs.Timers.{started}
+use Rattle.coap_exchange.specs.Waiters.{is_waiting, is_waiting_state, waits_for, waits_in_state, delivered, moment_of, due_in, due_after}
+use Rattle.coap_exchange.specs.Table.{Numbered, IsRising, item_at, changed, changed_at, without, count, passes}
+use Rattle.coap_exchange.proofs.Changes.{length-changed_at, IsRising-changed_at}
+use Rattle.coap_exchange.proofs.Counts.{one_if, count-moved, count-without}
 use Rattle.coap_exchange.proofs.Tables.{IsRising-without}
-use Rattle.coap_forward.specs.Answers.{shown}
+use Rattle.coap_forward.specs.Answers.{shown, shown_as}
+use Rattle.coap_forward.specs.Messages.{is_con}
 use Rattle.coap_model.specs.declared.due.DueItem.TheVariants.{OfWaiter}
 use Rattle.coap_model.specs.declared.report.Outcome.{Outcome}
 use Rattle.coap_model.specs.declared.report.Outcome.TheVariants.{Answered, GaveUp}
 use Rattle.coap_model.specs.Events.{tick}
 use Rattle.coap_model.specs.World.{World, next_id}
-use Rattle.coap_model.specs.Ticks.{item_due, if_due, without_idle, delivers}
-use Rattle.coap_model.specs.Schedules.{IsSchedule}
-use Rattle.coap_model.specs.History.{Entry, serves, moves, Deed, Place, IsPlaceOf, Never, admits_one, ends, Ends}
+use Rattle.coap_model.specs.Ticks.{item_due, if_due, without_idle, given_to, tells}
+use Rattle.coap_model.specs.Schedules.{IsSchedule, sends_by}
+use Rattle.coap_model.specs.History.{Entry, serves, moves, Deed, Place, IsPlaceOf, Never, admits_one, ends, Ends, Serves, is_con_datagram}
 use Rattle.coap_model.specs.Standing as stages
 use Rattle.coap_model.specs.Standing.{Standing, Open, awaited, standing_in, open_in}
 use Rattle.coap_model.specs.Due.{IsToServe}
 use Rattle.coap_model.specs.Justified.{EndsWith, got, given_up, verdict_on}
 use Rattle.coap_model.specs.Runs.{entry_of}
-use Rattle.coap_model.specs.Carries.{HasNumber, stage_seen, standing_seen, exchange_in, IsDone, IsState, IsExchangeOf, IsWaiting, IsWaiterIn, IsWaiterOf, Bears}
+use Rattle.coap_model.specs.Carries.{HasNumber, HasExchange, stage_seen, standing_seen, IsTimer, AreOfBytes, IsDone, IsState, IsExchangeOf, IsWaiting, IsDelivering, IsWaiterIn, IsWaiterOf, Bears}
+use Rattle.coap_model.proofs.Clients.{others-are}
+use Rattle.coap_model.proofs.Rules.{IsTold, done_with, to_acknowledge}
 use Rattle.coap_model.proofs.Acting.{answer-of, acting, turn-is, client-turn}
 use Rattle.coap_model.proofs.FirstDue.{first_due-holds}
 use Rattle.std.proofs.lemmas.Option.{same_Some}
 use Rattle.coap_model.proofs.Frames.{clock_frame, numbers_frame, exchanges_frame, waiter_frame, unused_frame, same_act-client, sends-grow, schedules_with, opened-before, admitted-before}
-use Rattle.coap_model.proofs.Getting.{timeout-is}
+use Rattle.coap_model.proofs.Getting.{timeout-is, timeout-fits}
 use Rattle.coap_model.proofs.Giving.{ids-given, room-called}
-use Rattle.coap_model.proofs.Lists.{Has, Has-holds, Has-all, All-there, All-filter}
-use Rattle.coap_model.proofs.Places.{in-order, doing, same_serves, Never-at, one-opened, admitted-number}
+use Rattle.coap_model.proofs.Lists.{Has, Has-holds, Has-all, All-there, All-filter, All-map}
+use Rattle.coap_model.proofs.Places.{here, in-order, doing, admitted-later, same_serves, Never-at, one-opened, admitted-number}
 use Rattle.coap_model.proofs.Quiet.{remembered-still}
 use Rattle.coap_model.proofs.Replying.{id-same}
-use Rattle.coap_model.proofs.Room.{all-waiting}
-use Rattle.coap_model.proofs.Seen.{gone-seen, kept-but, kept-all, who-waits}
-use Rattle.coap_model.proofs.Showing.{matches-response, shown-is}
+use Rattle.coap_model.proofs.Seen.{gone-seen, told-seen, kept-but, kept-all, who-waits}
+use Rattle.coap_model.proofs.Showing.{matches-response, shown-is, answer-fits}
 use Rattle.coap_model.proofs.Stores.{store-otherwise}
-use Rattle.coap_model.proofs.Tables.{item-Has, item-holds, one-item, length-without, without-fewer, HasNumber-without, Has-number, count-some}
+use Rattle.coap_model.proofs.Tables.{item-Has, item-holds, one-item, without-fewer, HasNumber-without, HasNumber-changed, changed-cases, count-some}
 
 -- ---- what is served
 
@@ -76,38 +87,89 @@ served w history c number exchange v a found waits answer =
 -- ---- what is told
 
 -- what an exchange ends with is shown as a message
-pub ending-is : (w : World) (now id x : ℕ) (key : CacheKey) (p : Place) (a : Answer) (token : List ℕ) (tags : List (List ℕ)) → EndsWith w.setting x key p a → length token ≤ 8 → IsMessage (shown now a id token tags)
-ending-is w now id x key p a token tags (got gets asked is) short =
-    let m = gets.meets in
-    subst (λ (b : Answer). IsMessage (shown now b id token tags)) (sym is) (shown-is w.setting.limits.datagram now p.deed.entry.now m.message id token tags m.brings.spells.message (matches-response m.matches) short)
-ending-is w now id x key p a token tags (given_up gives is) short =
-    subst (λ (b : Answer). IsMessage (shown now b id token tags)) (sym is) (timeout-is now p.deed.entry.now id token tags short)
+pub ending-is : (w : World) (kind : Kind) (now id x : ℕ) (key : CacheKey) (p : Place) (a : Answer) (token : List ℕ) (tags : List (List ℕ)) → EndsWith w.setting x key p a → length token ≤ 8 → IsMessage (shown_as kind now a id token tags)
+ending-is w kind now id x key p a token tags ending short = let is = whole ending in record { token = is.token; options = is.options; bare = record { token = is.bare.token; options = is.bare.options; payload = is.bare.payload } }
+  where
+    whole : EndsWith w.setting x key p a → IsMessage (shown now a id token tags)
+    whole (got gets asked is) =
+        let m = gets.meets in
+        subst (λ (b : Answer). IsMessage (shown now b id token tags)) (sym is) (shown-is w.setting.limits.datagram now p.deed.entry.now m.message id token tags m.brings.spells.message (matches-response m.matches) short)
+    whole (given_up gives is) = subst (λ (b : Answer). IsMessage (shown now b id token tags)) (sym is) (timeout-is now p.deed.entry.now id token tags short)
 
--- ---- what is left
+-- and is no longer than the longest datagram, or than a short one
+pub ending-fits : (w : World) (kind : Kind) (now id x : ℕ) (key : CacheKey) (p : Place) (a : Answer) (token : List ℕ) (tags : List (List ℕ)) (most : ℕ) → EndsWith w.setting x key p a → length token ≤ 8 → 128 ≤ most → w.setting.limits.datagram ≤ most → length (spelling (shown_as kind now a id token tags)) ≤ most
+ending-fits w kind now id x key p a token tags most ending short wide long = omega (arith, spelling-length (shown_as kind now a id token tags), spelling-length (shown now a id token tags), whole ending)
+  where
+    whole : EndsWith w.setting x key p a → length (spelling (shown now a id token tags)) ≤ most
+    whole (got gets asked is) =
+        let m = gets.meets in
+        subst (λ (b : Answer). length (spelling (shown now b id token tags)) ≤ most) (sym is) (answer-fits w.setting.limits.datagram most now p.deed.entry.now id m.brings.bytes m.message token tags wide long gets.bytes m.brings.spells short)
+    whole (given_up gives is) = subst (λ (b : Answer). length (spelling (shown now b id token tags)) ≤ most) (sym is) (timeout-fits now p.deed.entry.now id most token tags short wide)
+
+-- it goes out in a Confirmable message where the client asked in one
+con-told : (bytes : List ℕ) (m : Message) → Spells bytes m → is_con_datagram bytes ≡ is_con m.kind
+con-told bytes m spells = ap (λ (o : Option Head). option_map_or (λ h. is_con h.kind) o false) (head_read bytes m (read_again bytes m spells))
+
+-- ---- the clients that are left
+
+-- what is known of the clients that are left where one was served: one less waits, for its exchange
+pub record IsServing (w : World) (number exchange : ℕ) (left : List (Numbered Waiter)) : Type 0 where
+  pub rising : IsRising 0 left
+  pub fewer : length left ≤ length w.waiters
+  pub less : count is_waiting left + 1 ≡ count is_waiting w.waiters
+  pub others : (x : ℕ) → x ≢ exchange → count (waits_for x) left ≡ count (waits_for x) w.waiters
+  pub awaited : AllByRecursion (λ u. HasExchange u.1.state w.exchanges) left
+  pub numbers : (u : ℕ) → u ≢ number → HasNumber u w.waiters → HasNumber u left
 
 module _ (w : World) (history : List Deed) (c : Bears history w) (number exchange : ℕ) (v : Waiter) (found : item_at number w.waiters ≡ Some v) (waits : v.state ≡ Waiting exchange) where
-  -- the clients that are left
-  abbrev left : List (Numbered Waiter)
-  left = without number w.waiters
+  -- it waited
+  waited_here : one_if (passes is_waiting (item_at number w.waiters)) ≡ 1
+  waited_here = ap (λ (b : Bool). one_if b) (ap (passes is_waiting) found ∙ ap is_waiting_state waits)
 
-  left-waiting : AllByRecursion (λ u. is_waiting u.1 ≡ true) left
-  left-waiting =
-      All-weaken (λ u. (is_waiting u.1 ≡ true) × (not (eqb u.0 number) ≡ true)) (λ u. is_waiting u.1 ≡ true) left (λ u h. h.0) (All-filter (λ u. is_waiting u.1 ≡ true) (λ u. not (eqb u.0 number)) w.waiters (all-waiting history w c))
+  -- and for no other exchange
+  waited_not : (x : ℕ) → x ≢ exchange → one_if (passes (waits_for x) (item_at number w.waiters)) ≡ 0
+  waited_not x other = ap one_if (ap (passes (waits_for x)) found ∙ ap (waits_in_state x) waits ∙ ne_eqb exchange x (λ same. other (sym same)))
 
+  -- one that is done with is gone
+  serving-done : IsServing w number exchange (without number w.waiters)
+  serving-done =
+      record {
+        rising = IsRising-without number 0 w.waiters c.whole.waiters_rise;
+        fewer = without-fewer number w.waiters;
+        less = let counted = count-without is_waiting number 0 w.waiters c.whole.waiters_rise in let one = waited_here in omega arith;
+        others = λ x other. let counted = count-without (waits_for x) number 0 w.waiters c.whole.waiters_rise in let none = waited_not x other in omega arith;
+        awaited = All-weaken (λ u. HasExchange u.1.state w.exchanges × (not (eqb u.0 number) ≡ true)) (λ u. HasExchange u.1.state w.exchanges) (without number w.waiters) (λ u h. h.0) (All-filter (λ u. HasExchange u.1.state w.exchanges) (λ u. not (eqb u.0 number)) w.waiters c.whole.awaited);
+        numbers = λ u other has. HasNumber-without number u w.waiters other has;
+      }
+
+  -- one that is to acknowledge its answer waits no more
+  serving-told : (bytes : List ℕ) (id : ℕ) (timer : Timer) → IsServing w number exchange (changed_at number (delivered bytes id timer) w.waiters)
+  serving-told bytes id timer =
+      let f = delivered bytes id timer in
+      record {
+        rising = IsRising-changed_at number f 0 w.waiters c.whole.waiters_rise;
+        fewer = let l = length-changed_at number f w.waiters in omega arith;
+        less = let moved = count-moved is_waiting number 0 f w.waiters c.whole.waiters_rise in let one = waited_here in let none = no-more is_waiting (λ u. refl) (item_at number w.waiters) in omega arith;
+        others = λ x other. let moved = count-moved (waits_for x) number 0 f w.waiters c.whole.waiters_rise in let before = waited_not x other in let none = no-more (waits_for x) (λ u. refl) (item_at number w.waiters) in omega arith;
+        awaited =
+            All-map (λ u. HasExchange u.1.state w.exchanges) (λ u. HasExchange u.1.state w.exchanges) (changed number f) w.waiters
+            (λ u has. changed-cases (λ z. HasExchange z.1.state w.exchanges) number f u (λ same. tt) (λ other. has))
+            c.whole.awaited;
+        numbers = λ u other has. HasNumber-changed number u f w.waiters has;
+      }
+    where
+      no-more : (test : Waiter → Bool) → ((u : Waiter) → test (delivered bytes id timer u) ≡ false) → (o : Option Waiter) → one_if (passes (λ u. test (delivered bytes id timer u)) o) ≡ 0
+      no-more test none None = refl
+      no-more test none (Some u) = ap one_if (none u)
+
+-- ---- the exchanges that are left
+
+module _ (w : World) (history : List Deed) (c : Bears history w) (number exchange : ℕ) (left : List (Numbered Waiter)) (r : IsServing w number exchange left) where
   -- as many wait for another exchange as before
   others-waited : (y : Numbered Exchange) → Has y w.exchanges → y.0 ≢ exchange → 0 < count (waits_for y.0) left
   others-waited y there other =
-      let counted = count-without (waits_for y.0) number 0 w.waiters c.whole.waiters_rise in
-      let none : passes (waits_for y.0) (item_at number w.waiters) ≡ false = ap (passes (waits_for y.0)) found ∙ ap (waits_in_state y.0) waits ∙ ne_eqb exchange y.0 (λ same. other (sym same)) in
-      let zero : one_if (passes (waits_for y.0) (item_at number w.waiters)) ≡ 0 = ap one_if none in
+      let same = r.others y.0 other in
       let some = Has-holds (λ z. 0 < count (waits_for z.0) w.waiters) w.exchanges y c.whole.waited there in
-      omega arith
-
-  -- one client less waits
-  one-less : count is_waiting left + 1 ≡ count is_waiting w.waiters
-  one-less =
-      let counted = count-without is_waiting number 0 w.waiters c.whole.waiters_rise in
-      let one : one_if (passes is_waiting (item_at number w.waiters)) ≡ 1 = ap (λ (b : Bool). one_if b) (ap (passes is_waiting) found ∙ ap is_waiting_state waits) in
       omega arith
 
   -- the exchange stays as long as somebody waits for it
@@ -126,25 +188,25 @@ module _ (w : World) (history : List Deed) (c : Bears history w) (number exchang
   left-seen : (xs : List (Numbered Exchange)) → IsLeft xs → map stage_seen xs ≡ awaited (map standing_seen left) (map stage_seen w.exchanges)
   left-seen xs (closed none is) =
       ap (map stage_seen) is
-      ∙ sym (kept-but (λ o. list_any (stages.waits_for o.number) (map standing_seen left)) exchange w.exchanges
-      (All-weaken (λ y. Has y w.exchanges) (λ y. list_any (stages.waits_for y.0) (map standing_seen left) ≡ not (eqb y.0 exchange)) w.exchanges
-      (λ y there. who-waits y.0 left left-waiting ∙ by_number y there (eqb y.0 exchange) refl) (Has-all w.exchanges)))
+      ∙ sym (kept-but (λ o. list_any (λ s. stages.waits_for o.number s.service) (map standing_seen left)) exchange w.exchanges
+      (All-weaken (λ y. Has y w.exchanges) (λ y. list_any (λ s. stages.waits_for y.0 s.service) (map standing_seen left) ≡ not (eqb y.0 exchange)) w.exchanges
+      (λ y there. who-waits y.0 left ∙ by_number y there (eqb y.0 exchange) refl) (Has-all w.exchanges)))
     where
       by_number : (y : Numbered Exchange) → Has y w.exchanges → (b : Bool) → eqb y.0 exchange ≡ b → not (eqb (count (waits_for y.0) left) 0) ≡ not b
       by_number y there true e = ap (λ (n : ℕ). not (eqb (count (waits_for n) left) 0)) (eqb-true _ _ e) ∙ ap not (eq-eqb _ _ none)
       by_number y there false e = ap not (ne_eqb _ _ (λ z. let some = others-waited y there (eqb-false _ _ e) in omega (arith, z, some)))
   left-seen xs (kept some is) =
       ap (map stage_seen) is
-      ∙ sym (kept-all (λ o. list_any (stages.waits_for o.number) (map standing_seen left)) (map stage_seen w.exchanges) (each w.exchanges (Has-all w.exchanges)))
+      ∙ sym (kept-all (λ o. list_any (λ s. stages.waits_for o.number s.service) (map standing_seen left)) (map stage_seen w.exchanges) (each w.exchanges (Has-all w.exchanges)))
     where
-      waited : (y : Numbered Exchange) → Has y w.exchanges → list_any (stages.waits_for y.0) (map standing_seen left) ≡ true
-      waited y there = who-waits y.0 left left-waiting ∙ by_number (eqb y.0 exchange) refl
+      waited : (y : Numbered Exchange) → Has y w.exchanges → list_any (λ s. stages.waits_for y.0 s.service) (map standing_seen left) ≡ true
+      waited y there = who-waits y.0 left ∙ by_number (eqb y.0 exchange) refl
         where
           by_number : (b : Bool) → eqb y.0 exchange ≡ b → not (eqb (count (waits_for y.0) left) 0) ≡ true
           by_number true e = ap (λ (n : ℕ). not (eqb (count (waits_for n) left) 0)) (eqb-true _ _ e) ∙ ap not (ne_eqb _ _ (λ z. omega (arith, z, some)))
           by_number false e = ap not (ne_eqb _ _ (λ z. let more = others-waited y there (eqb-false _ _ e) in omega (arith, z, more)))
 
-      each : (ys : List (Numbered Exchange)) → AllByRecursion (λ y. Has y w.exchanges) ys → AllByRecursion (λ o. list_any (stages.waits_for o.number) (map standing_seen left) ≡ true) (map stage_seen ys)
+      each : (ys : List (Numbered Exchange)) → AllByRecursion (λ y. Has y w.exchanges) ys → AllByRecursion (λ o. list_any (λ s. stages.waits_for o.number s.service) (map standing_seen left) ≡ true) (map stage_seen ys)
       each [] all = tt
       each (y ∷ ys) all = (waited y all.0, each ys all.1)
 
@@ -184,43 +246,18 @@ module _ (w : World) (history : List Deed) (c : Bears history w) (number exchang
       by_number y there false e = others-waited y there (eqb-false _ _ e)
 
   -- the exchange of each client that is left is there
-  left-awaited : (xs : List (Numbered Exchange)) → IsLeft xs → AllByRecursion (λ u. HasNumber (exchange_in u.1.state) xs) left
-  left-awaited xs l =
-      All-weaken (λ u. (HasNumber (exchange_in u.1.state) w.exchanges × (is_waiting u.1 ≡ true) × Has u w.waiters) × (not (eqb u.0 number) ≡ true)) (λ u. HasNumber (exchange_in u.1.state) xs) left
-      (λ u h. left-number xs l (exchange_in u.1.state) (λ none same. nobody u none same h.0.1 (there u h.0.2 h.1)) h.0.0)
-      (All-filter (λ u. HasNumber (exchange_in u.1.state) w.exchanges × (is_waiting u.1 ≡ true) × Has u w.waiters) (λ u. not (eqb u.0 number)) w.waiters (three w.waiters c.whole.awaited (all-waiting history w c) (Has-all w.waiters)))
+  left-awaited : (xs : List (Numbered Exchange)) → IsLeft xs → AllByRecursion (λ u. HasExchange u.1.state xs) left
+  left-awaited xs l = All-weaken (λ u. HasExchange u.1.state w.exchanges × Has u left) (λ u. HasExchange u.1.state xs) left (λ u h. still u h.1 u.1.state refl h.0) (All-there (λ u. HasExchange u.1.state w.exchanges) left r.awaited)
     where
-      three : (us : List (Numbered Waiter)) → AllByRecursion (λ u. HasNumber (exchange_in u.1.state) w.exchanges) us → AllByRecursion (λ u. is_waiting u.1 ≡ true) us → AllByRecursion (λ u. Has u w.waiters) us → AllByRecursion (λ u. HasNumber (exchange_in u.1.state) w.exchanges × (is_waiting u.1 ≡ true) × Has u w.waiters) us
-      three [] p q r = tt
-      three (u ∷ us) p q r = ((p.0, q.0, r.0), three us p.1 q.1 r.1)
-
-      there : (u : Numbered Waiter) → Has u w.waiters → not (eqb u.0 number) ≡ true → Has u left
-      there u has other = Has-filter w.waiters u has other
-        where
-          Has-filter : (us : List (Numbered Waiter)) (z : Numbered Waiter) → Has z us → not (eqb z.0 number) ≡ true → Has z (without number us)
-          Has-filter [] z h t = h
-          Has-filter (y ∷ ys) z h t = go (eqb y.0 number) refl (λ k. Has-filter ys z k t) h
-            where
-              go : (b : Bool) → eqb y.0 number ≡ b → (Has z ys → Has z (without number ys)) → (z ≡ y) ⊎ Has z ys → Has z (cond (not b) (y ∷ without number ys) (without number ys))
-              go true e rest k = ⊎_elim (λ (same : z ≡ y). absurd (let f : false ≡ true = sym (ap (λ (q : Numbered Waiter). not (eqb q.0 number)) same ∙ ap not e) ∙ t in cc)) rest k
-              go false e rest k = ⊎_elim (λ (same : z ≡ y). inl same) (λ (more : Has z ys). inr (rest more)) k
-
-      nobody : (u : Numbered Waiter) → count (waits_for exchange) left ≡ 0 → exchange_in u.1.state ≡ exchange → is_waiting u.1 ≡ true → Has u left → ⊥
-      nobody u none same waiting has = let some = count-some (waits_for exchange) left u has (waits_here u.1.state waiting same) in omega arith
-        where
-          waits_here : (s : WaiterState) → is_waiting_state s ≡ true → exchange_in s ≡ exchange → waits_in_state exchange s ≡ true
-          waits_here (Waiting x) t e = eq-eqb _ _ e
-          waits_here (Delivering bytes id timer) t e = absurd cc
-
-  -- the other clients aren't served
-  others-wait : (e : Deed) → e.act ≡ serves number → AllByRecursion (IsWaiterOf w.setting (e ∷ history)) left
-  others-wait e act =
-      All-weaken (λ u. IsWaiterOf w.setting history u × (not (eqb u.0 number) ≡ true)) (IsWaiterOf w.setting (e ∷ history)) left
-      (λ u f. waiter_frame w.setting history e u (λ same. other u.0 f.1 (same_serves u.0 number (sym same ∙ act))) f.0)
-      (All-filter (IsWaiterOf w.setting history) (λ u. not (eqb u.0 number)) w.waiters c.waiters)
-    where
-      other : (m : ℕ) → not (eqb m number) ≡ true → m ≢ number
-      other m t same = let f : false ≡ true = subst (λ (b : Bool). not b ≡ true) (eq-eqb m number same) t in cc
+      still : (u : Numbered Waiter) → Has u left → (s : WaiterState) → u.1.state ≡ s → HasExchange s w.exchanges → HasExchange s xs
+      still u there (Delivering bytes id timer) is has = tt
+      still u there (Waiting x) is has =
+          left-number xs l x
+          (λ none same.
+          let waits : waits_for exchange u.1 ≡ true = ap (waits_in_state exchange) is ∙ eq-eqb x exchange same in
+          let some = count-some (waits_for exchange) left u there waits in
+          omega arith)
+          has
 
 -- it is to be served since the end of its exchange
 served-at : (w : World) (history : List Deed) (c : Bears history w) (at number exchange : ℕ) (v : Waiter) (a : Answer) (f : IsServed w history number exchange v a) → item_due w ≡ Some (OfWaiter at number) → item_at number w.waiters ≡ Some v → v.state ≡ Waiting exchange → answer_in exchange w.exchanges ≡ Some a → at ≡ f.done.ending.deed.entry.now
@@ -261,27 +298,98 @@ ended-later w history number exchange v a f =
     no-both GaveUp e f = absurd (omega arith)
     no-both _ e f = absurd cc
 
+-- ---- the client
+
+-- where it is done with, the others stay; where it is to acknowledge its answer, it was given that once
+module _ (w : World) (history : List Deed) (c : Bears history w) (now draw at number exchange : ℕ) (v : Waiter) (a : Answer) (found : item_at number w.waiters ≡ Some v) (waits : v.state ≡ Waiting exchange) (f : IsServed w history number exchange v a) where
+  abbrev reply : Message
+  reply = given_to w now v a
+
+  reply-spelled : Spells (spelling reply) reply
+  reply-spelled = spelled reply (ending-is w v.kind now (next_id w) exchange f.x.key f.done.ending a v.token v.tags f.done.with f.short)
+
+  abbrev served_deed : List (Numbered Waiter) → Deed
+  served_deed left = doing (serves number) (entry_of now draw tick (tells w now v exchange reply left))
+
+  -- the timer starts with this entry
+  sends-first : (left : List (Numbered Waiter)) → sends_by (serves number) (served_deed left ∷ history) ≡ (served_deed left).entry ∷ []
+  sends-first left = sends-grow (serves number) history (served_deed left) (same_act-client number) refl ∙ ap (λ (es : List Entry). (served_deed left).entry ∷ es) f.waits.no_sends
+
+  told-here : (left : List (Numbered Waiter)) → IsDelivering w.setting (served_deed left ∷ history) (number, delivered (spelling reply) (next_id w) (started now draw) v) (spelling reply) (next_id w) (started now draw)
+  told-here left =
+      let e = served_deed left in
+      record {
+        admitted = admitted-later e f.waits.admitted;
+        serving = here history e;
+        was_served = inl refl;
+        is_serving = record { act = refl; outcome = refl };
+        only = λ p was s. ⊎_elim (λ (same : here history e ≡ p). sym same) (λ (before : IsPlaceOf history p). absurd (Never-at (Serves number) history p f.waits.unserved before s)) was;
+        sent = refl;
+        answer = reply;
+        spells = reply-spelled;
+        id_is = refl;
+        started = refl;
+        timer_is = subst (IsTimer (started now draw)) (sym (sends-first left)) (refl, refl, omega arith, refl);
+        bytes_are = subst (AreOfBytes v.client (spelling reply)) (sym (sends-first left)) ((refl, refl), tt);
+        short = λ most wide long. ending-fits w v.kind now (next_id w) exchange f.x.key f.done.ending a v.token v.tags most f.done.with f.short wide long;
+        token_gone = refl;
+        tags_gone = refl;
+      }
+
+  -- what is known of the clients that are left
+  record AreServed (left : List (Numbered Waiter)) : Type 0 where
+    pub serving : IsServing w number exchange left
+    pub seen : map standing_seen left ≡ standing_in (served_deed left ∷ history)
+    pub each : AllByRecursion (IsWaiterOf w.setting (served_deed left ∷ history)) left
+
+  kind-told : is_con_datagram (spelling reply) ≡ is_con v.kind
+  kind-told = con-told (spelling reply) reply reply-spelled
+
+  are-served : (left : List (Numbered Waiter)) → IsTold w now draw number reply left → AreServed left
+  are-served _ (done_with other) =
+      record {
+        serving = serving-done w history c number exchange v found waits;
+        seen = gone-seen number w.waiters ∙ ap (stages.others_than number) c.whole.waiters ∙ sym (ap (λ (b : Bool). cond b (map (stages.as_told number) (standing_in history)) (stages.others_than number (standing_in history))) (kind-told ∙ other));
+        each = others-are w history c number (served_deed (without number w.waiters)) refl;
+      }
+  are-served _ (to_acknowledge con) =
+      let change = delivered (spelling reply) (next_id w) (started now draw) in
+      let left = changed_at number change w.waiters in
+      let e = served_deed left in
+      let there = item-Has number w.waiters v found in
+      record {
+        serving = serving-told w history c number exchange v found waits (spelling reply) (next_id w) (started now draw);
+        seen = told-seen number (next_id w) (spelling reply) (started now draw) w.waiters ∙ ap (map (stages.as_told number)) c.whole.waiters ∙ sym (ap (λ (b : Bool). cond b (map (stages.as_told number) (standing_in history)) (stages.others_than number (standing_in history))) (kind-told ∙ con));
+        each =
+            All-map (λ u. IsWaiterOf w.setting history u × Has u w.waiters) (IsWaiterOf w.setting (e ∷ history)) (changed number change) w.waiters
+            (λ u g.
+            changed-cases (IsWaiterOf w.setting (e ∷ history)) number change u
+            (λ same. let one = one-item 0 w.waiters (number, v) u c.whole.waiters_rise there g.1 (sym same) in subst (λ (b : Waiter). IsWaiterOf w.setting (e ∷ history) (u.0, change b)) one (subst (λ (k : ℕ). IsWaiterOf w.setting (e ∷ history) (k, change v)) (sym same) (told-here left)))
+            (λ other. waiter_frame w.setting history e u (λ same. other (same_serves u.0 number (sym same))) g.0))
+            (All-there (IsWaiterOf w.setting history) w.waiters c.waiters);
+      }
+
 -- ---- the rule
 
 -- serving a client keeps what is carried
-pub keeps_delivering : (w : World) (history : List Deed) (c : Bears history w) (now draw at number exchange : ℕ) (v : Waiter) (a : Answer) → w.last ≤ now → if_due now (item_due w) ≡ Some (OfWaiter at number) → item_at number w.waiters ≡ Some v → v.state ≡ Waiting exchange → answer_in exchange w.exchanges ≡ Some a
-    → Bears (doing (serves number) (entry_of now draw tick (delivers w now number v exchange a)) ∷ history) (delivers w now number v exchange a).world
-keeps_delivering w history c now draw at number exchange v a onward due found waits answer =
-    let s = delivers w now number v exchange a in
+pub keeps_delivering : (w : World) (history : List Deed) (c : Bears history w) (now draw at number exchange : ℕ) (v : Waiter) (a : Answer) (left : List (Numbered Waiter)) → w.last ≤ now → if_due now (item_due w) ≡ Some (OfWaiter at number) → item_at number w.waiters ≡ Some v → v.state ≡ Waiting exchange → answer_in exchange w.exchanges ≡ Some a → IsTold w now draw number (given_to w now v a) left
+    → Bears (doing (serves number) (entry_of now draw tick (tells w now v exchange (given_to w now v a) left)) ∷ history) (tells w now v exchange (given_to w now v a) left).world
+keeps_delivering w history c now draw at number exchange v a left onward due found waits answer told =
+    let s = tells w now v exchange (given_to w now v a) left in
     let e = doing (serves number) (entry_of now draw tick s) in
     let f = served w history c number exchange v a found waits answer in
     let g = f.waits in
     let d = f.done in
-    let reply = shown now a (next_id w) v.token v.tags in
-    let spells : Spells (spelling reply) reply = spelled reply (ending-is w now (next_id w) exchange f.x.key d.ending a v.token v.tags d.with f.short) in
-    let xs = without_idle exchange (without number w.waiters) w.exchanges in
-    let l = is-left w history c number exchange v found waits in
+    let reply = given_to w now v a in
+    let spells = reply-spelled w history c now draw at number exchange v a found waits f in
+    let are = are-served w history c now draw at number exchange v a found waits f left told in
+    let r = are.serving in
+    let xs = without_idle exchange left w.exchanges in
+    let l = is-left w history c number exchange left r in
     let unmoved : (x : ℕ) → e.act ≢ moves x = λ x same. cc in
-    let less = one-less w history c number exchange v found waits in
-    let queued = left-count w history c number exchange v found waits is_queued xs l in
+    let less = r.less in
+    let queued = left-count w history c number exchange left r is_queued xs l in
     let within = c.within.ids now onward in
-    let there : Has (number, v) w.waiters = item-Has number w.waiters v found in
-    let fewer = length-without number 0 w.waiters (Has-number w.waiters (number, v) there) c.whole.waiters_rise in
     let remembered = remembered-still w history c e onward (λ k. refl) in
     let first = turn-is w history c now (OfWaiter at number) due in
     record {
@@ -290,27 +398,27 @@ keeps_delivering w history c now draw at number exchange v a onward due found wa
       numbers = numbers_frame c.numbers (omega arith) (omega arith);
       ids = ids-given history w s.world e c.clock c.ids onward refl refl refl (omega arith) (record { gives = refl; message = reply; spells = spells; id_is = id-same w history c });
       unused = unused_frame w.setting history e (λ x above. unmoved x) (λ u above same. let k = same_serves number u same in let i = admitted-number g.admitted in omega (arith, k, above, i.1)) c.unused;
-      schedules = schedules_with history e (subst IsSchedule (sym (sends-grow (serves number) history e (same_act-client number) refl ∙ ap (λ (es : List Entry). e.entry ∷ es) g.no_sends)) (record { few = omega arith; spaced = tt })) c.schedules;
+      schedules = schedules_with history e (subst IsSchedule (sym (sends-first w history c now draw at number exchange v a found waits f left)) (record { few = omega arith; spaced = tt })) c.schedules;
       whole = record {
-        exchanges = left-seen w history c number exchange v found waits xs l ∙ (λ i. awaited ((gone-seen number w.waiters ∙ ap (stages.others_than number) c.whole.waiters) i) (c.whole.exchanges i));
-        waiters = gone-seen number w.waiters ∙ ap (stages.others_than number) c.whole.waiters;
-        rising = left-rising w history c number exchange v found waits xs l;
-        waiters_rise = IsRising-without number 0 w.waiters c.whole.waiters_rise;
-        awaited = left-awaited w history c number exchange v found waits xs l;
-        waited = left-waited w history c number exchange v found waits xs l;
-        unended = λ x was never. left-number w history c number exchange v found waits xs l x (λ none same. Never-at (Ends exchange) history d.ending (subst (λ (n : ℕ). Never (Ends n) history) same never.1) d.was_ended d.ends) (c.whole.unended x (opened-before history e x refl was) never.1);
-        unserved = λ u x was never. HasNumber-without number u w.waiters (λ same. never.0 (record { act = ap serves (sym same); outcome = refl })) (c.whole.unserved u x (admitted-before history e u x refl was) never.1);
+        exchanges = left-seen w history c number exchange left r xs l ∙ (λ i. awaited (are.seen i) (c.whole.exchanges i));
+        waiters = are.seen;
+        rising = left-rising w history c number exchange left r xs l;
+        waiters_rise = r.rising;
+        awaited = left-awaited w history c number exchange left r xs l;
+        waited = left-waited w history c number exchange left r xs l;
+        unended = λ x was never. left-number w history c number exchange left r xs l x (λ none same. Never-at (Ends exchange) history d.ending (subst (λ (n : ℕ). Never (Ends n) history) same never.1) d.was_ended d.ends) (c.whole.unended x (opened-before history e x refl was) never.1);
+        unserved = λ u x was never. r.numbers u (λ same. never.0 (record { act = ap serves (sym same); outcome = refl })) (c.whole.unserved u x (admitted-before history e u x refl was) never.1);
       };
-      exchanges = left-all w history c number exchange v found waits (IsExchangeOf w.setting (e ∷ history)) xs l (exchanges_frame w.setting history e w.exchanges unmoved c.exchanges);
-      waiters = others-wait w history c number exchange v found waits e refl;
+      exchanges = left-all w history c number exchange left r (IsExchangeOf w.setting (e ∷ history)) xs l (exchanges_frame w.setting history e w.exchanges unmoved c.exchanges);
+      waiters = are.each;
       store = store-otherwise w.setting history w.store e refl c.store;
       con_records = remembered.0;
       non_records = remembered.1;
       within = record {
-        exchanges = let few = left-fewer w history c number exchange v found waits xs l in let h = c.within.exchanges in omega arith;
-        waiters = let h = c.within.waiters in omega arith;
-        pace = λ to. let few = left-count w history c number exchange v found waits (is_sent_to to) xs l in let h = c.within.pace to in omega arith;
-        ids = λ n after. room-called w.ids now (count is_waiting (without number w.waiters) + count is_queued xs) (omega arith) n;
+        exchanges = let few = left-fewer w history c number exchange left r xs l in let h = c.within.exchanges in omega arith;
+        waiters = let h = c.within.waiters in let few = r.fewer in omega arith;
+        pace = λ to. let few = left-count w history c number exchange left r (is_sent_to to) xs l in let h = c.within.pace to in omega arith;
+        ids = λ n after. room-called w.ids now (count is_waiting left + count is_queued xs) (omega arith) n;
       };
       past = (
         record {
@@ -327,8 +435,9 @@ keeps_delivering w history c now draw at number exchange v a onward due found wa
           tells = record {
             sent = ap Some g.client_is;
             spells =
-                subst (λ (ts : List (List ℕ)). Spells (spelling reply) (shown now a (next_id w) g.admitted.request.token ts)) g.tags_are
-                (subst (λ (t : List ℕ). Spells (spelling reply) (shown now a (next_id w) t v.tags)) g.token_is spells);
+                subst (λ (k : Kind). Spells (spelling reply) (shown_as k now a (next_id w) g.admitted.request.token (tags_of g.admitted.request))) g.kind_is
+                (subst (λ (ts : List (List ℕ)). Spells (spelling reply) (shown_as v.kind now a (next_id w) g.admitted.request.token ts)) g.tags_are
+                (subst (λ (t : List ℕ). Spells (spelling reply) (shown_as v.kind now a (next_id w) t v.tags)) g.token_is spells));
           };
         },
         c.past,

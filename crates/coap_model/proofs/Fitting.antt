@@ -1,27 +1,23 @@
 -- No datagram that a proxy sends is longer than a datagram may be.
-use Rattle.std.proofs.Common.{◌≡◌, ℕ, Bool, ◌≤◌, true, List, length, Option, Some, None, refl, sym, subst, arith}
+use Rattle.std.proofs.Common.{◌≡◌, ℕ, Bool, ◌≤◌, true, List, length, Option, Some, None, refl, subst, arith}
 use Rattle.coap_message.specs.Spelling.{spelling}
 use Rattle.coap_message.proofs.Spellings.{spelling-length}
-use Rattle.coap_cache.specs.declared.answer.Answer.{Answer}
 use Rattle.coap_forward.proofs.Forms.{length-with_id}
 use Rattle.coap_limits.specs.declared.limits.Limit.TheVariants.{Datagram}
 use Rattle.coap_limits.specs.Limits.{AreLimits}
 use Rattle.coap_model.specs.Events.{Event, IsEvent}
 use Rattle.coap_forward.specs.Messages.{reset}
-use Rattle.coap_forward.specs.Answers.{shown}
 use Rattle.coap_model.specs.World.{World, Step, repeats, next_id, records_of}
 use Rattle.coap_model.specs.Step.{step_of}
-use Rattle.coap_model.specs.History.{Entry, Deed, Place}
+use Rattle.coap_model.specs.History.{Entry, Deed}
 use Rattle.coap_model.specs.Carries.{Bears, Carries}
-use Rattle.coap_model.proofs.Showing.{answer-fits}
 use Rattle.coap_model.proofs.Spelled.{acknowledgement-short}
-use Rattle.coap_model.proofs.Rules.{Rule, refusing, lacking, overloading, hitting, joining, opening, repeating, dropping, answering, answering_con, acknowledging, rejecting, ignoring, forwarding, resending, giving_up, delivering, idling, stuck, rule_of}
+use Rattle.coap_model.proofs.Rules.{Rule, refusing, lacking, overloading, hitting, joining, opening, repeating, dropping, answering, answering_con, acknowledging, closing, rejecting, ignoring, forwarding, resending, giving_up, delivering, redelivering, abandoning, idling, stuck, rule_of}
 use Rattle.coap_model.proofs.Turns.{turn-exchange}
-use Rattle.coap_model.proofs.Getting.{timeout-fits}
-use Rattle.coap_cache.specs.declared.key.CacheKey.{CacheKey}
-use Rattle.coap_model.specs.Justified.{EndsWith, got, given_up}
 use Rattle.coap_model.proofs.Replying.{request-came}
-use Rattle.coap_model.proofs.Delivering.{served}
+use Rattle.coap_model.proofs.Delivering.{served, ending-fits}
+use Rattle.coap_model.proofs.Clients.{told-is}
+use Rattle.coap_model.proofs.TakingUp.{taken-short}
 use Rattle.coap_model.proofs.OwnReplies.{own-short, busy-short}
 use Rattle.coap_model.proofs.Hitting.{hit-fits}
 use Rattle.coap_model.proofs.Lists.{find-holds, All-filter}
@@ -40,16 +36,6 @@ use Rattle.coap_option.specs.Selection.{tags_of}
 reset-short : (id : ℕ) → length (spelling (reset id)) ≤ 128
 reset-short id = omega (arith, spelling-length (reset id))
 
--- ---- what clients are given
-
--- what is shown of what an exchange ends with fits
-ending-fits : (w : World) (now id x : ℕ) (key : CacheKey) (p : Place) (a : Answer) (token : List ℕ) (tags : List (List ℕ)) → 128 ≤ w.setting.limits.datagram → EndsWith w.setting x key p a → length token ≤ 8 → length (spelling (shown now a id token tags)) ≤ w.setting.limits.datagram
-ending-fits w now id x key p a token tags wide (got gets asked is) short =
-    let m = gets.meets in
-    subst (λ (b : Answer). length (spelling (shown now b id token tags)) ≤ w.setting.limits.datagram) (sym is) (answer-fits w.setting.limits.datagram w.setting.limits.datagram now p.deed.entry.now id m.brings.bytes m.message token tags wide (omega arith) gets.bytes m.brings.spells short)
-ending-fits w now id x key p a token tags wide (given_up gives is) short =
-    subst (λ (b : Answer). length (spelling (shown now b id token tags)) ≤ w.setting.limits.datagram) (sym is) (timeout-fits now p.deed.entry.now id w.setting.limits.datagram token tags short wide)
-
 -- ---- each case
 
 -- in each case of a step its datagram fits
@@ -58,8 +44,8 @@ rule_fits {w = w} history c are (refusing client bytes m code first denied free)
 rule_fits {w = w} history c are (lacking client bytes m first free) = omega arith
 rule_fits {w = w} history c are (overloading client bytes m key first verdict lacks free) = let came = request-came w client bytes m first.fits first.asked in omega (arith, (are Datagram).0, busy-short m w.setting.limits.retry_s (next_id w) m.token came.brings.spells.message.token)
 rule_fits {w = w} {now = now} history c are (hitting client bytes m key entry first verdict found usable free) = let came = request-came w client bytes m first.fits first.asked in hit-fits w history c key entry found w.setting.limits.datagram now m (next_id w) m.token (tags_of m) (are Datagram).0 (omega arith) came.brings.spells.message.token
-rule_fits {w = w} history c are (joining client bytes m key exchange first verdict none found room) = omega arith
-rule_fits {w = w} history c are (opening client bytes m key first verdict none short room) = omega arith
+rule_fits {w = w} history c are (joining client bytes m key exchange send told first verdict none found room up) = taken-short client m send told up w.setting.limits.datagram (are Datagram).0
+rule_fits {w = w} history c are (opening client bytes m key send told first verdict none short room up) = taken-short client m send told up w.setting.limits.datagram (are Datagram).0
 rule_fits {w = w} {now = now} history c are (repeating client bytes m known fits asked found) = go m.kind refl
   where
     most : ℕ
@@ -81,14 +67,17 @@ rule_fits {w = w} history c are (dropping source bytes m fits recorded wanted un
 rule_fits {w = w} history c are (answering source bytes m x storing store fit read for other stored) = omega arith
 rule_fits {w = w} history c are (answering_con source bytes m x storing store fit recorded for con unknown room stored) = omega (arith, (are Datagram).0, acknowledgement-short m.id)
 rule_fits {w = w} history c are (acknowledging source bytes m x fit read about ack) = omega arith
+rule_fits {w = w} history c are (closing source bytes m number fit read of_answer) = omega arith
 rule_fits {w = w} history c are (rejecting source bytes head is con none) = omega (arith, (are Datagram).0, reset-short head.id)
 rule_fits {w = w} history c are (ignoring source bytes quiet none) = omega arith
 rule_fits {w = w} {now = now} history c are (forwarding at number x turn is early) = omega (arith, length-with_id (next_id w) x.form, (turn-exchange w history c now at number x turn).form_short)
 rule_fits {w = w} {now = now} history c are (resending at number x turn is early fire) = (turn-exchange w history c now at number x turn).form_short
 rule_fits {w = w} history c are (giving_up at number x turn over) = omega arith
-rule_fits {w = w} {now = now} history c are (delivering at number exchange v a due found waits answer) =
+rule_fits {w = w} {now = now} history c are (delivering at number exchange v a left due found waits answer told) =
     let s = served w history c number exchange v a found waits answer in
-    ending-fits w now (next_id w) exchange s.x.key s.done.ending a v.token v.tags (are Datagram).0 s.done.with s.short
+    ending-fits w v.kind now (next_id w) exchange s.x.key s.done.ending a v.token v.tags w.setting.limits.datagram s.done.with s.short (are Datagram).0 (omega arith)
+rule_fits {w = w} {now = now} history c are (redelivering at number v bytes id timer turn fire) = (told-is w history c number id v bytes timer turn.found turn.state).short w.setting.limits.datagram (are Datagram).0 (omega arith)
+rule_fits {w = w} history c are (abandoning at number v bytes id timer turn fire) = omega arith
 rule_fits {w = w} history c are (idling nothing) = omega arith
 rule_fits {w = w} history c are (stuck s) = omega arith
 

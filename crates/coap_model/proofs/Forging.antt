@@ -10,16 +10,17 @@ use Rattle.coap_message.specs.Uint.{uint_spelling}
 use Rattle.coap_message.specs.Spelling.{spelling, option_spelling}
 use Rattle.coap_message.proofs.WholeMessages.{read_again}
 use Rattle.coap_option.specs.Selection.{tags_of, max_age_of}
-use Rattle.coap_forward.specs.Messages.{is_rst}
-use Rattle.coap_forward.specs.Answers.{answer_of, shown}
-use Rattle.coap_model.specs.Examples.{origin, client, get_t, get_temp, content, content_for_client}
+use Rattle.coap_forward.specs.Messages.{is_con, is_rst}
+use Rattle.coap_forward.specs.Answers.{answer_of, shown, shown_as}
+use Rattle.coap_model.specs.Events.{arrival}
+use Rattle.coap_model.specs.Examples.{origin, client, get_t, get_temp, content, content_for_client, content_in}
 use Rattle.coap_cache.specs.declared.answer.Answer.{Answer}
 use Rattle.coap_model.specs.Verdicts.{Verdict, may_ask, refused_with, verdict_of}
 use Rattle.coap_model.specs.History.{no_item, moves, serves, Deed, Sends, Place, IsPlaceOf, admits_one, Admits, ends, Ends, GivesUp}
 use Rattle.coap_model.specs.declared.report.Outcome.TheVariants.{Answered}
 use Rattle.coap_model.specs.Due.{to_send}
 use Rattle.coap_model.specs.Justified.{EndsWith, got, given_up, IsDelivery}
-use Rattle.coap_model.specs.Forged.{setting, opened, opened_too, asked, answered, past, asked_elsewhere, past_elsewhere, delivery, right, at_an_arrival}
+use Rattle.coap_model.specs.Forged.{setting, opened, opened_too, asked, answered, past, asked_elsewhere, past_elsewhere, opened_con, past_con, delivery, right, in_con, at_an_arrival}
 use Rattle.coap_routes.specs.Routes.{mapped_target}
 use Rattle.coap_routes.specs.Request.{request_target}
 use Rattle.coap_cache.specs.declared.key.CacheKey.{CacheKey}
@@ -83,13 +84,13 @@ early s =
     unadmitted at = ⊎_elim (λ (e : here [] asked ≡ s.to_serve.admitted.admission). no_admission asked [] s.to_serve.admitted.admission s.waiter s.to_serve.admitted.exchange refl e s.to_serve.admitted.admits) (λ (h : ⊥). h) at
 
 -- who was admitted in a past of three, whatever was asked
-one_admission : (d : Deed) (p : Place) (v x : ℕ) → admits_one d.entry.report.outcome ≡ 0 → IsPlaceOf (answered ∷ d ∷ opened ∷ []) p → Admits v x p → p ≡ here [] opened
-one_admission d p v x not at a =
+one_admission : (o d : Deed) (p : Place) (v x : ℕ) → admits_one d.entry.report.outcome ≡ 0 → IsPlaceOf (answered ∷ d ∷ o ∷ []) p → Admits v x p → p ≡ here [] o
+one_admission o d p v x not at a =
     ⊎_elim
-    (λ (e : here (d ∷ opened ∷ []) answered ≡ p). absurd (no_admission answered (d ∷ opened ∷ []) p v x refl e a))
-    (λ (t : IsPlaceOf (d ∷ opened ∷ []) p). ⊎_elim
-    (λ (e : here (opened ∷ []) d ≡ p). absurd (no_admission d (opened ∷ []) p v x not e a))
-    (λ (u : IsPlaceOf (opened ∷ []) p). ⊎_elim (λ (e : here [] opened ≡ p). sym e) (λ (h : ⊥). absurd h) u)
+    (λ (e : here (d ∷ o ∷ []) answered ≡ p). absurd (no_admission answered (d ∷ o ∷ []) p v x refl e a))
+    (λ (t : IsPlaceOf (d ∷ o ∷ []) p). ⊎_elim
+    (λ (e : here (o ∷ []) d ≡ p). absurd (no_admission d (o ∷ []) p v x not e a))
+    (λ (u : IsPlaceOf (o ∷ []) p). ⊎_elim (λ (e : here [] o ≡ p). sym e) (λ (h : ⊥). absurd h) u)
     t)
     at
 
@@ -108,7 +109,7 @@ one_end p x at e =
 pub to_another : ¬ IsDelivery setting past (delivery (client 2) (content_for_client 7) (serves 1))
 to_another s =
     let a = s.to_serve.admitted in
-    let place = one_admission asked a.admission s.waiter a.exchange refl a.was_admitted a.admits in
+    let place = one_admission opened asked a.admission s.waiter a.exchange refl a.was_admitted a.admits in
     let same = arrival-same a.client (client 1) a.asked.brings.bytes _ (sym a.asked.brings.came ∙ ap (λ (p : Place). p.deed.entry.event) place) in
     let to = same_Some (client 2) (client 1) (s.tells.sent ∙ ap Some same.0) in
     let port = ap (λ (e : Endpoint). e.port) to in
@@ -171,9 +172,36 @@ unfolding read_message body_at options_within option_at extended
 another_age s =
     let p = s.to_serve in
     let place = one_end p.ending p.admitted.exchange p.was_ended p.ends in
-    let told = read_again (content_for_client 10) (shown 2500 s.answer s.id p.admitted.request.token (tags_of p.admitted.request)) s.tells.spells in
+    let told = read_again (content_for_client 10) (shown_as p.admitted.request.kind 2500 s.answer s.id p.admitted.request.token (tags_of p.admitted.request)) s.tells.spells in
     let ten : 10 ≡ 7 = ap told_by told ∙ got_age p.admitted.exchange s.key p.ending s.answer s.id p.admitted.request place s.ended in
     omega (arith, ten)
+
+-- ---- the type of the message that was asked in
+
+-- whether a message is Confirmable
+abbrev con_told : Result Message ReadError → Bool
+con_told (Ok m) = is_con m.kind
+con_told (Err e) = false
+
+-- what is shown is of the type of the request that admitted the client, which came in these bytes
+kind_asked : (o : Deed) (bytes told : List ℕ) → o.entry.event ≡ arrival (client 1) bytes → (s : IsDelivery setting (answered ∷ asked ∷ o ∷ []) (delivery (client 1) told (serves 1))) → con_told (read_message bytes) ≡ con_told (read_message told)
+kind_asked o bytes told came s =
+    let a = s.to_serve.admitted in
+    let place = one_admission o asked a.admission s.waiter a.exchange refl a.was_admitted a.admits in
+    let same = arrival-same a.client (client 1) a.asked.brings.bytes bytes (sym a.asked.brings.came ∙ ap (λ (p : Place). p.deed.entry.event) place ∙ came) in
+    let read = ap read_message (sym same.1) ∙ read_again a.asked.brings.bytes a.request a.asked.brings.spells in
+    let shown_again = read_again told (shown_as a.request.kind 2500 s.answer s.id a.request.token (tags_of a.request)) s.tells.spells in
+    ap con_told read ∙ sym (ap con_told shown_again)
+
+-- a client that asked in a Non-confirmable message is given none that is Confirmable
+pub con_for_non : ¬ IsDelivery setting past in_con
+unfolding read_message body_at options_within option_at extended
+con_for_non s = let e : false ≡ true = kind_asked opened (get_t []) (content_in 0x40 7) refl s in cc
+
+-- nor is one that asked in a Confirmable message given another
+pub non_for_con : ¬ IsDelivery setting past_con right
+unfolding read_message body_at options_within option_at extended
+non_for_con s = let e : true ≡ false = kind_asked opened_con (0x40 ∷ 1 ∷ 0 ∷ 7 ∷ 0xB1 ∷ 0x74 ∷ []) (content_for_client 7) refl s in cc
 
 -- ---- the key that was asked for
 
@@ -234,7 +262,7 @@ elsewhere s =
     let p = s.to_serve in
     let a = p.admitted in
     let told = key_elsewhere a.exchange s.key p.ending s.answer p.was_ended s.ended in
-    let place = one_admission asked_elsewhere a.admission s.waiter a.exchange refl a.was_admitted a.admits in
+    let place = one_admission opened asked_elsewhere a.admission s.waiter a.exchange refl a.was_admitted a.admits in
     let came = arrival-same a.client (client 1) a.asked.brings.bytes (get_t []) (sym a.asked.brings.came ∙ ap (λ (q : Place). q.deed.entry.event) place) in
     let read = ap read_message (sym came.1) ∙ read_again a.asked.brings.bytes a.request a.asked.brings.spells in
     let aimed : 1 ≡ length s.key.target.path = ap segments_aimed read ∙ ap segments_of s.verdict in

@@ -14,10 +14,10 @@ use Rattle.coap_exchange.specs.declared.waiter.WaiterState.{WaiterState}
 use Rattle.coap_exchange.specs.declared.waiter.WaiterState.TheVariants.{Waiting, Delivering}
 use Rattle.coap_exchange.specs.Table.{Numbered}
 use Rattle.coap_model.specs.declared.report.Outcome.{Outcome}
-use Rattle.coap_model.specs.declared.report.Outcome.TheVariants.{Opened, Joined}
+use Rattle.coap_model.specs.declared.report.Outcome.TheVariants.{Opened}
 use Rattle.coap_model.specs.Setting.{Setting}
 use Rattle.coap_model.specs.World.{World}
-use Rattle.coap_model.specs.History.{Act, no_item, admits, moves, serves, Deed, Somewhere, opens_one, admits_one, opened_in, admitted_in, Opens, Admits}
+use Rattle.coap_model.specs.History.{Act, no_item, admits, moves, serves, Deed, Place, IsPlaceOf, Somewhere, opens_one, admits_one, opened_in, admitted_in, Opens, Admits}
 use Rattle.coap_model.specs.Schedules.{same_act, is_sending, sends_for, sends_by, IsSchedule}
 use Rattle.coap_model.specs.Carries.{Clock, Numbers, IsTimer, AreOfBytes, WasAsked, WasSent, IsInFlight, IsState, IsExchangeOf, IsWaiterIn, IsWaiterOf, AreUnused, AreSchedules}
 use Rattle.coap_model.proofs.Places.{here, opened-later, admitted-later}
@@ -48,7 +48,6 @@ admitted-few (e ∷ past) = let i = admitted-few past in let one = at_most_one e
   where
     at_most_one : (o : Outcome) → admits_one o ≤ 1
     at_most_one Opened = omega arith
-    at_most_one Joined = omega arith
     at_most_one _ = omega arith
 
 -- ---- acts
@@ -181,6 +180,7 @@ waiter_frame setting history e v other f = go v.1.state f
           admitted = admitted-later e g.admitted;
           exchange_is = g.exchange_is;
           client_is = g.client_is;
+          kind_is = g.kind_is;
           token_is = g.token_is;
           tags_are = g.tags_are;
           unended = g.unended;
@@ -189,7 +189,25 @@ waiter_frame setting history e v other f = go v.1.state f
           opened = opened-later e g.opened;
           verdict = g.verdict;
         }
-    go (Delivering bytes id timer) g = g
+    go (Delivering bytes id timer) g =
+        let stay = sends-stay (serves v.0) history e other in
+        record {
+          admitted = admitted-later e g.admitted;
+          serving = g.serving;
+          was_served = inr g.was_served;
+          is_serving = g.is_serving;
+          only = λ p at s. ⊎_elim (λ (same : here history e ≡ p). absurd (other (subst (λ (q : Place). q.deed.act ≡ serves v.0) (sym same) s.act))) (λ (there : IsPlaceOf history p). g.only p there s) at;
+          sent = g.sent;
+          answer = g.answer;
+          spells = g.spells;
+          id_is = g.id_is;
+          started = g.started;
+          timer_is = subst (IsTimer timer) (sym stay) g.timer_is;
+          bytes_are = subst (AreOfBytes v.1.client bytes) (sym stay) g.bytes_are;
+          short = g.short;
+          token_gone = g.token_gone;
+          tags_gone = g.tags_gone;
+        }
 
 pub waiters_frame : (setting : Setting) (history : List Deed) (e : Deed) (vs : List (Numbered Waiter)) → ((v : ℕ) → e.act ≢ serves v) → AllByRecursion (IsWaiterOf setting history) vs → AllByRecursion (IsWaiterOf setting (e ∷ history)) vs
 waiters_frame setting history e vs other all =

@@ -56,7 +56,7 @@ use Rattle.coap_cache.specs.Lists.{total}
 use Rattle.coap_dedup.specs.Lists.{bytes_of}
 use Rattle.coap_dedup.proofs.Passing.{bytes-bounded}
 use Rattle.coap_model.proofs.Stores.{store-within}
-use Rattle.coap_model.specs.Held.{host_bytes, target_bytes, key_bytes, response_bytes, state_bytes, exchange_bytes, waiter_bytes, held, most_held}
+use Rattle.coap_model.specs.Held.{host_bytes, target_bytes, key_bytes, response_bytes, state_bytes, exchange_bytes, answer_bytes, waiter_bytes, held, most_held}
 
 -- ---- a target is held in no more than its options
 
@@ -196,16 +196,21 @@ exchange-held setting history routes x f = go x.1.state f.state
 
 -- what a waiter holds is within its part
 waiter-held : (setting : Setting) (history : List Deed) (v : Numbered Waiter) → IsWaiterOf setting history v → waiter_bytes v ≤ setting.limits.datagram + 256
-waiter-held setting history v f = go v.1.state f
+waiter-held setting history v f = go v.1.state refl f
   where
-    go : (s : WaiterState) → IsWaiterIn setting history v s → waiter_bytes v ≤ setting.limits.datagram + 256
-    go (Waiting exchange) g =
+    go : (s : WaiterState) → v.1.state ≡ s → IsWaiterIn setting history v s → waiter_bytes v ≤ setting.limits.datagram + 256
+    go (Waiting exchange) is g =
         let m = g.admitted.request in
+        let none : answer_bytes v.1.state ≡ 0 = ap answer_bytes is in
         let b = g.admitted.asked.brings in
         let tags : length (pieces_spelling v.1.tags) ≤ options_length 0 m.options = rw g.tags_are (tags-held (side_of m.code) 0 [] m.options) in
         let spelled : length b.bytes ≡ length (spelling m) = ap length (spelled_once b.bytes m b.spells) in
         omega (arith, ap length g.token_is, b.spells.message.token, tags, spelled, spelling-length m, b.short)
-    go (Delivering bytes id timer) g = absurd g
+    go (Delivering bytes id timer) is g =
+        let short = g.short (setting.limits.datagram + 256) (omega arith) (omega arith) in
+        let answer : answer_bytes v.1.state ≡ length bytes = ap answer_bytes is in
+        let tags : length (pieces_spelling v.1.tags) ≡ 0 = ap (λ (ts : List (List ℕ)). length (pieces_spelling ts)) g.tags_gone in
+        omega (arith, ap length g.token_gone, tags, answer, short)
 
 -- so what is held is within the bound
 pub within-bound : (history : List Deed) (w : World) → Bears history w → held w ≤ most_held w.setting.limits

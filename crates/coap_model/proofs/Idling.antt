@@ -14,14 +14,14 @@ use Rattle.coap_model.specs.World.{World}
 use Rattle.coap_model.specs.Ticks.{item_due, if_due, idles}
 use Rattle.coap_model.specs.History.{no_item, Deed}
 use Rattle.coap_model.specs.Runs.{entry_of}
-use Rattle.coap_model.specs.Carries.{HasNumber, IsWaiterIn, IsWaiterOf, Bears}
+use Rattle.coap_model.specs.Carries.{HasNumber, Bears}
 use Rattle.coap_model.proofs.Acting.{due_of, idling-due, turn-is, exchange-turn, client-turn}
 use Rattle.coap_model.proofs.FirstDue.{first_due-holds}
 use Rattle.coap_model.proofs.Lists.{Has, Has-all}
 use Rattle.coap_model.proofs.Places.{doing}
 use Rattle.coap_model.proofs.Quiet.{keeps_quiet}
-use Rattle.coap_model.proofs.Rules.{IsStuck, no_exchange, acknowledged, answered, no_waiter, unanswered, served}
-use Rattle.coap_model.proofs.Tables.{Has-number, item-Has, item-none, item-holds, one-item}
+use Rattle.coap_model.proofs.Rules.{IsStuck, no_exchange, acknowledged, answered, no_waiter, unanswered}
+use Rattle.coap_model.proofs.Tables.{Has-number, item-Has, item-none, one-item}
 use Rattle.coap_model.proofs.Turns.{turn-due}
 
 -- an idle tick keeps what is carried
@@ -32,7 +32,7 @@ keeps_idling w history c now draw onward nothing =
     (record { act = refl; ticked = refl; nothing = idling-due w history c now nothing; silent = record { sent = refl; bytes = refl } }, c.past)
 
 -- a client that is due first is there, and is due since its moment
-client-there : (w : World) (history : List Deed) → Bears history w → (now at number : ℕ) → if_due now (item_due w) ≡ Some (OfWaiter at number) → (u : Numbered Waiter) × Has u w.waiters × (u.0 ≡ number) × (due_after w.exchanges u.1 ≡ Some at)
+pub client-there : (w : World) (history : List Deed) → Bears history w → (now at number : ℕ) → if_due now (item_due w) ≡ Some (OfWaiter at number) → (u : Numbered Waiter) × Has u w.waiters × (u.0 ≡ number) × (due_after w.exchanges u.1 ≡ Some at)
 client-there w history c now at number due = first_due-holds (λ u. Has u w.waiters) (due_after w.exchanges) w.waiters (at, number) (Has-all w.waiters) (client-turn w history c at number (turn-is w history c now (OfWaiter at number) due).0)
 
 -- what never comes doesn't come
@@ -56,5 +56,3 @@ not-stuck w history c now (unanswered at number exchange v due found waits none)
     let d = client-there w history c now at number due in
     let here : due_after w.exchanges v ≡ Some at = subst (λ (u : Waiter). due_after w.exchanges u ≡ Some at) (one-item 0 w.waiters d.0 (number, v) c.whole.waiters_rise d.1 (item-Has number w.waiters v found) d.2) d.3 in
     absurd (let e = sym (ap (λ (s : WaiterState). waiters.due_in s w.exchanges) waits ∙ ap moment_of none) ∙ here in cc)
-not-stuck w history c now (served at number id v bytes timer due found is) =
-    absurd (subst (IsWaiterIn w.setting history (number, v)) is (item-holds (IsWaiterOf w.setting history) number w.waiters v c.waiters found))

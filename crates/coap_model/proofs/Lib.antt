@@ -15,6 +15,7 @@ pub mod Showing
 pub mod Verdicts
 pub mod OwnReplies
 pub mod Rules
+pub mod TakingUp
 pub mod Remembering
 pub mod Pairs
 pub mod Cached
@@ -28,7 +29,9 @@ pub mod Sorts
 pub mod Arrivals
 pub mod Owing
 pub mod Stages
+pub mod Services
 pub mod Once
+pub mod LettingGo
 pub mod Acting
 pub mod Moving
 pub mod Turns
@@ -39,9 +42,10 @@ pub mod OneStoring
 pub mod OwedThere
 pub mod BySize
 pub mod Repeats
-pub mod OneRequest
+pub mod OneMeant
 pub mod OneAnswer
 pub mod CacheExamples
+pub mod RightDelivery
 pub mod Forging
 pub mod Forwarding
 pub mod Repeating
@@ -49,6 +53,7 @@ pub mod Getting
 pub mod Answering
 pub mod Hitting
 pub mod Delivering
+pub mod Clients
 pub mod Opening
 pub mod Idling
 pub mod Carrying

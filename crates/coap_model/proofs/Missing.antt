@@ -3,7 +3,6 @@ use Rattle.std.proofs.Common.{◌≡◌, ℕ, ◌≤◌, Bool, true, false, List
 use Rattle.std.specs.Prelude.{◌&&◌, not, find, option_map}
 use Rattle.std.proofs.lemmas.Bool.{and_parts, and_from}
 use Rattle.std.proofs.lemmas.Option.{same_Some}
-use Rattle.coap_message.specs.declared.kind.Kind.{Kind}
 use Rattle.coap_message.specs.declared.code.Code.{Code}
 use Rattle.coap_message.specs.Message.{Message}
 use Rattle.coap_cache.specs.declared.key.CacheKey.{CacheKey}
@@ -18,7 +17,6 @@ use Rattle.coap_exchange.specs.Exchanges.{answer_in_state, answer_at, is_missing
 use Rattle.coap_exchange.specs.Table.{Numbered, first_that}
 use Rattle.coap_model.specs.Setting.{Setting}
 use Rattle.coap_model.specs.Verdicts.{may_ask}
-use Rattle.coap_model.specs.Requests.{can_join, can_open}
 use Rattle.coap_model.specs.World.{World}
 use Rattle.coap_model.specs.History.{Deed, Never, Ends}
 use Rattle.coap_model.specs.Cached.{entry_of_cached}
@@ -118,5 +116,5 @@ deserves w history c now m code (rules.by_length key verdict none long is) = by_
 
 -- where the tables have no room for it, nor has the history
 pub lacks_room : (w : World) (history : List Deed) (c : Bears history w) (now : ℕ) (key : CacheKey) (m : Message) → w.last ≤ now → IsFull w now key m → LacksRoom w.setting history now key m
-lacks_room w history c now key m onward (rules.to_join exchange none found full) = to_join exchange (missed w history c now key none) (joinable-found w history c key exchange found).0 (λ non. join-none now history w c onward (subst (λ (k : Kind). can_join w now k ≡ false) non full))
-lacks_room w history c now key m onward (rules.to_open none short full) = to_open (unanswered w history c now key none) short (λ non. room-none now history w c onward (subst (λ (k : Kind). can_open w now k ≡ false) non full))
+lacks_room w history c now key m onward (rules.to_join exchange none found full) = to_join exchange (missed w history c now key none) (joinable-found w history c key exchange found).0 (join-none now history w c onward full)
+lacks_room w history c now key m onward (rules.to_open none short full) = to_open (unanswered w history c now key none) short (room-none now history w c onward full)

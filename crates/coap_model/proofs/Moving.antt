@@ -17,18 +17,18 @@ use Rattle.coap_model.specs.World.{World, later}
 use Rattle.coap_model.specs.History.{moves, serves, Deed, opens_one, admits_one}
 use Rattle.coap_model.specs.Standing.{Standing, standing_by, open_by, standing_in}
 use Rattle.coap_model.specs.Justified.{AllJustified}
-use Rattle.coap_model.specs.Carries.{HasNumber, stage_seen, exchange_in, Ids, IsExchangeOf, AreRemembered, AreSchedules, Bears}
+use Rattle.coap_model.specs.Carries.{HasExchange, stage_seen, Ids, IsExchangeOf, AreRemembered, AreSchedules, Bears}
 use Rattle.coap_model.proofs.Frames.{clock_frame, numbers_frame, exchange_frame, waiters_frame, unused_frame, opened-before, admitted-before}
 use Rattle.coap_model.proofs.Lists.{Has, All-map, All-there}
 use Rattle.coap_model.proofs.Places.{same_moves, opened-number}
-use Rattle.coap_model.proofs.Tables.{item-Has, item-holds, one-item, changed-cases, HasNumber-changed}
+use Rattle.coap_model.proofs.Tables.{item-Has, item-holds, one-item, changed-cases, HasNumber-changed, HasExchange-on}
 
 -- what an entry must be that moves the exchange of a number
 pub record IsMove (n : ℕ) (e : Deed) : Type 0 where
   pub act : e.act ≡ moves n
   pub opens : opens_one e.entry.report.outcome ≡ 0
   pub admits : admits_one e.entry.report.outcome ≡ 0
-  pub stands : (standing : List Standing) → standing_by e.entry.report.outcome e.act standing ≡ standing
+  pub stands : (standing : List Standing) → standing_by e.entry.report.outcome e.act e.entry.bytes standing ≡ standing
 
 -- the clock goes on, one exchange changes, these ids are given, and this is stored and remembered
 abbrev pub moved_world : World → ℕ → ℕ → (Exchange → Exchange) → Given → List cache.Entry → Records → Records → World
@@ -63,7 +63,7 @@ keeps_moving w history c e n x f ids store con non m found onward new seen given
         waiters = c.whole.waiters ∙ sym (m.stands (standing_in history));
         rising = IsRising-changed_at n f 0 w.exchanges c.whole.rising;
         waiters_rise = c.whole.waiters_rise;
-        awaited = All-weaken (λ v. HasNumber (exchange_in v.1.state) w.exchanges) (λ v. HasNumber (exchange_in v.1.state) (changed_at n f w.exchanges)) w.waiters (λ v has. HasNumber-changed n (exchange_in v.1.state) f w.exchanges has) c.whole.awaited;
+        awaited = All-weaken (λ v. HasExchange v.1.state w.exchanges) (λ v. HasExchange v.1.state (changed_at n f w.exchanges)) w.waiters (λ v has. HasExchange-on v.1.state w.exchanges (changed_at n f w.exchanges) (λ m. HasNumber-changed n m f w.exchanges) has) c.whole.awaited;
         waited = All-map (λ y. 0 < count (waits_for y.0) w.waiters) (λ y. 0 < count (waits_for y.0) w.waiters) (changed n f) w.exchanges (λ y some. changed-cases (λ z. 0 < count (waits_for z.0) w.waiters) n f y (λ same. some) (λ other. some)) c.whole.waited;
         unended = λ y s never. HasNumber-changed n y f w.exchanges (c.whole.unended y (opened-before history e y m.opens s) never.1);
         unserved = λ v y s never. c.whole.unserved v y (admitted-before history e v y m.admits s) never.1;

@@ -5,7 +5,7 @@ use Rattle.coap_model.specs.declared.report.Outcome.TheVariants.{Opened, Answere
 use Rattle.coap_cache.specs.declared.key.CacheKey.{CacheKey}
 use Rattle.coap_model.specs.Setting.{Setting}
 use Rattle.coap_model.specs.History.{moves, Deed, Place, IsPlaceOf, Never, opened_in, ends, Sends, Ends, Serves}
-use Rattle.coap_model.specs.Justified.{verdict_on, IsJoinable, IsOpening, IsForwarding, IsDelivery, IsGivingUp, overdue, unheard, JustifiedBy, AllJustified}
+use Rattle.coap_model.specs.Justified.{verdict_on, IsJoinable, IsOpening, IsForwarding, IsDelivery, IsGivingUp, overdue, unheard, unacknowledged, JustifiedBy, AllJustified}
 use Rattle.coap_model.proofs.Owing.{one_key, taken-so}
 use Rattle.coap_model.proofs.Places.{first-once, same_moves, same_serves, never-before, in-order, request-unique, justified-at}
 use Rattle.coap_model.proofs.Stages.{all-before, queued-unsent}
@@ -21,6 +21,7 @@ sent-first setting history x p all at s =
 given_up-first : (setting : Setting) (past : List Deed) (d : Deed) (x : ℕ) → IsGivingUp setting past d → d.act ≡ moves x → Never (Ends x) past
 given_up-first setting past d x (overdue y m acting act to_end come silent) is = subst (λ (n : ℕ). Never (Ends n) past) (same_moves y x (sym act ∙ is)) to_end.unended
 given_up-first setting past d x (unheard y m acting act to_repeat first come stops silent) is = subst (λ (n : ℕ). Never (Ends n) past) (same_moves y x (sym act ∙ is)) first
+given_up-first setting past d x (unacknowledged v acting act to_serve stops silent) is = absurd (let e = sym act ∙ is in cc)
 
 -- an exchange has not ended before the place where it does
 pub ended-first : (setting : Setting) (history : List Deed) (x : ℕ) (p : Place) → AllJustified setting history → IsPlaceOf history p → Ends x p → Never (Ends x) p.before

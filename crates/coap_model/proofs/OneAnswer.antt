@@ -22,16 +22,17 @@ use Rattle.coap_dedup.specs.declared.record.Record.{Record}
 use Rattle.coap_model.specs.Events.{Event}
 use Rattle.coap_forward.specs.Messages.{is_con, brings_requests, acknowledgement, reset, own_reply, busy_reply, at_once, reply_kind, reply_id, token_of}
 use Rattle.coap_forward.specs.Forms.{forwarded}
-use Rattle.coap_forward.specs.Answers.{answer_of, own_answer, gateway_timeout, stored_answer, shown}
+use Rattle.coap_forward.specs.Answers.{answer_of, own_answer, gateway_timeout, stored_answer, shown, shown_as}
 use Rattle.coap_model.specs.History.{Entry, Act, no_item, admits, moves, serves, Deed, Place, ids_in, opened_in, admitted_in, comes_con, ids_given, takes, Brings, Meets, Gets, Ends, Gives, IsRequestOf}
 use Rattle.coap_model.specs.Standing.{HasIds, HasRoomToJoin, HasRoomToOpen, queued, stage_of}
 use Rattle.coap_model.specs.Schedules.{sends_by, MayGoOn, SaysAsBefore}
-use Rattle.coap_model.specs.Due.{IsToEnd, IsToRepeat, IsDueAt, ComesBefore}
+use Rattle.coap_model.specs.Due.{IsToEnd, IsToRepeat, IsToServe, IsDueAt, ComesBefore}
 use Rattle.coap_model.specs.Verdicts.{verdict_of}
 use Rattle.coap_cache.specs.declared.answer.Answer.{Answer}
-use Rattle.coap_model.specs.Justified.{Comes, known_of, HasRecordRoom, IsMiss, IsJoinable, IsUnanswered, LacksRoom, Deserves, HaveOneMemory, is_fresh_at, verdict_on, IsNew, HasIdFor, SaysAgain, Tells, IsSilent, TakesUp, IsAwaited, Acknowledges, IsDropped, IsAnswer, IsActing, InTime, IsForwarding, IsResending, IsGivingUp, overdue, unheard, EndsWith, got, given_up as was_given_up, IsDelivery, IsUnprocessable, JustifiedBy, AllJustified, MayFollow, AreOfOneTurn}
+use Rattle.coap_model.specs.Justified.{Comes, known_of, HasRecordRoom, IsMiss, IsJoinable, IsUnanswered, LacksRoom, Deserves, HaveOneMemory, is_fresh_at, verdict_on, IsNew, HasIdFor, SaysAgain, Tells, IsSilent, TakesUp, IsAwaited, Acknowledges, Closes, IsMeant, to_acknowledge, to_reset, to_close, Settles, a_request, an_answer, IsDropped, IsAnswer, IsActing, InTime, IsForwarding, IsToSendAgain, request_again, answer_again, IsResending, IsGivingUp, overdue, unheard, unacknowledged, EndsWith, got, given_up as was_given_up, IsDelivery, IsIdle, IsUnprocessable, JustifiedBy, AllJustified, MayFollow, AreOfOneTurn}
 use Rattle.coap_model.proofs.Places.{here, same_moves, same_serves, arrival-same, one-brought, request-unique, one-opened, one-admitted}
 use Rattle.coap_model.proofs.Once.{ended-once, one-joinable}
+use Rattle.coap_model.proofs.Services.{serves-apart}
 use Rattle.coap_model.proofs.Stages.{opened-before, sent-number}
 use Rattle.coap_forward.proofs.Tokens.{token-same}
 use Rattle.coap_model.proofs.Cached.{cache-unique}
@@ -41,7 +42,7 @@ use Rattle.coap_cache.specs.Lists.{of_key}
 use Rattle.coap_model.specs.Cached.{cached_key, entry_of_cached}
 use Rattle.coap_model.proofs.Arrivals.{request_con}
 use Rattle.coap_model.proofs.Sorts.{recorded-sorts, token-or-reset}
-use Rattle.coap_model.proofs.Owing.{one_key, taken-so, answer-awaited, given_again, given_dropped, given_no_room, given_settled, given_hit, given_refused, given_overloaded, given_no_id, given_joined, given_opened, given_answered, given_rejected, given_ignored, given_up-so, OnTick, sent as sending, resent, given_up, delivered, idle, on-tick}
+use Rattle.coap_model.proofs.Owing.{one_key, taken-so, answer-awaited, given_again, given_dropped, given_no_room, given_either, given_hit, given_refused, given_overloaded, given_no_id, given_joined, given_opened, given_answered, given_rejected, given_ignored, given_up-so, OnTick, sent as sending, resent, given_up, delivered, idle, on-tick}
 
 -- ---- what is said
 
@@ -92,7 +93,7 @@ forwarded-same : (salt x y : ℕ) (a b : Target) (m n : Message) (i k : ℕ) →
 forwarded-same salt x y a b m n i k number target request id = rw (number, target, request, id) refl
 
 -- and so is what is shown for one request at one moment of one answer
-shown-same : (now later : ℕ) (a b : Answer) (i k : ℕ) (r s : Message) → now ≡ later → a ≡ b → i ≡ k → r ≡ s → shown now a i r.token (tags_of r) ≡ shown later b k s.token (tags_of s)
+shown-same : (now later : ℕ) (a b : Answer) (i k : ℕ) (r s : Message) → now ≡ later → a ≡ b → i ≡ k → r ≡ s → shown_as r.kind now a i r.token (tags_of r) ≡ shown_as s.kind later b k s.token (tags_of s)
 shown-same now later a b i k r s moment answer id request = rw (moment, answer, id, request) refl
 
 -- what is told has the id that is given
@@ -173,11 +174,11 @@ gets-number setting past x d all g =
     omega (arith, sent-number setting past m.asking x all m.was_asked m.asks.sends, opened-before past m.asking m.was_asked)
 
 -- what is awaited at a turn is awaited by the other entry of the turn
-awaited-too : (setting : Setting) (past : List Deed) (d e : Entry) (x : ℕ) → AreOfOneTurn d e → IsAwaited setting past e.now x e.event → IsAwaited setting past d.now x d.event
+abbrev awaited-too : (setting : Setting) (past : List Deed) (d e : Entry) (x : ℕ) → AreOfOneTurn d e → IsAwaited setting past e.now x e.event → IsAwaited setting past d.now x d.event
 awaited-too setting past d e x turn a = subst (λ (event : Event). IsAwaited setting past d.now x event) (sym turn.event) (subst (λ (n : ℕ). IsAwaited setting past n x e.event) (sym turn.now) a)
 
 -- an answer is of one exchange: the requests of two were sent with different tokens, and a Reset is
--- of one request
+-- meant for one request
 one-exchange : (setting : Setting) (past : List Deed) → AllJustified setting past → opened_in past < 2 ^ 64 → (d e : Deed) → AreOfOneTurn d.entry e.entry → (a : IsAnswer setting past d) (b : IsAnswer setting past e) → d.act ≡ e.act
 one-exchange setting past all few d e turn a b = a.gets.act ∙ ap moves number ∙ sym b.gets.act
   where
@@ -200,7 +201,10 @@ one-exchange setting past all few d e turn a b = a.gets.act ∙ ap moves number 
     by_token s t = token-same setting.salt a.exchange b.exchange (omega (arith, few, small_a)) (omega (arith, few, small_b)) (sym s ∙ ap (λ (m : Message). m.token) message ∙ t)
 
     by_reset : p.message.kind ≡ Rst → a.exchange ≡ b.exchange
-    by_reset reset = sym (a.only reset b.exchange (awaited-too setting past d.entry e.entry b.exchange turn (answer-awaited b)))
+    by_reset reset = sym (same_moves b.exchange a.exchange (a.only reset (moves b.exchange) (to_reset b.exchange awaited refl (ap (λ (m : Message). m.kind) (sym message) ∙ reset)) ∙ a.gets.act))
+      where
+        awaited : IsAwaited setting past d.entry.now b.exchange d.entry.event
+        awaited = awaited-too setting past d.entry e.entry b.exchange turn (answer-awaited b)
 
     number : a.exchange ≡ b.exchange
     number =
@@ -223,8 +227,8 @@ one-delivery setting past all d e id g h j k act now =
     let ends = subst (λ (n : ℕ). Ends n p.ending) one.3 p.ends in
     let ending = ended-once setting past q.admitted.exchange p.ending q.ending all p.was_ended q.was_ended ends q.ends in
     let answer = one-ending setting p.admitted.exchange q.admitted.exchange j.key k.key p.ending q.ending j.answer k.answer ending j.ended k.ended in
-    let said_id = id-told d.entry id p.admitted.client (shown d.entry.now j.answer j.id p.admitted.request.token (tags_of p.admitted.request)) g j.tells in
-    let other_id = id-told e.entry id q.admitted.client (shown e.entry.now k.answer k.id q.admitted.request.token (tags_of q.admitted.request)) h k.tells in
+    let said_id = id-told d.entry id p.admitted.client (shown_as p.admitted.request.kind d.entry.now j.answer j.id p.admitted.request.token (tags_of p.admitted.request)) g j.tells in
+    let other_id = id-told e.entry id q.admitted.client (shown_as q.admitted.request.kind e.entry.now k.answer k.id q.admitted.request.token (tags_of q.admitted.request)) h k.tells in
     let same = shown-same d.entry.now e.entry.now j.answer k.answer j.id k.id p.admitted.request q.admitted.request now answer (said_id ∙ sym other_id) one.2 in
     told-same d.entry e.entry p.admitted.client q.admitted.client _ _ j.tells k.tells one.1 same
 
@@ -243,26 +247,50 @@ not-late setting past x y now later at same moment timely end come =
 sent-kept : {A : Type 0} (setting : Setting) (past : List Deed) (d e : Deed) → IsForwarding setting past d → IsGivingUp setting past e → d.act ≡ e.act → d.entry.now ≡ e.entry.now → A
 sent-kept setting past d e j (overdue y at acting is end come silent) act now = not-late setting past j.exchange y d.entry.now e.entry.now at (same_moves j.exchange y (sym j.act ∙ act ∙ is)) now j.in_time end come
 sent-kept setting past d e j (unheard y at acting is repeat first come stops silent) act now = not-both (same_moves j.exchange y (sym j.act ∙ act ∙ is)) j.to_send.stage repeat
+sent-kept setting past d e j (unacknowledged v acting is again stops silent) act now = absurd (let f = sym j.act ∙ act ∙ is in cc)
 
 -- nor is one that is sent again
 resent-kept : {A : Type 0} (setting : Setting) (past : List Deed) (d e : Deed) → IsResending setting past d → IsGivingUp setting past e → d.act ≡ e.act → d.entry.now ≡ e.entry.now → A
-resent-kept setting past d e j (overdue y at acting is end come silent) act now = not-late setting past j.exchange y d.entry.now e.entry.now at (same_moves j.exchange y (sym j.act ∙ act ∙ is)) now j.in_time end come
-resent-kept setting past d e j (unheard y at acting is repeat first come stops silent) act now =
-    absurd (stops (subst (λ (a : Act). MayGoOn e.entry.now (sends_by a past)) act (subst (λ (n : ℕ). MayGoOn n (sends_by d.act past)) now j.goes_on)))
+resent-kept {A} setting past d e j given act now = go given
+  where
+    goes_on : MayGoOn e.entry.now (sends_by e.act past)
+    goes_on = subst (λ (a : Act). MayGoOn e.entry.now (sends_by a past)) act (subst (λ (n : ℕ). MayGoOn n (sends_by d.act past)) now j.goes_on)
+
+    in_time : {m : ℕ} → IsToSendAgain setting past d m → (y at : ℕ) → e.act ≡ moves y → IsToEnd setting past y at → at ≤ e.entry.now → A
+    in_time (request_again x is repeat timely) y at other end come = not-late setting past x y d.entry.now e.entry.now at (same_moves x y (sym is ∙ act ∙ other)) now timely end come
+    in_time (answer_again v is again) y at other end come = absurd (let f = sym is ∙ act ∙ other in cc)
+
+    go : IsGivingUp setting past e → A
+    go (overdue y at acting is end come silent) = in_time j.again y at is end come
+    go (unheard y at acting is repeat first come stops silent) = absurd (stops goes_on)
+    go (unacknowledged v acting is again stops silent) = absurd (stops goes_on)
 
 -- what is given up is given up in silence
 given_up-silent : (setting : Setting) (past : List Deed) (d : Deed) → IsGivingUp setting past d → IsSilent d.entry
 given_up-silent setting past d (overdue y at acting is end come silent) = silent
 given_up-silent setting past d (unheard y at acting is repeat first come stops silent) = silent
+given_up-silent setting past d (unacknowledged v acting is again stops silent) = silent
 
--- it is an exchange
-record IsMoved (d : Deed) : Type 0 where
-  pub exchange : ℕ
-  pub act : d.act ≡ moves exchange
+-- a client that is to be served isn't given up
+served-kept : {A : Type 0} {setting : Setting} {past : List Deed} {d : Deed} {v m : ℕ} → d.act ≡ serves v → IsToServe setting past v m → IsGivingUp setting past d → A
+served-kept act to_serve (overdue y at acting is end come silent) = absurd (let f = sym act ∙ is in cc)
+served-kept act to_serve (unheard y at acting is repeat first come stops silent) = absurd (let f = sym act ∙ is in cc)
+served-kept {v = v} act to_serve (unacknowledged u acting is again stops silent) = serves-apart (same_serves u v (sym is ∙ act)) again to_serve
 
-given_up-moves : (setting : Setting) (past : List Deed) (d : Deed) → IsGivingUp setting past d → IsMoved d
-given_up-moves setting past d (overdue y at acting is end come silent) = record { exchange = y; act = is }
-given_up-moves setting past d (unheard y at acting is repeat first come stops silent) = record { exchange = y; act = is }
+-- nor is it served again
+served-first : {A : Type 0} {setting : Setting} {past : List Deed} {d : Deed} {v m n : ℕ} → d.act ≡ serves v → IsToServe setting past v m → IsToSendAgain setting past d n → A
+served-first act to_serve (request_again x is repeat timely) = absurd (let f = sym act ∙ is in cc)
+served-first {v = v} act to_serve (answer_again u is again) = serves-apart (same_serves u v (sym is ∙ act)) again to_serve
+
+-- what waits for its turn isn't sent again
+sent-first : {A : Type 0} {setting : Setting} {past : List Deed} {d : Deed} {x m : ℕ} → d.act ≡ moves x → stage_of x past ≡ Some queued → IsToSendAgain setting past d m → A
+sent-first {x = x} act stage (request_again y is repeat timely) = not-both (same_moves x y (sym act ∙ is)) stage repeat
+sent-first act stage (answer_again v is again) = absurd (let f = sym act ∙ is in cc)
+
+-- what settles either is meant for it
+settles-meant : {setting : Setting} {past : List Deed} {d : Deed} → Settles setting past d → IsMeant setting past d.entry.now d.entry.event d.act
+settles-meant (a_request x act k) = to_acknowledge x act k
+settles-meant (an_answer v act k) = to_close v act k
 
 -- ---- one answer
 
@@ -336,6 +364,7 @@ one-answer setting past d e all few f g turn =
           no_duplicate = λ source m comes. subst (λ (n : ℕ). known_of past n source m ≡ None) turn.now (u.no_duplicate source m (subst (Comes setting source m) back comes));
           no_answer = λ x awaited. u.no_answer x (awaited-too setting past d.entry e.entry x turn awaited);
           no_settling = λ x k. u.no_settling x (subst (λ (event : Event). Acknowledges setting past d.entry.now x event) back (subst (λ (n : ℕ). Acknowledges setting past n x e.entry.event) earlier k));
+          no_closing = λ v k. u.no_closing v (subst (λ (event : Event). Closes setting past d.entry.now v event) back (subst (λ (n : ℕ). Closes setting past n v e.entry.event) earlier k));
         }
 
     -- a message that there is no room to remember isn't remembered by the other
@@ -372,12 +401,16 @@ one-answer setting past d e all few f g turn =
     same_ids : (request : Message) → HasIdFor request d.entry.now past → HasIdFor request e.entry.now past
     same_ids request ids = subst (λ (n : ℕ). HasIdFor request n past) turn.now ids
 
+    -- where something is due the other isn't idle
+    not-idle : {A : Type 0} → IsIdle setting past e → IsActing setting past d → A
+    not-idle k a = absurd (let now = turn.now in let later = k.nothing d.act a.at a.due in let come = a.come in omega (arith, now, later, come))
+
     acting : {o : Outcome} → OnTick setting past e o → IsActing setting past d → d.act ≡ e.act
     acting (sending k) a = one-act setting past d e a k.acting
     acting (resent k) a = one-act setting past d e a k.acting
     acting (given_up k) a = one-act setting past d e a (given_up-so setting past e k)
     acting (delivered k) a = one-act setting past d e a k.acting
-    acting (idle k) a = let now = turn.now in let later = k.nothing d.act a.at a.due in let come = a.come in absurd (omega (arith, now, later, come))
+    acting (idle k) a = not-idle k a
 
     by_outcome : (o : Outcome) → d.entry.report.outcome ≡ o → JustifiedBy o setting past d → DoTheSame d e
     by_outcome Ignored is j =
@@ -415,16 +448,18 @@ one-answer setting past d e all few f g turn =
         record { outcome = is ∙ sym o; act = j.act ∙ sym k.act; say = silent-same d.entry e.entry j.silent k.silent }
     by_outcome Joined is j =
         let r = same_request j.client j.request j.asked in
-        let o = given_joined e.entry.report.outcome setting past e j.client j.request g.justified r (new_too j.client j.request j.new) j.kind j.key j.exchange j.verdict (same_miss j.key j.miss) j.joinable (subst (λ (n : ℕ). HasRoomToJoin setting.limits n past) turn.now j.room) in
+        let o = given_joined e.entry.report.outcome setting past e j.client j.request g.justified r (new_too j.client j.request j.new) j.key j.exchange j.verdict (same_miss j.key j.miss) j.joinable (subst (λ (n : ℕ). HasRoomToJoin setting.limits n past) turn.now j.room) in
         let k = holds Joined o in
         let one = request-unique setting e.entry.event j.client k.client j.request k.request r k.asked in
         let key : j.key ≡ k.key = one_key (sym j.verdict ∙ ap (verdict_on setting) one.1 ∙ k.verdict) in
         let exchange = one-joinable setting past k.key j.exchange k.exchange all (subst (λ (c : CacheKey). IsJoinable setting past c j.exchange) key j.joinable) k.joinable in
-        record { outcome = is ∙ sym o; act = j.act ∙ ap (admits (admitted_in past + 1)) exchange ∙ sym k.act; say = silent-same d.entry e.entry j.silent k.silent }
+        record { outcome = is ∙ sym o; act = j.act ∙ ap (admits (admitted_in past + 1)) exchange ∙ sym k.act; say = taken_up-same d.entry e.entry j.request.kind k.request.kind j.client k.client j.request.id k.request.id (ap (λ (m : Message). m.kind) one.1) one.0 (ap (λ (m : Message). m.id) one.1) j.takes_up k.takes_up }
     by_outcome Opened is j =
-        let o = given_opened e.entry.report.outcome setting past e j.client j.request g.justified (same_request j.client j.request j.asked) (new_too j.client j.request j.new) j.kind j.key j.verdict (subst (λ (n : ℕ). IsUnanswered setting past n j.key) turn.now j.unanswered) j.fits (subst (λ (n : ℕ). HasRoomToOpen setting.limits n past) turn.now j.room) in
+        let r = same_request j.client j.request j.asked in
+        let o = given_opened e.entry.report.outcome setting past e j.client j.request g.justified r (new_too j.client j.request j.new) j.key j.verdict (subst (λ (n : ℕ). IsUnanswered setting past n j.key) turn.now j.unanswered) j.fits (subst (λ (n : ℕ). HasRoomToOpen setting.limits n past) turn.now j.room) in
         let k = holds Opened o in
-        record { outcome = is ∙ sym o; act = j.act ∙ sym k.act; say = silent-same d.entry e.entry j.silent k.silent }
+        let one = request-unique setting e.entry.event j.client k.client j.request k.request r k.asked in
+        record { outcome = is ∙ sym o; act = j.act ∙ sym k.act; say = taken_up-same d.entry e.entry j.request.kind k.request.kind j.client k.client j.request.id k.request.id (ap (λ (m : Message). m.kind) one.1) one.0 (ap (λ (m : Message). m.id) one.1) j.takes_up k.takes_up }
     by_outcome Hit is j =
         let r = same_request j.client j.request j.asked in
         let o = given_hit e.entry.report.outcome setting past e j.client j.request g.justified r (new_too j.client j.request j.new) j.key j.cached j.entry j.verdict j.is_cache j.found (subst (λ (n : ℕ). is_fresh_at n j.entry ≡ true) turn.now j.fresh) (same_ids j.request j.ids) in
@@ -467,51 +502,47 @@ one-answer setting past d e all few f g turn =
         let say = taken_up-same d.entry e.entry p.message.kind q.message.kind p.asks.sends.to q.asks.sends.to p.message.id q.message.id (ap (λ (m : Message). m.kind) one.1) one.0 (ap (λ (m : Message). m.id) one.1) a.takes_up b.takes_up in
         record { outcome = is ∙ ap Answered storing ∙ sym some.1; act = act; say = say }
     by_outcome Acked is j =
-        let acknowledges = turned (λ n event. Acknowledges setting past n j.exchange event) j.acknowledges in
-        let o = given_settled e.entry.report.outcome setting past e j.exchange g.justified acknowledges in
+        let o = given_either e.entry.report.outcome setting past d e g.justified turn.now turn.event j.settles in
         let k = holds Acked o in
-        record { outcome = is ∙ sym o; act = j.act ∙ ap moves (k.only j.exchange acknowledges) ∙ sym k.act; say = silent-same d.entry e.entry j.silent k.silent }
+        record { outcome = is ∙ sym o; act = k.only d.act (turned (λ n event. IsMeant setting past n event d.act) (settles-meant j.settles)); say = silent-same d.entry e.entry j.silent k.silent }
     by_outcome SentRequest is j = go refl (on-tick e.entry.report.outcome setting past e g.justified (sym turn.event ∙ j.acting.ticked))
       where
         go : {o : Outcome} → e.entry.report.outcome ≡ o → OnTick setting past e o → DoTheSame d e
         go o (sending k) = let act = acting (sending k) j.acting in record { outcome = is ∙ sym o; act = act; say = one-forwarding setting past d e due (f.id (ap (ids_given (comes_con d.entry.event)) is)) (g.id (ap (ids_given (comes_con e.entry.event)) o)) j k act }
-        go o (resent k) = not-both (same_moves j.exchange k.exchange (sym j.act ∙ acting (resent k) j.acting ∙ k.act)) j.to_send.stage k.to_repeat
+        go o (resent k) = sent-first (sym (acting (resent k) j.acting) ∙ j.act) j.to_send.stage k.again
         go o (given_up k) = sent-kept setting past d e j k (acting (given_up k) j.acting) turn.now
         go o (delivered k) = absurd (let act = sym j.act ∙ acting (delivered k) j.acting ∙ k.act in cc)
-        go o (idle k) = absurd (let act = sym j.act ∙ acting (idle k) j.acting ∙ k.act in cc)
+        go o (idle k) = not-idle k j.acting
     by_outcome Resent is j = go refl (on-tick e.entry.report.outcome setting past e g.justified (sym turn.event ∙ j.acting.ticked))
       where
         go : {o : Outcome} → e.entry.report.outcome ≡ o → OnTick setting past e o → DoTheSame d e
-        go o (sending k) = not-both (same_moves k.exchange j.exchange (sym k.act ∙ sym (acting (sending k) j.acting) ∙ j.act)) k.to_send.stage j.to_repeat
+        go o (sending k) = sent-first (acting (sending k) j.acting ∙ k.act) k.to_send.stage j.again
         go o (resent k) =
             let act = acting (resent k) j.acting in
             let same = subst (λ (a : Act). SaysAsBefore (sends_by a past) d.entry) act j.same in
             record { outcome = is ∙ sym o; act = act; say = before-same d.entry e.entry (sends_by e.act past) same k.same }
         go o (given_up k) = resent-kept setting past d e j k (acting (given_up k) j.acting) turn.now
-        go o (delivered k) = absurd (let act = sym j.act ∙ acting (delivered k) j.acting ∙ k.act in cc)
-        go o (idle k) = absurd (let act = sym j.act ∙ acting (idle k) j.acting ∙ k.act in cc)
+        go o (delivered k) = served-first (acting (delivered k) j.acting ∙ k.act) k.to_serve j.again
+        go o (idle k) = not-idle k j.acting
     by_outcome GaveUp is j = go refl (on-tick e.entry.report.outcome setting past e g.justified (sym turn.event ∙ (given_up-so setting past d j).ticked))
       where
         a : IsActing setting past d
         a = given_up-so setting past d j
 
-        moved : IsMoved d
-        moved = given_up-moves setting past d j
-
         go : {o : Outcome} → e.entry.report.outcome ≡ o → OnTick setting past e o → DoTheSame d e
         go o (sending k) = sent-kept setting past e d k j (sym (acting (sending k) a)) (sym turn.now)
         go o (resent k) = resent-kept setting past e d k j (sym (acting (resent k) a)) (sym turn.now)
         go o (given_up k) = record { outcome = is ∙ sym o; act = acting (given_up k) a; say = silent-same d.entry e.entry (given_up-silent setting past d j) (given_up-silent setting past e k) }
-        go o (delivered k) = absurd (let act = sym moved.act ∙ acting (delivered k) a ∙ k.act in cc)
-        go o (idle k) = absurd (let act = sym moved.act ∙ acting (idle k) a ∙ k.act in cc)
+        go o (delivered k) = served-kept (acting (delivered k) a ∙ k.act) k.to_serve j
+        go o (idle k) = not-idle k a
     by_outcome Delivered is j = go refl (on-tick e.entry.report.outcome setting past e g.justified (sym turn.event ∙ j.acting.ticked))
       where
         go : {o : Outcome} → e.entry.report.outcome ≡ o → OnTick setting past e o → DoTheSame d e
         go o (sending k) = absurd (let act = sym j.act ∙ acting (sending k) j.acting ∙ k.act in cc)
-        go o (resent k) = absurd (let act = sym j.act ∙ acting (resent k) j.acting ∙ k.act in cc)
-        go o (given_up k) = absurd (let act = sym j.act ∙ acting (given_up k) j.acting ∙ (given_up-moves setting past e k).act in cc)
+        go o (resent k) = served-first (sym (acting (resent k) j.acting) ∙ j.act) j.to_serve k.again
+        go o (given_up k) = served-kept (sym (acting (given_up k) j.acting) ∙ j.act) j.to_serve k
         go o (delivered k) = let act = acting (delivered k) j.acting in record { outcome = is ∙ sym o; act = act; say = one-delivery setting past all d e due (f.id (ap (ids_given (comes_con d.entry.event)) is)) (g.id (ap (ids_given (comes_con e.entry.event)) o)) j k act turn.now }
-        go o (idle k) = absurd (let act = sym j.act ∙ acting (idle k) j.acting ∙ k.act in cc)
+        go o (idle k) = not-idle k j.acting
     by_outcome Idle is j = go refl (on-tick e.entry.report.outcome setting past e g.justified (sym turn.event ∙ j.ticked))
       where
         later : IsActing setting past e → ⊥

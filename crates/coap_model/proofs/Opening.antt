@@ -1,5 +1,5 @@
 -- Joining an exchange, and opening one, keep what is carried.
-use Rattle.std.proofs.Common.{◌≡◌, ◌≢◌, inl, ⊎_elim, ℕ, ◌+◌, ◌<◌, ◌≤◌, true, Some, List, [], ◌∷◌, ◌++◌, length, map, length-append, refl, sym, ap, ◌∙◌, subst, arith}
+use Rattle.std.proofs.Common.{◌≡◌, ◌≢◌, inl, ⊎_elim, ℕ, ◌+◌, ◌<◌, ◌≤◌, true, Option, Some, List, [], ◌∷◌, ◌++◌, length, map, length-append, refl, sym, ap, ◌∙◌, subst, arith}
 use Rattle.std.specs.Prelude.{◌&&◌}
 use Rattle.std.specs.List.{AllByRecursion}
 use Rattle.std.proofs.lemmas.Bool.{leb-true, ltb-true, and_parts, eq-eqb}
@@ -18,29 +18,29 @@ use Rattle.coap_exchange.specs.Table.{Numbered, IsRising, count, first_that}
 use Rattle.coap_exchange.specs.Waiters.{is_waiting, waits_for}
 use Rattle.coap_exchange.proofs.Counts.{one_if, count-push}
 use Rattle.coap_exchange.proofs.Tables.{IsRising-push}
-use Rattle.coap_forward.specs.Messages.{is_non}
 use Rattle.coap_forward.proofs.Tokens.{length-token_of}
+use Rattle.coap_model.specs.declared.report.Outcome.TheVariants.{Joined, Opened}
 use Rattle.coap_model.specs.Events.{arrival}
 use Rattle.coap_model.specs.Verdicts.{may_ask}
 use Rattle.coap_model.specs.Justified.{verdict_on}
 use Rattle.coap_model.specs.World.{World, remembers, reserved, has_ids, has_exchange_room, has_waiter_room, has_room_to_join, has_room_to_open}
-use Rattle.coap_model.specs.Requests.{joins, opens, new_exchange, new_waiter, next_token, can_join, can_open}
+use Rattle.coap_model.specs.Requests.{new_exchange, new_waiter, next_token}
 use Rattle.coap_model.specs.History.{Act, admits, moves, serves, Deed, Somewhere, Never, admits_one, opened_in, admitted_in, last_of, Opens, Admits, Ends, Serves, IsRequestOf, WasOpened}
 use Rattle.coap_model.specs.Standing as stages
 use Rattle.coap_model.specs.Standing.{standing_in}
 use Rattle.coap_model.specs.Runs.{entry_of}
-use Rattle.coap_model.specs.Carries.{HasNumber, stage_seen, standing_seen, exchange_in, IsExchangeOf, IsWaiterIn, IsWaiterOf, AreUnused, Bears}
+use Rattle.coap_model.specs.Carries.{HasNumber, HasExchange, stage_seen, standing_seen, IsExchangeOf, IsWaiterIn, IsWaiterOf, AreUnused, Bears}
 use Rattle.coap_model.proofs.Frames.{clock_frame, numbers_frame, opened-before, exchanges_frame, waiters_frame, unused_frame, schedules_frame, sends-stay}
 use Rattle.coap_model.proofs.Giving.{ids-kept, given-later}
 use Rattle.coap_model.proofs.Missing.{missed, joinable-found, unanswered}
-use Rattle.coap_model.proofs.OwnReplies.{non_is}
 use Rattle.coap_model.proofs.Places.{here, doing, opened-number, opened-later, admitted-number}
 use Rattle.coap_model.proofs.Remembering.{first-new, first-remembered}
 use Rattle.coap_model.proofs.Replying.{request-came}
 use Rattle.coap_model.proofs.Room.{join-there, room-there}
-use Rattle.coap_model.proofs.Rules.{IsFirst, verdict_in, fits_in, IsMissed, IsUnanswered}
+use Rattle.coap_model.proofs.Rules.{IsFirst, verdict_in, fits_in, IsMissed, IsUnanswered, IsTakenUp, sending, joined_world, opened_world}
 use Rattle.coap_model.proofs.Stores.{store-otherwise}
-use Rattle.coap_model.proofs.Tables.{HasNumber-push, HasNumber-last}
+use Rattle.coap_model.proofs.TakingUp.{taken-up, taken-short}
+use Rattle.coap_model.proofs.Tables.{HasNumber-push, HasNumber-last, HasExchange-on}
 use Rattle.coap_model.proofs.Verdicts.{form-short}
 
 -- ---- numbers
@@ -59,7 +59,7 @@ waiters-below w history c = All-weaken (IsWaiterOf w.setting history) (λ v. v.0
       where
         go : (s : WaiterState) → IsWaiterIn w.setting history v s → v.0 < w.admitted + 1
         go (Waiting exchange) g = let i = admitted-number g.admitted in let h = c.numbers.admitted in omega (arith, i.1)
-        go (Delivering bytes id timer) g = absurd g
+        go (Delivering bytes id timer) g = let i = admitted-number g.admitted in let h = c.numbers.admitted in omega (arith, i.1)
 
 -- ---- a client that is admitted
 
@@ -84,8 +84,8 @@ module _ (w : World) (history : List Deed) (c : Bears history w) (e : Deed) (cli
   still-unused = unused_frame w.setting history e (λ n above. unmoved n) (λ n above. unserved n) c.unused
 
   -- it is seen
-  pub clients-seen : map standing_seen clients ≡ standing_in history ++ record { number = admitted_in history + 1; exchange = exchange } ∷ []
-  clients-seen = map-append standing_seen w.waiters (new_waiter w client m exchange ∷ []) ∙ (λ i. c.whole.waiters i ++ record { number = place i; exchange = exchange } ∷ [])
+  pub clients-seen : map standing_seen clients ≡ standing_in history ++ record { number = admitted_in history + 1; service = stages.waits exchange } ∷ []
+  clients-seen = map-append standing_seen w.waiters (new_waiter w client m exchange ∷ []) ∙ (λ i. c.whole.waiters i ++ record { number = place i; service = stages.waits exchange } ∷ [])
 
   -- numbers of clients rise
   pub clients-rise : IsRising 0 clients
@@ -100,10 +100,10 @@ module _ (w : World) (history : List Deed) (c : Bears history w) (e : Deed) (cli
       was.is_there
 
   -- each waits for an exchange that is there
-  pub clients-awaited : (xs : List (Numbered Exchange)) → HasNumber exchange xs → ((n : ℕ) → HasNumber n w.exchanges → HasNumber n xs) → AllByRecursion (λ u. HasNumber (exchange_in u.1.state) xs) clients
+  pub clients-awaited : (xs : List (Numbered Exchange)) → HasNumber exchange xs → ((n : ℕ) → HasNumber n w.exchanges → HasNumber n xs) → AllByRecursion (λ u. HasExchange u.1.state xs) clients
   clients-awaited xs own more =
-      All-append (λ u. HasNumber (exchange_in u.1.state) xs) w.waiters (new_waiter w client m exchange ∷ [])
-      (All-weaken (λ u. HasNumber (exchange_in u.1.state) w.exchanges) (λ u. HasNumber (exchange_in u.1.state) xs) w.waiters (λ u has. more (exchange_in u.1.state) has) c.whole.awaited)
+      All-append (λ u. HasExchange u.1.state xs) w.waiters (new_waiter w client m exchange ∷ [])
+      (All-weaken (λ u. HasExchange u.1.state w.exchanges) (λ u. HasExchange u.1.state xs) w.waiters (λ u has. HasExchange-on u.1.state w.exchanges xs more has) c.whole.awaited)
       (own, tt)
 
   -- and for each that was there a client waits
@@ -120,6 +120,7 @@ module _ (w : World) (history : List Deed) (c : Bears history w) (e : Deed) (cli
           admitted = record { exchange = exchange; admission = here history e; client = client; request = m; was_admitted = inl refl; admits = record { act = act ∙ ap (λ (n : ℕ). admits n exchange) (sym place); outcome = outcome; number = place }; asked = asked };
           exchange_is = refl;
           client_is = refl;
+          kind_is = refl;
           token_is = refl;
           tags_are = refl;
           unended = unended;
@@ -134,17 +135,17 @@ module _ (w : World) (history : List Deed) (c : Bears history w) (e : Deed) (cli
 -- ---- the rules
 
 -- joining an exchange keeps what is carried
-pub keeps_joining : (w : World) (history : List Deed) (c : Bears history w) → (now draw : ℕ) (client : Endpoint) (bytes : List ℕ) (m : Message) (key : CacheKey) (exchange : ℕ) → w.last ≤ now → IsFirst w now client bytes m → verdict_in w m ≡ may_ask key → IsMissed w now key → first_that (is_joinable key) w.exchanges ≡ Some exchange → can_join w now m.kind ≡ true
-    → Bears (doing (admits (admitted_in history + 1) exchange) (entry_of now draw (arrival client bytes) (joins w now client m exchange)) ∷ history) (remembers now client m (joins w now client m exchange)).world
-keeps_joining w history c now draw client bytes m key exchange onward first verdict none found may_join =
+pub keeps_joining : (w : World) (history : List Deed) (c : Bears history w) → (now draw : ℕ) (client : Endpoint) (bytes : List ℕ) (m : Message) (key : CacheKey) (exchange : ℕ) (send : Option Endpoint) (told : List ℕ) → w.last ≤ now → IsFirst w now client bytes m → verdict_in w m ≡ may_ask key → IsMissed w now key → first_that (is_joinable key) w.exchanges ≡ Some exchange → has_room_to_join w now ≡ true → IsTakenUp client m send told
+    → Bears (doing (admits (admitted_in history + 1) exchange) (entry_of now draw (arrival client bytes) (sending Joined send told (joined_world w now client m exchange))) ∷ history) (remembers now client m (sending Joined send told (joined_world w now client m exchange))).world
+keeps_joining w history c now draw client bytes m key exchange send told onward first verdict none found may up =
+    let s = sending Joined send told (joined_world w now client m exchange) in
     let act : Act = admits (admitted_in history + 1) exchange in
-    let e = doing act (entry_of now draw (arrival client bytes) (joins w now client m exchange)) in
+    let e = doing act (entry_of now draw (arrival client bytes) s) in
     let came = request-came w client bytes m first.fits first.asked in
-    let may = and_parts (is_non m.kind) (has_room_to_join w now) may_join in
     let joined = joinable-found w history c key exchange found in
     let v = new_waiter w client m exchange in
-    let remembered = first-remembered w history c now client bytes m onward draw act (joins w now client m exchange) first refl (λ most wide long. omega arith) in
-    let parts = and_parts (has_waiter_room w) (has_ids 1 w now) may.1 in
+    let remembered = first-remembered w history c now client bytes m onward draw act s first refl (λ most wide long. taken-short client m send told up most wide) in
+    let parts = and_parts (has_waiter_room w) (has_ids 1 w now) may in
     let waiter_room = ltb-true (length w.waiters) w.setting.limits.waiters parts.0 in
     let ids_room = leb-true (given_in now w.ids + reserved w + 1) 32768 parts.1 in
     let longer_waiters = length-append w.waiters (v ∷ []) in
@@ -178,21 +179,20 @@ keeps_joining w history c now draw client bytes m key exchange onward first verd
         pace = c.within.pace;
         ids = λ n after. let fewer = given-later w.ids history c.ids.given c.clock.in_order now n since after in omega arith;
       };
-      past = (record { exchange = exchange; act = refl; client = client; request = m; key = key; asked = came; verdict = verdict; miss = missed w history c now key none; joinable = joined.0; kind = non_is m.kind may.0; new = first-new w history c now client bytes m onward first; room = join-there now history w c onward may.1; silent = record { sent = refl; bytes = refl } }, c.past);
+      past = (record { exchange = exchange; act = refl; client = client; request = m; key = key; asked = came; verdict = verdict; miss = missed w history c now key none; joinable = joined.0; new = first-new w history c now client bytes m onward first; room = join-there now history w c onward may; takes_up = taken-up client m send told e.entry refl refl up }, c.past);
     }
 
 -- and so does opening one
-pub keeps_opening : (w : World) (history : List Deed) (c : Bears history w) → (now draw : ℕ) (client : Endpoint) (bytes : List ℕ) (m : Message) (key : CacheKey) → w.last ≤ now → IsFirst w now client bytes m → verdict_in w m ≡ may_ask key → IsUnanswered w now key → fits_in w key m ≡ true → can_open w now m.kind ≡ true
-    → Bears (doing (admits (admitted_in history + 1) (opened_in history + 1)) (entry_of now draw (arrival client bytes) (opens w now client m key)) ∷ history) (remembers now client m (opens w now client m key)).world
-keeps_opening w history c now draw client bytes m key onward first verdict none short may_open =
+pub keeps_opening : (w : World) (history : List Deed) (c : Bears history w) → (now draw : ℕ) (client : Endpoint) (bytes : List ℕ) (m : Message) (key : CacheKey) (send : Option Endpoint) (told : List ℕ) → w.last ≤ now → IsFirst w now client bytes m → verdict_in w m ≡ may_ask key → IsUnanswered w now key → fits_in w key m ≡ true → has_room_to_open w now ≡ true → IsTakenUp client m send told
+    → Bears (doing (admits (admitted_in history + 1) (opened_in history + 1)) (entry_of now draw (arrival client bytes) (sending Opened send told (opened_world w now client m key))) ∷ history) (remembers now client m (sending Opened send told (opened_world w now client m key))).world
+keeps_opening w history c now draw client bytes m key send told onward first verdict none short room up =
+    let s = sending Opened send told (opened_world w now client m key) in
     let act : Act = admits (admitted_in history + 1) (opened_in history + 1) in
-    let e = doing act (entry_of now draw (arrival client bytes) (opens w now client m key)) in
+    let e = doing act (entry_of now draw (arrival client bytes) s) in
     let came = request-came w client bytes m first.fits first.asked in
-    let may = and_parts (is_non m.kind) (has_room_to_open w now) may_open in
-    let room = may.1 in
     let x = new_exchange w now m key in
     let v = new_waiter w client m (w.opened + 1) in
-    let remembered = first-remembered w history c now client bytes m onward draw act (opens w now client m key) first refl (λ most wide long. omega arith) in
+    let remembered = first-remembered w history c now client bytes m onward draw act s first refl (λ most wide long. taken-short client m send told up most wide) in
     let number : w.opened + 1 ≡ opened_in history + 1 = let h = c.numbers.opened in omega arith in
     let is : act ≡ admits (admitted_in history + 1) (w.opened + 1) = ap (λ (n : ℕ). admits (admitted_in history + 1) n) (sym number) in
     let unused = c.unused.exchanges (w.opened + 1) (omega arith) in
@@ -217,7 +217,7 @@ keeps_opening w history c now draw client bytes m key onward first verdict none 
       schedules = schedules_frame history e refl c.schedules;
       whole = record {
         exchanges = map-append stage_seen w.exchanges (x ∷ []) ∙ (λ i. c.whole.exchanges i ++ record { number = number i; stage = stages.queued } ∷ []);
-        waiters = clients-seen w history c e client m (w.opened + 1) is refl ∙ (λ i. standing_in history ++ record { number = admitted_in history + 1; exchange = number i } ∷ []);
+        waiters = clients-seen w history c e client m (w.opened + 1) is refl ∙ (λ i. standing_in history ++ record { number = admitted_in history + 1; service = stages.waits (number i) } ∷ []);
         rising = IsRising-push 0 (w.opened + 1) w.exchanges x.1 (omega arith) (exchanges-below w history c) c.whole.rising;
         waiters_rise = clients-rise w history c e client m (w.opened + 1) is refl;
         awaited = clients-awaited w history c e client m (w.opened + 1) is refl (w.exchanges ++ x ∷ []) (HasNumber-last (w.opened + 1) w.exchanges x.1) (λ n has. HasNumber-push n w.exchanges (x ∷ []) has);
@@ -261,5 +261,5 @@ keeps_opening w history c now draw client bytes m key onward first verdict none 
         pace = λ to. let pace = c.within.pace to in let one = count-push (is_sent_to to) w.exchanges x in omega arith;
         ids = λ n after. let fewer = given-later w.ids history c.ids.given c.clock.in_order now n since after in omega arith;
       };
-      past = (record { act = refl; client = client; request = m; key = key; asked = came; verdict = verdict; unanswered = unanswered w history c now key none; fits = short; kind = non_is m.kind may.0; new = first-new w history c now client bytes m onward first; room = room-there now history w c onward room; silent = record { sent = refl; bytes = refl } }, c.past);
+      past = (record { act = refl; client = client; request = m; key = key; asked = came; verdict = verdict; unanswered = unanswered w history c now key none; fits = short; new = first-new w history c now client bytes m onward first; room = room-there now history w c onward room; takes_up = taken-up client m send told e.entry refl refl up }, c.past);
     }

@@ -1,7 +1,8 @@
 -- What is owed is given: by exclusion, since each deed is justified by its outcome.
-use Rattle.std.proofs.Common.{◌≡◌, ◌≢◌, ⊎_elim, ℕ, ◌≤◌, true, List, Some, None, refl, sym, ap, ◌∙◌, subst, arith}
+use Rattle.std.proofs.Common.{◌≡◌, ◌≢◌, ◌⊎◌, inl, ⊎_elim, ℕ, ◌≤◌, true, List, Some, None, refl, sym, ap, ◌∙◌, subst, arith}
 use Rattle.coap_message.specs.declared.code.Code.{Code}
-use Rattle.coap_message.specs.declared.kind.Kind.TheVariants.{Con, Non}
+use Rattle.coap_message.specs.declared.kind.Kind.TheVariants.{Con, Non, Ack, Rst}
+use Rattle.coap_message.specs.declared.code.TheConstants.Code.{EMPTY}
 use Rattle.coap_message.specs.declared.message.Head.{Head}
 use Rattle.coap_message.specs.Message.{Message}
 use Rattle.coap_message.specs.Reading.{head_at}
@@ -17,15 +18,15 @@ use Rattle.coap_model.specs.Events.{Event, arrival, tick}
 use Rattle.coap_forward.specs.Messages.{is_recorded}
 use Rattle.coap_model.specs.Verdicts.{may_ask}
 use Rattle.coap_model.specs.Standing.{HasIds, HasRoomToJoin, HasRoomToOpen}
-use Rattle.coap_model.specs.History.{Act, Deed, takes, Brings, IsRequestOf, Meets, Matches}
+use Rattle.coap_model.specs.History.{Act, moves, serves, Deed, takes, Brings, IsRequestOf, Meets, Matches}
 use Rattle.coap_cache.specs.Lists.{of_key}
 use Rattle.coap_model.specs.Cached.{Cached, cached_key, IsCacheOf}
 use Rattle.coap_model.proofs.Cached.{cache-unique}
 use Rattle.coap_model.specs.Due.{IsDueAt}
-use Rattle.coap_model.specs.Justified.{Comes, known_of, HasRecordRoom, IsNew, HasIdFor, IsRepetition, IsDropped, Acknowledges, verdict_on, fits_on, Deserves, by_verdict, by_length, IsMiss, IsJoinable, IsUnanswered, is_fresh_at, IsRefusal, IsHit, IsAnswer, LacksRoom, to_join, to_open, IsOverload, IsLack, IsJoining, IsOpening, IsAwaited, IsForwarding, IsResending, IsGivingUp, overdue, unheard, IsDelivery, IsIdle, IsUnprocessable, IsActing, JustifiedBy}
-use Rattle.coap_model.proofs.Arrivals.{no_tick, one_kind}
+use Rattle.coap_model.specs.Justified.{Comes, known_of, HasRecordRoom, IsNew, HasIdFor, IsRepetition, IsDropped, Acknowledges, Closes, to_reset, to_close, Settles, a_request, an_answer, IsSettled, verdict_on, fits_on, Deserves, by_verdict, by_length, IsMiss, IsJoinable, IsUnanswered, is_fresh_at, IsRefusal, IsHit, IsAnswer, LacksRoom, to_join, to_open, IsOverload, IsLack, IsJoining, IsOpening, IsAwaited, IsForwarding, IsResending, IsGivingUp, overdue, unheard, unacknowledged, IsDelivery, IsIdle, IsUnprocessable, IsActing, JustifiedBy}
+use Rattle.coap_model.proofs.Arrivals.{no_tick}
 use Rattle.coap_model.proofs.Places.{arrival-same, one-brought, request-unique}
-use Rattle.coap_model.proofs.Sorts.{ack-no-request, answer-no-request, answer-no-ack, recorded-sorts, recorded-kind, answer-recorded}
+use Rattle.coap_model.proofs.Sorts.{empty-no-request, answer-no-request, answer-no-ack, answer-reset, recorded-sorts, recorded-kind, answer-recorded}
 
 -- ---- sorts of messages
 
@@ -35,9 +36,30 @@ no_answer {request = request} meets r =
     let one = (one-brought meets.brings r.brings).1 in
     answer-no-request request (subst (Matches _ _) one meets.matches) r.kind r.method
 
--- nor an acknowledgement
-no_ack : {A : Type 0} {setting : Setting} {past : List Deed} {now x : ℕ} {event : Event} {client : Endpoint} {request : Message} → Acknowledges setting past now x event → IsRequestOf setting client request event → A
-no_ack k r = ack-no-request (sym (one_kind k.brings r.brings) ∙ k.kind) r.kind
+-- an event brings an acknowledgement or a Reset, and no more
+record BringsEmpty (setting : Setting) (event : Event) : Type 0 where
+  pub source : Endpoint
+  pub message : Message
+  pub brings : Brings setting.limits.datagram source message event
+  pub kind : (message.kind ≡ Ack) ⊎ (message.kind ≡ Rst)
+  pub empty : message.code ≡ EMPTY
+
+-- what acknowledges a request is Empty
+abbrev acknowledging : {setting : Setting} {past : List Deed} {now x : ℕ} {event : Event} → Acknowledges setting past now x event → BringsEmpty setting event
+acknowledging k = record { source = k.asks.sends.to; message = k.message; brings = k.brings; kind = inl k.kind; empty = k.empty }
+
+-- and so is what closes a client
+abbrev closing : {setting : Setting} {past : List Deed} {now v : ℕ} {event : Event} → Closes setting past now v event → BringsEmpty setting event
+closing k = record { source = k.to; message = k.message; brings = k.brings; kind = k.kind; empty = k.empty }
+
+-- and so is what settles either
+settling : {setting : Setting} {past : List Deed} {d : Deed} → Settles setting past d → BringsEmpty setting d.entry.event
+settling (a_request x act k) = acknowledging k
+settling (an_answer v act k) = closing k
+
+-- what is Empty is no request
+no_empty : {A : Type 0} {setting : Setting} {event : Event} {client : Endpoint} {request : Message} → BringsEmpty setting event → IsRequestOf setting client request event → A
+no_empty {request = request} e r = empty-no-request (subst (λ (m : Message). (m.kind ≡ Ack) ⊎ (m.kind ≡ Rst)) (one-brought e.brings r.brings).1 e.kind) r.kind
 
 -- an answer is no acknowledgement and no more
 not_both : {A : Type 0} {setting : Setting} {past : List Deed} {now x y : ℕ} {event : Event} → Meets setting x past event → Acknowledges setting past now y event → A
@@ -45,9 +67,27 @@ not_both meets k =
     let one = (one-brought meets.brings k.brings).1 in
     answer-no-ack meets.message meets.matches (ap (λ (m : Message). m.kind) one ∙ k.kind) (ap (λ (m : Message). m.code) one ∙ k.empty)
 
--- which isn't remembered
-not_recorded : {A : Type 0} {setting : Setting} {past : List Deed} {now x : ℕ} {event : Event} {source : Endpoint} {m : Message} → Acknowledges setting past now x event → Comes setting source m event → A
-not_recorded {m = m} k comes = ack-no-request (sym (one_kind k.brings comes.brings) ∙ k.kind) (recorded-kind m comes.recorded)
+-- what is Empty isn't remembered
+not_recorded : {A : Type 0} {setting : Setting} {event : Event} {source : Endpoint} {m : Message} → BringsEmpty setting event → Comes setting source m event → A
+not_recorded {m = m} e comes = empty-no-request (subst (λ (n : Message). (n.kind ≡ Ack) ⊎ (n.kind ≡ Rst)) (one-brought e.brings comes.brings).1 e.kind) (recorded-kind m comes.recorded)
+
+-- an answer that closes a client is a Reset
+answer_resets : {setting : Setting} {past : List Deed} {now x v : ℕ} {event : Event} → (meets : Meets setting x past event) → Closes setting past now v event → meets.message.kind ≡ Rst
+answer_resets meets k =
+    let one = sym (one-brought meets.brings k.brings).1 in
+    answer-reset meets.message meets.matches (subst (λ (m : Message). (m.kind ≡ Ack) ⊎ (m.kind ≡ Rst)) one k.kind) (subst (λ (m : Message). m.code ≡ EMPTY) one k.empty)
+
+-- what is meant for one alone settles nothing where it is an answer that is awaited
+not_settled : {A : Type 0} {setting : Setting} {past : List Deed} {d : Deed} {x : ℕ} → IsAwaited setting past d.entry.now x d.entry.event → IsSettled setting past d → A
+not_settled {setting = setting} {past = past} {d = d} {x = x} a k = go k.settles
+  where
+    go : {A : Type 0} → Settles setting past d → A
+    go (a_request y act acknowledges) = not_both a.meets acknowledges
+    go (an_answer v act closes) = absurd (let e = k.only (moves x) (to_reset x a refl (answer_resets a.meets closes)) ∙ act in cc)
+
+-- nor does it close a client where it is one that is taken
+not_closed : {A : Type 0} {setting : Setting} {past : List Deed} {d : Deed} {v : ℕ} → IsAnswer setting past d → Closes setting past d.entry.now v d.entry.event → A
+not_closed {v = v} a k = absurd (let e = a.only (answer_resets a.gets.meets k) (serves v) (to_close v refl k) ∙ a.gets.act in cc)
 
 -- an answer that is remembered is Confirmable
 answer_con : {setting : Setting} {past : List Deed} {x : ℕ} {event : Event} {source : Endpoint} {m : Message} → (meets : Meets setting x past event) → Comes setting source m event → meets.message.kind ≡ Con
@@ -66,6 +106,7 @@ taken-so NotStored setting past d j = j.answer
 pub given_up-so : (setting : Setting) (past : List Deed) (d : Deed) → IsGivingUp setting past d → IsActing setting past d
 given_up-so setting past d (overdue exchange at acting act to_end come silent) = acting
 given_up-so setting past d (unheard exchange at acting act to_repeat first come stops silent) = acting
+given_up-so setting past d (unacknowledged client acting act to_serve stops silent) = acting
 
 -- what becomes of a request
 data OnRequest (setting : Setting) (past : List Deed) (d : Deed) : Outcome → Type 0 where
@@ -92,7 +133,7 @@ on-request Hit setting past d client request j r = hit j
 on-request Again setting past d client request j r = repeated j
 on-request NoRecordRoom setting past d client request j r = dropped j
 on-request (Answered s) setting past d client request j r = no_answer (taken-so s setting past d j).gets.meets r
-on-request Acked setting past d client request j r = no_ack j.acknowledges r
+on-request Acked setting past d client request j r = no_empty (settling j.settles) r
 on-request SentRequest setting past d client request j r = no_tick r.brings.came j.acting.ticked
 on-request Resent setting past d client request j r = no_tick r.brings.came j.acting.ticked
 on-request GaveUp setting past d client request j r = no_tick r.brings.came (given_up-so setting past d j).ticked
@@ -139,14 +180,14 @@ lacks-miss (to_join x miss joinable full) = miss
 lacks-miss (to_open unanswered short full) = unanswered.miss
 
 -- where nothing answers, and there is room to open an exchange, room isn't lacking
-roomy-open : {A : Type 0} (setting : Setting) (past : List Deed) (now : ℕ) (key other : CacheKey) (request : Message) → IsUnanswered setting past now key → HasRoomToOpen setting.limits now past → request.kind ≡ Non → key ≡ other → LacksRoom setting past now other request → A
-roomy-open setting past now key other request unanswered room kind same (to_join x miss joinable full) = none-joinable setting past now x key other unanswered same joinable
-roomy-open setting past now key other request unanswered room kind same (to_open also short full) = absurd (full kind room)
+roomy-open : {A : Type 0} (setting : Setting) (past : List Deed) (now : ℕ) (key other : CacheKey) (request : Message) → IsUnanswered setting past now key → HasRoomToOpen setting.limits now past → key ≡ other → LacksRoom setting past now other request → A
+roomy-open setting past now key other request unanswered room same (to_join x miss joinable full) = none-joinable setting past now x key other unanswered same joinable
+roomy-open setting past now key other request unanswered room same (to_open also short full) = absurd (full room)
 
 -- nor is it where an exchange may be joined, and there is room to join it
-roomy-join : {A : Type 0} (setting : Setting) (past : List Deed) (now x : ℕ) (key other : CacheKey) (request : Message) → IsJoinable setting past key x → HasRoomToJoin setting.limits now past → request.kind ≡ Non → key ≡ other → LacksRoom setting past now other request → A
-roomy-join setting past now x key other request joinable room kind same (to_join y miss also full) = absurd (full kind room)
-roomy-join setting past now x key other request joinable room kind same (to_open unanswered short full) = none-joinable setting past now x other key unanswered (sym same) joinable
+roomy-join : {A : Type 0} (setting : Setting) (past : List Deed) (now x : ℕ) (key other : CacheKey) (request : Message) → IsJoinable setting past key x → HasRoomToJoin setting.limits now past → key ≡ other → LacksRoom setting past now other request → A
+roomy-join setting past now x key other request joinable room same (to_join y miss also full) = absurd (full room)
+roomy-join setting past now x key other request joinable room same (to_open unanswered short full) = none-joinable setting past now x other key unanswered (sym same) joinable
 
 -- a request deserves one code
 one_code : (setting : Setting) (past : List Deed) (now : ℕ) (request : Message) (a b : Code) → Deserves setting past now request a → Deserves setting past now request b → a ≡ b
@@ -206,7 +247,7 @@ given_again o setting past d source m known j comes found = go o j
         let a = taken-so s setting past d k in
         let meets = a.gets.meets in
         new meets.asks.sends.to meets.message meets.brings (a.new (answer_con meets comes)).unknown
-    go Acked k = not_recorded k.acknowledges comes
+    go Acked k = not_recorded (settling k.settles) comes
     go SentRequest k = no_tick comes.brings.came k.acting.ticked
     go Resent k = no_tick comes.brings.came k.acting.ticked
     go GaveUp k = no_tick comes.brings.came (given_up-so setting past d k).ticked
@@ -284,9 +325,37 @@ module _ (o : Outcome) (setting : Setting) (past : List Deed) (d : Deed) (client
         go (refused code k) = lacks_well setting past now request code key (same_deserved setting past now d k.client client k.request request code k.asked r k.deserved) verdict lacks
         go (overloaded k) = refl
         go (lacking k) = absurd (k.no_ids (ids (sym (ap (λ (m : Message). m.kind) (one k.client k.request k.asked)) ∙ k.kind)))
-        go (joined k) = roomy-join setting past now k.exchange k.key key request k.joinable k.room (ap (λ (m : Message). m.kind) (sym (one k.client k.request k.asked)) ∙ k.kind) (key-of setting d k.client client k.request request k.key key k.asked r k.verdict verdict) lacks
-        go (opened k) = roomy-open setting past now k.key key request k.unanswered k.room (ap (λ (m : Message). m.kind) (sym (one k.client k.request k.asked)) ∙ k.kind) (key-of setting d k.client client k.request request k.key key k.asked r k.verdict verdict) lacks
+        go (joined k) = roomy-join setting past now k.exchange k.key key request k.joinable k.room (key-of setting d k.client client k.request request k.key key k.asked r k.verdict verdict) lacks
+        go (opened k) = roomy-open setting past now k.key key request k.unanswered k.room (key-of setting d k.client client k.request request k.key key k.asked r k.verdict verdict) lacks
         go (hit k) = missed-or-hit setting past now key k.key k.cached k.entry (lacks-miss lacks) (key-of setting d client k.client request k.request key k.key r k.asked verdict k.verdict) k.is_cache k.found k.fresh
+        go (repeated k) = not-again k
+        go (dropped k) = not-dropped k
+
+    -- one that nothing answers, with room, is opened
+    pub given_opened : (key : CacheKey) → verdict_on setting request ≡ may_ask key → IsUnanswered setting past d.entry.now key → fits_on setting key request ≡ true → HasRoomToOpen setting.limits d.entry.now past → o ≡ Opened
+    given_opened key verdict unanswered short room = go (on-request o setting past d client request j r)
+      where
+        go : {p : Outcome} → OnRequest setting past d p → p ≡ Opened
+        go (refused code k) = fits_well setting past now request code key (same_deserved setting past now d k.client client k.request request code k.asked r k.deserved) verdict short
+        go (overloaded k) = roomy-open setting past now key k.key k.request unanswered room (key-of setting d client k.client request k.request key k.key r k.asked verdict k.verdict) k.no_room
+        go (lacking k) = absurd (k.no_ids (fewer_ids d.entry.now past room.ids))
+        go (joined k) = none-joinable setting past now k.exchange key k.key unanswered (key-of setting d client k.client request k.request key k.key r k.asked verdict k.verdict) k.joinable
+        go (opened k) = refl
+        go (hit k) = missed-or-hit setting past now key k.key k.cached k.entry unanswered.miss (key-of setting d client k.client request k.request key k.key r k.asked verdict k.verdict) k.is_cache k.found k.fresh
+        go (repeated k) = not-again k
+        go (dropped k) = not-dropped k
+
+    -- one that is missed, and whose key has an exchange that may be joined, is joined, with room
+    pub given_joined : (key : CacheKey) (x : ℕ) → verdict_on setting request ≡ may_ask key → IsMiss setting past key d.entry.now → IsJoinable setting past key x → HasRoomToJoin setting.limits d.entry.now past → o ≡ Joined
+    given_joined key x verdict miss joinable room = go (on-request o setting past d client request j r)
+      where
+        go : {p : Outcome} → OnRequest setting past d p → p ≡ Joined
+        go (refused code k) = joins_well setting past now x request code key (same_deserved setting past now d k.client client k.request request code k.asked r k.deserved) verdict joinable
+        go (overloaded k) = roomy-join setting past now x key k.key k.request joinable room (key-of setting d client k.client request k.request key k.key r k.asked verdict k.verdict) k.no_room
+        go (lacking k) = absurd (k.no_ids room.ids)
+        go (joined k) = refl
+        go (opened k) = none-joinable setting past now x k.key key k.unanswered (key-of setting d k.client client k.request request k.key key k.asked r k.verdict verdict) joinable
+        go (hit k) = missed-or-hit setting past now key k.key k.cached k.entry miss (key-of setting d client k.client request k.request key k.key r k.asked verdict k.verdict) k.is_cache k.found k.fresh
         go (repeated k) = not-again k
         go (dropped k) = not-dropped k
 
@@ -305,34 +374,6 @@ module _ (o : Outcome) (setting : Setting) (past : List Deed) (d : Deed) (client
           go (joined k) = absurd (none k.room.ids)
           go (opened k) = absurd (none (fewer_ids d.entry.now past k.room.ids))
           go (hit k) = absurd (none (k.ids (non k.client k.request k.asked)))
-          go (repeated k) = not-again k
-          go (dropped k) = not-dropped k
-
-      -- one that nothing answers, with room, is opened
-      pub given_opened : (key : CacheKey) → verdict_on setting request ≡ may_ask key → IsUnanswered setting past d.entry.now key → fits_on setting key request ≡ true → HasRoomToOpen setting.limits d.entry.now past → o ≡ Opened
-      given_opened key verdict unanswered short room = go (on-request o setting past d client request j r)
-        where
-          go : {p : Outcome} → OnRequest setting past d p → p ≡ Opened
-          go (refused code k) = fits_well setting past now request code key (same_deserved setting past now d k.client client k.request request code k.asked r k.deserved) verdict short
-          go (overloaded k) = roomy-open setting past now key k.key k.request unanswered room (non k.client k.request k.asked) (key-of setting d client k.client request k.request key k.key r k.asked verdict k.verdict) k.no_room
-          go (lacking k) = absurd (k.no_ids (fewer_ids d.entry.now past room.ids))
-          go (joined k) = none-joinable setting past now k.exchange key k.key unanswered (key-of setting d client k.client request k.request key k.key r k.asked verdict k.verdict) k.joinable
-          go (opened k) = refl
-          go (hit k) = missed-or-hit setting past now key k.key k.cached k.entry unanswered.miss (key-of setting d client k.client request k.request key k.key r k.asked verdict k.verdict) k.is_cache k.found k.fresh
-          go (repeated k) = not-again k
-          go (dropped k) = not-dropped k
-
-      -- one that is missed, and whose key has an exchange that may be joined, is joined, with room
-      pub given_joined : (key : CacheKey) (x : ℕ) → verdict_on setting request ≡ may_ask key → IsMiss setting past key d.entry.now → IsJoinable setting past key x → HasRoomToJoin setting.limits d.entry.now past → o ≡ Joined
-      given_joined key x verdict miss joinable room = go (on-request o setting past d client request j r)
-        where
-          go : {p : Outcome} → OnRequest setting past d p → p ≡ Joined
-          go (refused code k) = joins_well setting past now x request code key (same_deserved setting past now d k.client client k.request request code k.asked r k.deserved) verdict joinable
-          go (overloaded k) = roomy-join setting past now x key k.key k.request joinable room (non k.client k.request k.asked) (key-of setting d client k.client request k.request key k.key r k.asked verdict k.verdict) k.no_room
-          go (lacking k) = absurd (k.no_ids room.ids)
-          go (joined k) = refl
-          go (opened k) = none-joinable setting past now x k.key key k.unanswered (key-of setting d k.client client k.request request k.key key k.asked r k.verdict verdict) joinable
-          go (hit k) = missed-or-hit setting past now key k.key k.cached k.entry miss (key-of setting d client k.client request k.request key k.key r k.asked verdict k.verdict) k.is_cache k.found k.fresh
           go (repeated k) = not-again k
           go (dropped k) = not-dropped k
 
@@ -355,7 +396,7 @@ module _ (o : Outcome) (setting : Setting) (past : List Deed) (d : Deed) (x : �
       go Again k = new-known setting.limits.datagram past d a.meets.asks.sends.to k.source a.meets.message k.message k.known a.meets.brings k.comes.brings (new (answer_con a.meets k.comes)).unknown k.found
       go NoRecordRoom k = new-full setting past d a.meets.asks.sends.to k.source a.meets.message k.message a.meets.brings k.comes.brings (new (answer_con a.meets k.comes)) k.full
       go (Answered s) k = refl
-      go Acked k = not_both a.meets k.acknowledges
+      go Acked k = not_settled a k
       go SentRequest k = no_tick a.meets.brings.came k.acting.ticked
       go Resent k = no_tick a.meets.brings.came k.acting.ticked
       go GaveUp k = no_tick a.meets.brings.came (given_up-so setting past d k).ticked
@@ -378,7 +419,7 @@ module _ (o : Outcome) (setting : Setting) (past : List Deed) (d : Deed) (x : �
       go Again k = new-known setting.limits.datagram past d a.meets.asks.sends.to k.source a.meets.message k.message k.known a.meets.brings k.comes.brings unknown k.found
       go NoRecordRoom k = refl
       go (Answered s) k = let b = taken-so s setting past d k in let m = b.gets.meets in let one = (one-brought a.meets.brings m.brings).1 in new-full setting past d m.asks.sends.to a.meets.asks.sends.to m.message a.meets.message m.brings a.meets.brings (b.new (sym (ap (λ (n : Message). n.kind) one) ∙ con)) full
-      go Acked k = not_both a.meets k.acknowledges
+      go Acked k = not_settled a k
       go SentRequest k = no_tick a.meets.brings.came k.acting.ticked
       go Resent k = no_tick a.meets.brings.came k.acting.ticked
       go GaveUp k = no_tick a.meets.brings.came (given_up-so setting past d k).ticked
@@ -392,14 +433,14 @@ given_settled o setting past d x j a = go o j
     go : (p : Outcome) → JustifiedBy p setting past d → p ≡ Acked
     go Ignored k = absurd (k.unprocessable.no_settling x a)
     go Rejected k = absurd (k.unprocessable.no_settling x a)
-    go (Refused code) k = no_ack a k.asked
-    go Joined k = no_ack a k.asked
-    go Opened k = no_ack a k.asked
-    go Overloaded k = no_ack a k.asked
-    go NoId k = no_ack a k.asked
-    go Hit k = no_ack a k.asked
-    go Again k = not_recorded a k.comes
-    go NoRecordRoom k = not_recorded a k.comes
+    go (Refused code) k = no_empty (acknowledging a) k.asked
+    go Joined k = no_empty (acknowledging a) k.asked
+    go Opened k = no_empty (acknowledging a) k.asked
+    go Overloaded k = no_empty (acknowledging a) k.asked
+    go NoId k = no_empty (acknowledging a) k.asked
+    go Hit k = no_empty (acknowledging a) k.asked
+    go Again k = not_recorded (acknowledging a) k.comes
+    go NoRecordRoom k = not_recorded (acknowledging a) k.comes
     go (Answered s) k = not_both (taken-so s setting past d k).gets.meets a
     go Acked k = refl
     go SentRequest k = no_tick a.brings.came k.acting.ticked
@@ -407,6 +448,34 @@ given_settled o setting past d x j a = go o j
     go GaveUp k = no_tick a.brings.came (given_up-so setting past d k).ticked
     go Delivered k = no_tick a.brings.came k.acting.ticked
     go Idle k = no_tick a.brings.came k.ticked
+
+-- what closes a client settles its answer
+pub given_closed : (o : Outcome) (setting : Setting) (past : List Deed) (d : Deed) (v : ℕ) → JustifiedBy o setting past d → Closes setting past d.entry.now v d.entry.event → o ≡ Acked
+given_closed o setting past d v j a = go o j
+  where
+    go : (p : Outcome) → JustifiedBy p setting past d → p ≡ Acked
+    go Ignored k = absurd (k.unprocessable.no_closing v a)
+    go Rejected k = absurd (k.unprocessable.no_closing v a)
+    go (Refused code) k = no_empty (closing a) k.asked
+    go Joined k = no_empty (closing a) k.asked
+    go Opened k = no_empty (closing a) k.asked
+    go Overloaded k = no_empty (closing a) k.asked
+    go NoId k = no_empty (closing a) k.asked
+    go Hit k = no_empty (closing a) k.asked
+    go Again k = not_recorded (closing a) k.comes
+    go NoRecordRoom k = not_recorded (closing a) k.comes
+    go (Answered s) k = not_closed (taken-so s setting past d k) a
+    go Acked k = refl
+    go SentRequest k = no_tick a.brings.came k.acting.ticked
+    go Resent k = no_tick a.brings.came k.acting.ticked
+    go GaveUp k = no_tick a.brings.came (given_up-so setting past d k).ticked
+    go Delivered k = no_tick a.brings.came k.acting.ticked
+    go Idle k = no_tick a.brings.came k.ticked
+
+-- what settles either is settled
+pub given_either : (o : Outcome) (setting : Setting) (past : List Deed) (d e : Deed) → JustifiedBy o setting past e → d.entry.now ≡ e.entry.now → d.entry.event ≡ e.entry.event → Settles setting past d → o ≡ Acked
+given_either o setting past d e j now event (a_request x act k) = given_settled o setting past e x j (subst (λ (f : Event). Acknowledges setting past e.entry.now x f) event (subst (λ (n : ℕ). Acknowledges setting past n x d.entry.event) now k))
+given_either o setting past d e j now event (an_answer v act k) = given_closed o setting past e v j (subst (λ (f : Event). Closes setting past e.entry.now v f) event (subst (λ (n : ℕ). Closes setting past n v d.entry.event) now k))
 
 -- ---- what isn't processed
 
@@ -421,6 +490,11 @@ no_drop k not =
     (λ request. not.no_request k.source k.message (record { brings = k.comes.brings; kind = request.0; method = request.1 }))
     (λ response. let wanted = k.wanted response.1 in not.no_answer wanted.0 wanted.1)
     (recorded-sorts k.message k.comes.recorded))
+
+-- nor does it settle anything
+no_settling : {A : Type 0} {setting : Setting} {past : List Deed} {d : Deed} → Settles setting past d → IsUnprocessable setting past d.entry → A
+no_settling (a_request x act k) not = absurd (not.no_settling x k)
+no_settling (an_answer v act k) not = absurd (not.no_closing v k)
 
 -- nor is it told again
 no_again : {A : Type 0} {setting : Setting} {past : List Deed} {d : Deed} → IsRepetition setting past d → IsUnprocessable setting past d.entry → A
@@ -443,7 +517,7 @@ module _ (o : Outcome) (setting : Setting) (past : List Deed) (d : Deed) (source
       go Again k = no_again k not
       go NoRecordRoom k = no_drop k not
       go (Answered s) k = let a = taken-so s setting past d k in absurd (not.no_answer a.exchange (answer-awaited a))
-      go Acked k = absurd (not.no_settling k.exchange k.acknowledges)
+      go Acked k = no_settling k.settles not
       go SentRequest k = no_tick came k.acting.ticked
       go Resent k = no_tick came k.acting.ticked
       go GaveUp k = no_tick came (given_up-so setting past d k).ticked
@@ -466,7 +540,7 @@ module _ (o : Outcome) (setting : Setting) (past : List Deed) (d : Deed) (source
       go Again k = no_again k not
       go NoRecordRoom k = no_drop k not
       go (Answered s) k = let a = taken-so s setting past d k in absurd (not.no_answer a.exchange (answer-awaited a))
-      go Acked k = absurd (not.no_settling k.exchange k.acknowledges)
+      go Acked k = no_settling k.settles not
       go SentRequest k = no_tick came k.acting.ticked
       go Resent k = no_tick came k.acting.ticked
       go GaveUp k = no_tick came (given_up-so setting past d k).ticked
@@ -483,7 +557,7 @@ pub data OnTick (setting : Setting) (past : List Deed) (d : Deed) : Outcome → 
   delivered : IsDelivery setting past d → OnTick setting past d Delivered
   idle : IsIdle setting past d → OnTick setting past d Idle
 
--- a tick sends a request, for the first time or again, gives one up, serves a waiter or does nothing
+-- a tick sends a request or serves a client, for the first time or again, gives one up or does nothing
 pub on-tick : (o : Outcome) (setting : Setting) (past : List Deed) (d : Deed) → JustifiedBy o setting past d → d.entry.event ≡ tick → OnTick setting past d o
 on-tick Ignored setting past d j ticked = no_tick j.came ticked
 on-tick Rejected setting past d j ticked = no_tick j.came ticked
@@ -496,7 +570,7 @@ on-tick Again setting past d j ticked = no_tick j.comes.brings.came ticked
 on-tick NoRecordRoom setting past d j ticked = no_tick j.comes.brings.came ticked
 on-tick Hit setting past d j ticked = no_tick j.asked.brings.came ticked
 on-tick (Answered s) setting past d j ticked = no_tick (taken-so s setting past d j).gets.meets.brings.came ticked
-on-tick Acked setting past d j ticked = no_tick j.acknowledges.brings.came ticked
+on-tick Acked setting past d j ticked = no_tick (settling j.settles).brings.came ticked
 on-tick SentRequest setting past d j ticked = sent j
 on-tick Resent setting past d j ticked = resent j
 on-tick GaveUp setting past d j ticked = given_up j

@@ -31,7 +31,7 @@ use Rattle.coap_model.specs.Runs.{entry_of}
 use Rattle.coap_model.specs.History.{Entry, moves, Deed, Never, Ends}
 use Rattle.coap_model.specs.Standing.{staged, done}
 use Rattle.coap_model.specs.Schedules.{oldest, sends_by, IsSchedule, MayGoOn, SaysAsBefore}
-use Rattle.coap_model.specs.Justified.{IsGivingUp, overdue, unheard, given_up}
+use Rattle.coap_model.specs.Justified.{IsGivingUp, overdue, unheard, given_up, request_again}
 use Rattle.coap_model.specs.Carries.{IsTimer, AreOfBytes, IsInFlight, IsState, stage_seen, form_id, Bears}
 use Rattle.coap_model.proofs.Acting.{due_of, timer-due, acting}
 use Rattle.coap_model.proofs.Frames.{same_act-self, sends-quiet, sent_frame, sends-grow, schedules_with, schedules_frame}
@@ -68,7 +68,7 @@ may-go_on now (e ∷ es) t h on =
     record { few = omega arith; soon = omega arith }
 
 -- or else may not
-may-not : (now : ℕ) (es : List Entry) (t : Timer) → IsTimer t es → goes_on now t ≡ false → MayGoOn now es → ⊥
+pub may-not : (now : ℕ) (es : List Entry) (t : Timer) → IsTimer t es → goes_on now t ≡ false → MayGoOn now es → ⊥
 may-not now [] t h on m = m
 may-not now (e ∷ es) t h off m =
     let sends = h.0 in
@@ -89,45 +89,37 @@ schedule-again e before es t to bytes h come on same send is s =
     record { few = omega arith; spaced = (omega (arith, come, due), soon, (send ∙ sym same.0.0, is ∙ sym same.0.1), s.spaced) }
 
 -- what its timer says of a sending
-goes-again : (now : ℕ) (t : Timer) → fire_of now t ≡ Again → goes_on now t ≡ true
+pub goes-again : (now : ℕ) (t : Timer) → fire_of now t ≡ Again → goes_on now t ≡ true
 goes-again now t e = go (goes_on now t) refl e
   where
     go : (b : Bool) → goes_on now t ≡ b → cond b Again GiveUp ≡ Again → b ≡ true
     go true f g = refl
     go false f g = absurd cc
 
-goes-no_more : (now : ℕ) (t : Timer) → fire_of now t ≡ GiveUp → goes_on now t ≡ false
+pub goes-no_more : (now : ℕ) (t : Timer) → fire_of now t ≡ GiveUp → goes_on now t ≡ false
 goes-no_more now t e = go (goes_on now t) refl e
   where
     go : (b : Bool) → goes_on now t ≡ b → cond b Again GiveUp ≡ GiveUp → b ≡ false
     go true f g = absurd cc
     go false f g = refl
 
--- what is known of a sending whose timer goes on
-record GoesAgain (w : World) (history : List Deed) (now number : ℕ) (x : Exchange) (e : Deed) (flight : IsInFlight w.setting history (number, x)) : Type 0 where
-  pub timer : IsTimer (fired now flight.sending.timer) (e.entry ∷ sends_by (moves number) history)
-  pub schedule : IsSchedule (e.entry ∷ sends_by (moves number) history)
-  pub may : MayGoOn now (sends_by (moves number) history)
-  pub same : SaysAsBefore (sends_by (moves number) history) e.entry
+-- what is known of a message whose timer goes on, as it is sent again
+pub record GoesAgain (now : ℕ) (t : Timer) (es : List Entry) (e : Entry) : Type 0 where
+  pub timer : IsTimer (fired now t) (e ∷ es)
+  pub schedule : IsSchedule (e ∷ es)
+  pub may : MayGoOn now es
+  pub same : SaysAsBefore es e
 
-goes : (w : World) (history : List Deed) (now number : ℕ) (x : Exchange) (e : Deed) (flight : IsInFlight w.setting history (number, x)) → e.entry.now ≡ now → flight.sending.timer.due ≤ now → goes_on now flight.sending.timer ≡ true → e.entry.report.send ≡ Some x.key.target.at → e.entry.bytes ≡ x.form → IsSchedule (sends_by (moves number) history) → GoesAgain w history now number x e flight
-goes w history now number x e flight moment come on send is schedule = go (sends_by (moves number) history) refl
-  where
-    t : Timer
-    t = flight.sending.timer
-
-    go : (es : List Entry) → sends_by (moves number) history ≡ es → GoesAgain w history now number x e flight
-    go [] none = absurd (subst (IsTimer t) none flight.asked.timer)
-    go (before ∷ es) some =
-        let timer = subst (IsTimer t) some flight.asked.timer in
-        let bytes = subst (AreOfBytes x.key.target.at x.form) some flight.asked.bytes in
-        let on_here : goes_on e.entry.now t ≡ true = subst (λ (n : ℕ). goes_on n t ≡ true) (sym moment) on in
-        record {
-          timer = subst (λ (l : List Entry). IsTimer (fired now t) (e.entry ∷ l)) (sym some) (subst (λ (n : ℕ). IsTimer (fired n t) (e.entry ∷ before ∷ es)) moment (timer-again e.entry before es t timer on_here));
-          schedule = subst (λ (l : List Entry). IsSchedule (e.entry ∷ l)) (sym some) (schedule-again e.entry before es t x.key.target.at x.form timer (omega (arith, come, moment)) on_here bytes send is (subst IsSchedule some schedule));
-          may = subst (MayGoOn now) (sym some) (may-go_on now (before ∷ es) t timer on);
-          same = subst (λ (l : List Entry). SaysAsBefore l e.entry) (sym some) (send ∙ sym bytes.0.0, is ∙ sym bytes.0.1);
-        }
+pub goes : (now : ℕ) (t : Timer) (es : List Entry) (to : Endpoint) (bytes : List ℕ) (e : Entry) → e.now ≡ now → IsTimer t es → AreOfBytes to bytes es → t.due ≤ now → goes_on now t ≡ true → e.report.send ≡ Some to → e.bytes ≡ bytes → IsSchedule es → GoesAgain now t es e
+goes now t [] to bytes e moment timer are come on send is schedule = absurd timer
+goes now t (before ∷ es) to bytes e moment timer are come on send is schedule =
+    let on_here : goes_on e.now t ≡ true = subst (λ (n : ℕ). goes_on n t ≡ true) (sym moment) on in
+    record {
+      timer = subst (λ (n : ℕ). IsTimer (fired n t) (e ∷ before ∷ es)) moment (timer-again e before es t timer on_here);
+      schedule = schedule-again e before es t to bytes timer (omega (arith, come, moment)) on_here are send is schedule;
+      may = may-go_on now (before ∷ es) t timer on;
+      same = (send ∙ sym are.0.0, is ∙ sym are.0.1);
+    }
 
 -- ---- a request is sent again
 
@@ -144,7 +136,7 @@ keeps_resending w history c now draw at number x onward turn sent early fire =
     let ended = turn-ended w history c now at number x turn sent s flight.sending_is early in
     let due = turn-due w history c now at number x turn in
     let come = due.1 in
-    let g = goes w history now number x e flight refl (omega arith) on refl refl (c.schedules (moves number)) in
+    let g = goes now s.timer (sends_by (moves number) history) x.key.target.at x.form e.entry refl a.timer a.bytes (omega arith) on refl refl (c.schedules (moves number)) in
     let grown : sends_by (moves number) (e ∷ history) ≡ e.entry ∷ sends_by (moves number) history = sends-grow (moves number) history e (same_act-self number) refl in
     let queued_same = count-kept is_queued number (fired_exchange now) w.exchanges (λ y. refl) in
     let within = c.within.ids in
@@ -187,11 +179,11 @@ keeps_resending w history c now draw at number x onward turn sent early fire =
     (store-otherwise w.setting history w.store e refl c.store)
     (remembered-still w history c e onward (λ k. refl)) (
       record {
-        exchange = number;
-        act = refl;
         acting = acting w history c now (OfExchange at number) turn.due e refl refl refl;
-        to_repeat = record { to = x.key.target.at; stage = turn-stage w history c now at number x turn sent s flight.sending_is; at_is = ended ∙ timer-due s.timer _ a.timer };
-        in_time = turn-in_time w history c now at number x turn early;
+        again =
+            request_again number refl
+            (record { to = x.key.target.at; stage = turn-stage w history c now at number x turn sent s flight.sending_is; at_is = ended ∙ timer-due s.timer _ a.timer })
+            (turn-in_time w history c now at number x turn early);
         goes_on = g.may;
         same = g.same;
       },

@@ -57,8 +57,8 @@ new-here : (o : Outcome) (setting : Setting) (past : List Deed) (d : Deed) (sour
 new-here (Refused code) setting past d source bytes former j came head kept = record { source = j.client; message = j.request; brings = j.asked.brings; kind = j.asked.kind; unknown = j.new.unknown; sent = λ con. j.tells.sent }
 new-here Hit setting past d source bytes former j came head kept = record { source = j.client; message = j.request; brings = j.asked.brings; kind = j.asked.kind; unknown = j.new.unknown; sent = λ con. j.tells.sent }
 new-here Overloaded setting past d source bytes former j came head kept = record { source = j.client; message = j.request; brings = j.asked.brings; kind = j.asked.kind; unknown = j.new.unknown; sent = λ con. j.tells.sent }
-new-here Joined setting past d source bytes former j came head kept = record { source = j.client; message = j.request; brings = j.asked.brings; kind = j.asked.kind; unknown = j.new.unknown; sent = λ con. not-both j.kind con }
-new-here Opened setting past d source bytes former j came head kept = record { source = j.client; message = j.request; brings = j.asked.brings; kind = j.asked.kind; unknown = j.new.unknown; sent = λ con. not-both j.kind con }
+new-here Joined setting past d source bytes former j came head kept = record { source = j.client; message = j.request; brings = j.asked.brings; kind = j.asked.kind; unknown = j.new.unknown; sent = λ con. (subst (λ (k : Kind). TakesUp k j.client j.request.id d.entry) con j.takes_up).sent }
+new-here Opened setting past d source bytes former j came head kept = record { source = j.client; message = j.request; brings = j.asked.brings; kind = j.asked.kind; unknown = j.new.unknown; sent = λ con. (subst (λ (k : Kind). TakesUp k j.client j.request.id d.entry) con j.takes_up).sent }
 new-here NoId setting past d source bytes former j came head kept = record { source = j.client; message = j.request; brings = j.asked.brings; kind = j.asked.kind; unknown = j.new.unknown; sent = λ con. not-both j.kind con }
 new-here (Answered s) setting past d source bytes former j came head kept = let a = taken-so s setting past d j in answer-new setting past d a (head_kind a.gets.meets.brings came head ∙ con-so former.kind kept)
 new-here Ignored setting past d source bytes former j came head kept = absurd cc

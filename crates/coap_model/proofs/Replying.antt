@@ -31,7 +31,7 @@ use Rattle.coap_model.specs.Step.{message_in}
 use Rattle.coap_model.specs.History.{Entry, no_item, Deed, comes_con, gives_id, ids_in, IsRequestOf}
 use Rattle.coap_exchange.specs.declared.ids.Ids.{Ids as Given}
 use Rattle.coap_exchange.specs.Ids.{given_in, called}
-use Rattle.coap_model.specs.Justified.{Comes, IsNew, HasIdFor, SaysAgain, IsAwaited, Acknowledges, IsUnprocessable}
+use Rattle.coap_model.specs.Justified.{Comes, IsNew, HasIdFor, SaysAgain, IsAwaited, Acknowledges, Closes, Closes, IsUnprocessable}
 use Rattle.coap_model.specs.Runs.{entry_of}
 use Rattle.coap_model.specs.Carries.{Ids, Bears}
 use Rattle.coap_model.proofs.Giving.{ids-kept, ids-given, room-called}
@@ -44,7 +44,7 @@ use Rattle.coap_model.proofs.Remembering.{known-is, limit-is, first-new, first-r
 use Rattle.coap_model.proofs.Missing.{deserves, lacks_room}
 use Rattle.coap_model.proofs.Room.{ids-free, ids-none}
 use Rattle.coap_model.proofs.Stores.{store-otherwise}
-use Rattle.coap_model.proofs.Awaiting.{awaited-by, not-known, not-ignored, not-settled}
+use Rattle.coap_model.proofs.Awaiting.{awaited-by, not-known, not-ignored, not-settled, not-closed, not-closed}
 use Rattle.coap_model.proofs.Quiet.{room-still, keeps_still, keeps_quiet}
 
 -- ---- what came
@@ -225,6 +225,7 @@ unprocessable w history c e source bytes onward came none = record {
   no_duplicate = λ other m comes. not-known w history c e.now source bytes onward none other m (subst (Comes w.setting other m) came comes);
   no_answer = λ x a. not-ignored w history c e.now source bytes onward none x (subst (IsAwaited w.setting history e.now x) came a);
   no_settling = λ x a. not-settled w history c e.now source bytes onward none x (subst (Acknowledges w.setting history e.now x) came a);
+  no_closing = λ v k. not-closed w history c e.now source bytes none v (subst (Closes w.setting history e.now v) came k);
 }
 
 -- a Reset keeps what is carried

@@ -1,29 +1,24 @@
 -- Room: what the tables count is what the history counts.
-use Rattle.std.proofs.Common.{◌≡◌, ℕ, ◌+◌, ◌<◌, ◌≤◌, List, length, true, false, refl, sym, ap, ◌∙◌, arith}
+use Rattle.std.proofs.Common.{◌≡◌, ℕ, ◌+◌, ◌<◌, ◌≤◌, List, length, true, false, sym, ap, ◌∙◌, arith}
 use Rattle.std.specs.Prelude.{◌/◌, ◌&&◌}
-use Rattle.std.specs.List.{AllByRecursion}
 use Rattle.std.proofs.lemmas.Bool.{leb-true, leb-false, ltb-true, ltb-false, and_parts}
 use Rattle.std.proofs.lemmas.List.{length-map}
 use Rattle.coap_target.specs.declared.endpoint.Endpoint.{Endpoint}
-use Rattle.coap_target.proofs.Lists.{All-weaken}
-use Rattle.coap_exchange.specs.declared.waiter.Waiter.{Waiter}
-use Rattle.coap_exchange.specs.declared.waiter.WaiterState.{WaiterState}
-use Rattle.coap_exchange.specs.declared.waiter.WaiterState.TheVariants.{Waiting, Delivering}
 use Rattle.coap_exchange.specs.Exchanges as exchanges
-use Rattle.coap_exchange.specs.Waiters.{is_waiting, is_waiting_state}
+use Rattle.coap_exchange.specs.Waiters.{is_waiting}
 use Rattle.coap_exchange.specs.Ids.{given_in}
-use Rattle.coap_exchange.specs.Table.{Numbered, count}
-use Rattle.coap_model.specs.Setting.{Setting}
+use Rattle.coap_exchange.specs.Table.{count}
 use Rattle.coap_model.specs.World.{World, reserved, has_ids, has_exchange_room, has_waiter_room, has_room_to_join, has_room_to_open}
 use Rattle.coap_model.specs.History.{Deed}
-use Rattle.coap_model.specs.Standing.{is_queued, is_sent_to, open_in, standing_in, count_open, queued_in, outstanding_to, window_ids, HasIds, HasRoomToJoin, HasRoomToOpen}
-use Rattle.coap_model.specs.Carries.{stage_seen, standing_seen, IsWaiterIn, IsWaiterOf, Bears}
-use Rattle.coap_model.proofs.Seen.{counted-seen, queued-same, sent-same, all-wait}
+use Rattle.coap_model.specs.Standing as service
+use Rattle.coap_model.specs.Standing.{Standing, is_queued, is_sent_to, open_in, standing_in, count_if, count_open, waiting_in, queued_in, outstanding_to, window_ids, HasIds, HasRoomToJoin, HasRoomToOpen}
+use Rattle.coap_model.specs.Carries.{stage_seen, standing_seen, Bears}
+use Rattle.coap_model.proofs.Seen.{counted-seen, queued-same, sent-same, waiting-seen}
 use Rattle.coap_model.proofs.Splitting.{one_false}
 
 -- ---- what is counted
 
--- as many clients are held as wait
+-- as many clients are held as aren't done with
 pub waiters-length : (history : List Deed) (w : World) → Bears history w → length w.waiters ≡ length (standing_in history)
 waiters-length history w c = sym (length-map w.waiters standing_seen) ∙ ap length c.whole.waiters
 
@@ -31,17 +26,9 @@ waiters-length history w c = sym (length-map w.waiters standing_seen) ∙ ap len
 pub exchanges-length : (history : List Deed) (w : World) → Bears history w → length w.exchanges ≡ length (open_in history)
 exchanges-length history w c = sym (length-map w.exchanges stage_seen) ∙ ap length c.whole.exchanges
 
--- a client that is held waits
-pub is-waiting : (setting : Setting) (history : List Deed) (v : Numbered Waiter) → IsWaiterOf setting history v → is_waiting v.1 ≡ true
-is-waiting setting history v f = go v.1.state f
-  where
-    go : (s : WaiterState) → IsWaiterIn setting history v s → is_waiting_state s ≡ true
-    go (Waiting exchange) g = refl
-    go (Delivering bytes id timer) g = absurd g
-
--- so all do
-pub all-waiting : (history : List Deed) (w : World) → Bears history w → AllByRecursion (λ v. is_waiting v.1 ≡ true) w.waiters
-all-waiting history w c = All-weaken (IsWaiterOf w.setting history) (λ v. is_waiting v.1 ≡ true) w.waiters (λ v f. is-waiting w.setting history v f) c.waiters
+-- as many clients wait for an exchange
+pub waiting-count : (history : List Deed) (w : World) → Bears history w → count is_waiting w.waiters ≡ waiting_in history
+waiting-count history w c = waiting-seen w.waiters ∙ ap (count_if (λ (s : Standing). service.is_waiting s.service)) c.whole.waiters
 
 -- as many requests are to be sent
 pub queued-count : (history : List Deed) (w : World) → Bears history w → count exchanges.is_queued w.exchanges ≡ queued_in history
@@ -54,12 +41,11 @@ sent-count to history w c = counted-seen (exchanges.is_sent_to to) (is_sent_to t
 -- ---- ids
 
 -- so ids are counted alike
-pub ids-sum : (k now : ℕ) (history : List Deed) (w : World) → Bears history w → w.last ≤ now → given_in now w.ids + reserved w + k ≡ window_ids (now / 247000) history + (length (standing_in history) + queued_in history) + k
+pub ids-sum : (k now : ℕ) (history : List Deed) (w : World) → Bears history w → w.last ≤ now → given_in now w.ids + reserved w + k ≡ window_ids (now / 247000) history + (waiting_in history + queued_in history) + k
 ids-sum k now history w c onward =
     let last = c.clock.last in
     let g = c.ids.given now (omega arith) in
-    let v = waiters-length history w c in
-    let all = all-wait w.waiters (all-waiting history w c) in
+    let v = waiting-count history w c in
     let q = queued-count history w c in
     omega arith
 

@@ -1,6 +1,6 @@
 -- The cases of a step, each with what is known there.
 use Rattle.std.proofs.Common.{◌≡◌, ℕ, Bool, true, false, cond, List, Option, Some, None, refl, sym, ap, ◌∙◌, subst, arith}
-use Rattle.std.specs.Prelude.{◌&&◌, ◌||◌, ◌/◌, ◌==◌, ◌≤◌, ◌<◌, nat_le, not}
+use Rattle.std.specs.Prelude.{◌&&◌, ◌||◌, ◌/◌, ◌==◌, ◌≤◌, ◌<◌, ◌+◌, [], ◌∷◌, ◌++◌, nat_le, not}
 use Rattle.std.proofs.lemmas.Bool.{eqb-true, leb-true, leb-false, and_parts, and_from}
 use Rattle.std.proofs.lemmas.Option.{same_Some}
 use Rattle.coap_message.specs.declared.kind.Kind.{Kind}
@@ -10,6 +10,7 @@ use Rattle.coap_message.specs.declared.code.TheConstants.Code.{REQUEST_ENTITY_TO
 use Rattle.coap_message.specs.declared.message.Head.{Head}
 use Rattle.coap_message.specs.Uint.{IsBytes}
 use Rattle.coap_message.specs.Message.{Message}
+use Rattle.coap_message.specs.Spelling.{spelling}
 use Rattle.coap_message.specs.Reading.{head_at}
 use Rattle.coap_message.proofs.WholeMessages.{head_read}
 use Rattle.coap_target.specs.declared.endpoint.Endpoint.{Endpoint}
@@ -17,24 +18,27 @@ use Rattle.coap_cache.specs.declared.key.CacheKey.{CacheKey}
 use Rattle.coap_cache.specs.Entries.{Entry, entry_key, entry_size}
 use Rattle.coap_cache.specs.Freshness.{is_usable}
 use Rattle.coap_cache.specs.Lists.{of_key, others, put}
-use Rattle.coap_model.specs.declared.report.Outcome.TheVariants.{Answered}
+use Rattle.coap_model.specs.declared.report.Outcome.{Outcome}
+use Rattle.coap_model.specs.declared.report.Outcome.TheVariants.{Joined, Opened, Answered}
 use Rattle.coap_model.specs.declared.report.Storing.{Storing}
 use Rattle.coap_model.specs.declared.report.Storing.TheVariants.{Kept, TooLarge, NoMemory, NotStored}
 use Rattle.coap_forward.specs.Answers.{answer_of, is_storable}
 use Rattle.coap_cache.specs.declared.answer.Answer.{Answer}
 use Rattle.coap_exchange.specs.declared.exchange.Exchange.{Exchange}
 use Rattle.coap_exchange.specs.declared.waiter.Waiter.{Waiter}
-use Rattle.coap_exchange.specs.Table.{Numbered, changed_at, first_that, item_at}
+use Rattle.coap_exchange.specs.Table.{Numbered, changed_at, first_that, item_at, without}
+use Rattle.coap_exchange.specs.Timers.{started, fire_of}
+use Rattle.coap_exchange.specs.Waiters as waiters
 use Rattle.coap_model.specs.Events.{Event, arrival, tick, IsEvent}
 use Rattle.coap_message.specs.Codes.{is_request, is_response}
 use Rattle.coap_forward.specs.Messages.{is_con, brings_requests, brings_responses, is_ack, is_rst, is_bare, is_empty, is_recorded, acknowledgement}
 use Rattle.coap_model.specs.Verdicts.{Verdict, refused_with, may_ask, verdict_of, form_fits}
 use Rattle.coap_dedup.specs.declared.record.Record.{Record}
-use Rattle.coap_model.specs.World.{World, Step, has_record_room, can_reply, known_of, remembers, repeats, drops, ignores, rejects, unprocessed, silent, says, later}
-use Rattle.coap_model.specs.Requests.{lacks_id, refuses, overloads, joins, opens, turns_down, turns_away, hits, can_join, can_open, on_wanted, on_joinable, on_miss, on_entry, on_verdict, on_new, on_known, on_request}
+use Rattle.coap_model.specs.World.{World, Step, has_record_room, has_room_to_join, has_room_to_open, can_reply, known_of, remembers, repeats, drops, ignores, rejects, unprocessed, silent, says, later}
+use Rattle.coap_model.specs.Requests.{lacks_id, refuses, overloads, new_exchange, new_waiter, joins, opens, turns_down, turns_away, hits, on_wanted, on_joinable, on_miss, on_entry, on_verdict, on_new, on_known, on_request}
 use Rattle.coap_model.specs.Answers.{Arrived, entry_made, answers_so, keeps_if, stores, answers_with, answers}
 use Rattle.coap_model.specs.Responses.{awaiting, on_awaited, on_separate, on_unknown, on_response_in, on_response}
-use Rattle.coap_model.specs.Empties.{acknowledges, settles, on_sent, on_empty}
+use Rattle.coap_model.specs.Empties.{acknowledges, closes, on_told, on_client, settles, on_sent, on_empty}
 use Rattle.coap_model.specs.Empties as empties
 use Rattle.coap_exchange.specs.declared.exchange.ExchangeState.{ExchangeState}
 use Rattle.coap_exchange.specs.declared.exchange.ExchangeState.TheVariants.{Queued, Sent, Acked, Done}
@@ -47,7 +51,7 @@ use Rattle.coap_exchange.specs.Exchanges as exchanges
 use Rattle.coap_exchange.specs.Exchanges.{deadline, answer_in, fire_of_sending, is_sent, is_joinable, was_sent_as}
 use Rattle.coap_model.specs.declared.due.DueItem.{DueItem}
 use Rattle.coap_model.specs.declared.due.DueItem.TheVariants.{OfExchange, OfWaiter}
-use Rattle.coap_model.specs.Ticks.{item_due, if_due, sends, resends, gives_up, on_fire, in_time, on_exchange, delivers, on_answer, on_waiting, on_waiter, idles, on_item}
+use Rattle.coap_model.specs.Ticks.{item_due, if_due, sends, resends, gives_up, on_fire, in_time, on_exchange, given_to, tells, redelivers, abandons, on_unheard, on_answer, on_waiting, on_waiter, idles, on_item}
 use Rattle.coap_model.specs.Step.{on_no_response, on_no_request, on_message, message_in, on_read, step_of}
 use Rattle.coap_model.proofs.Spelled.{message_in-is}
 
@@ -75,6 +79,11 @@ pub record IsAbout (w : World) (now : ℕ) (source : Endpoint) (m : Message) (x 
   pub found : item_at x.0 w.exchanges ≡ Some x.1
   pub sent : is_sent x.1 ≡ true
 
+-- what an Empty message is about otherwise: the answer of a client, which was given it
+pub record IsOfAnswer (w : World) (now : ℕ) (source : Endpoint) (m : Message) (number : ℕ) : Type 0 where
+  pub bare : is_bare m ≡ true
+  pub first : first_that (waiters.was_sent_as source m.id now) w.waiters ≡ Some number
+
 -- a message gives an exchange its answer: a response that it awaits, or a Reset
 pub data IsAnswerFor (w : World) (now : ℕ) (source : Endpoint) (m : Message) (x : Numbered Exchange) : Type 0 where
   by_response : (brings_responses m.kind && is_response m.code) ≡ true → awaiting w source m ≡ Some x → IsAnswerFor w now source m x
@@ -90,6 +99,7 @@ pub record IsNoOnes (w : World) (now : ℕ) (source : Endpoint) (m : Message) : 
   pub unknown : is_recorded m ≡ true → known_of w now source m ≡ None
   pub response : (brings_responses m.kind && is_response m.code) ≡ true → awaiting w source m ≡ None
   pub about : (x : Numbered Exchange) → ¬ IsAbout w now source m x
+  pub answer : (number : ℕ) → ¬ IsOfAnswer w now source m number
 
 -- a datagram that holds no other message
 abbrev pub IsNothing : World → ℕ → Endpoint → List ℕ → Type 0
@@ -119,8 +129,8 @@ pub data IsDenied (w : World) (now : ℕ) (m : Message) (code : Code) : Type 0 w
 
 -- there is no room for what is wanted: to join the exchange that is found, or to open one
 pub data IsFull (w : World) (now : ℕ) (key : CacheKey) (m : Message) : Type 0 where
-  to_join : (exchange : ℕ) → IsMissed w now key → first_that (is_joinable key) w.exchanges ≡ Some exchange → can_join w now m.kind ≡ false → IsFull w now key m
-  to_open : IsUnanswered w now key → fits_in w key m ≡ true → can_open w now m.kind ≡ false → IsFull w now key m
+  to_join : (exchange : ℕ) → IsMissed w now key → first_that (is_joinable key) w.exchanges ≡ Some exchange → has_room_to_join w now ≡ false → IsFull w now key m
+  to_open : IsUnanswered w now key → fits_in w key m ≡ true → has_room_to_open w now ≡ false → IsFull w now key m
 
 -- what is done with an answer towards the store, and the store then
 pub data IsStoring (w : World) (now : ℕ) (grown : Bool) (x : Numbered Exchange) (a : Answer) : Storing → List Entry → Type 0 where
@@ -146,7 +156,36 @@ pub data IsStuck (w : World) (now : ℕ) : Type 0 where
   answered : (at number : ℕ) (x : Exchange) (a : Answer) → IsTurnOf w now at number x → x.state ≡ Done a → IsStuck w now
   no_waiter : (at number : ℕ) → if_due now (item_due w) ≡ Some (OfWaiter at number) → item_at number w.waiters ≡ None → IsStuck w now
   unanswered : (at number exchange : ℕ) (v : Waiter) → if_due now (item_due w) ≡ Some (OfWaiter at number) → item_at number w.waiters ≡ Some v → v.state ≡ Waiting exchange → answer_in exchange w.exchanges ≡ None → IsStuck w now
-  served : (at number id : ℕ) (v : Waiter) (bytes : List ℕ) (timer : Timer) → if_due now (item_due w) ≡ Some (OfWaiter at number) → item_at number w.waiters ≡ Some v → v.state ≡ Delivering bytes id timer → IsStuck w now
+
+-- what goes out where a message is taken up: nothing, or of a Confirmable one the acknowledgement
+pub data IsTakenUp (source : Endpoint) (m : Message) : Option Endpoint → List ℕ → Type 0 where
+  silently : is_con m.kind ≡ false → IsTakenUp source m None []
+  with_acknowledgement : is_con m.kind ≡ true → IsTakenUp source m (Some source) (spelling (acknowledgement m.id))
+
+-- a step of this outcome, which sends this there, and leaves this world
+abbrev pub sending : Outcome → Option Endpoint → List ℕ → World → Step
+sending outcome send told w = record { report = record { send = send; outcome = outcome }; bytes = told; world = w }
+
+-- a client waits for an exchange that was there
+abbrev pub joined_world : World → ℕ → Endpoint → Message → ℕ → World
+joined_world w now client m exchange =
+    record (later w now) { waiters = w.waiters ++ new_waiter w client m exchange ∷ []; admitted = w.admitted + 1 }
+
+-- and for one that is opened
+abbrev pub opened_world : World → ℕ → Endpoint → Message → CacheKey → World
+opened_world w now client m key =
+    record (later w now) { exchanges = w.exchanges ++ new_exchange w now m key ∷ []; waiters = w.waiters ++ new_waiter w client m (w.opened + 1) ∷ []; opened = w.opened + 1; admitted = w.admitted + 1 }
+
+-- the clients that are left after one was given this message: without it, or with it to acknowledge that
+pub data IsTold (w : World) (now draw number : ℕ) (m : Message) : List (Numbered Waiter) → Type 0 where
+  done_with : is_con m.kind ≡ false → IsTold w now draw number m (without number w.waiters)
+  to_acknowledge : is_con m.kind ≡ true → IsTold w now draw number m (changed_at number (waiters.delivered (spelling m) m.id (started now draw)) w.waiters)
+
+-- a client is due first that was given its answer, and is there
+pub record IsTurnOfTold (w : World) (now at number : ℕ) (v : Waiter) (bytes : List ℕ) (id : ℕ) (timer : Timer) : Type 0 where
+  pub due : if_due now (item_due w) ≡ Some (OfWaiter at number)
+  pub found : item_at number w.waiters ≡ Some v
+  pub state : v.state ≡ Delivering bytes id timer
 
 -- the exchange of a number has this answer, and this is stored
 abbrev pub answered_world : World → ℕ → ℕ → Answer → List Entry → World
@@ -157,8 +196,8 @@ pub data Rule (w : World) (now draw : ℕ) (grown : Bool) : Event → Step → T
   refusing : (client : Endpoint) (bytes : List ℕ) (m : Message) (code : Code) → IsFirst w now client bytes m → IsDenied w now m code → can_reply w now m.kind ≡ true → Rule w now draw grown (arrival client bytes) (remembers now client m (refuses w now client m code))
   lacking : (client : Endpoint) (bytes : List ℕ) (m : Message) → IsFirst w now client bytes m → can_reply w now m.kind ≡ false → Rule w now draw grown (arrival client bytes) (remembers now client m (lacks_id w now))
   overloading : (client : Endpoint) (bytes : List ℕ) (m : Message) (key : CacheKey) → IsFirst w now client bytes m → verdict_in w m ≡ may_ask key → IsFull w now key m → can_reply w now m.kind ≡ true → Rule w now draw grown (arrival client bytes) (remembers now client m (overloads w now client m))
-  joining : (client : Endpoint) (bytes : List ℕ) (m : Message) (key : CacheKey) (exchange : ℕ) → IsFirst w now client bytes m → verdict_in w m ≡ may_ask key → IsMissed w now key → first_that (is_joinable key) w.exchanges ≡ Some exchange → can_join w now m.kind ≡ true → Rule w now draw grown (arrival client bytes) (remembers now client m (joins w now client m exchange))
-  opening : (client : Endpoint) (bytes : List ℕ) (m : Message) (key : CacheKey) → IsFirst w now client bytes m → verdict_in w m ≡ may_ask key → IsUnanswered w now key → fits_in w key m ≡ true → can_open w now m.kind ≡ true → Rule w now draw grown (arrival client bytes) (remembers now client m (opens w now client m key))
+  joining : (client : Endpoint) (bytes : List ℕ) (m : Message) (key : CacheKey) (exchange : ℕ) (send : Option Endpoint) (told : List ℕ) → IsFirst w now client bytes m → verdict_in w m ≡ may_ask key → IsMissed w now key → first_that (is_joinable key) w.exchanges ≡ Some exchange → has_room_to_join w now ≡ true → IsTakenUp client m send told → Rule w now draw grown (arrival client bytes) (remembers now client m (sending Joined send told (joined_world w now client m exchange)))
+  opening : (client : Endpoint) (bytes : List ℕ) (m : Message) (key : CacheKey) (send : Option Endpoint) (told : List ℕ) → IsFirst w now client bytes m → verdict_in w m ≡ may_ask key → IsUnanswered w now key → fits_in w key m ≡ true → has_room_to_open w now ≡ true → IsTakenUp client m send told → Rule w now draw grown (arrival client bytes) (remembers now client m (sending Opened send told (opened_world w now client m key)))
   hitting : (client : Endpoint) (bytes : List ℕ) (m : Message) (key : CacheKey) (entry : Entry) → IsFirst w now client bytes m → verdict_in w m ≡ may_ask key → of_key entry_key key w.store ≡ Some entry → is_usable now entry.1 ≡ true → can_reply w now m.kind ≡ true → Rule w now draw grown (arrival client bytes) (remembers now client m (hits w now client m key entry.1))
   repeating : (source : Endpoint) (bytes : List ℕ) (m : Message) (known : Record) → IsBytes bytes → Recorded w bytes m → known_of w now source m ≡ Some known → Rule w now draw grown (arrival source bytes) (repeats w now source known.reply)
   dropping : (source : Endpoint) (bytes : List ℕ) (m : Message) → IsBytes bytes → Recorded w bytes m → (is_response m.code ≡ true → (x : Numbered Exchange) × (awaiting w source m ≡ Some x)) → known_of w now source m ≡ None → has_record_room w now m.kind ≡ false → Rule w now draw grown (arrival source bytes) (drops w now)
@@ -166,12 +205,15 @@ pub data Rule (w : World) (now draw : ℕ) (grown : Bool) : Event → Step → T
   answering_con : (source : Endpoint) (bytes : List ℕ) (m : Message) (x : Numbered Exchange) (storing : Storing) (store : List Entry) → IsBytes bytes → Recorded w bytes m → IsAnswerFor w now source m x → is_con m.kind ≡ true → known_of w now source m ≡ None → has_record_room w now m.kind ≡ true → IsStoring w now grown x (answer_of w.setting.limits.datagram now m) storing store
       → Rule w now draw grown (arrival source bytes) (remembers now source m (says (Answered storing) source (acknowledgement m.id) (answered_world w now x.0 (answer_of w.setting.limits.datagram now m) store)))
   acknowledging : (source : Endpoint) (bytes : List ℕ) (m : Message) (x : Numbered Exchange) → IsBytes bytes → message_in w.setting.limits.datagram bytes ≡ Some m → IsAbout w now source m x → is_ack m.kind ≡ true → Rule w now draw grown (arrival source bytes) (acknowledges w now x.0)
+  closing : (source : Endpoint) (bytes : List ℕ) (m : Message) (number : ℕ) → IsBytes bytes → message_in w.setting.limits.datagram bytes ≡ Some m → IsOfAnswer w now source m number → Rule w now draw grown (arrival source bytes) (closes w now number)
   rejecting : (source : Endpoint) (bytes : List ℕ) (head : Head) → head_at bytes ≡ Some head → is_con head.kind ≡ true → IsNothing w now source bytes → Rule w now draw grown (arrival source bytes) (rejects w now source head.id)
   ignoring : (source : Endpoint) (bytes : List ℕ) → IsNotCon bytes → IsNothing w now source bytes → Rule w now draw grown (arrival source bytes) (ignores w now)
   forwarding : (at number : ℕ) (x : Exchange) → IsTurnOf w now at number x → x.state ≡ Queued → now < deadline w.setting.limits.exchange_ms x → Rule w now draw grown tick (sends w now draw number x)
   resending : (at number : ℕ) (x : Exchange) → IsTurnOf w now at number x → x.state ≡ Sent → now < deadline w.setting.limits.exchange_ms x → fire_of_sending now x.sending ≡ Again → Rule w now draw grown tick (resends w now number x)
   giving_up : (at number : ℕ) (x : Exchange) → IsTurnOf w now at number x → IsOver w now x → Rule w now draw grown tick (gives_up w now number)
-  delivering : (at number exchange : ℕ) (v : Waiter) (a : Answer) → if_due now (item_due w) ≡ Some (OfWaiter at number) → item_at number w.waiters ≡ Some v → v.state ≡ Waiting exchange → answer_in exchange w.exchanges ≡ Some a → Rule w now draw grown tick (delivers w now number v exchange a)
+  delivering : (at number exchange : ℕ) (v : Waiter) (a : Answer) (left : List (Numbered Waiter)) → if_due now (item_due w) ≡ Some (OfWaiter at number) → item_at number w.waiters ≡ Some v → v.state ≡ Waiting exchange → answer_in exchange w.exchanges ≡ Some a → IsTold w now draw number (given_to w now v a) left → Rule w now draw grown tick (tells w now v exchange (given_to w now v a) left)
+  redelivering : (at number : ℕ) (v : Waiter) (bytes : List ℕ) (id : ℕ) (timer : Timer) → IsTurnOfTold w now at number v bytes id timer → fire_of now timer ≡ Again → Rule w now draw grown tick (redelivers w now number v bytes)
+  abandoning : (at number : ℕ) (v : Waiter) (bytes : List ℕ) (id : ℕ) (timer : Timer) → IsTurnOfTold w now at number v bytes id timer → fire_of now timer ≡ GiveUp → Rule w now draw grown tick (abandons w now number)
   idling : if_due now (item_due w) ≡ None → Rule w now draw grown tick (idles w now)
   -- what never comes: something is due that isn't there, or isn't due
   stuck : IsStuck w now → Rule w now draw grown tick (idles w now)
@@ -281,25 +323,33 @@ rule_full w now draw grown client bytes m key first e full = go (can_reply w now
 rule_wanted : (w : World) (now draw : ℕ) (grown : Bool) (client : Endpoint) (bytes : List ℕ) (m : Message) (key : CacheKey) → IsFirst w now client bytes m → verdict_in w m ≡ may_ask key → IsUnanswered w now key → Rule w now draw grown (arrival client bytes) (remembers now client m (on_wanted w now client m key))
 rule_wanted w now draw grown client bytes m key first e none = by_fit (fits_in w key m) refl
   where
-    room : fits_in w key m ≡ true → (b : Bool) → can_open w now m.kind ≡ b → Rule w now draw grown (arrival client bytes) (remembers now client m (cond b (opens w now client m key) (turns_away w now client m)))
-    room short true there = opening client bytes m key first e none short there
+    up : fits_in w key m ≡ true → has_room_to_open w now ≡ true → (b : Bool) → is_con m.kind ≡ b → Rule w now draw grown (arrival client bytes) (remembers now client m (cond b (says Opened client (acknowledgement m.id) (opened_world w now client m key)) (silent Opened (opened_world w now client m key))))
+    up short there true con = opening client bytes m key (Some client) (spelling (acknowledgement m.id)) first e none short there (with_acknowledgement con)
+    up short there false other = opening client bytes m key None [] first e none short there (silently other)
+
+    room : fits_in w key m ≡ true → (b : Bool) → has_room_to_open w now ≡ b → Rule w now draw grown (arrival client bytes) (remembers now client m (cond b (opens w now client m key) (turns_away w now client m)))
+    room short true there = up short there (is_con m.kind) refl
     room short false full = rule_full w now draw grown client bytes m key first e (to_open none short full)
 
-    by_fit : (b : Bool) → fits_in w key m ≡ b → Rule w now draw grown (arrival client bytes) (remembers now client m (cond b (cond (can_open w now m.kind) (opens w now client m key) (turns_away w now client m)) (turns_down w now client m REQUEST_ENTITY_TOO_LARGE)))
-    by_fit true short = room short (can_open w now m.kind) refl
+    by_fit : (b : Bool) → fits_in w key m ≡ b → Rule w now draw grown (arrival client bytes) (remembers now client m (cond b (cond (has_room_to_open w now) (opens w now client m key) (turns_away w now client m)) (turns_down w now client m REQUEST_ENTITY_TOO_LARGE)))
+    by_fit true short = room short (has_room_to_open w now) refl
     by_fit false long = rule_refusal w now draw grown client bytes m REQUEST_ENTITY_TOO_LARGE first (by_length key e none long refl)
 
 -- a request for a key that is missed is a case by the exchange that may be joined, and by room
 rule_miss : (w : World) (now draw : ℕ) (grown : Bool) (client : Endpoint) (bytes : List ℕ) (m : Message) (key : CacheKey) → IsFirst w now client bytes m → verdict_in w m ≡ may_ask key → IsMissed w now key → Rule w now draw grown (arrival client bytes) (remembers now client m (on_miss w now client m key))
 rule_miss w now draw grown client bytes m key first e missed = by_search (first_that (is_joinable key) w.exchanges) refl
   where
-    room : (exchange : ℕ) → first_that (is_joinable key) w.exchanges ≡ Some exchange → (b : Bool) → can_join w now m.kind ≡ b → Rule w now draw grown (arrival client bytes) (remembers now client m (cond b (joins w now client m exchange) (turns_away w now client m)))
-    room exchange found true there = joining client bytes m key exchange first e missed found there
+    up : (exchange : ℕ) → first_that (is_joinable key) w.exchanges ≡ Some exchange → has_room_to_join w now ≡ true → (b : Bool) → is_con m.kind ≡ b → Rule w now draw grown (arrival client bytes) (remembers now client m (cond b (says Joined client (acknowledgement m.id) (joined_world w now client m exchange)) (silent Joined (joined_world w now client m exchange))))
+    up exchange found there true con = joining client bytes m key exchange (Some client) (spelling (acknowledgement m.id)) first e missed found there (with_acknowledgement con)
+    up exchange found there false other = joining client bytes m key exchange None [] first e missed found there (silently other)
+
+    room : (exchange : ℕ) → first_that (is_joinable key) w.exchanges ≡ Some exchange → (b : Bool) → has_room_to_join w now ≡ b → Rule w now draw grown (arrival client bytes) (remembers now client m (cond b (joins w now client m exchange) (turns_away w now client m)))
+    room exchange found true there = up exchange found there (is_con m.kind) refl
     room exchange found false full = rule_full w now draw grown client bytes m key first e (to_join exchange missed found full)
 
     by_search : (o : Option ℕ) → first_that (is_joinable key) w.exchanges ≡ o → Rule w now draw grown (arrival client bytes) (remembers now client m (on_joinable w now client m key o))
     by_search None none = rule_wanted w now draw grown client bytes m key first e (record { missed = missed; alone = none })
-    by_search (Some exchange) found = room exchange found (can_join w now m.kind) refl
+    by_search (Some exchange) found = room exchange found (has_room_to_join w now) refl
 
 -- a request for a key is a case by the entry of the key
 rule_entry : (w : World) (now draw : ℕ) (grown : Bool) (client : Endpoint) (bytes : List ℕ) (m : Message) (key : CacheKey) → IsFirst w now client bytes m → verdict_in w m ≡ may_ask key → (o : Option Entry) → of_key entry_key key w.store ≡ o → Rule w now draw grown (arrival client bytes) (remembers now client m (on_entry w now client m key o))
@@ -422,6 +472,7 @@ module _ (w : World) (now draw : ℕ) (grown : Bool) (source : Endpoint) (bytes 
           unknown = unknown;
           response = λ _. none;
           about = λ x about. absurd (empty_no_response m about.bare code);
+          answer = λ n about. absurd (empty_no_response m about.bare code);
         }
         )
 
@@ -462,8 +513,8 @@ module _ (w : World) (now draw : ℕ) (grown : Bool) (source : Endpoint) (bytes 
     not_con = bare_not_con m bare
 
     -- one that is about nothing is no one's
-    unmatched : ((x : Numbered Exchange) → ¬ IsAbout w now source m x) → Rule w now draw grown (arrival source bytes) (ignores w now)
-    unmatched none =
+    unmatched : ((x : Numbered Exchange) → ¬ IsAbout w now source m x) → ((n : ℕ) → ¬ IsOfAnswer w now source m n) → Rule w now draw grown (arrival source bytes) (ignores w now)
+    unmatched none nobody =
         ignoring source bytes (one_head bytes own_head (head_of_read w bytes m fits read) not_con)
         (nothing_else w now source bytes m read (
         record {
@@ -471,21 +522,30 @@ module _ (w : World) (now draw : ℕ) (grown : Bool) (source : Endpoint) (bytes 
           unknown = λ recorded. absurd (unrecorded m (bare_no_request m bare) not_con recorded);
           response = λ response. absurd (empty_no_response m bare (and_parts (brings_responses m.kind) (is_response m.code) response).1);
           about = none;
+          answer = nobody;
         }
         ))
+
+    -- one that is of no request is of an answer, or no one's
+    rule_told : ((x : Numbered Exchange) → ¬ IsAbout w now source m x) → (o : Option ℕ) → first_that (waiters.was_sent_as source m.id now) w.waiters ≡ o → Rule w now draw grown (arrival source bytes) (on_told w now o)
+    rule_told none None e = unmatched none (λ n about. absurd (let g = sym e ∙ about.first in cc))
+    rule_told none (Some n) e = closing source bytes m n fits read (record { bare = bare; first = e })
+
+    of_no_request : ((x : Numbered Exchange) → ¬ IsAbout w now source m x) → Rule w now draw grown (arrival source bytes) (on_client w now source m)
+    of_no_request none = rule_told none (first_that (waiters.was_sent_as source m.id now) w.waiters) refl
 
     rule_settled : (x : Numbered Exchange) → IsAbout w now source m x → (b : Bool) → is_ack m.kind ≡ b → Rule w now draw grown (arrival source bytes) (cond b (acknowledges w now x.0) (answers w now grown source m x))
     rule_settled x about true ack = acknowledging source bytes m x fits read about ack
     rule_settled x about false rst = rule_answer x (by_reset about rst) not_con
 
     rule_found : (n : ℕ) → first_that (was_sent_as source m.id now) w.exchanges ≡ Some n → (o : Option Exchange) → item_at n w.exchanges ≡ o → Rule w now draw grown (arrival source bytes) (empties.on_exchange w now grown source m n o)
-    rule_found n first None e = unmatched (λ x about. let same = same_Some n x.0 (sym first ∙ about.first) in let g : None ≡ Some x.1 = sym e ∙ ap (λ (k : ℕ). item_at k w.exchanges) same ∙ about.found in absurd cc)
+    rule_found n first None e = of_no_request (λ x about. let same = same_Some n x.0 (sym first ∙ about.first) in let g : None ≡ Some x.1 = sym e ∙ ap (λ (k : ℕ). item_at k w.exchanges) same ∙ about.found in absurd cc)
     rule_found n first (Some x) e = go (is_sent x) refl
       where
-        go : (b : Bool) → is_sent x ≡ b → Rule w now draw grown (arrival source bytes) (cond b (settles w now grown source m n x) (ignores w now))
+        go : (b : Bool) → is_sent x ≡ b → Rule w now draw grown (arrival source bytes) (cond b (settles w now grown source m n x) (on_client w now source m))
         go true sent = rule_settled (n, x) (record { bare = bare; first = first; found = e; sent = sent }) (is_ack m.kind) refl
         go false other =
-            unmatched (λ y about.
+            of_no_request (λ y about.
             let same = same_Some n y.0 (sym first ∙ about.first) in
             let found : Some x ≡ Some y.1 = sym e ∙ ap (λ (k : ℕ). item_at k w.exchanges) same ∙ about.found in
             let one = same_Some x y.1 found in
@@ -493,7 +553,7 @@ module _ (w : World) (now draw : ℕ) (grown : Bool) (source : Endpoint) (bytes 
             absurd cc)
 
     rule_sent : (o : Option ℕ) → first_that (was_sent_as source m.id now) w.exchanges ≡ o → Rule w now draw grown (arrival source bytes) (on_sent w now grown source m o)
-    rule_sent None e = unmatched (λ x about. absurd (let g = sym e ∙ about.first in cc))
+    rule_sent None e = of_no_request (λ x about. absurd (let g = sym e ∙ about.first in cc))
     rule_sent (Some n) e = rule_found n e (item_at n w.exchanges) refl
 
   -- ---- messages
@@ -509,6 +569,7 @@ module _ (w : World) (now draw : ℕ) (grown : Bool) (source : Endpoint) (bytes 
         unknown = λ recorded. absurd (neither m request response recorded);
         response = λ e. absurd (let g = sym e ∙ response in cc);
         about = λ x about. absurd (let g = sym about.bare ∙ full in cc);
+        answer = λ n about. absurd (let g = sym about.bare ∙ full in cc);
       }
       ))
 
@@ -556,18 +617,27 @@ rule_exchange w now draw grown at number due (Some x) e = by_deadline (nat_le (d
     by_deadline true late = giving_up at number x turn (overdue (leb-true _ _ late))
     by_deadline false early = by_state (leb-false _ _ early) x.state refl
 
--- a client that is due is a case by the answer of its exchange
-rule_waiter : (w : World) (now draw : ℕ) (grown : Bool) (at number : ℕ) → if_due now (item_due w) ≡ Some (OfWaiter at number) → (o : Option Waiter) → item_at number w.waiters ≡ o → Rule w now draw grown tick (on_waiter w now number o)
+-- a client that is due is a case by how far it was served: by the answer of its exchange, or by its timer
+rule_waiter : (w : World) (now draw : ℕ) (grown : Bool) (at number : ℕ) → if_due now (item_due w) ≡ Some (OfWaiter at number) → (o : Option Waiter) → item_at number w.waiters ≡ o → Rule w now draw grown tick (on_waiter w now draw number o)
 rule_waiter w now draw grown at number due None e = stuck (no_waiter at number due e)
 rule_waiter w now draw grown at number due (Some v) e = by_state v.state refl
   where
-    by_answer : (exchange : ℕ) → v.state ≡ Waiting exchange → (o : Option Answer) → answer_in exchange w.exchanges ≡ o → Rule w now draw grown tick (on_answer w now number v exchange o)
-    by_answer exchange is None f = stuck (unanswered at number exchange v due e is f)
-    by_answer exchange is (Some a) f = delivering at number exchange v a due e is f
+    by_kind : (exchange : ℕ) (a : Answer) → v.state ≡ Waiting exchange → answer_in exchange w.exchanges ≡ Some a → (b : Bool) → is_con v.kind ≡ b
+        → Rule w now draw grown tick (tells w now v exchange (given_to w now v a) (cond b (changed_at number (waiters.delivered (spelling (given_to w now v a)) (given_to w now v a).id (started now draw)) w.waiters) (without number w.waiters)))
+    by_kind exchange a is f true con = delivering at number exchange v a _ due e is f (to_acknowledge con)
+    by_kind exchange a is f false other = delivering at number exchange v a _ due e is f (done_with other)
 
-    by_state : (s : WaiterState) → v.state ≡ s → Rule w now draw grown tick (on_waiting w now number v s)
+    by_answer : (exchange : ℕ) → v.state ≡ Waiting exchange → (o : Option Answer) → answer_in exchange w.exchanges ≡ o → Rule w now draw grown tick (on_answer w now draw number v exchange o)
+    by_answer exchange is None f = stuck (unanswered at number exchange v due e is f)
+    by_answer exchange is (Some a) f = by_kind exchange a is f (is_con v.kind) refl
+
+    by_fire : (bytes : List ℕ) (id : ℕ) (timer : Timer) → v.state ≡ Delivering bytes id timer → (f : Fire) → fire_of now timer ≡ f → Rule w now draw grown tick (on_unheard w now number v bytes f)
+    by_fire bytes id timer is Again f = redelivering at number v bytes id timer (record { due = due; found = e; state = is }) f
+    by_fire bytes id timer is GiveUp f = abandoning at number v bytes id timer (record { due = due; found = e; state = is }) f
+
+    by_state : (s : WaiterState) → v.state ≡ s → Rule w now draw grown tick (on_waiting w now draw number v s)
     by_state (Waiting exchange) is = by_answer exchange is (answer_in exchange w.exchanges) refl
-    by_state (Delivering bytes id timer) is = stuck (served at number id v bytes timer due e is)
+    by_state (Delivering bytes id timer) is = by_fire bytes id timer is (fire_of now timer) refl
 
 -- a tick is a case by what is due
 rule_item : (w : World) (now draw : ℕ) (grown : Bool) (o : Option DueItem) → if_due now (item_due w) ≡ o → Rule w now draw grown tick (on_item w now draw o)

@@ -8,7 +8,7 @@ use Rattle.coap_model.specs.Step.{step_of}
 use Rattle.coap_model.specs.Carries.{Carries}
 use Rattle.coap_model.specs.Promised.{Promised}
 use Rattle.coap_model.specs.Runs.{Taken, turns_of, AreTurns, Run, new_run, one_turn, run_of}
-use Rattle.coap_model.proofs.Rules.{Rule, refusing, lacking, overloading, hitting, joining, opening, repeating, dropping, answering, answering_con, acknowledging, rejecting, ignoring, forwarding, resending, giving_up, delivering, idling, stuck, rule_of}
+use Rattle.coap_model.proofs.Rules.{Rule, refusing, lacking, overloading, hitting, joining, opening, repeating, dropping, answering, answering_con, acknowledging, closing, rejecting, ignoring, forwarding, resending, giving_up, delivering, redelivering, abandoning, idling, stuck, rule_of}
 use Rattle.coap_model.proofs.Carrying.{keeps_step, starts}
 use Rattle.coap_model.proofs.Promising.{promises}
 
@@ -18,8 +18,8 @@ rule_setting (refusing client bytes m code first denied free) = refl
 rule_setting (lacking client bytes m first free) = refl
 rule_setting (overloading client bytes m key first verdict lacks free) = refl
 rule_setting (hitting client bytes m key entry first verdict found usable free) = refl
-rule_setting (joining client bytes m key exchange first verdict none found room) = refl
-rule_setting (opening client bytes m key first verdict none short room) = refl
+rule_setting (joining client bytes m key exchange send told first verdict none found room up) = refl
+rule_setting (opening client bytes m key send told first verdict none short room up) = refl
 rule_setting {w = w} {now = now} (repeating client bytes m known fits asked found) = repeated known.reply
   where
     repeated : (o : Option (List ℕ)) → (repeats w now client o).world.setting ≡ w.setting
@@ -29,12 +29,15 @@ rule_setting (dropping source bytes m fits recorded wanted unknown full) = refl
 rule_setting (answering source bytes m x storing store fits read for other stored) = refl
 rule_setting (answering_con source bytes m x storing store fits recorded for con unknown room stored) = refl
 rule_setting (acknowledging source bytes m x fits read about ack) = refl
+rule_setting (closing source bytes m number fits read of_answer) = refl
 rule_setting (rejecting source bytes head is con none) = refl
 rule_setting (ignoring source bytes quiet none) = refl
 rule_setting (forwarding at number x turn is early) = refl
 rule_setting (resending at number x turn is early fire) = refl
 rule_setting (giving_up at number x turn over) = refl
-rule_setting (delivering at number exchange v a due found waits answer) = refl
+rule_setting (delivering at number exchange v a left due found waits answer told) = refl
+rule_setting (redelivering at number v bytes id timer turn fire) = refl
+rule_setting (abandoning at number v bytes id timer turn fire) = refl
 rule_setting (idling nothing) = refl
 rule_setting (stuck s) = refl
 
@@ -52,8 +55,8 @@ rule_clock (refusing client bytes m code first denied free) = (refl, refl)
 rule_clock (lacking client bytes m first free) = (refl, refl)
 rule_clock (overloading client bytes m key first verdict lacks free) = (refl, refl)
 rule_clock (hitting client bytes m key entry first verdict found usable free) = (refl, refl)
-rule_clock (joining client bytes m key exchange first verdict none found room) = (refl, refl)
-rule_clock (opening client bytes m key first verdict none short room) = (refl, refl)
+rule_clock (joining client bytes m key exchange send told first verdict none found room up) = (refl, refl)
+rule_clock (opening client bytes m key send told first verdict none short room up) = (refl, refl)
 rule_clock {w = w} {now = now} (repeating client bytes m known fits asked found) = repeated known.reply
   where
     repeated : (o : Option (List ℕ)) → IsOneOn w now (repeats w now client o).world
@@ -63,12 +66,15 @@ rule_clock (dropping source bytes m fits recorded wanted unknown full) = (refl, 
 rule_clock (answering source bytes m x storing store fits read for other stored) = (refl, refl)
 rule_clock (answering_con source bytes m x storing store fits recorded for con unknown room stored) = (refl, refl)
 rule_clock (acknowledging source bytes m x fits read about ack) = (refl, refl)
+rule_clock (closing source bytes m number fits read of_answer) = (refl, refl)
 rule_clock (rejecting source bytes head is con none) = (refl, refl)
 rule_clock (ignoring source bytes quiet none) = (refl, refl)
 rule_clock (forwarding at number x turn is early) = (refl, refl)
 rule_clock (resending at number x turn is early fire) = (refl, refl)
 rule_clock (giving_up at number x turn over) = (refl, refl)
-rule_clock (delivering at number exchange v a due found waits answer) = (refl, refl)
+rule_clock (delivering at number exchange v a left due found waits answer told) = (refl, refl)
+rule_clock (redelivering at number v bytes id timer turn fire) = (refl, refl)
+rule_clock (abandoning at number v bytes id timer turn fire) = (refl, refl)
 rule_clock (idling nothing) = (refl, refl)
 rule_clock (stuck s) = (refl, refl)
 

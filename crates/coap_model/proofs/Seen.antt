@@ -1,5 +1,5 @@
 -- Numbers and stages: what the tables show of them after a change, and what is counted by it.
-use Rattle.std.proofs.Common.{◌≡◌, ◌≢◌, ◌⊎◌, inl, inr, ℕ, ◌+◌, List, [], ◌∷◌, length, map, Bool, true, false, cond, eqb, Some, None, refl, sym, ap, arith}
+use Rattle.std.proofs.Common.{◌≡◌, ◌≢◌, ◌⊎◌, inl, inr, ℕ, ◌+◌, List, [], ◌∷◌, map, Bool, true, false, cond, eqb, Option, Some, None, refl, sym, ap, ◌∙◌, arith}
 use Rattle.std.specs.Prelude.{◌&&◌, ◌==◌, not, filter, find, option_map}
 use Rattle.std.specs.List.{AllByRecursion, list_any}
 use Rattle.std.proofs.lemmas.Bool.{eqb-true, eqb-false, eq-eqb, ne_eqb}
@@ -9,14 +9,15 @@ use Rattle.coap_target.specs.Endpoint.{same_endpoint}
 use Rattle.coap_exchange.specs.declared.exchange.Exchange.{Exchange}
 use Rattle.coap_exchange.specs.declared.exchange.ExchangeState.{ExchangeState}
 use Rattle.coap_exchange.specs.declared.exchange.ExchangeState.TheVariants.{Queued, Sent, Acked, Done}
+use Rattle.coap_exchange.specs.declared.timer.Timer.{Timer}
 use Rattle.coap_exchange.specs.declared.waiter.Waiter.{Waiter}
 use Rattle.coap_exchange.specs.declared.waiter.WaiterState.{WaiterState}
 use Rattle.coap_exchange.specs.declared.waiter.WaiterState.TheVariants.{Waiting, Delivering}
 use Rattle.coap_exchange.specs.Exchanges as exchanges
 use Rattle.coap_exchange.specs.Waiters as waiters
 use Rattle.coap_exchange.specs.Table.{Numbered, item_at, changed_at, without, count}
-use Rattle.coap_model.specs.Standing.{Standing, Stage, Open, is_queued, is_sent_to, staged, others_than, waits_for, one_if, count_open}
-use Rattle.coap_model.specs.Carries.{HasNumber, stage_at, stage_seen, exchange_in, standing_seen}
+use Rattle.coap_model.specs.Standing.{Standing, Stage, Open, told, is_queued, is_sent_to, staged, others_than, as_told, is_waiting, waits_for, one_if, count_if, count_open}
+use Rattle.coap_model.specs.Carries.{HasNumber, stage_at, stage_seen, service_in, standing_seen}
 
 -- ---- what is counted
 
@@ -47,29 +48,53 @@ sent-same to x = go x.state
 
 -- ---- what is found
 
+-- what is seen of items under their numbers
+module _ {A B : Type 0} (number : B → ℕ) (seen : Numbered A → B) (same : (x : Numbered A) → number (seen x) ≡ x.0) where
+  -- an item that is found is seen
+  pub item-seen : (n : ℕ) (xs : List (Numbered A)) (a : A) → item_at n xs ≡ Some a → find (λ b. number b == n) (map seen xs) ≡ Some (seen (n, a))
+  item-seen n [] a e = absurd cc
+  item-seen n (y ∷ ys) a e = go (eqb n y.0) refl (λ f. item-seen n ys a f) e
+    where
+      go : (b : Bool) → eqb n y.0 ≡ b → (item_at n ys ≡ Some a → find (λ o. number o == n) (map seen ys) ≡ Some (seen (n, a)))
+          → cond b (Some y.1) (item_at n ys) ≡ Some a → find (λ o. number o == n) (map seen (y ∷ ys)) ≡ Some (seen (n, a))
+      go true t rest f =
+          let turned : eqb (number (seen y)) n ≡ true = eq-eqb (number (seen y)) n (same y ∙ sym (eqb-true n y.0 t)) in
+          let whole : y ≡ (n, a) = λ i. (sym (eqb-true n y.0 t) i, same_Some y.1 a f i) in
+          rw turned (ap (λ (z : Numbered A). Some (seen z)) whole)
+      go false t rest f =
+          let turned : eqb (number (seen y)) n ≡ false = ne_eqb (number (seen y)) n (λ e. eqb-false n y.0 t (sym e ∙ same y)) in
+          rw turned (rest f)
+
+  -- and what is seen is there
+  pub seen-item : (n : ℕ) (xs : List (Numbered A)) → find (λ b. number b == n) (map seen xs) ≢ None → HasNumber n xs
+  seen-item n [] e = absurd (e refl)
+  seen-item n (y ∷ ys) e = go (eqb (number (seen y)) n) refl (λ f. seen-item n ys f) e
+    where
+      go : (b : Bool) → eqb (number (seen y)) n ≡ b → (find (λ o. number o == n) (map seen ys) ≢ None → HasNumber n ys)
+          → cond b (Some (seen y)) (find (λ o. number o == n) (map seen ys)) ≢ None → (n ≡ y.0) ⊎ HasNumber n ys
+      go true t rest f = inl (sym (eqb-true (number (seen y)) n t) ∙ same y)
+      go false t rest f = inr (rest f)
+
 -- the stage of an item that is found
 pub stage-found : (n : ℕ) (xs : List (Numbered Exchange)) (x : Exchange) → item_at n xs ≡ Some x → option_map (λ o. o.stage) (find (λ o. o.number == n) (map stage_seen xs)) ≡ Some (stage_at x.key.target.at x.state)
-stage-found n [] x e = absurd cc
-stage-found n (y ∷ ys) x e = go (eqb n y.0) refl (λ f. stage-found n ys x f) e
-  where
-    go : (b : Bool) → eqb n y.0 ≡ b → (item_at n ys ≡ Some x → option_map (λ o. o.stage) (find (λ o. o.number == n) (map stage_seen ys)) ≡ Some (stage_at x.key.target.at x.state))
-        → cond b (Some y.1) (item_at n ys) ≡ Some x → option_map (λ o. o.stage) (find (λ o. o.number == n) (map stage_seen (y ∷ ys))) ≡ Some (stage_at x.key.target.at x.state)
-    go true t rest f =
-        let turned : eqb y.0 n ≡ true = eq-eqb y.0 n (sym (eqb-true n y.0 t)) in
-        rw turned (ap (λ (z : Exchange). Some (stage_at z.key.target.at z.state)) (same_Some y.1 x f))
-    go false t rest f =
-        let turned : eqb y.0 n ≡ false = ne_eqb y.0 n (λ same. eqb-false n y.0 t (sym same)) in
-        rw turned (rest f)
+stage-found n xs x e = ap (option_map (λ (o : Open). o.stage)) (item-seen (λ (o : Open). o.number) stage_seen (λ y. refl) n xs x e)
+
+-- how far a client that is found was served
+pub service-found : (n : ℕ) (vs : List (Numbered Waiter)) (v : Waiter) → item_at n vs ≡ Some v → option_map (λ s. s.service) (find (λ s. s.number == n) (map standing_seen vs)) ≡ Some (service_in v.state)
+service-found n vs v e = ap (option_map (λ (s : Standing). s.service)) (item-seen (λ (s : Standing). s.number) standing_seen (λ u. refl) n vs v e)
+
+-- what is found in what is mapped is found in what was
+found-mapped : {A B : Type 0} (f : A → B) (o : Option A) → option_map f o ≢ None → o ≢ None
+found-mapped f None e = absurd (e refl)
+found-mapped f (Some a) e = λ none. absurd cc
 
 -- where a stage is found, so is the item
 pub found-stage : (n : ℕ) (xs : List (Numbered Exchange)) → option_map (λ o. o.stage) (find (λ o. o.number == n) (map stage_seen xs)) ≢ None → HasNumber n xs
-found-stage n [] e = absurd (e refl)
-found-stage n (y ∷ ys) e = go (eqb y.0 n) refl (λ f. found-stage n ys f) e
-  where
-    go : (b : Bool) → eqb y.0 n ≡ b → (option_map {T = Open} (λ o. o.stage) (find (λ o. o.number == n) (map stage_seen ys)) ≢ None → HasNumber n ys)
-        → option_map {T = Open} (λ o. o.stage) (cond b (Some (stage_seen y)) (find (λ o. o.number == n) (map stage_seen ys))) ≢ None → (n ≡ y.0) ⊎ HasNumber n ys
-    go true t rest f = inl (sym (eqb-true y.0 n t))
-    go false t rest f = inr (rest f)
+found-stage n xs e = seen-item (λ (o : Open). o.number) stage_seen (λ y. refl) n xs (found-mapped (λ (o : Open). o.stage) (find (λ (o : Open). o.number == n) (map stage_seen xs)) e)
+
+-- where it is found how far one was served, so is the client
+pub found-service : (n : ℕ) (vs : List (Numbered Waiter)) → option_map (λ s. s.service) (find (λ s. s.number == n) (map standing_seen vs)) ≢ None → HasNumber n vs
+found-service n vs e = seen-item (λ (s : Standing). s.number) standing_seen (λ u. refl) n vs (found-mapped (λ (s : Standing). s.service) (find (λ (s : Standing). s.number == n) (map standing_seen vs)) e)
 
 -- ---- changes
 
@@ -100,6 +125,24 @@ gone-seen n (v ∷ vs) = go (eqb v.0 n) (gone-seen n vs)
     go true i = i
     go false i = ap (λ (l : List Standing). standing_seen v ∷ l) i
 
+-- a client that is given its answer is seen to be told
+pub told-seen : (n id : ℕ) (bytes : List ℕ) (timer : Timer) (vs : List (Numbered Waiter)) → map standing_seen (changed_at n (waiters.delivered bytes id timer) vs) ≡ map (as_told n) (map standing_seen vs)
+told-seen n id bytes timer [] = refl
+told-seen n id bytes timer (v ∷ vs) = λ i. one (eqb v.0 n) i ∷ told-seen n id bytes timer vs i
+  where
+    one : (b : Bool) → standing_seen (cond b (v.0, waiters.delivered bytes id timer v.1) v) ≡ cond b (record { number = v.0; service = told }) (standing_seen v)
+    one true = refl
+    one false = refl
+
+-- a change that leaves how far clients were served isn't seen
+pub served-seen : (n : ℕ) (f : Waiter → Waiter) (vs : List (Numbered Waiter)) → ((v : Waiter) → service_in (f v).state ≡ service_in v.state) → map standing_seen (changed_at n f vs) ≡ map standing_seen vs
+served-seen n f [] same = refl
+served-seen n f (v ∷ vs) same = λ i. one (eqb v.0 n) i ∷ served-seen n f vs same i
+  where
+    one : (b : Bool) → standing_seen (cond b (v.0, f v.1) v) ≡ standing_seen v
+    one true = λ i. record { number = v.0; service = same v.1 i }
+    one false = refl
+
 -- what passes a test where all but one do
 pub kept-but : (test : Open → Bool) (x : ℕ) (xs : List (Numbered Exchange)) → AllByRecursion (λ y. test (stage_seen y) ≡ not (y.0 == x)) xs → filter test (map stage_seen xs) ≡ map stage_seen (without x xs)
 kept-but test x [] all = refl
@@ -116,24 +159,26 @@ kept-all test (o ∷ os) all = rw all.0 (ap (λ (l : List Open). o ∷ l) (kept-
 
 -- ---- who waits
 
--- a client that waits is seen to wait for its exchange
-waits-seen : (n : ℕ) (u : Numbered Waiter) → waiters.is_waiting u.1 ≡ true → waits_for n (standing_seen u) ≡ waiters.waits_for n u.1
-waits-seen n u is = go u.1.state is
-  where
-    go : (s : WaiterState) → waiters.is_waiting_state s ≡ true → (exchange_in s == n) ≡ waiters.waits_in_state n s
-    go (Waiting exchange) t = refl
-    go (Delivering bytes id timer) t = absurd cc
+-- a client is seen to wait for its exchange
+pub waits-seen : (n : ℕ) (s : WaiterState) → waits_for n (service_in s) ≡ waiters.waits_in_state n s
+waits-seen n (Waiting exchange) = refl
+waits-seen n (Delivering bytes id timer) = refl
 
 -- nobody is seen to wait where none is counted, and somebody where some are
-pub who-waits : (x : ℕ) (vs : List (Numbered Waiter)) → AllByRecursion (λ v. waiters.is_waiting v.1 ≡ true) vs → list_any (waits_for x) (map standing_seen vs) ≡ not (count (waiters.waits_for x) vs == 0)
-who-waits x [] all = refl
-who-waits x (v ∷ vs) all = go (waiters.waits_for x v.1) (waits-seen x v all.0) (who-waits x vs all.1)
+pub who-waits : (x : ℕ) (vs : List (Numbered Waiter)) → list_any (λ s. waits_for x s.service) (map standing_seen vs) ≡ not (count (waiters.waits_for x) vs == 0)
+who-waits x [] = refl
+who-waits x (v ∷ vs) = go (waiters.waits_for x v.1) (waits-seen x v.1.state) (who-waits x vs)
   where
-    go : (b : Bool) → waits_for x (standing_seen v) ≡ b → list_any (waits_for x) (map standing_seen vs) ≡ not (count (waiters.waits_for x) vs == 0) → list_any (waits_for x) (map standing_seen (v ∷ vs)) ≡ not (one_if b + count (waiters.waits_for x) vs == 0)
+    go : (b : Bool) → waits_for x (service_in v.1.state) ≡ b → list_any (λ s. waits_for x s.service) (map standing_seen vs) ≡ not (count (waiters.waits_for x) vs == 0) → list_any (λ s. waits_for x s.service) (map standing_seen (v ∷ vs)) ≡ not (one_if b + count (waiters.waits_for x) vs == 0)
     go true t i = let more : eqb (1 + count (waiters.waits_for x) vs) 0 ≡ false = ne_eqb _ _ (λ e. omega arith) in rw (t, more) refl
     go false t i = let same : 0 + count (waiters.waits_for x) vs ≡ count (waiters.waits_for x) vs = omega arith in rw (t, same) i
 
--- as many wait as there are
-pub all-wait : (vs : List (Numbered Waiter)) → AllByRecursion (λ v. waiters.is_waiting v.1 ≡ true) vs → count waiters.is_waiting vs ≡ length vs
-all-wait [] all = refl
-all-wait (v ∷ vs) all = let i = all-wait vs all.1 in rw all.0 (omega arith)
+-- whether a client waits is seen
+waiting-same : (s : WaiterState) → is_waiting (service_in s) ≡ waiters.is_waiting_state s
+waiting-same (Waiting exchange) = refl
+waiting-same (Delivering bytes id timer) = refl
+
+-- so as many are seen to wait as do
+pub waiting-seen : (vs : List (Numbered Waiter)) → count waiters.is_waiting vs ≡ count_if (λ s. is_waiting s.service) (map standing_seen vs)
+waiting-seen [] = refl
+waiting-seen (v ∷ vs) = rw (waiting-same v.1.state, waiting-seen vs) refl

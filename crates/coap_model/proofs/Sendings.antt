@@ -26,7 +26,7 @@ use Rattle.coap_model.specs.Setting.{Setting}
 use Rattle.coap_model.specs.World.{World}
 use Rattle.coap_model.specs.History.{Entry, moves, Deed, Place, IsPlaceOf, Never, comes_con, ids_given, last_of, Sends, Asks}
 use Rattle.coap_model.specs.Schedules.{same_act, is_sending, oldest, sends_for, sends_by}
-use Rattle.coap_model.specs.Justified.{IsForwarding, IsResending, IsDelivery, IsUnsettled, JustifiedBy, AllJustified}
+use Rattle.coap_model.specs.Justified.{IsForwarding, IsToSendAgain, request_again, answer_again, IsDelivery, IsUnsettled, JustifiedBy, AllJustified}
 use Rattle.coap_model.specs.Promised.{GivesId}
 use Rattle.coap_model.specs.Carries.{stage_at, IsTimer, WasAsked, WasSent, IsInFlight, IsState, IsExchangeOf, Bears}
 use Rattle.coap_model.proofs.Acting.{stage-is}
@@ -57,17 +57,18 @@ never-sends setting (d ∷ past) x all never = let none = not-sent (sends_for (m
           token = ap (token_of setting.salt) (same_moves j.exchange x (sym j.act ∙ act));
         })
 
-    repeated : IsResending setting past d → d.act ≡ moves x → ⊥
-    repeated j act =
-        let was = stage-sent setting past j.exchange j.to_repeat.to all.1 j.to_repeat.stage in
-        Never-at (Sends setting.salt x) past was.place never.1 was.is_there (subst (λ (n : ℕ). Sends setting.salt n was.place) (same_moves j.exchange x (sym j.act ∙ act)) was.sends)
+    repeated : {at : ℕ} → IsToSendAgain setting past d at → d.act ≡ moves x → ⊥
+    repeated (request_again y is to_repeat timely) act =
+        let was = stage-sent setting past y to_repeat.to all.1 to_repeat.stage in
+        Never-at (Sends setting.salt x) past was.place never.1 was.is_there (subst (λ (n : ℕ). Sends setting.salt n was.place) (same_moves y x (sym is ∙ act)) was.sends)
+    repeated (answer_again v is again) act = let other = sym is ∙ act in cc
 
     served : IsDelivery setting past d → d.act ≡ moves x → ⊥
     served j act = let other = sym j.act ∙ act in cc
 
     by_outcome : (o : Outcome) → d.entry.report.outcome ≡ o → JustifiedBy o setting past d → d.act ≡ moves x → is_sending o ≡ true → ⊥
     by_outcome SentRequest is j act sends = forwarded j act is
-    by_outcome Resent is j act sends = repeated j act
+    by_outcome Resent is j act sends = repeated j.again act
     by_outcome Delivered is j act sends = served j act
     by_outcome _ is j act sends = absurd cc
 

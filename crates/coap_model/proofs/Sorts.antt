@@ -68,6 +68,14 @@ recorded-kind m e = ⊎_elim (λ request. request.0) (λ response. ap brings_req
 pub answer-recorded : {token : List ℕ} {id : ℕ} (m : Message) → Matches token id m → is_recorded m ≡ true → m.kind ≡ Con
 answer-recorded m matches e = ⊎_elim (λ request. answer-no-request m matches request.0 request.1) (λ response. response.0) (recorded-sorts m e)
 
+-- an acknowledgement or a Reset brings no request
+pub empty-no-request : {A : Type 0} {k : Kind} → (k ≡ Ack) ⊎ (k ≡ Rst) → brings_requests k ≡ true → A
+empty-no-request kind request = ⊎_elim (λ (ack : _ ≡ Ack). ack-no-request ack request) (λ (reset : _ ≡ Rst). reset-no-request reset request) kind
+
+-- an answer that is an acknowledgement or a Reset, and no more, is a Reset
+pub answer-reset : {token : List ℕ} {id : ℕ} (m : Message) → Matches token id m → (m.kind ≡ Ack) ⊎ (m.kind ≡ Rst) → m.code ≡ EMPTY → m.kind ≡ Rst
+answer-reset m matches kind empty = ⊎_elim (λ (ack : m.kind ≡ Ack). answer-no-ack m matches ack empty) (λ (reset : m.kind ≡ Rst). reset) kind
+
 -- an answer has the token of its request, or it is a Reset
 pub token-or-reset : {token : List ℕ} {id : ℕ} (m : Message) → Matches token id m → (m.token ≡ token) ⊎ (m.kind ≡ Rst)
 token-or-reset m (in_acknowledgement kind code same with_id) = inl same

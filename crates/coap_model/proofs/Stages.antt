@@ -9,9 +9,9 @@ use Rattle.coap_forward.specs.Messages.{token_of}
 use Rattle.coap_model.specs.declared.report.Outcome.{Outcome}
 use Rattle.coap_model.specs.declared.report.Outcome.TheVariants.{Opened, Answered, Acked, SentRequest, GaveUp, Delivered}
 use Rattle.coap_model.specs.Setting.{Setting}
-use Rattle.coap_model.specs.History.{Act, admits, moves, serves, Deed, Place, IsPlaceOf, Never, opened_in, ends, Sends, Ends}
+use Rattle.coap_model.specs.History.{Act, admits, moves, Deed, Place, IsPlaceOf, Never, opened_in, ends, Sends, Ends}
 use Rattle.coap_model.specs.Standing.{Standing, Stage, queued, sent, acked, done, Open, staged, waits_for, awaited, open_by, open_in, standing_in, stage_of}
-use Rattle.coap_model.specs.Justified.{IsOpening, IsSettled, IsForwarding, IsGivingUp, overdue, unheard, JustifiedBy, AllJustified}
+use Rattle.coap_model.specs.Justified.{IsOpening, IsSettled, Settles, a_request, an_answer, IsForwarding, IsGivingUp, overdue, unheard, unacknowledged, JustifiedBy, AllJustified}
 use Rattle.coap_model.proofs.Lists.{find-holds, All-filter}
 use Rattle.coap_model.proofs.Places.{here, same_moves, same_admits, never-from, justified-at, opened-number}
 use Rattle.coap_model.proofs.Owing.{taken-so}
@@ -21,7 +21,7 @@ use Rattle.coap_model.proofs.Owing.{taken-so}
 -- those that are awaited are some of them
 All-awaited : (P : Open → Type 0) (standing : List Standing) (xs : List Open) → AllByRecursion P xs → AllByRecursion P (awaited standing xs)
 All-awaited P standing xs all =
-    All-weaken (λ o. P o × (list_any (waits_for o.number) standing ≡ true)) P (awaited standing xs) (λ o h. h.0) (All-filter P (λ o. list_any (waits_for o.number) standing) xs all)
+    All-weaken (λ o. P o × (list_any (λ s. waits_for o.number s.service) standing ≡ true)) P (awaited standing xs) (λ o h. h.0) (All-filter P (λ o. list_any (λ s. waits_for o.number s.service) standing) xs all)
 
 -- what holds of the one of this number as it comes to a stage, and of the others, holds of all
 All-staged : (P Q : Open → Type 0) (x : ℕ) (stage : Stage) (xs : List Open) → ((o : Open) → P o → o.number ≡ x → Q (record o { stage = stage })) → ((o : Open) → P o → o.number ≢ x → Q o) → AllByRecursion P xs → AllByRecursion Q (staged x stage xs)
@@ -51,8 +51,8 @@ All-open P Q (Answered s) (moves x) send standing xs new sending acking ending o
     All-staged P Q x done xs (ending x refl refl) (λ q h other. others q h (λ either same. other (sym (same_moves x q.number same)))) all
 All-open P Q GaveUp (moves x) send standing xs new sending acking ending others all =
     All-staged P Q x done xs (ending x refl refl) (λ q h other. others q h (λ either same. other (sym (same_moves x q.number same)))) all
-All-open P Q Delivered (serves v) send standing xs new sending acking ending others all =
-    All-awaited Q standing xs (All-weaken P Q xs (λ q h. others q h (λ either same. cc)) all)
+All-open P Q Delivered act send standing xs new sending acking ending others all =
+    All-awaited Q standing xs (All-weaken P Q xs (λ q h. others q h (λ either same. ⊎_elim (λ e. let f = e.0 in cc) (λ e. cc) either)) all)
 All-open P Q _ _ send standing xs new sending acking ending others all =
     All-weaken P Q xs (λ q h. others q h (λ either same. ⊎_elim (λ e. let f = e.0 in cc) (λ e. cc) either)) all
 
@@ -135,6 +135,7 @@ ended-number setting history p x all at e = go p.deed.entry.report.outcome e.out
         let same = same_moves x y (sym e.act ∙ act) in
         let h = stage-holds (λ o. o.number ≤ opened_in p.before) y (sent to_repeat.to) p.before (open-numbers setting p.before before) to_repeat.stage in
         omega (arith, same, h.holds, h.number)
+    given_up (unacknowledged v acting act again stops silent) = absurd (let f = sym e.act ∙ act in cc)
 
     go : (o : Outcome) → ends o ≡ true → JustifiedBy o setting p.before p.deed → x ≤ opened_in p.before
     go (Answered s) is j =
@@ -227,14 +228,18 @@ all-come setting (d ∷ past) all =
     acking : AllByRecursion (HasCome setting.salt past) (open_in past) → (x : ℕ) → d.entry.report.outcome ≡ Acked → d.act ≡ moves x → (q : Open) → HasCome setting.salt past q → q.number ≡ x → HasCome setting.salt (d ∷ past) (record q { stage = acked })
     acking come x is act q h same =
         let j : IsSettled setting past d = subst (λ (o : Outcome). JustifiedBy o setting past d) is all.0 in
-        let number : x ≡ j.exchange = same_moves x j.exchange (sym act ∙ j.act) in
-        let u = j.acknowledges.unsettled in
-        let was = sent-come setting past j.exchange u.to all.1 come u.stage in
         record {
           unsent = λ e. absurd cc;
           was_sent = λ to e. absurd cc;
-          unended = λ not. ((λ s. let e = ap ends (sym is) ∙ s.outcome in cc), subst (λ (n : ℕ). Never (Ends n) past) (sym number ∙ sym same) was);
+          unended = λ not. ((λ s. let e = ap ends (sym is) ∙ s.outcome in cc), was j.settles);
         }
+      where
+        was : Settles setting past d → Never (Ends q.number) past
+        was (a_request exchange is_act acknowledges) =
+            let number : x ≡ exchange = same_moves x exchange (sym act ∙ is_act) in
+            let u = acknowledges.unsettled in
+            subst (λ (n : ℕ). Never (Ends n) past) (sym number ∙ sym same) (sent-come setting past exchange u.to all.1 come u.stage)
+        was (an_answer client is_act closes) = absurd (let e = sym act ∙ is_act in cc)
 
     ending : (x : ℕ) → ends d.entry.report.outcome ≡ true → d.act ≡ moves x → (q : Open) → HasCome setting.salt past q → q.number ≡ x → HasCome setting.salt (d ∷ past) (record q { stage = done })
     ending x is act q h same = record { unsent = λ e. absurd cc; was_sent = λ to e. absurd cc; unended = λ not. absurd (not refl) }

@@ -8,7 +8,10 @@ use Rattle.coap_exchange.specs.Table.{Numbered, item_at, changed, changed_at, wi
 use Rattle.coap_exchange.proofs.Counts.{one_if}
 use Rattle.coap_exchange.proofs.Tables.{none-below}
 use Rattle.coap_model.proofs.Lists.{Has, Has-holds}
-use Rattle.coap_model.specs.Carries.{HasNumber}
+use Rattle.coap_exchange.specs.declared.exchange.Exchange.{Exchange}
+use Rattle.coap_exchange.specs.declared.waiter.WaiterState.{WaiterState}
+use Rattle.coap_exchange.specs.declared.waiter.WaiterState.TheVariants.{Waiting, Delivering}
+use Rattle.coap_model.specs.Carries.{HasNumber, HasExchange}
 
 -- ---- what is found
 
@@ -78,6 +81,11 @@ count-some {A} test (y ∷ ys) x h t =
     (λ (same : x ≡ y). let one : one_if (test y.1) ≡ 1 = ap one_if (ap (λ (z : Numbered A). test z.1) (sym same) ∙ t) in omega arith)
     (λ (there : Has x ys). let i = count-some test ys x there t in omega arith)
     h
+
+-- the exchange that a client waits for is there, where all that were there are
+pub HasExchange-on : (s : WaiterState) (xs ys : List (Numbered Exchange)) → ((n : ℕ) → HasNumber n xs → HasNumber n ys) → HasExchange s xs → HasExchange s ys
+HasExchange-on (Waiting exchange) xs ys on has = on exchange has
+HasExchange-on (Delivering bytes id timer) xs ys on has = tt
 
 -- ---- one item changes
 

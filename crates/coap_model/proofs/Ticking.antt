@@ -12,7 +12,7 @@ use Rattle.coap_model.specs.Ticks.{moment_of, next_due, item_due, if_due, on_ite
 use Rattle.coap_model.specs.History.{Entry, Deed}
 use Rattle.coap_model.specs.Carries.{Bears, Carries}
 use Rattle.coap_model.proofs.Idling.{not-stuck}
-use Rattle.coap_model.proofs.Rules.{Rule, refusing, lacking, overloading, hitting, joining, opening, repeating, dropping, answering, answering_con, acknowledging, rejecting, ignoring, forwarding, resending, giving_up, delivering, idling, stuck, rule_of}
+use Rattle.coap_model.proofs.Rules.{Rule, refusing, lacking, overloading, hitting, joining, opening, repeating, dropping, answering, answering_con, acknowledging, closing, rejecting, ignoring, forwarding, resending, giving_up, delivering, redelivering, abandoning, idling, stuck, rule_of}
 
 -- where no tick is wanted, a tick is idle
 pub idle-none : (w : World) (now draw : ℕ) (grown : Bool) → next_due w ≡ None → (step_of w now draw grown tick).report.outcome ≡ Idle
@@ -36,19 +36,22 @@ acts history c (refusing client bytes m code first denied free) ticked due = λ 
 acts history c (lacking client bytes m first free) ticked due = λ o. cc
 acts history c (overloading client bytes m key first verdict lacks free) ticked due = λ o. cc
 acts history c (hitting client bytes m key entry first verdict found usable free) ticked due = λ o. cc
-acts history c (joining client bytes m key exchange first verdict none found room) ticked due = λ o. cc
-acts history c (opening client bytes m key first verdict none short room) ticked due = λ o. cc
+acts history c (joining client bytes m key exchange send told first verdict none found room taken) ticked due = λ o. cc
+acts history c (opening client bytes m key send told first verdict none short room taken) ticked due = λ o. cc
 acts history c (repeating source bytes m known fits recorded found) ticked due = λ o. absurd cc
 acts history c (dropping source bytes m fits recorded wanted unknown full) ticked due = λ o. cc
 acts history c (answering source bytes m x storing store fits read answer con stored) ticked due = λ o. cc
 acts history c (answering_con source bytes m x storing store fits recorded answer con unknown room stored) ticked due = λ o. cc
 acts history c (acknowledging source bytes m x fits read about ack) ticked due = λ o. cc
+acts history c (closing source bytes m number fits read about) ticked due = λ o. cc
 acts history c (rejecting source bytes head is con none) ticked due = λ o. cc
 acts history c (ignoring source bytes quiet none) ticked due = λ o. cc
 acts history c (forwarding at number x turn is early) ticked due = λ o. cc
 acts history c (resending at number x turn is early fire) ticked due = λ o. cc
 acts history c (giving_up at number x turn over) ticked due = λ o. cc
-acts history c (delivering at number exchange v a is found waits answer) ticked due = λ o. cc
+acts history c (delivering at number exchange v a left is found waits answer left_so) ticked due = λ o. cc
+acts history c (redelivering at number v bytes id timer turn fire) ticked due = λ o. cc
+acts history c (abandoning at number v bytes id timer turn fire) ticked due = λ o. cc
 acts history c (idling nothing) ticked due = λ o. due nothing
 acts {w = w} {now = now} history c (stuck s) ticked due = λ o. not-stuck w history c now s
 

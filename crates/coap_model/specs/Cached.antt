@@ -14,8 +14,9 @@ use Rattle.coap_cache.specs.Entries.{entry_key, entry_size}
 use Rattle.coap_cache.specs.Lists.{of_key, others, put, used}
 use Rattle.coap_cache.specs.Showing.{tells_age}
 use Rattle.coap_model.specs.declared.report.Outcome.{Outcome}
-use Rattle.coap_model.specs.declared.report.Outcome.TheVariants.{Answered, Hit}
-use Rattle.coap_model.specs.declared.report.Storing.TheVariants.{Kept, TooLarge}
+use Rattle.coap_model.specs.declared.report.Outcome.TheVariants.{Ignored, Rejected, Again, NoRecordRoom, Refused, Hit, Joined, Opened, Overloaded, NoId, Answered, Acked, SentRequest, Resent, GaveUp, Delivered, Idle}
+use Rattle.coap_model.specs.declared.report.Storing.{Storing}
+use Rattle.coap_model.specs.declared.report.Storing.TheVariants.{Kept, TooLarge, NoMemory, NotStored}
 use Rattle.coap_model.specs.Setting.{Setting}
 use Rattle.coap_model.specs.Keys.{key_sent, request_key}
 use Rattle.coap_forward.specs.Answers.{answer_of, is_storable, without_observe, is_passed_on}
@@ -107,12 +108,32 @@ cached_here key response asking past d =
       getting = record { before = past; deed = d };
     }
 
--- all that is done but these three leaves the cache as it is
+abbrev pub leaves_stored : Storing → Bool
+leaves_stored Kept = false
+leaves_stored TooLarge = false
+leaves_stored NoMemory = true
+leaves_stored NotStored = true
+
+-- a hit moves its entry, and an answer that is kept, or too large, replaces one; all else leaves the
+-- cache as it is
 abbrev pub leaves : Outcome → Bool
-leaves (Answered Kept) = false
-leaves (Answered TooLarge) = false
+leaves Ignored = true
+leaves Rejected = true
+leaves Again = true
+leaves NoRecordRoom = true
+leaves (Refused code) = true
 leaves Hit = false
-leaves _ = true
+leaves Joined = true
+leaves Opened = true
+leaves Overloaded = true
+leaves NoId = true
+leaves (Answered storing) = leaves_stored storing
+leaves Acked = true
+leaves SentRequest = true
+leaves Resent = true
+leaves GaveUp = true
+leaves Delivered = true
+leaves Idle = true
 
 -- The cache of a history, the most recently used first. There is a case for each way in which an
 -- entry moves.

@@ -1,7 +1,8 @@
 -- A proxy carries a history: each part of its tables is what the history says.
 use Rattle.std.specs.Prelude.{◌≡◌, ◌⊎◌, ℕ, ◌+◌, ◌*◌, ◌^◌, ◌/◌, ◌%◌, ◌<◌, ◌≤◌, true, false, List, [], ◌∷◌, length, map, Option, Some, None}
 use Rattle.std.specs.List.{AllByRecursion}
-use Rattle.coap_message.specs.Spelling.{spelling}
+use Rattle.coap_message.specs.Message.{Message}
+use Rattle.coap_message.specs.Spelling.{spelling, Spells}
 use Rattle.coap_option.specs.Selection.{sent_on, tags_of}
 use Rattle.coap_routes.specs.Routes.{AreRoutes}
 use Rattle.coap_target.specs.declared.endpoint.Endpoint.{Endpoint}
@@ -29,7 +30,7 @@ use Rattle.coap_forward.specs.Forms.{forwarded}
 use Rattle.coap_model.specs.Keys.{key_sent}
 use Rattle.coap_model.specs.Verdicts.{may_ask}
 use Rattle.coap_model.specs.World.{World, reserved}
-use Rattle.coap_model.specs.Standing.{Stage, Standing, Open, queued, sent, acked, done, open_in, standing_in, window_ids}
+use Rattle.coap_model.specs.Standing.{Stage, Service, Standing, Open, queued, sent, acked, done, waits, told, open_in, standing_in, window_ids}
 use Rattle.coap_model.specs.Schedules.{IsSchedule, oldest, sends_by}
 use Rattle.coap_model.specs.History.{Entry, Act, moves, serves, Deed, told_by, Place, index, IsPlaceOf, Never, Somewhere, opened_in, admitted_in, ids_in, Opens, Admits, Sends, Serves, Asks, Ends, WasOpened, WasAdmitted, last_of, IsInOrder, AreIds}
 use Rattle.coap_model.specs.Cached.{IsStoreOf}
@@ -69,17 +70,21 @@ stage_at at (Done a) = done
 abbrev pub stage_seen : Numbered Exchange → Open
 stage_seen x = record { number = x.0; stage = stage_at x.1.key.target.at x.1.state }
 
--- no client that was served is kept yet, so that the second case never comes
-abbrev pub exchange_in : WaiterState → ℕ
-exchange_in (Waiting exchange) = exchange
-exchange_in (Delivering bytes id timer) = 0
+abbrev pub service_in : WaiterState → Service
+service_in (Waiting exchange) = waits exchange
+service_in (Delivering bytes id timer) = told
 
 abbrev pub standing_seen : Numbered Waiter → Standing
-standing_seen v = record { number = v.0; exchange = exchange_in v.1.state }
+standing_seen v = record { number = v.0; service = service_in v.1.state }
 
 abbrev pub HasNumber : {A : Type 0} → ℕ → List (Numbered A) → Type 0
 HasNumber n [] = ⊥
 HasNumber n (x ∷ xs) = (n ≡ x.0) ⊎ HasNumber n xs
+
+-- the exchange that a client waits for is there
+abbrev pub HasExchange : WaiterState → List (Numbered Exchange) → Type 0
+HasExchange (Waiting exchange) exchanges = HasNumber exchange exchanges
+HasExchange (Delivering bytes id timer) exchanges = Unit {0}
 
 -- Nothing is missing in the tables and nothing is there twice.
 pub record AreWhole (history : List Deed) (w : World) : Type 0 where
@@ -88,7 +93,7 @@ pub record AreWhole (history : List Deed) (w : World) : Type 0 where
   pub rising : IsRising 0 w.exchanges
   pub waiters_rise : IsRising 0 w.waiters
   -- the exchange that a client waits for is there, and for each that is there a client waits
-  pub awaited : AllByRecursion (λ v. HasNumber (exchange_in v.1.state) w.exchanges) w.waiters
+  pub awaited : AllByRecursion (λ v. HasExchange v.1.state w.exchanges) w.waiters
   pub waited : AllByRecursion (λ x. 0 < count (waits_for x.0) w.waiters) w.exchanges
   -- one that was opened and never ended is there
   pub unended :
@@ -201,6 +206,7 @@ pub record IsWaiting
   pub admitted : WasAdmitted setting history v.0
   pub exchange_is : admitted.exchange ≡ exchange
   pub client_is : v.1.client ≡ admitted.client
+  pub kind_is : v.1.kind ≡ admitted.request.kind
   pub token_is : v.1.token ≡ admitted.request.token
   pub tags_are : v.1.tags ≡ tags_of admitted.request
   pub unended : Never (Ends exchange) admitted.admission.before
@@ -210,10 +216,33 @@ pub record IsWaiting
   pub opened : WasOpened setting history exchange
   pub verdict : verdict_on setting opened.request ≡ verdict_on setting admitted.request
 
--- no client that was served is kept yet
+-- A client was given its answer in a Confirmable message, once: in these bytes, with this id, by
+-- this schedule. What it asked with is let go.
+pub record IsDelivering
+    (setting : Setting) (history : List Deed) (v : Numbered Waiter) (bytes : List ℕ) (id : ℕ)
+    (timer : Timer)
+    : Type 0 where
+  pub admitted : WasAdmitted setting history v.0
+  pub timer_is : IsTimer timer (sends_by (serves v.0) history)
+  pub bytes_are : AreOfBytes v.1.client bytes (sends_by (serves v.0) history)
+  pub serving : Place
+  pub was_served : IsPlaceOf history serving
+  pub is_serving : Serves v.0 serving
+  pub only : (p : Place) → IsPlaceOf history p → Serves v.0 p → p ≡ serving
+  pub sent : serving.deed.entry.report.send ≡ Some v.1.client
+  pub answer : Message
+  pub spells : Spells serving.deed.entry.bytes answer
+  pub id_is : id ≡ answer.id
+  pub started : timer.started ≡ serving.deed.entry.now
+  -- no longer than the longest datagram, or than a short one
+  pub short : (most : ℕ) → 128 ≤ most → setting.limits.datagram ≤ most → length bytes ≤ most
+  pub token_gone : v.1.token ≡ []
+  pub tags_gone : v.1.tags ≡ []
+
 abbrev pub IsWaiterIn : Setting → List Deed → Numbered Waiter → WaiterState → Type 0
 IsWaiterIn setting history v (Waiting exchange) = IsWaiting setting history v exchange
-IsWaiterIn setting history v (Delivering bytes id timer) = ⊥
+IsWaiterIn setting history v (Delivering bytes id timer) =
+    IsDelivering setting history v bytes id timer
 
 -- the waiter is the one that the history admitted under its number
 abbrev pub IsWaiterOf : Setting → List Deed → Numbered Waiter → Type 0

@@ -4,9 +4,9 @@ use Rattle.coap_target.specs.declared.endpoint.Endpoint.{Endpoint}
 use Rattle.coap_cache.specs.declared.key.CacheKey.{CacheKey}
 use Rattle.coap_model.specs.Setting.{Setting}
 use Rattle.coap_model.specs.Verdicts.{may_ask, verdict_of}
-use Rattle.coap_model.specs.Standing.{queued, sent, stage_of, outstanding_to}
+use Rattle.coap_model.specs.Standing.{queued, sent, stage_of, outstanding_to, told, service_of}
 use Rattle.coap_model.specs.Schedules.{sends_by, next_send}
-use Rattle.coap_model.specs.History.{Act, moves, serves, Deed, Place, IsPlaceOf, Never, Ends, Serves, WasOpened, WasAdmitted}
+use Rattle.coap_model.specs.History.{Act, no_item, admits, moves, serves, Deed, Place, IsPlaceOf, Never, Ends, Serves, WasOpened, WasAdmitted}
 
 -- ---- exchanges
 
@@ -48,13 +48,23 @@ pub record IsToServe (setting : Setting) (past : List Deed) (v at : ℕ) : Type 
   pub ends : Ends admitted.exchange ending
   pub at_is : at ≡ ending.deed.entry.now
 
+-- one that was served, and hasn't acknowledged that, is to be served again by its schedule
+pub record IsToServeAgain (past : List Deed) (v at : ℕ) : Type 0 where
+  pub service : service_of v past ≡ Some told
+  pub at_is : at ≡ next_send (sends_by (serves v) past)
+
+pub data IsClientDue (setting : Setting) (past : List Deed) (v at : ℕ) : Type 0 where
+  to_serve : IsToServe setting past v at → IsClientDue setting past v at
+  to_serve_again : IsToServeAgain past v at → IsClientDue setting past v at
+
 -- ---- both
 
 -- The act is due from this moment on. It may be due from a later one besides.
 abbrev pub IsDueAt : Setting → List Deed → Act → ℕ → Type 0
+IsDueAt setting past no_item at = ⊥
+IsDueAt setting past (admits v x) at = ⊥
 IsDueAt setting past (moves x) at = IsExchangeDue setting past x at
-IsDueAt setting past (serves v) at = IsToServe setting past v at
-IsDueAt setting past _ at = ⊥
+IsDueAt setting past (serves v) at = IsClientDue setting past v at
 
 -- at one moment exchanges come before waiters, each in order of number
 abbrev pub ComesBefore : Act → Act → Type 0

@@ -51,13 +51,6 @@ two_clients_sent =
     ∷ to Again (client 1) (con_not_found 1) ∷ nothing NoRecordRoom
     ∷ to (Refused NOT_FOUND) (client 2) (con_not_found 2) ∷ []
 
--- a Confirmable request that would open an exchange is told to try again after five seconds
-abbrev pub con_asks : List Turn
-con_asks = from 0 (client 1) (0x40 ∷ 1 ∷ 0 ∷ 10 ∷ 0xB1 ∷ 0x74 ∷ []) ∷ []
-
-abbrev pub con_asks_sent : List Sent
-con_asks_sent = to Overloaded (client 1) (0x60 ∷ 0xA3 ∷ 0 ∷ 10 ∷ 0xD1 ∷ 1 ∷ 5 ∷ []) ∷ []
-
 -- One whose answer is stored is answered in its acknowledgement; its duplicate gets the same bytes,
 -- a second later still.
 abbrev pub con_hit : List ℕ
@@ -84,12 +77,24 @@ hit_until later request =
 abbrev pub hit_sent : List ℕ → Sent → List Sent
 hit_sent reply then = first_answer_sent ++ to Hit (client 2) reply ∷ then ∷ []
 
--- a Confirmable GET of the path `t` with the id 11, and its 5.03
+-- a Confirmable GET of the path `t` with the id 11; its acknowledgement, without more; and its 5.03
 abbrev pub con_t : List ℕ
 con_t = 0x40 ∷ 1 ∷ 0 ∷ 11 ∷ 0xB1 ∷ 0x74 ∷ []
 
+abbrev pub con_acked : List ℕ
+con_acked = 0x60 ∷ 0 ∷ 0 ∷ 11 ∷ []
+
 abbrev pub con_busy : List ℕ
 con_busy = 0x60 ∷ 0xA3 ∷ 0 ∷ 11 ∷ 0xD1 ∷ 1 ∷ 5 ∷ []
+
+-- one that comes twice while there is room for one exchange, which is for something else
+abbrev pub con_busy_until : ℕ → List Turn
+con_busy_until later =
+    from 0 (client 1) (get_t (1 ∷ 0x78 ∷ [])) ∷ from 0 (client 2) con_t
+    ∷ from later (client 2) con_t ∷ []
+
+abbrev pub con_busy_sent : Sent → List Sent
+con_busy_sent then = nothing Opened ∷ to Overloaded (client 2) con_busy ∷ then ∷ []
 
 -- what a Non-confirmable hit is shown, and its 5.03 with an id where there is room for one exchange
 abbrev pub non_hit : List ℕ

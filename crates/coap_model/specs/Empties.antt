@@ -1,11 +1,12 @@
--- The step of an Empty message: an acknowledgement or a Reset of a request that was sent (RFC 7252,
--- 4.2 and 4.3).
+-- The step of an Empty message: an acknowledgement or a Reset of a request that was sent, or of an
+-- answer (RFC 7252, 4.2 and 4.3).
 use Rattle.std.specs.Prelude.{ℕ, Bool, if◌then◌else◌, Option, Some, None}
 use Rattle.coap_message.specs.Message.{Message}
 use Rattle.coap_target.specs.declared.endpoint.Endpoint.{Endpoint}
 use Rattle.coap_exchange.specs.declared.exchange.Exchange.{Exchange}
 use Rattle.coap_exchange.specs.Exchanges.{acked, is_sent, was_sent_as}
-use Rattle.coap_exchange.specs.Table.{changed_at, first_that, item_at}
+use Rattle.coap_exchange.specs.Table.{changed_at, first_that, item_at, without}
+use Rattle.coap_exchange.specs.Waiters as waiters
 use Rattle.coap_model.specs.declared.report.Outcome.TheVariants.{Acked}
 use Rattle.coap_forward.specs.Messages.{is_ack}
 use Rattle.coap_model.specs.World.{World, Step, later, silent, ignores}
@@ -16,22 +17,35 @@ abbrev pub acknowledges : World → ℕ → ℕ → Step
 acknowledges w now number =
     silent Acked (record (later w now) { exchanges = changed_at number acked w.exchanges })
 
--- an acknowledgement, or a Reset, which is its answer
+-- the client has its answer, or doesn't know what that is for
+abbrev pub closes : World → ℕ → ℕ → Step
+closes w now number = silent Acked (record (later w now) { waiters = without number w.waiters })
+
+-- an acknowledgement or a Reset of an answer that a client was sent
+abbrev pub on_told : World → ℕ → Option ℕ → Step
+on_told w now None = ignores w now
+on_told w now (Some number) = closes w now number
+
+abbrev pub on_client : World → ℕ → Endpoint → Message → Step
+on_client w now source m =
+    on_told w now (first_that (waiters.was_sent_as source m.id now) w.waiters)
+
+-- an acknowledgement of a request, or a Reset, which is its answer
 abbrev pub settles : World → ℕ → Bool → Endpoint → Message → ℕ → Exchange → Step
 settles w now grown source m number x =
     if is_ack m.kind
     then acknowledges w now number
     else answers w now grown source m (number, x)
 
--- the exchange of a number that is found is there, so that the first case never comes; one that was
--- acknowledged or answered before isn't so again
+-- the exchange of a number that is found is there, so that the first case never comes; where it was
+-- acknowledged or answered before, what came is of no request
 abbrev pub on_exchange : World → ℕ → Bool → Endpoint → Message → ℕ → Option Exchange → Step
-on_exchange w now grown source m number None = ignores w now
+on_exchange w now grown source m number None = on_client w now source m
 on_exchange w now grown source m number (Some x) =
-    if is_sent x then settles w now grown source m number x else ignores w now
+    if is_sent x then settles w now grown source m number x else on_client w now source m
 
 abbrev pub on_sent : World → ℕ → Bool → Endpoint → Message → Option ℕ → Step
-on_sent w now grown source m None = ignores w now
+on_sent w now grown source m None = on_client w now source m
 on_sent w now grown source m (Some number) =
     on_exchange w now grown source m number (item_at number w.exchanges)
 

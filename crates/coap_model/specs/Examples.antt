@@ -93,8 +93,11 @@ answer kind code id token more = kind ∷ code ∷ 0 ∷ id ∷ 0 ∷ 0 ∷ 0 �
 abbrev pub content : List ℕ
 content = answer 0x68 0x45 1 1 (0xD1 ∷ 1 ∷ 10 ∷ 0xFF ∷ 0x32 ∷ 0x31 ∷ [])
 
+abbrev pub content_in : ℕ → ℕ → List ℕ
+content_in first left = first ∷ 0x45 ∷ 0 ∷ 2 ∷ 0xD1 ∷ 1 ∷ left ∷ 0xFF ∷ 0x32 ∷ 0x31 ∷ []
+
 abbrev pub content_for_client : ℕ → List ℕ
-content_for_client left = 0x50 ∷ 0x45 ∷ 0 ∷ 2 ∷ 0xD1 ∷ 1 ∷ left ∷ 0xFF ∷ 0x32 ∷ 0x31 ∷ []
+content_for_client left = content_in 0x50 left
 
 -- a request, a tick that sends it on, an answer, and a tick that delivers it
 abbrev pub answered_by : ℕ → List ℕ → List Turn

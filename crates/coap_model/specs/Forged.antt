@@ -5,7 +5,7 @@ use Rattle.coap_model.specs.declared.report.Outcome.TheVariants.{Opened, Answere
 use Rattle.coap_model.specs.declared.report.Storing.TheVariants.{NotStored}
 use Rattle.coap_model.specs.Setting.{Setting}
 use Rattle.coap_model.specs.Events.{arrival, tick}
-use Rattle.coap_model.specs.Examples.{proxy, origin, client, get_t, get_temp, content, content_for_client}
+use Rattle.coap_model.specs.Examples.{proxy, origin, client, get_t, get_temp, content, content_for_client, content_in}
 use Rattle.coap_model.specs.History.{Act, admits, moves, serves, Deed}
 
 abbrev pub setting : Setting
@@ -51,6 +51,22 @@ answered = record {
 abbrev pub past : List Deed
 past = answered ∷ asked ∷ opened ∷ []
 
+-- the same, where the client asks in a Confirmable message, which is acknowledged
+abbrev pub opened_con : Deed
+opened_con = record {
+  entry = record {
+    now = 0;
+    draw = 0;
+    event = arrival (client 1) (0x40 ∷ 1 ∷ 0 ∷ 7 ∷ 0xB1 ∷ 0x74 ∷ []);
+    report = record { send = Some (client 1); outcome = Opened };
+    bytes = 0x60 ∷ 0 ∷ 0 ∷ 7 ∷ [];
+  };
+  act = admits 1 1;
+}
+
+abbrev pub past_con : List Deed
+past_con = answered ∷ asked ∷ opened_con ∷ []
+
 -- another exchange is opened at the same moment
 abbrev pub opened_too : Deed
 opened_too = record opened { act = admits 2 2 }
@@ -79,6 +95,10 @@ delivery to bytes act = record {
 
 abbrev pub right : Deed
 right = delivery (client 1) (content_for_client 7) (serves 1)
+
+-- the same in a Confirmable message
+abbrev pub in_con : Deed
+in_con = delivery (client 1) (content_in 0x40 7) (serves 1)
 
 -- the same at a datagram in place of a tick
 abbrev pub at_an_arrival : Deed → Deed

@@ -14,6 +14,8 @@ use Rattle.coap_exchange.specs.declared.exchange.ExchangeState.{ExchangeState}
 use Rattle.coap_exchange.specs.declared.exchange.ExchangeState.TheVariants.{Queued, Sent, Acked, Done}
 use Rattle.coap_exchange.specs.declared.exchange.Exchange.{Exchange}
 use Rattle.coap_exchange.specs.declared.waiter.Waiter.{Waiter}
+use Rattle.coap_exchange.specs.declared.waiter.WaiterState.{WaiterState}
+use Rattle.coap_exchange.specs.declared.waiter.WaiterState.TheVariants.{Waiting, Delivering}
 use Rattle.coap_exchange.specs.Table.{Numbered}
 use Rattle.coap_limits.specs.Limits.{Limits}
 use Rattle.coap_model.specs.World.{World}
@@ -46,9 +48,15 @@ key_bytes key = target_bytes key.target + length (options_spelling 0 key.options
 abbrev pub exchange_bytes : Numbered Exchange → ℕ
 exchange_bytes x = length x.1.form + key_bytes x.1.key + state_bytes x.1.state
 
--- a client's token, and its tags, each with its length in front of it
+-- the answer that a client has still to acknowledge
+abbrev pub answer_bytes : WaiterState → ℕ
+answer_bytes (Waiting exchange) = 0
+answer_bytes (Delivering bytes id timer) = length bytes
+
+-- a client's token, its tags, each with its length in front of it, and its answer
 abbrev pub waiter_bytes : Numbered Waiter → ℕ
-waiter_bytes v = length v.1.token + length (pieces_spelling v.1.tags)
+waiter_bytes v =
+    length v.1.token + length (pieces_spelling v.1.tags) + answer_bytes v.1.state
 
 -- what is stored, the replies that are kept, also those that no longer live, the exchanges and the
 -- waiters

@@ -1,6 +1,6 @@
 -- What the traffic alone says: which entry of a history opened, asked, got and admitted what. This
 -- file names no table. A history has its newest entry first.
-use Rattle.std.specs.Prelude.{◌≡◌, ◌⊎◌, ℕ, ◌+◌, ◌%◌, ◌≤◌, List, [], ◌∷◌, length, map, Bool, true, false, if◌then◌else◌, Some}
+use Rattle.std.specs.Prelude.{◌≡◌, ◌⊎◌, ℕ, ◌+◌, ◌%◌, ◌≤◌, List, [], ◌∷◌, length, map, Bool, true, false, not, if◌then◌else◌, Some}
 use Rattle.coap_message.specs.declared.kind.Kind.TheVariants.{Ack, Rst}
 use Rattle.coap_message.specs.declared.code.TheConstants.Code.{EMPTY}
 use Rattle.std.specs.Option.{option_map_or}
@@ -10,8 +10,9 @@ use Rattle.coap_message.specs.Message.{Message}
 use Rattle.coap_message.specs.Spelling.{Spells}
 use Rattle.coap_target.specs.declared.endpoint.Endpoint.{Endpoint}
 use Rattle.coap_model.specs.declared.report.Outcome.{Outcome}
-use Rattle.coap_model.specs.declared.report.Outcome.TheVariants.{Refused, Hit, Joined, Opened, Overloaded, Answered, SentRequest, GaveUp, Delivered}
-use Rattle.coap_model.specs.declared.report.Storing.TheVariants.{NoMemory}
+use Rattle.coap_model.specs.declared.report.Outcome.TheVariants.{Ignored, Rejected, Again, NoRecordRoom, Refused, Hit, Joined, Opened, Overloaded, NoId, Answered, Acked, SentRequest, Resent, GaveUp, Delivered, Idle}
+use Rattle.coap_model.specs.declared.report.Storing.{Storing}
+use Rattle.coap_model.specs.declared.report.Storing.TheVariants.{Kept, TooLarge, NoMemory, NotStored}
 use Rattle.coap_model.specs.declared.report.Report.{Report}
 use Rattle.coap_model.specs.Setting.{Setting}
 use Rattle.coap_model.specs.Events.{Event, arrival, tick}
@@ -33,7 +34,7 @@ pub data Act : Type 0 where
   admits : ℕ → ℕ → Act
   -- an exchange came to another state, or its request was sent again
   moves : ℕ → Act
-  -- a waiter was served
+  -- a waiter was served, or its answer was sent again, or acknowledged, or given up
   serves : ℕ → Act
 
 -- an entry, and what it acted on
@@ -77,37 +78,102 @@ count_in counts [] = 0
 count_in counts (d ∷ past) = count_in counts past + counts d.entry.report.outcome
 
 abbrev pub opens_one : Outcome → ℕ
+opens_one Ignored = 0
+opens_one Rejected = 0
+opens_one Again = 0
+opens_one NoRecordRoom = 0
+opens_one (Refused code) = 0
+opens_one Hit = 0
+opens_one Joined = 0
 opens_one Opened = 1
-opens_one _ = 0
+opens_one Overloaded = 0
+opens_one NoId = 0
+opens_one (Answered storing) = 0
+opens_one Acked = 0
+opens_one SentRequest = 0
+opens_one Resent = 0
+opens_one GaveUp = 0
+opens_one Delivered = 0
+opens_one Idle = 0
 
 abbrev pub admits_one : Outcome → ℕ
-admits_one Opened = 1
+admits_one Ignored = 0
+admits_one Rejected = 0
+admits_one Again = 0
+admits_one NoRecordRoom = 0
+admits_one (Refused code) = 0
+admits_one Hit = 0
 admits_one Joined = 1
-admits_one _ = 0
+admits_one Opened = 1
+admits_one Overloaded = 0
+admits_one NoId = 0
+admits_one (Answered storing) = 0
+admits_one Acked = 0
+admits_one SentRequest = 0
+admits_one Resent = 0
+admits_one GaveUp = 0
+admits_one Delivered = 0
+admits_one Idle = 0
 
--- the datagram that an event brings is confirmable
+-- the datagram is a Confirmable message
+abbrev pub is_con_datagram : List ℕ → Bool
+is_con_datagram bytes = option_map_or (λ h. is_con h.kind) (head_at bytes) false
+
+-- that which an event brings is one
 abbrev pub comes_con : Event → Bool
-comes_con (arrival source bytes) = option_map_or (λ h. is_con h.kind) (head_at bytes) false
+comes_con (arrival source bytes) = is_con_datagram bytes
 comes_con tick = false
 
 -- Requests that are sent on, and replies, are given a message id, but for replies to what is
 -- confirmable: they go out in its acknowledgement, which has its id (RFC 7252, 4.4 and 5.2.1).
 abbrev pub ids_given : Bool → Outcome → ℕ
+ids_given con Ignored = 0
+ids_given con Rejected = 0
+ids_given con Again = 0
+ids_given con NoRecordRoom = 0
 ids_given con (Refused code) = if con then 0 else 1
 ids_given con Hit = if con then 0 else 1
+ids_given con Joined = 0
+ids_given con Opened = 0
 ids_given con Overloaded = if con then 0 else 1
+ids_given con NoId = 0
+ids_given con (Answered storing) = 0
+ids_given con Acked = 0
 ids_given con SentRequest = 1
+ids_given con Resent = 0
+ids_given con GaveUp = 0
 ids_given con Delivered = 1
-ids_given con _ = 0
+ids_given con Idle = 0
 
 abbrev pub gives_id : Entry → ℕ
 gives_id e = ids_given (comes_con e.event) e.report.outcome
 
+abbrev pub has_grown : Storing → Bool
+has_grown Kept = true
+has_grown TooLarge = true
+has_grown NoMemory = false
+has_grown NotStored = true
+
 -- what an outcome tells of the one choice that is left to the memory: whether there was some for
 -- one entry more of the store
 abbrev pub grown_of : Outcome → Bool
-grown_of (Answered NoMemory) = false
-grown_of _ = true
+grown_of Ignored = true
+grown_of Rejected = true
+grown_of Again = true
+grown_of NoRecordRoom = true
+grown_of (Refused code) = true
+grown_of Hit = true
+grown_of Joined = true
+grown_of Opened = true
+grown_of Overloaded = true
+grown_of NoId = true
+grown_of (Answered storing) = has_grown storing
+grown_of Acked = true
+grown_of SentRequest = true
+grown_of Resent = true
+grown_of GaveUp = true
+grown_of Delivered = true
+grown_of Idle = true
 
 -- exchanges that were opened, waiters that were admitted, ids that were given
 abbrev pub opened_in : List Deed → ℕ
@@ -208,8 +274,23 @@ pub record Meets (setting : Setting) (x : ℕ) (past : List Deed) (event : Event
 
 -- an answer is taken, however it is stored
 abbrev pub takes : Outcome → Bool
+takes Ignored = false
+takes Rejected = false
+takes Again = false
+takes NoRecordRoom = false
+takes (Refused code) = false
+takes Hit = false
+takes Joined = false
+takes Opened = false
+takes Overloaded = false
+takes NoId = false
 takes (Answered storing) = true
-takes _ = false
+takes Acked = false
+takes SentRequest = false
+takes Resent = false
+takes GaveUp = false
+takes Delivered = false
+takes Idle = false
 
 -- the answer of this exchange was got there
 pub record Gets (setting : Setting) (x : ℕ) (p : Place) : Type 0 where
@@ -225,9 +306,23 @@ pub record GivesUp (x : ℕ) (p : Place) : Type 0 where
 
 -- either ends an exchange
 abbrev pub ends : Outcome → Bool
+ends Ignored = false
+ends Rejected = false
+ends Again = false
+ends NoRecordRoom = false
+ends (Refused code) = false
+ends Hit = false
+ends Joined = false
+ends Opened = false
+ends Overloaded = false
+ends NoId = false
 ends (Answered storing) = true
+ends Acked = false
+ends SentRequest = false
+ends Resent = false
 ends GaveUp = true
-ends _ = false
+ends Delivered = false
+ends Idle = false
 
 -- the exchange was got or given up there
 pub record Ends (x : ℕ) (p : Place) : Type 0 where
@@ -238,6 +333,32 @@ pub record Ends (x : ℕ) (p : Place) : Type 0 where
 pub record Serves (v : ℕ) (p : Place) : Type 0 where
   pub act : p.deed.act ≡ serves v
   pub outcome : p.deed.entry.report.outcome ≡ Delivered
+
+-- a client is done with: its answer was acknowledged, or is sent no more, or went out in a message
+-- that isn't Confirmable
+abbrev pub lets_go : Outcome → List ℕ → Bool
+lets_go Ignored bytes = false
+lets_go Rejected bytes = false
+lets_go Again bytes = false
+lets_go NoRecordRoom bytes = false
+lets_go (Refused code) bytes = false
+lets_go Hit bytes = false
+lets_go Joined bytes = false
+lets_go Opened bytes = false
+lets_go Overloaded bytes = false
+lets_go NoId bytes = false
+lets_go (Answered storing) bytes = false
+lets_go Acked bytes = true
+lets_go SentRequest bytes = false
+lets_go Resent bytes = false
+lets_go GaveUp bytes = true
+lets_go Delivered bytes = not (is_con_datagram bytes)
+lets_go Idle bytes = false
+
+-- the waiter was done with there
+pub record LetsGo (v : ℕ) (p : Place) : Type 0 where
+  pub act : p.deed.act ≡ serves v
+  pub outcome : lets_go p.deed.entry.report.outcome p.deed.entry.bytes ≡ true
 
 -- ---- moments and ids
 

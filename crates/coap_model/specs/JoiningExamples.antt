@@ -158,17 +158,15 @@ one_waits_sent =
     nothing Opened ∷ is_busy 2 1 ∷ to SentRequest origin (asked 2 1) ∷ nothing (Answered NotStored)
     ∷ is_busy 3 3 ∷ stale 1 4 ∷ nothing Opened ∷ []
 
--- One exchange and two clients that wait: a Confirmable request is told to try again, and so is one
--- for something else; another joins, and then there is no room for a third.
+-- One exchange and two clients that wait: who asks for something else is told to try again, another
+-- joins, and then there is no room for a third.
 abbrev pub full_tables : List Turn
-full_tables =
-    asks 0 1 ∷ from 0 (client 2) (0x40 ∷ 1 ∷ 0 ∷ 9 ∷ 0xB1 ∷ 0x74 ∷ [])
-    ∷ from 0 (client 4) (get_t (1 ∷ 0x78 ∷ [])) ∷ asks 0 2 ∷ asks 0 3 ∷ []
+full_tables = asks 0 1 ∷ from 0 (client 4) (get_t (1 ∷ 0x78 ∷ [])) ∷ asks 0 2 ∷ asks 0 3 ∷ []
 
 abbrev pub full_tables_sent : List Sent
 full_tables_sent =
-    nothing Opened ∷ to Overloaded (client 2) (0x60 ∷ 0xA3 ∷ 0 ∷ 9 ∷ 0xD1 ∷ 1 ∷ 5 ∷ [])
-    ∷ to Overloaded (client 4) (busy 1 (0xD1 ∷ 1 ∷ 5 ∷ [])) ∷ nothing Joined ∷ is_busy 3 2 ∷ []
+    nothing Opened ∷ to Overloaded (client 4) (busy 1 (0xD1 ∷ 1 ∷ 5 ∷ [])) ∷ nothing Joined
+    ∷ is_busy 3 2 ∷ []
 
 -- With three ids left an exchange keeps two and who joins it one; then there is none for a 5.03.
 abbrev pub last_id_joins : List Turn

@@ -26,13 +26,13 @@ use Rattle.coap_model.specs.Remembered.{most_remembered, remembered_at}
 use Rattle.coap_forward.specs.Forms.{forwarded}
 use Rattle.coap_model.specs.Keys.{key_sent}
 use Rattle.coap_model.specs.Verdicts.{Verdict, refused_with, may_ask, verdict_of, form_fits}
-use Rattle.coap_forward.specs.Answers.{answer_of, own_answer, gateway_timeout, stored_answer, shown}
+use Rattle.coap_forward.specs.Answers.{answer_of, own_answer, gateway_timeout, stored_answer, shown, shown_as}
 use Rattle.coap_cache.specs.declared.answer.Answer.{Answer}
 use Rattle.coap_model.specs.Cached.{IsObtained, Cached, cached_key, cached_size, cached_here, entry_of_cached, IsCacheOf}
-use Rattle.coap_model.specs.Standing.{sent, stage_of, HasIds, HasRoomToJoin, HasRoomToOpen}
+use Rattle.coap_model.specs.Standing.{sent, stage_of, told, service_of, HasIds, HasRoomToJoin, HasRoomToOpen}
 use Rattle.coap_model.specs.Schedules.{sends_by, MayGoOn, SaysAsBefore}
-use Rattle.coap_model.specs.Due.{IsToSend, IsToRepeat, IsToEnd, IsToServe, IsDueAt, IsSooner}
-use Rattle.coap_model.specs.History.{Entry, Act, no_item, admits, moves, serves, Deed, Place, IsPlaceOf, Never, takes, gives_id, opened_in, admitted_in, ids_in, last_of, Brings, IsRequestOf, WasOpened, Asks, Meets, Gets, GivesUp, Ends, Gives}
+use Rattle.coap_model.specs.Due.{IsToSend, IsToRepeat, IsToEnd, IsToServe, IsToServeAgain, IsDueAt, IsSooner}
+use Rattle.coap_model.specs.History.{Entry, Act, no_item, admits, moves, serves, Deed, Place, IsPlaceOf, Never, takes, gives_id, opened_in, admitted_in, ids_in, last_of, Brings, IsRequestOf, WasOpened, Asks, Meets, Gets, GivesUp, Ends, Serves, Gives}
 
 -- ---- what goes out
 
@@ -168,8 +168,7 @@ pub record IsHit (setting : Setting) (past : List Deed) (d : Deed) : Type 0 wher
       (shown d.entry.now (stored_answer (entry_of_cached entry).1) id request.token
       (tags_of request))) d.entry
 
--- there is no room for what is wanted: to join an exchange that may be joined, or to open one; and
--- for a Confirmable request nothing is done of that yet
+-- there is no room for what is wanted: to join an exchange that may be joined, or to open one
 pub data LacksRoom
     (setting : Setting) (past : List Deed) (now : ℕ) (key : CacheKey) (request : Message)
     : Type 0 where
@@ -177,12 +176,12 @@ pub data LacksRoom
       (exchange : ℕ)
       → IsMiss setting past key now
       → IsJoinable setting past key exchange
-      → (request.kind ≡ Non → ¬ HasRoomToJoin setting.limits now past)
+      → ¬ HasRoomToJoin setting.limits now past
       → LacksRoom setting past now key request
   to_open :
       IsUnanswered setting past now key
       → fits_on setting key request ≡ true
-      → (request.kind ≡ Non → ¬ HasRoomToOpen setting.limits now past)
+      → ¬ HasRoomToOpen setting.limits now past
       → LacksRoom setting past now key request
 
 -- 5.03: there is no room
@@ -222,10 +221,9 @@ pub record IsJoining (setting : Setting) (past : List Deed) (d : Deed) : Type 0 
   pub verdict : verdict_on setting request ≡ may_ask key
   pub miss : IsMiss setting past key d.entry.now
   pub joinable : IsJoinable setting past key exchange
-  pub kind : request.kind ≡ Non
   pub new : IsNew setting past d.entry.now client request
   pub room : HasRoomToJoin setting.limits d.entry.now past
-  pub silent : IsSilent d.entry
+  pub takes_up : TakesUp request.kind client request.id d.entry
 
 -- an exchange is opened: nothing answers the request, what would be sent on fits, and there is room
 pub record IsOpening (setting : Setting) (past : List Deed) (d : Deed) : Type 0 where
@@ -237,10 +235,9 @@ pub record IsOpening (setting : Setting) (past : List Deed) (d : Deed) : Type 0 
   pub verdict : verdict_on setting request ≡ may_ask key
   pub unanswered : IsUnanswered setting past d.entry.now key
   pub fits : fits_on setting key request ≡ true
-  pub kind : request.kind ≡ Non
   pub new : IsNew setting past d.entry.now client request
   pub room : HasRoomToOpen setting.limits d.entry.now past
-  pub silent : IsSilent d.entry
+  pub takes_up : TakesUp request.kind client request.id d.entry
 
 -- ---- duplicates
 
@@ -290,14 +287,69 @@ pub record Acknowledges
   pub empty : message.code ≡ EMPTY
   pub id_is : message.id ≡ asks.sends.message.id
 
--- A request was acknowledged: its answer is to come separately (RFC 7252, 5.2.2). The
--- acknowledgement is of this request alone.
+-- An event brings an acknowledgement, or a Reset, of the answer that a client was given, which the
+-- client has still to acknowledge, and which was first sent less than 247 seconds ago (RFC 7252, 4.2
+-- and 4.4). Where that went, and its id, are read off the datagram.
+pub record Closes (setting : Setting) (past : List Deed) (now client : ℕ) (event : Event)
+    : Type 0 where
+  pub serving : Place
+  pub was_served : IsPlaceOf past serving
+  pub serves : Serves client serving
+  pub service : service_of client past ≡ Some told
+  pub soon : now < serving.deed.entry.now + 247000
+  pub to : Endpoint
+  pub sent : serving.deed.entry.report.send ≡ Some to
+  pub answer : Message
+  pub spells : Spells serving.deed.entry.bytes answer
+  pub message : Message
+  pub brings : Brings setting.limits.datagram to message event
+  pub kind : (message.kind ≡ Ack) ⊎ (message.kind ≡ Rst)
+  pub empty : message.code ≡ EMPTY
+  pub id_is : message.id ≡ answer.id
+
+-- An event brings an Empty message of what this act sent: an acknowledgement or a Reset of the
+-- request of an exchange, or of the answer of a client.
+pub data IsMeant (setting : Setting) (past : List Deed) (now : ℕ) (event : Event) (act : Act)
+    : Type 0 where
+  to_acknowledge :
+      (exchange : ℕ)
+      → act ≡ moves exchange
+      → Acknowledges setting past now exchange event
+      → IsMeant setting past now event act
+  to_reset :
+      (exchange : ℕ) (awaited : IsAwaited setting past now exchange event)
+      → act ≡ moves exchange
+      → awaited.meets.message.kind ≡ Rst
+      → IsMeant setting past now event act
+  to_close :
+      (client : ℕ)
+      → act ≡ serves client
+      → Closes setting past now client event
+      → IsMeant setting past now event act
+
+-- and of nothing else
+abbrev pub IsMeantAlone : Setting → List Deed → Deed → Type 0
+IsMeantAlone setting past d =
+    (other : Act) → IsMeant setting past d.entry.now d.entry.event other → other ≡ d.act
+
+-- what a settlement is of: a request, whose answer is to come separately (RFC 7252, 5.2.2), or an
+-- answer
+pub data Settles (setting : Setting) (past : List Deed) (d : Deed) : Type 0 where
+  a_request :
+      (exchange : ℕ)
+      → d.act ≡ moves exchange
+      → Acknowledges setting past d.entry.now exchange d.entry.event
+      → Settles setting past d
+  an_answer :
+      (client : ℕ)
+      → d.act ≡ serves client
+      → Closes setting past d.entry.now client d.entry.event
+      → Settles setting past d
+
+-- what was sent is settled, and nothing else was meant
 pub record IsSettled (setting : Setting) (past : List Deed) (d : Deed) : Type 0 where
-  pub exchange : ℕ
-  pub act : d.act ≡ moves exchange
-  pub acknowledges : Acknowledges setting past d.entry.now exchange d.entry.event
-  pub only :
-      (other : ℕ) → Acknowledges setting past d.entry.now other d.entry.event → other ≡ exchange
+  pub settles : Settles setting past d
+  pub only : IsMeantAlone setting past d
   pub silent : IsSilent d.entry
 
 -- silence: as many messages are remembered as may be, and this is none of them; it is a request, or
@@ -345,18 +397,30 @@ pub record IsForwarding (setting : Setting) (past : List Deed) (d : Deed) : Type
       (forwarded (token_of setting.salt exchange) to_send.key.target
       (sent_on to_send.opened.request) id) d.entry
 
--- a request is sent again by its schedule, the same as before, before its exchange ends
+-- what is sent again at a moment: a request, before its exchange ends, or an answer that wasn't
+-- acknowledged
+pub data IsToSendAgain (setting : Setting) (past : List Deed) (d : Deed) (at : ℕ) : Type 0 where
+  request_again :
+      (exchange : ℕ)
+      → d.act ≡ moves exchange
+      → IsToRepeat setting past exchange at
+      → InTime setting past exchange d.entry.now
+      → IsToSendAgain setting past d at
+  answer_again :
+      (client : ℕ)
+      → d.act ≡ serves client
+      → IsToServeAgain past client at
+      → IsToSendAgain setting past d at
+
+-- a message is sent again by its schedule, the same as before
 pub record IsResending (setting : Setting) (past : List Deed) (d : Deed) : Type 0 where
-  pub exchange : ℕ
-  pub act : d.act ≡ moves exchange
   pub acting : IsActing setting past d
-  pub to_repeat : IsToRepeat setting past exchange acting.at
-  pub in_time : InTime setting past exchange d.entry.now
+  pub again : IsToSendAgain setting past d acting.at
   pub goes_on : MayGoOn d.entry.now (sends_by d.act past)
   pub same : SaysAsBefore (sends_by d.act past) d.entry
 
--- an exchange is given up: one that lasted as long as it may, or one whose request was sent as often
--- or for as long as it may be
+-- Something is given up: an exchange that lasted as long as it may, one whose request was sent as
+-- often or for as long as it may be, or a client whose answer was.
 pub data IsGivingUp (setting : Setting) (past : List Deed) (d : Deed) : Type 0 where
   overdue :
       (exchange at : ℕ)
@@ -376,9 +440,16 @@ pub data IsGivingUp (setting : Setting) (past : List Deed) (d : Deed) : Type 0 w
       → ¬ MayGoOn d.entry.now (sends_by d.act past)
       → IsSilent d.entry
       → IsGivingUp setting past d
+  unacknowledged :
+      (client : ℕ) (acting : IsActing setting past d)
+      → d.act ≡ serves client
+      → IsToServeAgain past client acting.at
+      → ¬ MayGoOn d.entry.now (sends_by d.act past)
+      → IsSilent d.entry
+      → IsGivingUp setting past d
 
 -- An answer is got for an exchange that had none; one in a Confirmable message is new, and
--- acknowledged; a Reset is of this request alone.
+-- acknowledged; a Reset is meant for this request alone.
 pub record IsAnswer (setting : Setting) (past : List Deed) (d : Deed) : Type 0 where
   pub exchange : ℕ
   pub gets : Gets setting exchange (record { before = past; deed = d })
@@ -386,11 +457,7 @@ pub record IsAnswer (setting : Setting) (past : List Deed) (d : Deed) : Type 0 w
   pub unsettled :
       gets.meets.message.kind ≡ Rst
       → IsUnsettled past d.entry.now exchange gets.meets.asking
-  pub only :
-      gets.meets.message.kind ≡ Rst
-      → (other : ℕ)
-      → IsAwaited setting past d.entry.now other d.entry.event
-      → other ≡ exchange
+  pub only : gets.meets.message.kind ≡ Rst → IsMeantAlone setting past d
   pub new :
       gets.meets.message.kind ≡ Con
       → IsNew setting past d.entry.now gets.meets.asks.sends.to gets.meets.message
@@ -454,8 +521,8 @@ pub data EndsWith (setting : Setting) (x : ℕ) (key : CacheKey) (p : Place) (an
       → EndsWith setting x key p answer
 
 -- A delivery: the exchange that the client waits for ended after the client had come, and the
--- datagram is what this client is shown of that: with what is left of its Max-Age, or as a 2.03
--- where one of its tags is the answer's.
+-- datagram is what this client is shown of that, in a message of the type of its request: with what
+-- is left of its Max-Age, or as a 2.03 where one of its tags is the answer's.
 pub record IsDelivery (setting : Setting) (past : List Deed) (d : Deed) : Type 0 where
   pub waiter : ℕ
   pub act : d.act ≡ serves waiter
@@ -469,13 +536,15 @@ pub record IsDelivery (setting : Setting) (past : List Deed) (d : Deed) : Type 0
   pub id : ℕ
   pub tells :
       Tells to_serve.admitted.client
-      (shown d.entry.now answer id to_serve.admitted.request.token
+      (shown_as to_serve.admitted.request.kind d.entry.now answer id
+      to_serve.admitted.request.token
       (tags_of to_serve.admitted.request)) d.entry
 
 -- ---- what isn't processed
 
 -- What came can't be processed: it is no request that would be, no duplicate of what is remembered,
--- no answer that an exchange awaits, and no acknowledgement of a request that waits for one.
+-- no answer that an exchange awaits, and no acknowledgement of a request or an answer that waits for
+-- one.
 pub record IsUnprocessable (setting : Setting) (past : List Deed) (e : Entry) : Type 0 where
   pub no_request :
       (client : Endpoint) (request : Message) → ¬ IsRequestOf setting client request e.event
@@ -485,6 +554,7 @@ pub record IsUnprocessable (setting : Setting) (past : List Deed) (e : Entry) : 
       → known_of past e.now source m ≡ None
   pub no_answer : (exchange : ℕ) → ¬ IsAwaited setting past e.now exchange e.event
   pub no_settling : (exchange : ℕ) → ¬ Acknowledges setting past e.now exchange e.event
+  pub no_closing : (client : ℕ) → ¬ Closes setting past e.now client e.event
 
 -- a Reset of a confirmable datagram that can't be processed, with its id
 pub record IsRejection (setting : Setting) (past : List Deed) (d : Deed) : Type 0 where

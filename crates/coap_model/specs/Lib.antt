@@ -32,6 +32,7 @@ pub mod OptionExamples
 pub mod ReliableExamples
 pub mod ResponseExamples
 pub mod JoiningExamples
+pub mod ConfirmableExamples
 pub mod Forged
 pub mod CacheExamples
 pub mod HitExamples

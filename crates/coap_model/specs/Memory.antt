@@ -1,10 +1,27 @@
 -- Which steps may want memory.
-use Rattle.std.specs.Prelude.{Bool}
-use Rattle.coap_message.specs.declared.kind.Kind.TheVariants.{Con}
+use Rattle.std.specs.Prelude.{Bool, true, false, List, ℕ}
 use Rattle.coap_model.specs.declared.report.Outcome.{Outcome}
-use Rattle.coap_model.specs.Remembered.{is_remembered}
+use Rattle.coap_model.specs.declared.report.Outcome.TheVariants.{Ignored, Rejected, Again, NoRecordRoom, Refused, Hit, Joined, Opened, Overloaded, NoId, Answered, Acked, SentRequest, Resent, GaveUp, Delivered, Idle}
+use Rattle.coap_model.specs.History.{is_con_datagram}
 
--- A message that is new is remembered, whatever becomes of it, and an answer is kept; no other step
--- that comes so far takes memory.
-abbrev pub takes_memory : Outcome → Bool
-takes_memory outcome = is_remembered outcome Con
+-- A step of this outcome, which sends these bytes, may want memory: a request that is new is
+-- remembered, whatever becomes of it; an answer that comes is kept; and so is one that goes to a
+-- client in a Confirmable message, until that is acknowledged. No other step takes memory.
+abbrev pub takes_memory : Outcome → List ℕ → Bool
+takes_memory Ignored bytes = false
+takes_memory Rejected bytes = false
+takes_memory Again bytes = false
+takes_memory NoRecordRoom bytes = false
+takes_memory (Refused code) bytes = true
+takes_memory Hit bytes = true
+takes_memory Joined bytes = true
+takes_memory Opened bytes = true
+takes_memory Overloaded bytes = true
+takes_memory NoId bytes = true
+takes_memory (Answered storing) bytes = true
+takes_memory Acked bytes = false
+takes_memory SentRequest bytes = false
+takes_memory Resent bytes = false
+takes_memory GaveUp bytes = false
+takes_memory Delivered bytes = is_con_datagram bytes
+takes_memory Idle bytes = false

@@ -1,6 +1,5 @@
 -- The step of a request (RFC 7252, 5.7.3).
-use Rattle.std.specs.Prelude.{ℕ, ◌+◌, ◌&&◌, Bool, true, false, if◌then◌else◌, List, [], ◌∷◌, ◌++◌, Option, Some, None}
-use Rattle.coap_message.specs.declared.kind.Kind.{Kind}
+use Rattle.std.specs.Prelude.{ℕ, ◌+◌, true, false, if◌then◌else◌, List, [], ◌∷◌, ◌++◌, Option, Some, None}
 use Rattle.coap_message.specs.declared.code.Code.{Code}
 use Rattle.coap_message.specs.declared.code.TheConstants.Code.{REQUEST_ENTITY_TOO_LARGE}
 use Rattle.coap_message.specs.Message.{Message}
@@ -22,10 +21,10 @@ use Rattle.coap_exchange.specs.Exchanges.{is_joinable}
 use Rattle.coap_exchange.specs.Ids.{called}
 use Rattle.coap_exchange.specs.Table.{Numbered, first_that}
 use Rattle.coap_model.specs.declared.report.Outcome.TheVariants.{Refused, Hit, Joined, Overloaded, NoId, Opened}
-use Rattle.coap_forward.specs.Messages.{is_con, is_non, own_reply, busy_reply, at_once, token_of}
+use Rattle.coap_forward.specs.Messages.{is_con, own_reply, busy_reply, at_once, token_of}
 use Rattle.coap_forward.specs.Forms.{forwarded}
 use Rattle.coap_model.specs.Verdicts.{Verdict, refused_with, may_ask, verdict_of, form_fits}
-use Rattle.coap_model.specs.World.{World, Step, later, silent, says, known_of, has_record_room, remembers, repeats, drops, next_id, can_reply, has_room_to_join, has_room_to_open}
+use Rattle.coap_model.specs.World.{World, Step, later, silent, says, takes_up, known_of, has_record_room, remembers, repeats, drops, next_id, can_reply, has_room_to_join, has_room_to_open}
 
 -- the clock, one event on, in which a request was replied to at once
 abbrev pub replied : World → ℕ → Message → World
@@ -82,7 +81,7 @@ new_waiter w client m exchange = (
 -- the client waits for an exchange that is under way
 abbrev pub joins : World → ℕ → Endpoint → Message → ℕ → Step
 joins w now client m exchange =
-    silent Joined (record (later w now) {
+    takes_up Joined client m (record (later w now) {
       waiters = w.waiters ++ new_waiter w client m exchange ∷ [];
       admitted = w.admitted + 1;
     })
@@ -90,7 +89,7 @@ joins w now client m exchange =
 -- an exchange is opened, and the client waits for it
 abbrev pub opens : World → ℕ → Endpoint → Message → CacheKey → Step
 opens w now client m key =
-    silent Opened (record (later w now) {
+    takes_up Opened client m (record (later w now) {
       exchanges = w.exchanges ++ new_exchange w now m key ∷ [];
       waiters = w.waiters ++ new_waiter w client m (w.opened + 1) ∷ [];
       opened = w.opened + 1;
@@ -119,26 +118,18 @@ abbrev pub hits : World → ℕ → Endpoint → Message → CacheKey → Stored
 hits w now client m key stored =
     shows (record w { store = used entry_key key w.store }) now client m stored
 
--- a request that came in a message of this type may wait for an exchange that is under way, and one
--- may be opened for it; a Confirmable one isn't asked for yet
-abbrev pub can_join : World → ℕ → Kind → Bool
-can_join w now kind = is_non kind && has_room_to_join w now
-
-abbrev pub can_open : World → ℕ → Kind → Bool
-can_open w now kind = is_non kind && has_room_to_open w now
-
 -- an exchange is wanted for the key
 abbrev pub on_wanted : World → ℕ → Endpoint → Message → CacheKey → Step
 on_wanted w now client m key =
     if form_fits w.setting.limits.datagram key.target m
-    then (if can_open w now m.kind then opens w now client m key else turns_away w now client m)
+    then (if has_room_to_open w now then opens w now client m key else turns_away w now client m)
     else turns_down w now client m REQUEST_ENTITY_TOO_LARGE
 
 -- an exchange of the key that is under way, by its number, is joined (RFC 7252, 5.7.1)
 abbrev pub on_joinable : World → ℕ → Endpoint → Message → CacheKey → Option ℕ → Step
 on_joinable w now client m key None = on_wanted w now client m key
 on_joinable w now client m key (Some exchange) =
-    if can_join w now m.kind then joins w now client m exchange else turns_away w now client m
+    if has_room_to_join w now then joins w now client m exchange else turns_away w now client m
 
 -- what is stored for the key, if something is, doesn't answer
 abbrev pub on_miss : World → ℕ → Endpoint → Message → CacheKey → Step

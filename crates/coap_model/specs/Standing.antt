@@ -1,40 +1,101 @@
--- Which exchanges are open and which clients wait, by the history: their numbers and how far they
--- have come, and nothing of what they hold. This file names no table.
+-- Which exchanges are open and which clients aren't done with, by the history: their numbers and how
+-- far they have come, and nothing of what they hold. This file names no table.
 use Rattle.std.specs.Prelude.{ℕ, ◌+◌, ◌/◌, ◌<◌, ◌≤◌, ◌==◌, Bool, true, false, not, if◌then◌else◌, List, [], ◌∷◌, ◌++◌, filter, find, length, map, Option, Some, None, option_map}
 use Rattle.std.specs.List.{list_any}
 use Rattle.coap_target.specs.declared.endpoint.Endpoint.{Endpoint}
 use Rattle.coap_target.specs.Endpoint.{same_endpoint}
 use Rattle.coap_limits.specs.Limits.{Limits}
 use Rattle.coap_model.specs.declared.report.Outcome.{Outcome}
-use Rattle.coap_model.specs.declared.report.Outcome.TheVariants.{Joined, Opened, Answered, Acked, SentRequest, GaveUp, Delivered}
-use Rattle.coap_model.specs.History.{Act, admits, moves, serves, Deed, gives_id}
+use Rattle.coap_model.specs.declared.report.Outcome.TheVariants.{Ignored, Rejected, Again, NoRecordRoom, Refused, Hit, Joined, Opened, Overloaded, NoId, Answered, Acked, SentRequest, Resent, GaveUp, Delivered, Idle}
+use Rattle.coap_model.specs.History.{Act, no_item, admits, moves, serves, Deed, gives_id, is_con_datagram}
 
 -- ---- clients
 
--- a client that waits for the exchange of a number
+-- how far a client was served
+pub data Service : Type 0 where
+  -- it waits for the exchange of this number
+  waits : ℕ → Service
+  -- it was given its answer in a Confirmable message, which it has still to acknowledge
+  told : Service
+
+-- a client that is not done with
 pub record Standing : Type 0 where
   pub number : ℕ
-  pub exchange : ℕ
+  pub service : Service
 
 -- those that are not the one of a number
 abbrev pub others_than : ℕ → List Standing → List Standing
 others_than v standing = filter (λ s. not (s.number == v)) standing
 
--- what an entry of this outcome, acting on this, makes of those that wait
-abbrev pub standing_by : Outcome → Act → List Standing → List Standing
-standing_by Opened (admits v x) standing = standing ++ record { number = v; exchange = x } ∷ []
-standing_by Joined (admits v x) standing = standing ++ record { number = v; exchange = x } ∷ []
-standing_by Delivered (serves v) standing = others_than v standing
-standing_by _ _ standing = standing
+-- the client of a number has still to acknowledge its answer
+abbrev pub as_told : ℕ → Standing → Standing
+as_told v s = if s.number == v then record s { service = told } else s
 
--- the clients that wait, in order of number
+-- the client of a number was given this datagram: a Confirmable one is to be acknowledged
+abbrev pub given : ℕ → List ℕ → List Standing → List Standing
+given v bytes standing =
+    if is_con_datagram bytes then map (as_told v) standing else others_than v standing
+
+-- a client of this number comes, for the exchange of this number
+abbrev pub admitted : Act → List Standing → List Standing
+admitted no_item standing = standing
+admitted (admits v x) standing = standing ++ record { number = v; service = waits x } ∷ []
+admitted (moves x) standing = standing
+admitted (serves v) standing = standing
+
+-- one is given its answer in this datagram
+abbrev pub served : Act → List ℕ → List Standing → List Standing
+served no_item bytes standing = standing
+served (admits v x) bytes standing = standing
+served (moves x) bytes standing = standing
+served (serves v) bytes standing = given v bytes standing
+
+-- one has acknowledged its answer, or is waited for no more
+abbrev pub closed : Act → List Standing → List Standing
+closed no_item standing = standing
+closed (admits v x) standing = standing
+closed (moves x) standing = standing
+closed (serves v) standing = others_than v standing
+
+-- what an entry of this outcome, acting on this and sending these bytes, makes of those that stand
+abbrev pub standing_by : Outcome → Act → List ℕ → List Standing → List Standing
+standing_by Ignored act bytes standing = standing
+standing_by Rejected act bytes standing = standing
+standing_by Again act bytes standing = standing
+standing_by NoRecordRoom act bytes standing = standing
+standing_by (Refused code) act bytes standing = standing
+standing_by Hit act bytes standing = standing
+standing_by Joined act bytes standing = admitted act standing
+standing_by Opened act bytes standing = admitted act standing
+standing_by Overloaded act bytes standing = standing
+standing_by NoId act bytes standing = standing
+standing_by (Answered storing) act bytes standing = standing
+standing_by Acked act bytes standing = closed act standing
+standing_by SentRequest act bytes standing = standing
+standing_by Resent act bytes standing = standing
+standing_by GaveUp act bytes standing = closed act standing
+standing_by Delivered act bytes standing = served act bytes standing
+standing_by Idle act bytes standing = standing
+
+-- the clients that are not done with, in order of number
 abbrev pub standing_in : List Deed → List Standing
 standing_in [] = []
-standing_in (d ∷ past) = standing_by d.entry.report.outcome d.act (standing_in past)
+standing_in (d ∷ past) =
+    standing_by d.entry.report.outcome d.act d.entry.bytes (standing_in past)
+
+-- how far the client of a number was served, if it is not done with
+abbrev pub service_of : ℕ → List Deed → Option Service
+service_of v history =
+    option_map (λ s. s.service) (find (λ s. s.number == v) (standing_in history))
+
+abbrev pub is_waiting : Service → Bool
+is_waiting (waits x) = true
+is_waiting told = false
 
 -- it waits for the exchange of this number
-abbrev pub waits_for : ℕ → Standing → Bool
-waits_for x s = s.exchange == x
+abbrev pub waits_for : ℕ → Service → Bool
+waits_for x (waits y) = y == x
+waits_for x told = false
 
 -- ---- exchanges
 
@@ -77,19 +138,43 @@ sent_where x (Some to) xs = staged x (sent to) xs
 
 -- an exchange is open as long as a client waits for it
 abbrev pub awaited : List Standing → List Open → List Open
-awaited standing xs = filter (λ o. list_any (waits_for o.number) standing) xs
+awaited standing xs =
+    filter (λ o. list_any (λ s. waits_for o.number s.service) standing) xs
+
+-- one is opened
+abbrev pub opened : Act → List Open → List Open
+opened no_item xs = xs
+opened (admits v x) xs = xs ++ record { number = x; stage = queued } ∷ []
+opened (moves x) xs = xs
+opened (serves v) xs = xs
+
+-- one is changed
+abbrev pub moved : (ℕ → List Open → List Open) → Act → List Open → List Open
+moved change no_item xs = xs
+moved change (admits v x) xs = xs
+moved change (moves x) xs = change x xs
+moved change (serves v) xs = xs
 
 -- what an entry of this outcome, acting on this and sending there, makes of those that are open,
--- where these clients wait after it
+-- where these clients stand after it
 abbrev pub open_by : Outcome → Act → Option Endpoint → List Standing → List Open → List Open
-open_by Opened (admits v x) send standing xs =
-    xs ++ record { number = x; stage = queued } ∷ []
-open_by SentRequest (moves x) send standing xs = sent_where x send xs
-open_by Acked (moves x) send standing xs = staged x acked xs
-open_by (Answered storing) (moves x) send standing xs = staged x done xs
-open_by GaveUp (moves x) send standing xs = staged x done xs
-open_by Delivered (serves v) send standing xs = awaited standing xs
-open_by _ _ send standing xs = xs
+open_by Ignored act send standing xs = xs
+open_by Rejected act send standing xs = xs
+open_by Again act send standing xs = xs
+open_by NoRecordRoom act send standing xs = xs
+open_by (Refused code) act send standing xs = xs
+open_by Hit act send standing xs = xs
+open_by Joined act send standing xs = xs
+open_by Opened act send standing xs = opened act xs
+open_by Overloaded act send standing xs = xs
+open_by NoId act send standing xs = xs
+open_by (Answered storing) act send standing xs = moved (λ x. staged x done) act xs
+open_by Acked act send standing xs = moved (λ x. staged x acked) act xs
+open_by SentRequest act send standing xs = moved (λ x. sent_where x send) act xs
+open_by Resent act send standing xs = xs
+open_by GaveUp act send standing xs = moved (λ x. staged x done) act xs
+open_by Delivered act send standing xs = awaited standing xs
+open_by Idle act send standing xs = xs
 
 -- the exchanges that are open, in order of number
 abbrev pub open_in : List Deed → List Open
@@ -106,13 +191,21 @@ stage_of x history =
 abbrev pub one_if : Bool → ℕ
 one_if b = if b then 1 else 0
 
+-- how many items of a list pass a test
+abbrev pub count_if : {A : Type 0} → (A → Bool) → List A → ℕ
+count_if test [] = 0
+count_if test (x ∷ xs) = one_if (test x) + count_if test xs
+
 -- how many of those that are open have come to a stage that passes the test
 abbrev pub count_open : (Stage → Bool) → List Open → ℕ
-count_open test [] = 0
-count_open test (o ∷ os) = one_if (test o.stage) + count_open test os
+count_open test xs = count_if (λ o. test o.stage) xs
 
 abbrev pub queued_in : List Deed → ℕ
 queued_in history = count_open is_queued (open_in history)
+
+-- how many clients wait for an exchange
+abbrev pub waiting_in : List Deed → ℕ
+waiting_in history = count_if (λ s. is_waiting s.service) (standing_in history)
 
 -- how many requests to an endpoint are sent, and neither acknowledged nor answered
 abbrev pub outstanding_to : Endpoint → List Deed → ℕ
@@ -130,8 +223,7 @@ window_ids window (d ∷ past) =
 -- client that waits and each request that is still to be sent
 pub record HasIds (k now : ℕ) (history : List Deed) : Type 0 where
   pub free :
-      window_ids (now / 247000) history + (length (standing_in history) + queued_in history) + k
-      ≤ 32768
+      window_ids (now / 247000) history + (waiting_in history + queued_in history) + k ≤ 32768
 
 -- there is room for one more client at an exchange that is open
 pub record HasRoomToJoin (limits : Limits) (now : ℕ) (history : List Deed) : Type 0 where

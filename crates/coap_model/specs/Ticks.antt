@@ -13,13 +13,15 @@ use Rattle.coap_exchange.specs.Due.{first_due}
 use Rattle.coap_exchange.specs.Exchanges.{deadline, due_among, answer_in, sent, fired_exchange, answered, fire_of_sending}
 use Rattle.coap_exchange.specs.Ids.{called}
 use Rattle.coap_exchange.specs.Table.{Numbered, item_at, changed_at, without, count}
-use Rattle.coap_exchange.specs.Timers.{started}
-use Rattle.coap_exchange.specs.Waiters.{waits_for, due_after}
-use Rattle.coap_message.specs.Spelling.{with_id}
+use Rattle.coap_exchange.specs.Timers.{started, fire_of}
+use Rattle.coap_exchange.specs.Waiters.{waits_for, delivered, fired_waiter, due_after}
+use Rattle.coap_message.specs.Message.{Message}
+use Rattle.coap_message.specs.Spelling.{spelling, with_id}
 use Rattle.coap_model.specs.declared.due.DueItem.{DueItem}
 use Rattle.coap_model.specs.declared.due.DueItem.TheVariants.{OfExchange, OfWaiter}
 use Rattle.coap_model.specs.declared.report.Outcome.TheVariants.{SentRequest, Resent, GaveUp, Delivered, Idle}
-use Rattle.coap_forward.specs.Answers.{own_answer, gateway_timeout, shown}
+use Rattle.coap_forward.specs.Answers.{own_answer, gateway_timeout, shown_as}
+use Rattle.coap_forward.specs.Messages.{is_con}
 use Rattle.coap_model.specs.World.{World, Step, later, silent, says, next_id}
 
 -- ---- what is due
@@ -123,29 +125,69 @@ abbrev pub without_idle :
 without_idle number waiters exchanges =
     if count (waits_for number) waiters == 0 then without number exchanges else exchanges
 
--- the client is given the answer of its exchange, with a new id
-abbrev pub delivers : World → ℕ → ℕ → Waiter → ℕ → Answer → Step
-delivers w now number v exchange a =
-    says Delivered v.client (shown now a (next_id w) v.token v.tags) (record (later w now) {
-      waiters = without number w.waiters;
-      exchanges = without_idle exchange (without number w.waiters) w.exchanges;
+-- what a client is given for the answer of its exchange: a message of the type of its request, with
+-- a new id
+abbrev pub given_to : World → ℕ → Waiter → Answer → Message
+given_to w now v a = shown_as v.kind now a (next_id w) v.token v.tags
+
+-- the clients, after one was given this message: in a Confirmable one it is to be acknowledged, and
+-- to be sent again until it is
+abbrev pub told : World → ℕ → ℕ → ℕ → Message → List (Numbered Waiter)
+told w now draw number m =
+    if is_con m.kind
+    then changed_at number (delivered (spelling m) m.id (started now draw)) w.waiters
+    else without number w.waiters
+
+-- the client of a number is given a message, after which these clients are left
+abbrev pub tells : World → ℕ → Waiter → ℕ → Message → List (Numbered Waiter) → Step
+tells w now v exchange m waiters =
+    says Delivered v.client m (record (later w now) {
+      waiters = waiters;
+      exchanges = without_idle exchange waiters w.exchanges;
       ids = called now w.ids;
     })
 
+-- the client is given the answer of its exchange
+abbrev pub delivers : World → ℕ → ℕ → ℕ → Waiter → ℕ → Answer → Step
+delivers w now draw number v exchange a =
+    tells w now v exchange (given_to w now v a) (told w now draw number (given_to w now v a))
+
 -- a client is due when its exchange has its answer, so that the first case never comes
-abbrev pub on_answer : World → ℕ → ℕ → Waiter → ℕ → Option Answer → Step
-on_answer w now number v exchange None = idles w now
-on_answer w now number v exchange (Some a) = delivers w now number v exchange a
+abbrev pub on_answer : World → ℕ → ℕ → ℕ → Waiter → ℕ → Option Answer → Step
+on_answer w now draw number v exchange None = idles w now
+on_answer w now draw number v exchange (Some a) = delivers w now draw number v exchange a
 
--- no client is asked to acknowledge its answer yet, so that the second case never comes
-abbrev pub on_waiting : World → ℕ → ℕ → Waiter → WaiterState → Step
-on_waiting w now number v (Waiting exchange) =
-    on_answer w now number v exchange (answer_in exchange w.exchanges)
-on_waiting w now number v (Delivering bytes id timer) = idles w now
+-- the answer is sent again, the same bytes
+abbrev pub redelivers : World → ℕ → ℕ → Waiter → List ℕ → Step
+redelivers w now number v bytes =
+    record {
+      report = record { send = Some v.client; outcome = Resent };
+      bytes = bytes;
+      world = record (later w now) {
+        waiters = changed_at number (fired_waiter now) w.waiters;
+      };
+    }
 
-abbrev pub on_waiter : World → ℕ → ℕ → Option Waiter → Step
-on_waiter w now number None = idles w now
-on_waiter w now number (Some v) = on_waiting w now number v v.state
+-- the client didn't acknowledge it in time
+abbrev pub abandons : World → ℕ → ℕ → Step
+abandons w now number =
+    silent GaveUp (record (later w now) { waiters = without number w.waiters })
+
+abbrev pub on_unheard : World → ℕ → ℕ → Waiter → List ℕ → Fire → Step
+on_unheard w now number v bytes Again = redelivers w now number v bytes
+on_unheard w now number v bytes GiveUp = abandons w now number
+
+-- a client that waits is given its answer; one that was given it is given it again, or given up
+abbrev pub on_waiting : World → ℕ → ℕ → ℕ → Waiter → WaiterState → Step
+on_waiting w now draw number v (Waiting exchange) =
+    on_answer w now draw number v exchange (answer_in exchange w.exchanges)
+on_waiting w now draw number v (Delivering bytes id timer) =
+    on_unheard w now number v bytes (fire_of now timer)
+
+-- what is due is there, so that the first case never comes
+abbrev pub on_waiter : World → ℕ → ℕ → ℕ → Option Waiter → Step
+on_waiter w now draw number None = idles w now
+on_waiter w now draw number (Some v) = on_waiting w now draw number v v.state
 
 -- ---- what is done
 
@@ -153,7 +195,8 @@ abbrev pub on_item : World → ℕ → ℕ → Option DueItem → Step
 on_item w now draw None = idles w now
 on_item w now draw (Some (OfExchange at number)) =
     on_exchange w now draw number (item_at number w.exchanges)
-on_item w now draw (Some (OfWaiter at number)) = on_waiter w now number (item_at number w.waiters)
+on_item w now draw (Some (OfWaiter at number)) =
+    on_waiter w now draw number (item_at number w.waiters)
 
 abbrev pub on_tick : World → ℕ → ℕ → Step
 on_tick w now draw = on_item w now draw (if_due now (item_due w))

@@ -4,7 +4,7 @@ ghost use Rattle.coap_message.specs.declared.kind.Kind.TheVariants.{Non, Ack, Co
 ghost use Rattle.coap_message.specs.Spelling.{spelling, with_id, Spells};
 ghost use Rattle.coap_limits.specs.Limits.{default_limits, AreLimits};
 ghost use Rattle.coap_model.specs.Setting.{setting_of, Setting};
-ghost use Rattle.coap_model.specs.declared.report.Outcome.TheVariants.{Again, NoRecordRoom, Joined, Opened, Idle, Refused, Overloaded, NoId, Answered, Acked, Rejected, Hit};
+ghost use Rattle.coap_model.specs.declared.report.Outcome.TheVariants.{Again, NoRecordRoom, Joined, Opened, Idle, Refused, Overloaded, NoId, Answered, Acked, Rejected, Hit, Ignored, Delivered};
 ghost use Rattle.coap_model.specs.declared.report.Storing.TheVariants.{Kept, TooLarge, NoMemory, NotStored};
 ghost use Rattle.coap_option.specs.Selection.{sent_on, max_age_of};
 ghost use Rattle.coap_forward.specs.Forms.{forwarded, goes_on};
@@ -18,20 +18,21 @@ ghost use Rattle.coap_message.specs.Uint.{uint_spelling};
 ghost use Rattle.coap_routes.specs.declared.error.TargetError.TheVariants.{OutOfMemory};
 ghost use Rattle.coap_model.specs.Memory.{takes_memory};
 ghost use Rattle.coap_model.specs.Ticks.{next_due};
-ghost use Rattle.coap_model.specs.History.{comes_con, moves, Act, no_item, serves, takes, opened_in, Deed, Place, IsPlaceOf, Somewhere, Sends, Ends, Serves, last_of, IsInOrder, IsRequestOf, Entry, grown_of, gives_id, ids_in, Gives};
+ghost use Rattle.coap_model.specs.History.{comes_con, moves, Act, no_item, serves, takes, opened_in, Deed, Place, IsPlaceOf, Somewhere, Sends, Ends, Serves, LetsGo, Never, last_of, IsInOrder, IsRequestOf, Entry, grown_of, gives_id, ids_in, Gives, is_con_datagram};
 ghost use Rattle.coap_forward.specs.Messages.{eight_zeros, own_reply, reply_kind, told_again, brings_requests, is_bare, is_recorded, acknowledgement, reset};
-ghost use Rattle.coap_model.specs.Justified.{HaveOneMemory, Comes, known_of, HasRecordRoom, Acknowledges, IsNew, IsUnprocessable, verdict_on, fits_on, IsMiss, IsJoinable, IsUnanswered, IsAwaited, IsActing, IsForwarding, IsDelivery, JustifiedBy, AllJustified, IsOwed, MayFollow, AreOfOneTurn, is_fresh_at, HasIdFor, IsObtainedHere, size_here};
+ghost use Rattle.coap_model.specs.Justified.{HaveOneMemory, Comes, known_of, HasRecordRoom, Acknowledges, Closes, IsNew, IsUnprocessable, verdict_on, fits_on, IsMiss, IsJoinable, IsUnanswered, IsAwaited, IsActing, IsForwarding, IsDelivery, JustifiedBy, AllJustified, IsOwed, MayFollow, AreOfOneTurn, is_fresh_at, HasIdFor, IsObtainedHere, size_here};
 ghost use Rattle.coap_model.specs.Runs.{turns_of, AreTurns, Taken, new_run, run_of, entry_of, answer_at};
 ghost use Rattle.coap_model.specs.Examples.{nothing, to, get_t, origin, from, tick_at, client, play, proxy, small_proxy, narrow_proxy, first_answer, first_answer_sent, late_answer, late_answer_sent, error, error_sent, fault, fault_sent, changed, changed_sent, valid, replaced_sent, block_in_response, long_max_age, impostor, impostor_sent, refusals, refusals_sent, long_paths, long_paths_sent, long_segments, long_segments_sent, payload_in_get, payload_in_get_sent, full, full_sent, unprocessed_messages, unprocessed_messages_sent, too_long, too_long_sent, payload_of, payload_of_109_sent, spent_proxy, last_id, last_id_sent, wrapping_proxy, wrapping, wrapping_sent, content_for_client};
 ghost use Rattle.coap_model.specs.ReplyExamples.{asks_at, with_token, tokens, tokens_sent, two_faults, two_faults_sent, of_class_3, of_class_3_sent, changed_with_age, changed_with_age_sent, two_ages, beside_an_age, beside_an_age_sent, path_in_response, greatest_age, greatest_age_sent, shorter_age, shorter_age_sent, ten_seconds_after, one_left, none_left, of_one_moment, of_one_moment_sent, request_first, request_first_sent, client_first, client_first_sent};
 ghost use Rattle.coap_model.specs.FormExamples.{after, named, named_form, target_in};
 ghost use Rattle.coap_model.specs.OptionExamples.{others, form_with_others, key_in, key_of_others, odd_form, odd_key, form_with_tag, key_of_temp, get_with_others, get_with_tags, with_tag, held_sent, other_tag_sent, accepted, accepted_sent, observed, observed_sent, long_observed, odd_observe, with_unknown, safe_sent, beside_a_tag, beside_a_tag_sent, forward_proxy, refused_targets, refused_targets_sent, long_without_map, long_without_map_sent, to_sensor, to_sensor_sent};
-ghost use Rattle.coap_model.specs.DuplicateExamples.{con_u, con_not_found, twice_until, refused_with, of_one_id, of_one_id_sent, one_record, two_clients, two_clients_sent, con_asks, con_asks_sent, con_hit, con_hits, con_hits_sent, opened_until, hit_until, hit_sent, con_t, con_busy, non_hit, non_busy, busy_until, busy_sent};
+ghost use Rattle.coap_model.specs.DuplicateExamples.{con_u, con_not_found, twice_until, refused_with, of_one_id, of_one_id_sent, one_record, two_clients, two_clients_sent, con_hit, con_hits, con_hits_sent, opened_until, hit_until, hit_sent, con_t, con_acked, con_busy, con_busy_until, con_busy_sent, non_hit, non_busy, busy_until, busy_sent};
 ghost use Rattle.coap_model.specs.ReliableExamples.{hasty_proxy, patient_proxy, silent_origin, longest_waits, silence_sent, late_ticks, late_ticks_sent, first_again_at, again_in_time, too_late, after_the_last, after_the_last_sent, answered_later, answered_later_sent, deadline, deadline_sent, sent_late, never_sent, never_sent_sent, blocked, blocked_sent, turn_of_the_second, turn_of_the_second_sent, after_the_end, after_the_end_sent, one_at_a_time, one_at_a_time_sent, two_at_a_time, two_at_a_time_sent, two_origins, two_origins_sent, next_window, next_window_sent, over_the_edge, over_the_edge_sent, again_without_id, again_without_id_sent, spent_with_cache, hit_without_id, hit_without_id_sent, greatest_id, after_the_greatest, after_the_greatest_sent, sent_twice, then_answered, history_of, two_windows};
 ghost use Rattle.coap_model.specs.ResponseExamples as responses;
 ghost use Rattle.coap_model.specs.ResponseExamples.{empty_ack, empty_reset, con_got, non_got, acked_as, comes, becomes, taken, ignored, acknowledged_until, silence_after, of_others, of_others_sent, reset_by_origin, reset_by_origin_sent, reset_after, reset_after_sent, con_response, con_response_sent, non_response, non_response_sent, before_acknowledgement, before_acknowledgement_sent, block_in_separate, block_in_separate_sent, of_impostors, of_impostors_sent, after_giving_up, after_giving_up_sent, no_room, no_room_sent, no_room_needed, no_room_needed_sent, lets_go, lets_go_sent, response, request, is_awaited, queued_turns, sent_turns, acked_turns, answered_turns, opened_acting, sent_acting, acked_acting, reset_acting, got_acting, served_acting, non_acting, record_of_response};
 ghost use Rattle.coap_model.specs.JoiningExamples as joining;
-ghost use Rattle.coap_model.specs.Standing.{queued, sent, acked, done, stage_of, outstanding_to, queued_in, window_ids, HasRoomToJoin, HasRoomToOpen, open_in, standing_in};
+ghost use Rattle.coap_model.specs.ConfirmableExamples as confirmable;
+ghost use Rattle.coap_model.specs.Standing.{waits, queued, sent, acked, done, stage_of, outstanding_to, queued_in, window_ids, HasRoomToJoin, HasRoomToOpen, open_in, standing_in, service_of, waiting_in, told};
 ghost use Rattle.coap_model.specs.Schedules.{sends_by, next_send, IsSchedule};
 ghost use Rattle.coap_model.specs.Held.{target_bytes, held, most_held};
 ghost use Rattle.coap_model.specs.LimitExamples.{get_u, not_found, got, one_exchange, one_waiter, two_at_once, until_served, until_served_sent, retries_after, two_requests, second_is_told, narrow, long_datagrams, long_datagrams_sent, later_proxy, counted_on, counted_on_sent, after_ids, last_refusal, last_refusal_sent, kept_ids, kept_ids_sent};
@@ -150,10 +151,10 @@ pub fn examples_of_forms_and_tables()
           exchanges = 2;
           waiters = 3;
         } }
-    ensures no_memory_to_repeat { takes_memory Again ≡ false }
-    ensures no_memory_to_forget { takes_memory NoRecordRoom ≡ false }
-    ensures memory_to_answer { takes_memory (Answered Kept) ≡ true }
-    ensures memory_to_refuse { takes_memory (Refused NOT_FOUND) ≡ true }
+    ensures no_memory_to_repeat { takes_memory Again [] ≡ false }
+    ensures no_memory_to_forget { takes_memory NoRecordRoom [] ≡ false }
+    ensures memory_to_answer { takes_memory (Answered Kept) [] ≡ true }
+    ensures memory_to_refuse { takes_memory (Refused NOT_FOUND) [] ≡ true }
     ensures first_id { (setting_of default_limits proxy.setting.routes 7 8).first_id ≡ 7 }
     ensures salt { (setting_of default_limits proxy.setting.routes 7 8).salt ≡ 8 }
     ensures turns { turns_of
@@ -207,7 +208,6 @@ pub fn examples_of_duplicates()
         ≡ refused_with (con_not_found 1) (to (Refused NOT_FOUND) (client 1) (con_not_found 1)) }
     ensures of_one_id { play proxy of_one_id ≡ of_one_id_sent }
     ensures no_room { play one_record two_clients ≡ two_clients_sent }
-    ensures not_asked_yet { play proxy con_asks ≡ con_asks_sent }
     ensures hit { play proxy con_hits ≡ con_hits_sent }
     ensures opened_again { play proxy (opened_until 144999)
         ≡ first_answer_sent ++ nothing Again ∷ [] }
@@ -220,14 +220,16 @@ pub fn examples_of_duplicates()
     ensures con_hit_again { play proxy (hit_until 247999 con_t)
         ≡ hit_sent con_hit (to Again (client 2) con_hit) }
     ensures con_hit_anew { play proxy (hit_until 248000 con_t)
-        ≡ hit_sent con_hit (to Overloaded (client 2) con_busy) }
+        ≡ hit_sent con_hit (to Opened (client 2) con_acked) }
     ensures busy_again { play one_exchange (busy_until 144999) ≡ busy_sent (nothing Again) }
     ensures busy_anew { play one_exchange (busy_until 145000)
         ≡ busy_sent (to Overloaded (client 2) (non_busy 2)) }
-    ensures con_busy_again { play proxy (twice_until 246999 con_t)
-        ≡ to Overloaded (client 1) con_busy ∷ to Again (client 1) con_busy ∷ [] }
-    ensures con_busy_anew { play proxy (twice_until 247000 con_t)
-        ≡ to Overloaded (client 1) con_busy ∷ to Overloaded (client 1) con_busy ∷ [] }
+    ensures con_busy_again { play one_exchange (con_busy_until 246999)
+        ≡ con_busy_sent (to Again (client 2) con_busy) }
+    ensures con_busy_anew { play one_exchange (con_busy_until 247000)
+        ≡ con_busy_sent (to Overloaded (client 2) con_busy) }
+    ensures con_opened_again { play proxy (twice_until 246999 con_t)
+        ≡ to Opened (client 1) con_acked ∷ to Again (client 1) con_acked ∷ [] }
     ensures silent_again { play (after_ids 32768) (twice_until 144999 (get_u 7))
         ≡ nothing NoId ∷ nothing Again ∷ [] }
     ensures silent_anew { play (after_ids 32768) (twice_until 145000 (get_u 7))
@@ -356,7 +358,7 @@ pub fn examples_of_responses()
     ensures remembers_no_non { is_remembered (Answered Kept) Non ≡ false }
     ensures remembers_no_ack { is_remembered (Answered Kept) Ack ≡ false }
     ensures remembers_no_acked { is_remembered Acked Con ≡ false }
-    ensures no_memory_to_acknowledge { takes_memory Acked ≡ false }
+    ensures no_memory_to_acknowledge { takes_memory Acked [] ≡ false }
     ensures answer_of_reset { answer_of 1500 9 (reset 7)
         ≡ record { message = bad_gateway; got = 9; own = true } }
     ensures waits { stage_of 1 (history_of opened_acting) ≡ Some queued }
@@ -428,10 +430,52 @@ pub fn examples_of_joining()
     ensures one_open { length (open_in (history_of joining.queued_acting)) ≡ 1 }
     ensures two_stand { length (standing_in (history_of joining.queued_acting)) ≡ 2 }
     ensures one_stands { standing_in (history_of joining.one_left_acting)
-        ≡ record { number = 3; exchange = 1 } ∷ [] }
+        ≡ record { number = 3; service = waits 1 } ∷ [] }
     ensures is_open { stage_of 1 (history_of joining.one_left_acting) ≡ Some done }
     ensures none_stands { standing_in (history_of joining.none_left_acting) ≡ [] }
     ensures is_closed { stage_of 1 (history_of joining.none_left_acting) ≡ None }
+{}
+
+/// Clients that ask in Confirmable messages: what they are told at once and later, what closes them,
+/// and what they count for.
+pub fn examples_of_confirmable_clients()
+    ensures confirmable { play proxy confirmable.confirmable ≡ confirmable.confirmable_sent }
+    ensures repeated_request { play proxy confirmable.repeated_request
+        ≡ confirmable.repeated_request_sent }
+    ensures unacknowledged { play proxy confirmable.unacknowledged
+        ≡ confirmable.unacknowledged_sent }
+    ensures reset_by_client { play proxy confirmable.reset_by_client
+        ≡ confirmable.reset_by_client_sent }
+    ensures closed_at_last { play proxy (confirmable.closed_at 247019)
+        ≡ confirmable.then_sent (nothing Acked ∷ []) }
+    ensures closed_too_late { play proxy (confirmable.closed_at 247020)
+        ≡ confirmable.then_sent (nothing Ignored ∷ []) }
+    ensures drawn { play proxy confirmable.drawn ≡ confirmable.drawn_sent }
+    ensures both_kinds { play proxy confirmable.both_kinds ≡ confirmable.both_kinds_sent }
+    ensures given_up { play hasty_proxy confirmable.given_up ≡ confirmable.given_up_sent }
+    ensures separate_answer { play proxy confirmable.separate_answer
+        ≡ confirmable.separate_answer_sent }
+    ensures counted_until { play confirmable.one_of_each confirmable.counted_until
+        ≡ confirmable.counted_until_sent }
+    ensures full_tables { play confirmable.two_clients confirmable.full_tables
+        ≡ confirmable.full_tables_sent }
+    ensures last_ids { play (after_ids 32764) confirmable.last_ids ≡ confirmable.last_ids_sent }
+    ensures due_again { next_due (after proxy confirmable.told_turns) ≡ Some 2020 }
+    ensures held_while_told { held (after proxy confirmable.told_turns) ≡ 88 }
+    ensures waits_for_it { service_of 1 (history_of confirmable.waits_acting) ≡ Some (waits 1) }
+    ensures is_told { service_of 1 (history_of confirmable.told_acting) ≡ Some told }
+    ensures is_closed { service_of 1 (history_of confirmable.closed_acting) ≡ None }
+    ensures one_waits { waiting_in (history_of confirmable.waits_acting) ≡ 1 }
+    ensures none_waits { waiting_in (history_of confirmable.told_acting) ≡ 0 }
+    ensures none_open { open_in (history_of confirmable.told_acting) ≡ [] }
+    ensures next_at { next_send (sends_by (serves 1) (history_of confirmable.told_acting)) ≡ 2020 }
+    ensures then_at { next_send (sends_by (serves 1) (history_of confirmable.told_again_acting))
+        ≡ 6020 }
+    ensures memory_to_deliver { takes_memory Delivered (confirmable.con_content 2) ≡ true }
+    ensures no_memory_to_deliver { takes_memory Delivered (content_for_client 10) ≡ false }
+    ensures con_datagram { is_con_datagram (0x40 ∷ 0 ∷ 0 ∷ 9 ∷ []) ≡ true }
+    ensures other_datagram { is_con_datagram (0x60 ∷ 0 ∷ 0 ∷ 9 ∷ []) ≡ false }
+    ensures short_datagram { is_con_datagram (0x40 ∷ 0 ∷ 0 ∷ []) ≡ false }
 {}
 
 /// Each request that is sent on has the cache key of the client's request for which it is sent,
@@ -477,8 +521,11 @@ pub fn ticks_are_idle_where_nothing_is_due()
         → (step_of w now draw grown tick).report.outcome ≢ Idle }
 {}
 
-/// Deliveries that are right but for one thing are not justified.
+/// A delivery is justified, to a client that asked in a Non-confirmable message and to one that asked
+/// in a Confirmable message; deliveries that are right but for one thing are not.
 pub fn forged_deliveries_are_refused()
+    ensures as_it_is { IsDelivery forged.setting forged.past right }
+    ensures in_con { IsDelivery forged.setting forged.past_con forged.in_con }
     ensures for_nobody { ¬ IsDelivery forged.setting forged.past
         (delivery (client 1) (content_for_client 7) no_item) }
     ensures for_another { ¬ IsDelivery forged.setting forged.past
@@ -494,6 +541,8 @@ pub fn forged_deliveries_are_refused()
     ensures elsewhere { ¬ IsDelivery forged.setting forged.past_elsewhere right }
     ensures another_age { ¬ IsDelivery forged.setting forged.past
         (delivery (client 1) (content_for_client 10) (serves 1)) }
+    ensures con_for_non { ¬ IsDelivery forged.setting forged.past forged.in_con }
+    ensures non_for_con { ¬ IsDelivery forged.setting forged.past_con right }
 {}
 
 /// Each step of a proxy that carries a history leaves a proxy that carries the history with the
@@ -685,7 +734,8 @@ pub fn what_is_owed_is_given_at_each_place()
 
 /// In a justified history nothing is done twice: the request of an exchange is sent for the first
 /// time at one place, the exchange is got or given up at one place, and a client is served at one
-/// place.
+/// place. Nothing is done for a client that was let go: where its answer was acknowledged, was given
+/// up, or went out in a Non-confirmable message.
 pub fn nothing_is_done_twice()
     ensures sent { (setting : Setting) (history : List Deed) (exchange : ℕ) (a b : Place)
         → AllJustified setting history
@@ -708,6 +758,11 @@ pub fn nothing_is_done_twice()
         → Serves waiter a
         → Serves waiter b
         → a ≡ b }
+    ensures gone { (setting : Setting) (history : List Deed) (waiter : ℕ) (place : Place)
+        → AllJustified setting history
+        → IsPlaceOf history place
+        → place.deed.act ≡ serves waiter
+        → Never (LetsGo waiter) place.before }
 {}
 
 /// What is owed is given, where an entry is justified by what was done before it: a message that is
@@ -717,9 +772,9 @@ pub fn nothing_is_done_twice()
 /// that may be asked for and that nothing answers, with room, is opened. A message that answers an
 /// exchange is its answer, which is kept by its size where it was obtained; in a Confirmable
 /// message it is taken where it is new, and meets silence where it isn't known and there is no room
-/// to remember it. An acknowledgement of a request that waits for one settles it; a confirmable
-/// datagram that can't be processed is rejected; and a tick at which something is due does what is
-/// due first.
+/// to remember it. An acknowledgement of a request that waits for one settles it, and an
+/// acknowledgement or a Reset of an answer that waits for one settles that; a confirmable datagram
+/// that can't be processed is rejected; and a tick at which something is due does what is due first.
 pub fn what_is_owed_is_given()
     ensures owed { (setting : Setting) (past : List Deed) (d : Deed)
         → JustifiedBy d.entry.report.outcome setting past d
@@ -730,7 +785,6 @@ pub fn what_is_owed_is_given()
         → JustifiedBy d.entry.report.outcome setting past d
         → IsRequestOf setting client request d.entry.event
         → IsNew setting past d.entry.now client request
-        → request.kind ≡ Non
         → verdict_on setting request ≡ may_ask key
         → IsUnanswered setting past d.entry.now key
         → fits_on setting key request ≡ true
@@ -742,7 +796,6 @@ pub fn what_is_owed_is_given()
         → JustifiedBy d.entry.report.outcome setting past d
         → IsRequestOf setting client request d.entry.event
         → IsNew setting past d.entry.now client request
-        → request.kind ≡ Non
         → verdict_on setting request ≡ may_ask key
         → IsMiss setting past key d.entry.now
         → IsJoinable setting past key exchange
@@ -757,6 +810,10 @@ pub fn what_is_owed_is_given()
     ensures settled { (setting : Setting) (past : List Deed) (d : Deed) (exchange : ℕ)
         → JustifiedBy d.entry.report.outcome setting past d
         → Acknowledges setting past d.entry.now exchange d.entry.event
+        → d.entry.report.outcome ≡ Acked }
+    ensures closed { (setting : Setting) (past : List Deed) (d : Deed) (client : ℕ)
+        → JustifiedBy d.entry.report.outcome setting past d
+        → Closes setting past d.entry.now client d.entry.event
         → d.entry.report.outcome ≡ Acked }
     ensures no_answer_room { (setting : Setting) (past : List Deed) (d : Deed) (exchange : ℕ)
         (awaited : IsAwaited setting past d.entry.now exchange d.entry.event)

@@ -1,12 +1,11 @@
 -- What one turn does, by what its calls say.
 use Rattle.std.proofs.Common.{◌≡◌, ◌+◌, ◌≤◌, ℕ, Bool, true, false, List, ◌∷◌, Option, Some, None, option_map, is_some, refl, sym, ap, ◌∙◌, subst, arith}
-use Rattle.coap_core.specs.Steps.{CarriesOn, Does, entry_told}
+use Rattle.coap_core.specs.Steps.{CarriesOn, Does, entry_told, wants_memory}
 use Rattle.coap_message.specs.Datagram.{Datagram}
 use Rattle.coap_model.proofs.Running.{clock_after}
 use Rattle.coap_model.specs.Carries.{Carries}
 use Rattle.coap_model.specs.Events.{Event, IsEvent}
 use Rattle.coap_model.specs.History.{Entry, grown_of}
-use Rattle.coap_model.specs.Memory.{takes_memory}
 use Rattle.coap_model.specs.Runs.{Turn}
 use Rattle.coap_model.specs.Step.{step_of}
 use Rattle.coap_model.specs.Ticks.{next_due}
@@ -77,13 +76,13 @@ module _ {P : Type 0} (gives : P → ℕ → Turn → P → Type 0) (takes : P �
       clock-is = clock_after v t.now t.draw (grown_of report.outcome) t.event bytes
 
   -- a step found no memory
-  pub did-nothing : (v' : World) (s' : Stats) (event : Event) → event ≡ t.event → v' ≡ v → takes_memory (step_of v t.now t.draw true event).report.outcome ≡ true
+  pub did-nothing : (v' : World) (s' : Stats) (event : Event) → event ≡ t.event → v' ≡ v → wants_memory (step_of v t.now t.draw true event) ≡ true
       → v.last ≤ t.now → failures m ≡ failures p → s' ≡ with_turn true false false s → DidTurn gives takes clock failures came v p s v' m s' arrived
   did-nothing v' s' event same nothing memory onward still counted = record {
     given = record { wait = wait; turn = t; lost = true; grown = true; went = false };
     does = (m, gave, refl);
     asked = asked;
-    lost = λ h. subst (λ (e : Event). takes_memory (step_of v t.now t.draw true e).report.outcome ≡ true) same memory;
+    lost = λ h. subst (λ (e : Event). wants_memory (step_of v t.now t.draw true e) ≡ true) same memory;
     world = nothing;
     carries = λ history c. subst (λ (w : World). Carries history w) (sym nothing) c;
     counted = counted;

@@ -5,11 +5,11 @@ use Rattle.coap_target.specs.declared.endpoint.Endpoint.{Endpoint}
 use Rattle.coap_model.specs.Carries.{Carries}
 use Rattle.coap_model.specs.Events.{Event, arrival, tick}
 use Rattle.coap_model.specs.History.{Entry}
-use Rattle.coap_model.specs.Memory.{takes_memory}
 use Rattle.coap_model.specs.Runs.{Turn, Taken, Run, one_turn, step_taken}
 use Rattle.coap_model.specs.Step.{step_of}
 use Rattle.coap_model.specs.Ticks.{next_due}
 use Rattle.coap_model.specs.World.{Step, World}
+use Rattle.coap_core.specs.Steps.{wants_memory}
 use Rattle.coap_port.specs.Stats.{no_stats, with_turn}
 use Rattle.coap_port.specs.declared.error.DriveError.{DriveError}
 use Rattle.coap_port.specs.declared.error.DriveError.TheVariants.{Port, OutOfMemory}
@@ -82,10 +82,9 @@ AreAsked w first (g ∷ before) =
     (g.wait ≡ wait_for (came_last before) (last_moment first before) (next_due (world_by w before)))
     × AreAsked w first before
 
--- a turn whose step takes memory
+-- a turn whose step may want memory
 abbrev pub takes_some : World → Turn → Bool
-takes_some w t =
-    takes_memory (step_of w t.now t.draw true t.event).report.outcome
+takes_some w t = wants_memory (step_of w t.now t.draw true t.event)
 
 -- only what takes memory is lost
 abbrev pub AreLostForMemory : World → List Given → Type 0

@@ -17,7 +17,8 @@ use std::alloc::Global;
 /// shows.
 ///
 /// A turn that finds no memory is counted as lost, and a datagram that the port doesn't take as a
-/// fault; neither ends the loop. The port's last moment isn't before that of the core.
+/// fault; neither ends the loop. What a tick was to do that was lost is due still, and so a later
+/// one does it. The port's last moment isn't before that of the core.
 ///
 /// # Errors
 /// `Port` where the port gave no turn, with what was done before; `OutOfMemory` where there was no

@@ -14,4 +14,4 @@ use Rattle.coap_model.proofs.laws.examples_of_duplicates.Goals as goal
 
 pub returns : goal.returns
 unfolding read_message body_at options_within option_at extended spelling option_spelling uint_spelling mapped_target request_target token_of target_options verdict_of form_fits answer_of with_id message_in
-returns c = record { non_again = refl; non_anew = refl; con_again = refl; con_anew = refl; of_one_id = refl; no_room = refl; not_asked_yet = refl; hit = refl; opened_again = refl; opened_anew = refl; hit_again = refl; hit_anew = refl; con_hit_again = refl; con_hit_anew = refl; busy_again = refl; busy_anew = refl; con_busy_again = refl; con_busy_anew = refl; silent_again = refl; silent_anew = refl; no_id = refl; held = refl; held_of_none = refl; counted = refl }
+returns c = record { non_again = refl; non_anew = refl; con_again = refl; con_anew = refl; of_one_id = refl; no_room = refl; hit = refl; opened_again = refl; opened_anew = refl; hit_again = refl; hit_anew = refl; con_hit_again = refl; con_hit_anew = refl; busy_again = refl; busy_anew = refl; con_busy_again = refl; con_busy_anew = refl; con_opened_again = refl; silent_again = refl; silent_anew = refl; no_id = refl; held = refl; held_of_none = refl; counted = refl }

@@ -1,4 +1,4 @@
-use Rattle.coap_model.proofs.Owing.{given_opened, given_joined, given_answered, given_settled, given_no_room, given_rejected, given_done}
+use Rattle.coap_model.proofs.Owing.{given_opened, given_joined, given_answered, given_settled, given_closed, given_no_room, given_rejected, given_done}
 use Rattle.coap_model.proofs.BySize.{owed-by}
 use Rattle.coap_model.proofs.laws.what_is_owed_is_given.Goals as goal
 
@@ -6,10 +6,11 @@ pub returns : goal.returns
 returns c =
     record {
       owed = owed-by;
-      opened = λ setting past d client request key j r new kind. given_opened d.entry.report.outcome setting past d client request j r new kind key;
-      joined = λ setting past d client request key x j r new kind. given_joined d.entry.report.outcome setting past d client request j r new kind key x;
+      opened = λ setting past d client request key j r new. given_opened d.entry.report.outcome setting past d client request j r new key;
+      joined = λ setting past d client request key x j r new. given_joined d.entry.report.outcome setting past d client request j r new key x;
       answered = λ setting past d x awaited j. given_answered d.entry.report.outcome setting past d x j awaited;
       settled = λ setting past d. given_settled d.entry.report.outcome setting past d;
+      closed = λ setting past d. given_closed d.entry.report.outcome setting past d;
       no_answer_room = λ setting past d x awaited j. given_no_room d.entry.report.outcome setting past d x j awaited;
       rejected = λ setting past d source bytes head j came. given_rejected d.entry.report.outcome setting past d source bytes j came head;
       done = λ setting past d. given_done d.entry.report.outcome setting past d;

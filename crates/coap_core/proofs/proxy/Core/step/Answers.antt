@@ -82,3 +82,6 @@ pub returns-clause-promised : goal.returns-clause-promised
 returns-clause-promised g c =
     rw (← c.self.view_is)
     (promises-on c.self.inside.world c.args.now c.args.draw (seen c.args.event) (rw (← c.self.view_is) at c.requires.onward) c.holds_bytes.ensures c.step.result c.args.out.now c.step.new.out c.step.new.self c.step.ensures.exact)
+
+pub returns-clause-ticks : goal.returns-clause-ticks
+returns-clause-ticks g c = rw (← c.self.view_is) c.step.ensures.ticks

@@ -1,8 +1,15 @@
-use Rattle.std.proofs.Common.{◌≡◌, Some, true, refl, sym}
+use Rattle.std.proofs.Common.{◌≡◌, ◌∙◌, ◌<◌, Some, true, refl, sym, subst}
+use Rattle.coap_option.proofs.Picking.{on_err}
 use Rattle.coap_exchange.specs.declared.waiter.WaiterState.TheVariants.{Waiting}
+use Rattle.coap_exchange.specs.Exchanges.{answer_in}
+use Rattle.coap_exchange.specs.Ids.{left_of}
 use Rattle.coap_exchange.specs.Table.{item_at}
 use Rattle.coap_exchange.specs.Waiters.{is_waiting}
+use Rattle.coap_forward.specs.Messages.{is_con}
+use Rattle.coap_model.specs.Ticks.{given_to}
+use Rattle.coap_model.specs.World.{World}
 use Rattle.coap_core.proofs.Keeping.{id-for-waiting}
+use Rattle.coap_core.proofs.Serving.{con-spelled}
 use Rattle.coap_core.proofs.world.World.deliver.Goals as goal
 
 pub take_id-requires : goal.take_id-requires
@@ -11,4 +18,14 @@ take_id-requires g c =
     let found : item_at c.args.number c.args.self.now.waiters ≡ Some v = rw (← c.self.view_is) (sym c.in-Some.ensures.exact) in
     let state : v.state ≡ Waiting c.args.exchange = rw found at c.requires.waits in
     let waits : is_waiting v ≡ true = rw state refl in
-    id-for-waiting c.args.self.now c.args.now c.args.number v c.requires.can c.requires.onward found waits
+    subst (λ (w : World). 0 < left_of c.args.now w.ids) (sym c.in_ok-tell.ensures.ok) (id-for-waiting c.args.self.now c.args.now c.args.number v c.requires.can c.requires.onward found waits)
+
+pub returns-in_err-tell-clause-memory : goal.returns-in_err-tell-clause-memory
+returns-in_err-tell-clause-memory g c =
+    let w = c.args.self.now in
+    let v = c.in-Some.waiter.now in
+    let a = c.in-Some-answer_of.answer.now in
+    let found : item_at c.args.number w.waiters ≡ Some v = rw (← c.self.view_is) (sym c.in-Some.ensures.exact) in
+    let answer : answer_in c.args.exchange w.exchanges ≡ Some a = rw (← c.self.view_is) (sym c.in-Some-answer_of.ensures.exact) in
+    let con : is_con v.kind ≡ true = c.in_err-tell.ensures.memory in
+    on_err c.from_residual.result (rw (found, answer) (refl, con-spelled (given_to w c.args.now v a) c.is_short.ensures ∙ con))

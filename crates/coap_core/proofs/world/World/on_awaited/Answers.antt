@@ -4,10 +4,9 @@ use Rattle.std.proofs.lemmas.Result.{IfOk-weaker}
 use Rattle.coap_option.proofs.Picking.{on_err}
 use Rattle.coap_model.specs.declared.report.Report.{Report}
 use Rattle.coap_model.specs.History.{grown_of}
-use Rattle.coap_model.specs.Memory.{takes_memory}
 use Rattle.coap_model.specs.Responses.{on_awaited}
 use Rattle.coap_model.specs.World.{Step}
-use Rattle.coap_core.specs.Steps.{Does}
+use Rattle.coap_core.specs.Steps.{Does, wants_memory}
 use Rattle.coap_core.specs.Storing.{answering_at, awaited_step}
 use Rattle.coap_core.proofs.Awaiting.{awaited}
 use Rattle.coap_core.proofs.Puts.{answer-takes, awaited-does}
@@ -28,5 +27,5 @@ pub returns-in-Some-clause-memory : goal.returns-in-Some-clause-memory
 returns-in-Some-clause-memory g c =
     let w = c.args.self.now in
     let m = c.args.response.now in
-    awaited w c.args.source m c.in-Some.number (λ o. OnErr c.answer.result (takes_memory (on_awaited w c.args.now true c.args.source m o).report.outcome ≡ true)) c.requires.can.exchanges c.in-Some.ensures.exact
+    awaited w c.args.source m c.in-Some.number (λ o. OnErr c.answer.result (wants_memory (on_awaited w c.args.now true c.args.source m o) ≡ true)) c.requires.can.exchanges c.in-Some.ensures.exact
     (λ x found. on_err c.answer.result (answer-takes w c.args.now true c.args.source m (c.in-Some.number, x)))

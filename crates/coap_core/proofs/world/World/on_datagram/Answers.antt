@@ -2,10 +2,9 @@ use Rattle.std.proofs.Common.{◌≡◌, ◌≤◌, Bool, OnErr, true, length, s
 use Rattle.std.proofs.lemmas.Result.{IfOk-weaker}
 use Rattle.coap_model.specs.declared.report.Report.{Report}
 use Rattle.coap_model.specs.History.{grown_of}
-use Rattle.coap_model.specs.Memory.{takes_memory}
 use Rattle.coap_model.specs.Step.{on_message, on_datagram}
 use Rattle.coap_model.specs.World.{Step}
-use Rattle.coap_core.specs.Steps.{Does}
+use Rattle.coap_core.specs.Steps.{Does, wants_memory}
 use Rattle.coap_core.proofs.Read.{on_read-message}
 use Rattle.coap_core.proofs.world.World.on_datagram.Given.{Over}
 use Rattle.coap_core.proofs.world.World.on_datagram.Goals.{In-Some}
@@ -30,4 +29,4 @@ returns-in-Some-clause-exact g c =
 
 pub returns-in-Some-clause-memory : goal.returns-in-Some-clause-memory
 returns-in-Some-clause-memory g c =
-    subst (λ (s : Step). OnErr c.on_message.result (takes_memory s.report.outcome ≡ true)) (sym (same g true (goal.at.returns-in-Some-clause-memory g c).In-Some)) c.on_message.ensures.memory
+    subst (λ (s : Step). OnErr c.on_message.result (wants_memory s ≡ true)) (sym (same g true (goal.at.returns-in-Some-clause-memory g c).In-Some)) c.on_message.ensures.memory

@@ -4,10 +4,9 @@ use Rattle.std.proofs.lemmas.Result.{IfOk-weaker}
 use Rattle.coap_option.proofs.Picking.{on_err}
 use Rattle.coap_model.specs.declared.report.Report.{Report}
 use Rattle.coap_model.specs.History.{grown_of}
-use Rattle.coap_model.specs.Memory.{takes_memory}
 use Rattle.coap_model.specs.Responses.{on_separate}
 use Rattle.coap_model.specs.World.{Step, has_record_room}
-use Rattle.coap_core.specs.Steps.{Does}
+use Rattle.coap_core.specs.Steps.{Does, wants_memory}
 use Rattle.coap_core.specs.Storing.{answering_at, separate_step}
 use Rattle.coap_core.proofs.Awaiting.{awaited}
 use Rattle.coap_core.proofs.Puts.{answer-takes, separate-does}
@@ -30,5 +29,5 @@ returns-clause-memory g c =
     let w = c.args.self.now in
     let m = c.args.response.now in
     let room : has_record_room w c.args.now m.kind ≡ true = rw (← c.response.view_is) (sym c.if-not-has_record_room.ensures) in
-    awaited w c.args.source m c.in-Some.number (λ o. OnErr c.answer.result (takes_memory (on_separate w c.args.now true c.args.source m o).report.outcome ≡ true)) c.requires.can.exchanges c.in-Some.ensures.exact
+    awaited w c.args.source m c.in-Some.number (λ o. OnErr c.answer.result (wants_memory (on_separate w c.args.now true c.args.source m o) ≡ true)) c.requires.can.exchanges c.in-Some.ensures.exact
     (λ x found. on_err c.answer.result (rw room (answer-takes w c.args.now true c.args.source m (c.in-Some.number, x))))

@@ -1,9 +1,10 @@
-use Rattle.std.proofs.Common.{◌≡◌, ◌≤◌, Some, length, sym, subst}
+use Rattle.std.proofs.Common.{◌≡◌, ◌≤◌, Some, length, IfOk, OnErr, sym, subst}
+use Rattle.coap_exchange.specs.Table.{item_at}
 use Rattle.coap_model.specs.declared.due.DueItem.TheVariants.{OfExchange, OfWaiter}
 use Rattle.coap_model.specs.World.{Step}
-use Rattle.coap_model.specs.Ticks.{item_due}
-use Rattle.coap_core.specs.Steps.{Does}
-use Rattle.coap_core.proofs.Ticking.{due-at, of-exchange, of-waiter}
+use Rattle.coap_model.specs.Ticks.{item_due, on_tick, on_waiter}
+use Rattle.coap_core.specs.Steps.{Does, GivesConfirmable}
+use Rattle.coap_core.proofs.Ticking.{client-due-at, due-at, of-exchange, of-waiter}
 use Rattle.coap_core.proofs.world.World.on_tick.Given.{Over}
 use Rattle.coap_core.proofs.world.World.on_tick.Goals.{In-Some-OfExchange, In-Some-OfWaiter}
 use Rattle.coap_core.proofs.world.World.on_tick.Goals as goal
@@ -27,9 +28,9 @@ on_exchange-requires-clause-fits g c =
     subst (λ (s : Step). length s.bytes ≤ c.args.out.now.room)
     (of-exchange c.args.self.now c.args.now c.args.draw c.in-Some-OfExchange.at c.in-Some-OfExchange.number (exchange g k) c.if-at-now.true) c.requires.fits
 
-pub returns-in-Some-OfExchange : goal.returns-in-Some-OfExchange
-returns-in-Some-OfExchange g c =
-    let k = (goal.at.returns-in-Some-OfExchange g c).In-Some-OfExchange in
+pub returns-in-Some-OfExchange-clause-exact : goal.returns-in-Some-OfExchange-clause-exact
+returns-in-Some-OfExchange-clause-exact g c =
+    let k = (goal.at.returns-in-Some-OfExchange-clause-exact g c).In-Some-OfExchange in
     subst (λ (s : Step). Does s c.on_exchange.result c.args.out.now c.on_exchange.new.out c.on_exchange.new.self)
     (sym (of-exchange c.args.self.now c.args.now c.args.draw c.in-Some-OfExchange.at c.in-Some-OfExchange.number (exchange g k) c.if-at-now.true)) c.on_exchange.ensures
 
@@ -39,8 +40,22 @@ on_waiter-requires-clause-fits g c =
     subst (λ (s : Step). length s.bytes ≤ c.args.out.now.room)
     (of-waiter c.args.self.now c.args.now c.args.draw c.in-Some-OfWaiter.at c.in-Some-OfWaiter.number (waiter g k) c.if-at-now-2.true) c.requires.fits
 
-pub returns-in-Some-OfWaiter : goal.returns-in-Some-OfWaiter
-returns-in-Some-OfWaiter g c =
-    let k = (goal.at.returns-in-Some-OfWaiter g c).In-Some-OfWaiter in
-    subst (λ (s : Step). Does s c.on_waiter.result c.args.out.now c.on_waiter.new.out c.on_waiter.new.self)
-    (sym (of-waiter c.args.self.now c.args.now c.args.draw c.in-Some-OfWaiter.at c.in-Some-OfWaiter.number (waiter g k) c.if-at-now-2.true)) c.on_waiter.ensures
+-- the step is that of the client
+step : (g : Over) (c : In-Some-OfWaiter g) → c.in-Some-OfWaiter.at ≤ c.args.now → on_waiter c.args.self.now c.args.now c.args.draw c.in-Some-OfWaiter.number (item_at c.in-Some-OfWaiter.number c.args.self.now.waiters) ≡ on_tick c.args.self.now c.args.now c.args.draw
+step g c due = sym (of-waiter c.args.self.now c.args.now c.args.draw c.in-Some-OfWaiter.at c.in-Some-OfWaiter.number (waiter g c) due)
+
+pub on_waiter-requires-clause-due : goal.on_waiter-requires-clause-due
+on_waiter-requires-clause-due g c =
+    let k = (goal.at.on_waiter-requires-clause-due g c).In-Some-OfWaiter in
+    client-due-at c.args.self.now c.args.now c.in-Some-OfWaiter.at c.in-Some-OfWaiter.number c.requires.can.waiters (waiter g k) c.if-at-now-2.true
+
+pub returns-in-Some-OfWaiter-clause-exact : goal.returns-in-Some-OfWaiter-clause-exact
+returns-in-Some-OfWaiter-clause-exact g c =
+    let k = (goal.at.returns-in-Some-OfWaiter-clause-exact g c).In-Some-OfWaiter in
+    subst (λ (s : Step). IfOk c.on_waiter.result (λ report. Does s report c.args.out.now c.on_waiter.new.out c.on_waiter.new.self))
+    (step g k c.if-at-now-2.true) c.on_waiter.ensures.exact
+
+pub returns-in-Some-OfWaiter-clause-memory : goal.returns-in-Some-OfWaiter-clause-memory
+returns-in-Some-OfWaiter-clause-memory g c =
+    let k = (goal.at.returns-in-Some-OfWaiter-clause-memory g c).In-Some-OfWaiter in
+    subst (λ (s : Step). OnErr c.on_waiter.result (GivesConfirmable s)) (step g k c.if-at-now-2.true) c.on_waiter.ensures.memory

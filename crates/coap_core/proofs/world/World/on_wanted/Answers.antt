@@ -1,7 +1,7 @@
-use Rattle.std.proofs.Common.{◌≡◌, true, false, sym, ap, rules}
+use Rattle.std.proofs.Common.{◌≡◌, true, false, sym, ap}
 use Rattle.coap_message.specs.declared.code.TheConstants.Code.{REQUEST_ENTITY_TOO_LARGE}
-use Rattle.coap_model.specs.World.{Step, remembers}
-use Rattle.coap_model.specs.Requests.{can_open, refuses, overloads, opens, on_wanted}
+use Rattle.coap_model.specs.World.{Step, has_room_to_open, remembers}
+use Rattle.coap_model.specs.Requests.{refuses, overloads, opens, on_wanted}
 use Rattle.coap_model.proofs.Verdicts.{askable}
 use Rattle.coap_core.proofs.Asking.{does-as, fits-as, too-long, turned-away, opened}
 use Rattle.coap_core.proofs.world.World.on_wanted.Goals as goal
@@ -39,17 +39,17 @@ overload-requires-clause-fits g c =
     let m = c.args.request.now in
     let busy : Step = overloads w c.args.now c.args.client m in
     let missed : Step = on_wanted w c.args.now c.args.client m c.args.asked.now.key in
-    let closed : can_open w c.args.now m.kind ≡ false = rw (← c.request.view_is) (search rules) in
+    let closed : has_room_to_open w c.args.now ≡ false = sym c.if-not-has_room_to_open.ensures in
     let away : missed ≡ busy = turned-away w c.args.now c.args.client m c.args.asked.now.key c.requires.ids (sym c.if-not-fits.ensures.exact) closed in
     fits-as busy missed c.args.out.now.room c.fits.new.out.room away c.fits.ensures.kept c.requires.fits
 
-pub returns-then-ne-clause-exact : goal.returns-then-ne-clause-exact
-returns-then-ne-clause-exact g c =
+pub returns-then-not-has_room_to_open-clause-exact : goal.returns-then-not-has_room_to_open-clause-exact
+returns-then-not-has_room_to_open-clause-exact g c =
     let w = c.args.self.now in
     let m = c.args.request.now in
     let busy : Step = overloads w c.args.now c.args.client m in
     let missed : Step = on_wanted w c.args.now c.args.client m c.args.asked.now.key in
-    let closed : can_open w c.args.now m.kind ≡ false = rw (← c.request.view_is) (search rules) in
+    let closed : has_room_to_open w c.args.now ≡ false = sym c.if-not-has_room_to_open.ensures in
     let away : missed ≡ busy = turned-away w c.args.now c.args.client m c.args.asked.now.key c.requires.ids (sym c.if-not-fits.ensures.exact) closed in
     does-as (remembers c.args.now c.args.client m busy) (remembers c.args.now c.args.client m missed) c.overload.result c.args.out.now c.fits.new.out c.overload.new.out c.overload.new.self (ap (remembers c.args.now c.args.client m) away) c.fits.ensures.kept c.overload.ensures.exact
 
@@ -60,6 +60,17 @@ returns-clause-exact g c =
     let key = c.args.asked.now.key in
     let asked : Step = opens w c.args.now c.args.client m key in
     let missed : Step = on_wanted w c.args.now c.args.client m key in
-    let free : can_open w c.args.now m.kind ≡ true = rw (← c.request.view_is) (search rules) in
+    let free : has_room_to_open w c.args.now ≡ true = sym c.if-not-has_room_to_open.ensures in
     let is : missed ≡ asked = opened w c.args.now c.args.client m key (sym c.if-not-fits.ensures.exact) free in
     does-as (remembers c.args.now c.args.client m asked) (remembers c.args.now c.args.client m missed) c.open.result c.args.out.now c.fits.new.out c.open.new.out c.open.new.self (ap (remembers c.args.now c.args.client m) is) c.fits.ensures.kept (rw c.in_ok-key.ensures at c.open.ensures.exact)
+
+pub open-requires-clause-fits : goal.open-requires-clause-fits
+open-requires-clause-fits g c =
+    let w = c.args.self.now in
+    let m = c.args.request.now in
+    let key = c.args.asked.now.key in
+    let asked : Step = opens w c.args.now c.args.client m key in
+    let missed : Step = on_wanted w c.args.now c.args.client m key in
+    let free : has_room_to_open w c.args.now ≡ true = sym c.if-not-has_room_to_open.ensures in
+    let is : missed ≡ asked = opened w c.args.now c.args.client m key (sym c.if-not-fits.ensures.exact) free in
+    rw c.in_ok-key.ensures (fits-as asked missed c.args.out.now.room c.fits.new.out.room is c.fits.ensures.kept c.requires.fits)

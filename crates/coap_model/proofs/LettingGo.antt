@@ -1,0 +1,111 @@
+-- Nothing is done for a client that was let go.
+use Rattle.std.proofs.Common.{◌≡◌, ℕ, ◌+◌, ◌≤◌, List, [], ◌∷◌, Some, refl, sym, ap, ◌∙◌, subst, arith}
+use Rattle.std.specs.Prelude.{not}
+use Rattle.std.specs.List.{AllByRecursion}
+use Rattle.coap_model.specs.declared.report.Outcome.{Outcome}
+use Rattle.coap_model.specs.declared.report.Outcome.TheVariants.{Ignored, Rejected, Again, NoRecordRoom, Refused, Hit, Joined, Opened, Overloaded, NoId, Answered, Acked, SentRequest, Resent, GaveUp, Delivered, Idle}
+use Rattle.coap_model.specs.Setting.{Setting}
+use Rattle.coap_model.specs.History.{admits, serves, Deed, Place, IsPlaceOf, Never, admits_one, admitted_in, lets_go, Serves, LetsGo}
+use Rattle.coap_model.specs.Standing.{told, service_of, standing_in}
+use Rattle.coap_model.specs.Justified.{Settles, a_request, an_answer, IsToSendAgain, request_again, answer_again, IsGivingUp, overdue, unheard, unacknowledged, IsDelivery, JustifiedBy, AllJustified}
+use Rattle.coap_model.proofs.Owing.{taken-so}
+use Rattle.coap_model.proofs.Places.{same_serves, same_admits, Never-at, never-from, place-before, justified-at, Admits-number}
+use Rattle.coap_model.proofs.Services.{All-standing, standing-holds, told-served}
+use Rattle.coap_model.proofs.Stages.{all-before}
+
+-- ---- what is done for a client
+
+-- what is done for one: it is served, or has still to acknowledge that
+data IsFor (setting : Setting) (past : List Deed) (d : Deed) (v : ℕ) : Outcome → Type 0 where
+  serving : (j : IsDelivery setting past d) → j.waiter ≡ v → IsFor setting past d v Delivered
+  telling : {o : Outcome} → service_of v past ≡ Some told → IsFor setting past d v o
+
+-- it is nothing else
+for-client : (setting : Setting) (past : List Deed) (d : Deed) (v : ℕ) (o : Outcome) → JustifiedBy o setting past d → d.act ≡ serves v → IsFor setting past d v o
+for-client setting past d v Ignored j is = absurd (let e = sym j.act ∙ is in cc)
+for-client setting past d v Rejected j is = absurd (let e = sym j.act ∙ is in cc)
+for-client setting past d v Again j is = absurd (let e = sym j.act ∙ is in cc)
+for-client setting past d v NoRecordRoom j is = absurd (let e = sym j.act ∙ is in cc)
+for-client setting past d v (Refused code) j is = absurd (let e = sym j.act ∙ is in cc)
+for-client setting past d v Hit j is = absurd (let e = sym j.act ∙ is in cc)
+for-client setting past d v Joined j is = absurd (let e = sym j.act ∙ is in cc)
+for-client setting past d v Opened j is = absurd (let e = sym j.act ∙ is in cc)
+for-client setting past d v Overloaded j is = absurd (let e = sym j.act ∙ is in cc)
+for-client setting past d v NoId j is = absurd (let e = sym j.act ∙ is in cc)
+for-client setting past d v (Answered s) j is = absurd (let e = sym (taken-so s setting past d j).gets.act ∙ is in cc)
+for-client setting past d v Acked j is = go j.settles
+  where
+    go : Settles setting past d → IsFor setting past d v Acked
+    go (a_request x act k) = absurd (let e = sym act ∙ is in cc)
+    go (an_answer u act k) = telling (subst (λ (n : ℕ). service_of n past ≡ Some told) (same_serves u v (sym act ∙ is)) k.service)
+for-client setting past d v SentRequest j is = absurd (let e = sym j.act ∙ is in cc)
+for-client setting past d v Resent j is = go j.again
+  where
+    go : {at : ℕ} → IsToSendAgain setting past d at → IsFor setting past d v Resent
+    go (request_again x act repeat timely) = absurd (let e = sym act ∙ is in cc)
+    go (answer_again u act again) = telling (subst (λ (n : ℕ). service_of n past ≡ Some told) (same_serves u v (sym act ∙ is)) again.service)
+for-client setting past d v GaveUp j is = go j
+  where
+    go : IsGivingUp setting past d → IsFor setting past d v GaveUp
+    go (overdue x at acting act end come silent) = absurd (let e = sym act ∙ is in cc)
+    go (unheard x at acting act repeat first come stops silent) = absurd (let e = sym act ∙ is in cc)
+    go (unacknowledged u acting act again stops silent) = telling (subst (λ (n : ℕ). service_of n past ≡ Some told) (same_serves u v (sym act ∙ is)) again.service)
+for-client setting past d v Delivered j is = serving j (same_serves j.waiter v (sym j.act ∙ is))
+for-client setting past d v Idle j is = absurd (let e = sym j.act ∙ is in cc)
+
+-- a client that was let go at a place was served there or before
+record WasServed (history : List Deed) (v : ℕ) : Type 0 where
+  pub place : Place
+  pub is_there : IsPlaceOf history place
+  pub serves_it : Serves v place
+
+gone-served : (setting : Setting) (history : List Deed) (v : ℕ) (p : Place) → AllJustified setting history → IsPlaceOf history p → LetsGo v p → WasServed history v
+gone-served setting history v p all at g = go p.deed.entry.report.outcome refl (for-client setting p.before p.deed v p.deed.entry.report.outcome (justified-at setting history p p.deed.entry.report.outcome all at refl) g.act)
+  where
+    go : (o : Outcome) → p.deed.entry.report.outcome ≡ o → IsFor setting p.before p.deed v o → WasServed history v
+    go _ is (serving j same) = record { place = p; is_there = at; serves_it = record { act = g.act; outcome = is } }
+    go _ is (telling service) = let s = told-served v p.before service in record { place = s.place; is_there = place-before history p s.place at s.is_there; serves_it = s.holds }
+
+-- so it was admitted
+gone-number : (setting : Setting) (history : List Deed) (v : ℕ) (p : Place) → AllJustified setting history → IsPlaceOf history p → LetsGo v p → v ≤ admitted_in history
+gone-number setting history v p all at g =
+    let s = gone-served setting history v p all at g in
+    let j : IsDelivery setting s.place.before s.place.deed = justified-at setting history s.place Delivered all s.is_there s.serves_it.outcome in
+    let a = j.to_serve.admitted in
+    let same = same_serves j.waiter v (sym j.act ∙ s.serves_it.act) in
+    let number = Admits-number history a.admission j.waiter a.exchange (place-before history s.place a.admission s.is_there a.was_admitted) a.admits in
+    omega (arith, same, number.1)
+
+-- ---- who stands
+
+-- a client that comes has the next number
+comes-next : (setting : Setting) (past : List Deed) (d : Deed) (v x : ℕ) (o : Outcome) → JustifiedBy o setting past d → admits_one o ≡ 1 → d.act ≡ admits v x → v ≡ admitted_in past + 1
+comes-next setting past d v x Joined j one is = (same_admits v _ x _ (sym is ∙ j.act)).0
+comes-next setting past d v x Opened j one is = (same_admits v _ x _ (sym is ∙ j.act)).0
+comes-next setting past d v x _ j one is = absurd (omega (arith, one))
+
+-- none that stands was let go
+all-stay : (setting : Setting) (history : List Deed) → AllJustified setting history → AllByRecursion (λ s. Never (LetsGo s.number) history) (standing_in history)
+all-stay setting [] all = tt
+all-stay setting (d ∷ past) all =
+    All-standing (λ s. Never (LetsGo s.number) past) (λ s. Never (LetsGo s.number) (d ∷ past)) d.entry.report.outcome d.act d.entry.bytes (standing_in past)
+    (λ v x one is. (
+      (λ g. let e = sym is ∙ g.act in cc),
+      never-from (LetsGo v) past (λ p at g. let next = comes-next setting past d v x d.entry.report.outcome all.0 one is in let below = gone-number setting past v p all.1 at g in omega (arith, next, below)),
+    ))
+    (λ v is con act s h same. ((λ g. let e = sym g.outcome ∙ ap (λ (o : Outcome). lets_go o d.entry.bytes) is ∙ ap not con in cc), h))
+    (λ s h stays. ((λ g. stays g.outcome g.act), h))
+    (all-stay setting past all.1)
+
+-- nothing is done for a client after it was let go
+pub gone-for-good : (setting : Setting) (history : List Deed) (v : ℕ) (p : Place) → AllJustified setting history → IsPlaceOf history p → p.deed.act ≡ serves v → Never (LetsGo v) p.before
+gone-for-good setting history v p all at is = go (for-client setting p.before p.deed v p.deed.entry.report.outcome (justified-at setting history p p.deed.entry.report.outcome all at refl) is)
+  where
+    before : AllJustified setting p.before
+    before = all-before setting history p all at
+
+    go : {o : Outcome} → IsFor setting p.before p.deed v o → Never (LetsGo v) p.before
+    go (serving j same) = never-from (LetsGo v) p.before (λ q there g. let s = gone-served setting p.before v q before there g in Never-at (Serves v) p.before s.place (subst (λ (n : ℕ). Never (Serves n) p.before) same j.to_serve.unserved) s.is_there s.serves_it)
+    go (telling service) =
+        let h = standing-holds (λ s. Never (LetsGo s.number) p.before) v told p.before (all-stay setting p.before before) service in
+        subst (λ (n : ℕ). Never (LetsGo n) p.before) h.2 h.1

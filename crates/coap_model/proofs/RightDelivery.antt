@@ -1,0 +1,133 @@
+-- Deliveries that are right, of which the forged ones differ in one thing.
+use Rattle.std.proofs.Common.{◌≡◌, ◌≢◌, inl, inr, ⊎_elim, ℕ, ◌<◌, Bool, true, false, cond, List, [], ◌∷◌, Option, Some, None, refl, sym, arith}
+use Rattle.std.specs.Prelude.{◌==◌, option_map}
+use Rattle.std.proofs.lemmas.Option.{same_Some}
+use Rattle.coap_message.specs.declared.kind.Kind.TheVariants.{Con}
+use Rattle.coap_message.specs.Message.{Message}
+use Rattle.coap_message.specs.Uint.{uint_spelling}
+use Rattle.coap_message.specs.Reading.{read_message, body_at, options_within, option_at, extended}
+use Rattle.coap_message.specs.Spelling.{Spells, spelling, option_spelling}
+use Rattle.coap_message.proofs.WholeMessages.{read_is}
+use Rattle.coap_target.specs.declared.endpoint.Endpoint.{Endpoint}
+use Rattle.coap_option.specs.Selection.{tags_of}
+use Rattle.coap_routes.specs.Routes.{mapped_target}
+use Rattle.coap_routes.specs.Request.{request_target}
+use Rattle.coap_forward.specs.Forms.{target_options}
+use Rattle.coap_forward.specs.Messages.{token_of}
+use Rattle.coap_forward.specs.Answers.{answer_of, shown_as}
+use Rattle.coap_model.specs.declared.report.Outcome.TheVariants.{Opened}
+use Rattle.coap_model.specs.Events.{Event}
+use Rattle.coap_model.specs.Examples.{origin, client, content, content_for_client, content_in, get_t}
+use Rattle.coap_model.specs.OptionExamples.{key_of_temp}
+use Rattle.coap_model.specs.CacheExamples.{content_for, get_for}
+use Rattle.coap_model.specs.Keys.{target_sent, key_sent}
+use Rattle.coap_model.specs.Verdicts.{may_ask, verdict_of}
+use Rattle.coap_model.specs.Standing.{Stage, Open, queued, sent, done, Standing, waits, told, stage_of, service_of}
+use Rattle.coap_model.specs.Due.{to_send, to_repeat, to_end, IsToServe, to_serve, to_serve_again, IsDueAt, IsSooner}
+use Rattle.coap_model.specs.History.{Act, no_item, admits, moves, serves, Deed, IsRequestOf, Sends, Asks, in_acknowledgement}
+use Rattle.coap_model.specs.Justified.{got, IsDelivery, verdict_on}
+use Rattle.coap_model.specs.Forged.{setting, asked, answered, past, past_con, delivery, right, in_con}
+use Rattle.coap_model.proofs.Places.{here, admitted-number}
+use Rattle.coap_model.proofs.CacheExamples.{are-bytes, first_sent, first_got, get_read, get_spelled}
+
+-- a client's request is taken up, with whatever is sent at once
+abbrev opening : Event → Option Endpoint → List ℕ → Deed
+opening event send bytes = record { entry = record { now = 0; draw = 0; event = event; report = record { send = send; outcome = Opened }; bytes = bytes }; act = admits 1 1 }
+
+-- it is sent on, and its answer comes
+abbrev past_of : Deed → List Deed
+past_of o = answered ∷ asked ∷ o ∷ []
+
+-- the request was sent there, and never before
+abbrev asks_first : (o : Deed) → ((x : ℕ) → ¬ Sends 0 x (here [] o)) → Asks 0 1 (here (o ∷ []) asked)
+asks_first o unsent_there = record {
+  sends = record { act = refl; outcome = refl; to = origin; sent = refl; message = get_for 1 1; spells = first_sent; token = refl };
+  first = (unsent_there 1, tt);
+}
+
+-- ---- what is due
+
+-- the only exchange has ended
+one_stage : {A : Type 0} (o : Event) (send : Option Endpoint) (bytes : List ℕ) (x : ℕ) (stage : Stage) → stage ≢ done → stage_of x (past_of (opening o send bytes)) ≡ Some stage → A
+one_stage o send bytes x stage other e = go (1 == x) e
+  where
+    go : {A : Type 0} (b : Bool) → option_map {T = Open} (λ q. q.stage) (cond b (Some (record { number = 1; stage = done })) None) ≡ Some stage → A
+    go true e = absurd (other (sym (same_Some done stage e)))
+    go false e = absurd cc
+
+-- the only client waits
+one_service : {A : Type 0} (o : Event) (send : Option Endpoint) (bytes : List ℕ) (v : ℕ) → service_of v (past_of (opening o send bytes)) ≡ Some told → A
+one_service o send bytes v e = go (1 == v) e
+  where
+    go : {A : Type 0} (b : Bool) → option_map {T = Standing} (λ s. s.service) (cond b (Some (record { number = 1; service = waits 1 })) None) ≡ Some told → A
+    go true e = absurd cc
+    go false e = absurd cc
+
+-- nothing is due before the client is served
+first_due : (o : Event) (send : Option Endpoint) (bytes : List ℕ) (a : Act) (m : ℕ) → IsDueAt setting (past_of (opening o send bytes)) a m → ¬ IsSooner a m (serves 1) 0
+first_due o send bytes no_item m due sooner = due
+first_due o send bytes (admits v x) m due sooner = due
+first_due o send bytes (moves x) m (to_send t) sooner = one_stage o send bytes x queued (λ e. cc) t.stage
+first_due o send bytes (moves x) m (to_repeat t) sooner = one_stage o send bytes x (sent t.to) (λ e. cc) t.stage
+first_due o send bytes (moves x) m (to_end t) sooner = let at = t.at_is in ⊎_elim (λ (less : m < 0). omega (arith, less)) (λ same. let now = same.0 in omega (arith, at, now)) sooner
+first_due o send bytes (serves v) m (to_serve t) sooner = let number = admitted-number t.admitted in ⊎_elim (λ (less : m < 0). omega (arith, less)) (λ same. let before = same.1 in omega (arith, before, number.0)) sooner
+first_due o send bytes (serves v) m (to_serve_again t) sooner = one_service o send bytes v t.service
+
+-- ---- what is right
+
+-- what the client is shown of the answer, in a message of the type of its request, is a delivery
+right-is : (event : Event) (send : Option Endpoint) (bytes reply : List ℕ) (request : Message) → IsRequestOf setting (client 1) request event → verdict_on setting request ≡ may_ask key_of_temp → Spells reply (shown_as request.kind 2500 (answer_of 1500 0 (content_for 1 1)) 2 request.token (tags_of request)) → IsDelivery setting (past_of (opening event send bytes)) (delivery (client 1) reply (serves 1))
+unfolding token_of target_options target_sent key_sent
+right-is event send bytes reply request asked_so verdict spells =
+    let o = opening event send bytes in
+    let serve : IsToServe setting (past_of o) 1 0 = record {
+      admitted = record { exchange = 1; admission = here [] o; client = client 1; request = request; was_admitted = inr (inr (inl refl)); admits = record { act = refl; outcome = refl; number = refl }; asked = asked_so };
+      unserved = ((λ s. let e = s.outcome in cc), ((λ s. let e = s.outcome in cc), ((λ s. let e = s.outcome in cc), tt)));
+      ending = here (asked ∷ o ∷ []) answered;
+      was_ended = inl refl;
+      ends = record { act = refl; outcome = refl };
+      at_is = refl;
+    } in
+    record {
+      waiter = 1;
+      act = refl;
+      acting = record { ticked = refl; at = 0; due = to_serve serve; come = omega arith; first = first_due event send bytes };
+      to_serve = serve;
+      later = inr (inl refl);
+      key = key_of_temp;
+      verdict = verdict;
+      answer = answer_of 1500 0 (content_for 1 1);
+      ended = got (record {
+        act = refl;
+        outcome = refl;
+        meets = record {
+          asking = here (o ∷ []) asked;
+          was_asked = inl refl;
+          asks = asks_first o (λ x s. let e = s.outcome in cc);
+          message = content_for 1 1;
+          brings = record { bytes = content; came = refl; spells = first_got; short = omega arith };
+          matches = in_acknowledgement refl refl refl refl;
+        };
+        bytes = are-bytes content refl;
+      }) refl refl;
+      id = 2;
+      tells = record { sent = refl; spells = spells };
+    }
+
+-- the request in a Confirmable message
+abbrev con_read : Message
+con_read = record get_read { kind = Con }
+
+con_spelled : Spells (0x40 ∷ 1 ∷ 0 ∷ 7 ∷ 0xB1 ∷ 0x74 ∷ []) con_read
+unfolding read_message body_at options_within option_at extended
+con_spelled = read_is _ con_read (are-bytes (0x40 ∷ 1 ∷ 0 ∷ 7 ∷ 0xB1 ∷ 0x74 ∷ []) refl) refl
+
+-- what a client is shown that asked in a Non-confirmable message
+pub is_right : IsDelivery setting past right
+unfolding read_message body_at options_within option_at extended answer_of spelling option_spelling uint_spelling verdict_of request_target mapped_target
+is_right = right-is _ None [] (content_for_client 7) get_read (record { brings = record { bytes = get_t []; came = refl; spells = get_spelled; short = omega arith }; kind = refl; method = refl }) refl (read_is (content_for_client 7) _ (are-bytes (content_for_client 7) refl) refl)
+
+-- and one that asked in a Confirmable one
+pub is_right_in_con : IsDelivery setting past_con in_con
+unfolding read_message body_at options_within option_at extended answer_of spelling option_spelling uint_spelling verdict_of request_target mapped_target
+is_right_in_con = right-is _ (Some (client 1)) (0x60 ∷ 0 ∷ 0 ∷ 7 ∷ []) (content_in 0x40 7) con_read (record { brings = record { bytes = 0x40 ∷ 1 ∷ 0 ∷ 7 ∷ 0xB1 ∷ 0x74 ∷ []; came = refl; spells = con_spelled; short = omega arith }; kind = refl; method = refl }) refl (read_is (content_in 0x40 7) _ (are-bytes (content_in 0x40 7) refl) refl)
