@@ -13,6 +13,7 @@ use Rattle.coap_message.specs.Datagram.{Datagram}
 use Rattle.coap_message.specs.Message.{Message}
 use Rattle.coap_target.specs.declared.endpoint.Endpoint.{Endpoint}
 use Rattle.coap_cache.specs.declared.key.CacheKey.{CacheKey}
+use Rattle.coap_cache.specs.declared.stored.Stored.{Stored}
 use Rattle.coap_cache.specs.Entries.{Entry, entry_key, has_usable}
 use Rattle.coap_cache.specs.Freshness.{is_usable}
 use Rattle.coap_cache.specs.Lists.{of_key}
@@ -22,10 +23,12 @@ use Rattle.coap_exchange.specs.Ids.{given_in}
 use Rattle.coap_exchange.specs.Table.{first_that}
 use Rattle.coap_model.specs.declared.report.Outcome.TheVariants.{Joined, Opened}
 use Rattle.coap_model.specs.declared.report.Report.{Report}
-use Rattle.coap_model.specs.Verdicts.{Verdict, refused_with, may_ask, verdict_of, form_fits}
+use Rattle.coap_forward.specs.Forms.{form_fits}
+use Rattle.coap_forward.specs.Messages.{is_get}
+use Rattle.coap_model.specs.Verdicts.{Verdict, refused_with, may_ask, verdict_of}
 use Rattle.coap_model.specs.World.{World, Step, reserved, has_ids, can_reply, has_exchange_room, has_waiter_room, has_room_to_join, has_room_to_open, known_of, repeats}
 use Rattle.coap_model.specs.Requests.{lacks_id, refuses, overloads, opens, turns_down, turns_away, hits, joins, on_wanted, on_joinable, on_miss, on_entry, on_key, on_verdict, on_new}
-use Rattle.coap_core.specs.Steps.{Does, repetition_of, wants_memory}
+use Rattle.coap_core.specs.Steps.{Does, held_for, repetition_of, wants_memory}
 use Rattle.coap_core.proofs.Puts.{taken-takes}
 use Rattle.coap_core.proofs.Records.{held-same}
 
@@ -66,29 +69,35 @@ module _ (w : World) (now : ℕ) (client : Endpoint) (m : Message) where
   away-takes : Takes (turns_away w now client m)
   away-takes = either-takes (can_reply w now m.kind) (overloads w now client m) (lacks_id w now) refl refl
 
-  wanted-takes : (key : CacheKey) → Takes (on_wanted w now client m key)
-  wanted-takes key =
-      either-takes (form_fits w.setting.limits.datagram key.target m) (cond (has_room_to_open w now) (opens w now client m key) (turns_away w now client m)) (turns_down w now client m REQUEST_ENTITY_TOO_LARGE)
-      (either-takes (has_room_to_open w now) (opens w now client m key) (turns_away w now client m) (taken-takes Opened client m _ (λ bytes. refl)) away-takes)
+  wanted-takes : (key : CacheKey) (stored : Option Stored) → Takes (on_wanted w now client m key stored)
+  wanted-takes key stored =
+      either-takes (form_fits w.setting.limits.datagram key.target None m) (cond (has_room_to_open w now) (opens w now client m key stored) (turns_away w now client m)) (turns_down w now client m REQUEST_ENTITY_TOO_LARGE)
+      (either-takes (has_room_to_open w now) (opens w now client m key stored) (turns_away w now client m) (taken-takes Opened client m _ (λ bytes. refl)) away-takes)
       (down-takes REQUEST_ENTITY_TOO_LARGE)
 
-  joinable-takes : (key : CacheKey) (o : Option ℕ) → Takes (on_joinable w now client m key o)
-  joinable-takes key None = wanted-takes key
-  joinable-takes key (Some exchange) = either-takes (has_room_to_join w now) (joins w now client m exchange) (turns_away w now client m) (taken-takes Joined client m _ (λ bytes. refl)) away-takes
+  joinable-takes : (key : CacheKey) (stored : Option Stored) (o : Option ℕ) → Takes (on_joinable w now client m key stored o)
+  joinable-takes key stored None = wanted-takes key stored
+  joinable-takes key stored (Some exchange) = either-takes (has_room_to_join w now) (joins w now client m exchange) (turns_away w now client m) (taken-takes Joined client m _ (λ bytes. refl)) away-takes
 
-  miss-takes : (key : CacheKey) → Takes (on_miss w now client m key)
-  miss-takes key = joinable-takes key (first_that (is_joinable key) w.exchanges)
+  miss-takes : (key : CacheKey) (stored : Option Stored) → Takes (on_miss w now client m key stored)
+  miss-takes key stored = joinable-takes key stored (first_that (is_joinable key) w.exchanges)
 
   entry-takes : (key : CacheKey) (o : Option Entry) → Takes (on_entry w now client m key o)
-  entry-takes key None = miss-takes key
+  entry-takes key None = miss-takes key None
   entry-takes key (Some entry) =
-      either-takes (is_usable now entry.1) (cond (can_reply w now m.kind) (hits w now client m key entry.1) (lacks_id w now)) (on_miss w now client m key)
+      either-takes (is_usable now entry.1) (cond (can_reply w now m.kind) (hits w now client m key entry.1) (lacks_id w now)) (on_miss w now client m key (Some entry.1))
       (either-takes (can_reply w now m.kind) (hits w now client m key entry.1) (lacks_id w now) refl refl)
-      (miss-takes key)
+      (miss-takes key (Some entry.1))
+
+  key-takes : (key : CacheKey) → Takes (on_key w now client m key)
+  key-takes key =
+      either-takes (is_get m.code) (on_entry w now client m key (of_key entry_key key w.store)) (on_wanted w now client m key None)
+      (entry-takes key (of_key entry_key key w.store))
+      (wanted-takes key None)
 
   verdict-takes : (v : Verdict) → Takes (on_verdict w now client m v)
   verdict-takes (refused_with code) = down-takes code
-  verdict-takes (may_ask key) = entry-takes key (of_key entry_key key w.store)
+  verdict-takes (may_ask key) = key-takes key
 
   -- whatever becomes of a request that is new takes memory
   pub new-takes : wants_memory (on_new w now client m) ≡ true
@@ -96,24 +105,29 @@ module _ (w : World) (now : ℕ) (client : Endpoint) (m : Message) where
 
   -- ---- requests for a key
 
-  module _ (key : CacheKey) where
+  module _ (key : CacheKey) (stored : Option Stored) where
     -- the form is too long
-    pub too-long : can_reply w now m.kind ≡ true → form_fits w.setting.limits.datagram key.target m ≡ false → on_wanted w now client m key ≡ refuses w now client m REQUEST_ENTITY_TOO_LARGE
+    pub too-long : can_reply w now m.kind ≡ true → form_fits w.setting.limits.datagram key.target None m ≡ false → on_wanted w now client m key stored ≡ refuses w now client m REQUEST_ENTITY_TOO_LARGE
     too-long reply fits = rw (fits, reply) refl
 
     -- there is no room
-    pub turned-away : can_reply w now m.kind ≡ true → form_fits w.setting.limits.datagram key.target m ≡ true → has_room_to_open w now ≡ false → on_wanted w now client m key ≡ overloads w now client m
+    pub turned-away : can_reply w now m.kind ≡ true → form_fits w.setting.limits.datagram key.target None m ≡ true → has_room_to_open w now ≡ false → on_wanted w now client m key stored ≡ overloads w now client m
     turned-away reply fits closed = rw (fits, closed, reply) refl
 
     -- it is asked for
-    pub opened : form_fits w.setting.limits.datagram key.target m ≡ true → has_room_to_open w now ≡ true → on_wanted w now client m key ≡ opens w now client m key
+    pub opened : form_fits w.setting.limits.datagram key.target None m ≡ true → has_room_to_open w now ≡ true → on_wanted w now client m key stored ≡ opens w now client m key stored
     opened fits free = rw (fits, free) refl
 
+  module _ (key : CacheKey) where
+    -- it isn't asked for with GET
+    pub unstored : is_get m.code ≡ false → on_key w now client m key ≡ on_wanted w now client m key (held_for w m key)
+    unstored other = rw other refl
+
     -- what is stored for it, if anything is, can't be shown
-    pub missed : has_usable key now w.store ≡ false → on_key w now client m key ≡ on_miss w now client m key
-    missed none = go (of_key entry_key key w.store) none
+    pub missed : is_get m.code ≡ true → has_usable key now w.store ≡ false → on_key w now client m key ≡ on_miss w now client m key (held_for w m key)
+    missed get none = rw get (go (of_key entry_key key w.store) none)
       where
-        go : (o : Option Entry) → option_map_or (λ entry. is_usable now entry.1) o false ≡ false → on_entry w now client m key o ≡ on_miss w now client m key
+        go : (o : Option Entry) → option_map_or (λ entry. is_usable now entry.1) o false ≡ false → on_entry w now client m key o ≡ on_miss w now client m key (option_map (λ entry. entry.1) o)
         go None e = refl
         go (Some entry) e = rw e refl
 
@@ -154,25 +168,32 @@ module _ (w : World) (now : ℕ) (client : Endpoint) (m : Message) where
   pub lacking : can_reply w now m.kind ≡ false → on_new w now client m ≡ lacks_id w now
   lacking none = of (verdict_of w.setting.routes m)
     where
-      wants : (key : CacheKey) (b : Bool) → form_fits w.setting.limits.datagram key.target m ≡ b → on_wanted w now client m key ≡ lacks_id w now
-      wants key true e = rw (e, shut none, none) refl
-      wants key false e = rw (e, none) refl
+      wants : (key : CacheKey) (held : Option Stored) (b : Bool) → form_fits w.setting.limits.datagram key.target None m ≡ b → on_wanted w now client m key held ≡ lacks_id w now
+      wants key held true e = rw (e, shut none, none) refl
+      wants key held false e = rw (e, none) refl
 
-      join : (key : CacheKey) (o : Option ℕ) → on_joinable w now client m key o ≡ lacks_id w now
-      join key None = wants key (form_fits w.setting.limits.datagram key.target m) refl
-      join key (Some exchange) = rw (apart none, none) refl
+      want : (key : CacheKey) (held : Option Stored) → on_wanted w now client m key held ≡ lacks_id w now
+      want key held = wants key held (form_fits w.setting.limits.datagram key.target None m) refl
 
-      miss : (key : CacheKey) → on_miss w now client m key ≡ lacks_id w now
-      miss key = join key (first_that (is_joinable key) w.exchanges)
+      join : (key : CacheKey) (held : Option Stored) (o : Option ℕ) → on_joinable w now client m key held o ≡ lacks_id w now
+      join key held None = want key held
+      join key held (Some exchange) = rw (apart none, none) refl
+
+      miss : (key : CacheKey) (held : Option Stored) → on_miss w now client m key held ≡ lacks_id w now
+      miss key held = join key held (first_that (is_joinable key) w.exchanges)
 
       entry : (key : CacheKey) (o : Option Entry) → on_entry w now client m key o ≡ lacks_id w now
-      entry key None = miss key
+      entry key None = miss key None
       entry key (Some stored) = usable (is_usable now stored.1) refl
         where
           usable : (b : Bool) → is_usable now stored.1 ≡ b → on_entry w now client m key (Some stored) ≡ lacks_id w now
           usable true e = rw (e, none) refl
-          usable false e = rw e (miss key)
+          usable false e = rw e (miss key (Some stored.1))
+
+      keyed : (key : CacheKey) (b : Bool) → cond b (on_entry w now client m key (of_key entry_key key w.store)) (on_wanted w now client m key None) ≡ lacks_id w now
+      keyed key true = entry key (of_key entry_key key w.store)
+      keyed key false = want key None
 
       of : (v : Verdict) → on_verdict w now client m v ≡ lacks_id w now
       of (refused_with code) = rw none refl
-      of (may_ask key) = entry key (of_key entry_key key w.store)
+      of (may_ask key) = keyed key (is_get m.code)

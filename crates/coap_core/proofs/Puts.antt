@@ -1,7 +1,8 @@
 -- What becomes of an answer: what the store makes of it, the step says.
-use Rattle.std.proofs.Common.{◌≡◌, ◌⊎◌, inl, inr, ℕ, ◌≤◌, Bool, true, false, cond, List, [], length, Option, Some, None, refl, sym, ap, ◌∙◌, subst, arith}
-use Rattle.std.specs.Prelude.{◌&&◌, ◌||◌, IfSome, option_map, nat_le}
-use Rattle.std.proofs.lemmas.Bool.{le-leb, lt-leb}
+use Rattle.std.proofs.Common.{◌≡◌, ◌⊎◌, inl, inr, ℕ, ◌≤◌, Bool, true, false, cond, eqb, List, [], ◌∷◌, length, Option, Some, None, refl, sym, ap, ◌∙◌, subst, arith}
+use Rattle.std.specs.Prelude.{◌&&◌, ◌||◌, not, IfSome, option_map, nat_le}
+use Rattle.std.proofs.lemmas.Bool.{le-leb, lt-leb, eqb-true}
+use Rattle.std.proofs.lemmas.Option.{same_Some}
 use Rattle.coap_message.specs.declared.kind.Kind.{Kind}
 use Rattle.coap_message.specs.declared.kind.Kind.TheVariants.{Con, Non, Ack, Rst}
 use Rattle.coap_message.specs.Datagram.{Datagram, holding}
@@ -9,14 +10,16 @@ use Rattle.coap_message.specs.Message.{Message}
 use Rattle.coap_message.specs.Spelling.{spelling}
 use Rattle.coap_message.proofs.Spellings.{spelling-length}
 use Rattle.coap_target.specs.declared.endpoint.Endpoint.{Endpoint}
+use Rattle.coap_target.specs.declared.target.Target.{Target}
 use Rattle.coap_cache.specs.Entries.{Entry, entry_key, entry_size}
 use Rattle.coap_cache.specs.Lists.{of_key, others}
 use Rattle.coap_cache.specs.declared.answer.Answer.{Answer}
 use Rattle.coap_exchange.specs.declared.exchange.Exchange.{Exchange}
-use Rattle.coap_exchange.specs.Exchanges.{answered, is_sent}
-use Rattle.coap_exchange.specs.Table.{Numbered, IsRising, item_at, changed_at}
+use Rattle.coap_exchange.specs.Exchanges.{answered, is_done, is_sent, is_changed_with, tainted_by}
+use Rattle.coap_exchange.specs.Table.{Numbered, IsRising, all_changed, item_at, changed_at}
 use Rattle.coap_forward.specs.Messages.{is_con, is_ack, is_rst, is_empty, is_bare, acknowledgement}
-use Rattle.coap_forward.specs.Answers.{answer_of, bad_gateway, is_storable, own_answer}
+use Rattle.coap_forward.specs.Answers.{answer_of, bad_gateway, own_answer}
+use Rattle.coap_forward.specs.Changes.{changed_by}
 use Rattle.coap_model.specs.declared.report.Outcome.{Outcome}
 use Rattle.coap_model.specs.declared.report.Outcome.TheVariants.{Answered}
 use Rattle.coap_model.specs.declared.report.Report.{Report}
@@ -24,12 +27,12 @@ use Rattle.coap_model.specs.declared.report.Storing.{Storing}
 use Rattle.coap_model.specs.declared.report.Storing.TheVariants.{Kept, TooLarge, NoMemory, NotStored}
 use Rattle.coap_model.specs.History.{grown_of}
 use Rattle.coap_model.specs.Memory.{takes_memory}
-use Rattle.coap_model.specs.Answers.{Arrived, entry_made, keeps, keeps_if, stores, answers_so, answers_with, answers}
+use Rattle.coap_model.specs.Answers.{Arrived, answer_for, entry_made, may_store, tainted_all, with_changed, keeps, keeps_if, stores, answers_so, answers_with, answers}
 use Rattle.coap_model.specs.World.{World, Step, later, silent, says, takes_up, has_record_room, remembers, with_record}
 use Rattle.coap_model.specs.Empties.{on_exchange}
 use Rattle.coap_model.specs.Responses.{awaiting, on_awaited, on_separate}
 use Rattle.coap_core.proofs.Awaiting.{awaited}
-use Rattle.coap_core.specs.Steps.{Does, resets, wants_memory}
+use Rattle.coap_core.specs.Steps.{Does, IsOpenAt, resets, wants_memory}
 use Rattle.coap_core.specs.Storing.{IsKept, IsPut, answering, answering_at, awaited_step, separate_step, if_storable, taken_up, taken_up_bytes, taken_up_to}
 
 -- the choice of a test that is known
@@ -38,6 +41,38 @@ pick-true b x y e = rw e refl
 
 pick-false : {A : Type 0} (b : Bool) (x y : A) → b ≡ false → cond b x y ≡ y
 pick-false b x y e = rw e refl
+
+-- ---- what a response changes
+
+-- what is remembered stands beside what is changed
+changes-taken : (changed : List Target) (now : ℕ) (source : Endpoint) (m : Message) (w : World) → with_changed changed (taken_up now source m w) ≡ taken_up now source m (with_changed changed w)
+changes-taken changed now source m w = go (is_con m.kind)
+  where
+    go : (b : Bool) → with_changed changed (cond b (with_record now source m (spelling (acknowledgement m.id)) w) w) ≡ cond b (with_record now source m (spelling (acknowledgement m.id)) (with_changed changed w)) (with_changed changed w)
+    go true = refl
+    go false = refl
+
+-- an exchange that is tainted has no answer by that
+still-open : (t : Target) (x : Exchange) → is_done x ≡ false → is_done (tainted_by t x) ≡ false
+still-open t x e = go (is_changed_with t x)
+  where
+    go : (b : Bool) → is_done (cond b (record x { tainted = true }) x) ≡ false
+    go true = e
+    go false = e
+
+open-tainted : (number : ℕ) (t : Target) (xs : List (Numbered Exchange)) → IsOpenAt number xs → IsOpenAt number (all_changed (tainted_by t) xs)
+open-tainted number t [] e = e
+open-tainted number t (x ∷ xs) e = go (eqb number x.0) e (open-tainted number t xs)
+  where
+    go : (b : Bool) → IfSome (cond b (Some x.1) (item_at number xs)) (λ y. is_done y ≡ false) → (IsOpenAt number xs → IsOpenAt number (all_changed (tainted_by t) xs))
+        → IfSome (cond b (Some (tainted_by t x.1)) (item_at number (all_changed (tainted_by t) xs))) (λ y. is_done y ≡ false)
+    go true f rest = still-open t x.1 f
+    go false f rest = rest f
+
+-- so the exchange of a number is open where it was, whatever is changed
+pub open-changed : (number : ℕ) (changed : List Target) (xs : List (Numbered Exchange)) → IsOpenAt number xs → IsOpenAt number (tainted_all changed xs)
+open-changed number [] xs e = e
+open-changed number (t ∷ changed) xs e = open-changed number changed (all_changed (tainted_by t) xs) (open-tainted number t xs e)
 
 -- the exchange of this number has its answer, with the store of these tables
 abbrev pub answered_in : World → ℕ → ℕ → Answer → World
@@ -64,7 +99,7 @@ module _ (w v : World) (now : ℕ) (a : Arrived) where
 
   -- the same of an answer that may be one that isn't stored
   pub kept-is : (storing : Storing) → IsKept w (if_storable w now a.exchange a.answer) storing v → answers_with w now (grown_of (Answered storing)) a ≡ left storing
-  kept-is storing k = go (is_storable a.answer) k
+  kept-is storing k = go (may_store a.exchange.1 a.answer) k
     where
       go : (b : Bool) → IsKept w (cond b (Some made) None) storing v → cond b (stores w now (grown_of (Answered storing)) a) (answers_so w now a NotStored w.store) ≡ left storing
       go true e = put-is storing e
@@ -95,7 +130,11 @@ module _ (w v : World) (now : ℕ) (source : Endpoint) (m : Message) (bytes : Li
 
 module _ (w v : World) (now : ℕ) (source : Endpoint) (m : Message) (x : Numbered Exchange) (storing : Storing) where
   abbrev a : Answer
-  a = answer_of w.setting.limits.datagram now m
+  a = answer_for w now m x.1
+
+  -- the tables in which what it changes is marked and tainted
+  abbrev u : World
+  u = with_changed (changed_by x.1.key.target m) w
 
   abbrev arrived : Arrived
   arrived = record { source = source; message = m; exchange = x; answer = a }
@@ -109,44 +148,80 @@ module _ (w v : World) (now : ℕ) (source : Endpoint) (m : Message) (x : Number
       }
 
   -- a response that isn't confirmable
-  other-is : is_con m.kind ≡ false → IsKept w (if_storable w now x a) storing v → answers w now (grown_of (Answered storing)) source m x ≡ step_left
-  other-is other k = kept-is w v now arrived storing k ∙ rw other refl
+  other-is : is_con m.kind ≡ false → IsKept u (if_storable w now x a) storing v → answers w now (grown_of (Answered storing)) source m x ≡ step_left
+  other-is other k = kept-is u v now arrived storing k ∙ rw other refl
 
   -- a confirmable one, which is remembered
-  con-is : is_con m.kind ≡ true → IsKept (with_record now source m (spelling (acknowledgement m.id)) w) (if_storable w now x a) storing v → remembers now source m (answers w now (grown_of (Answered storing)) source m x) ≡ step_left
+  con-is : is_con m.kind ≡ true → IsKept (with_record now source m (spelling (acknowledgement m.id)) u) (if_storable w now x a) storing v → remembers now source m (answers w now (grown_of (Answered storing)) source m x) ≡ step_left
   con-is con k =
-      let parts = kept-before w v now source m (spelling (acknowledgement m.id)) (if_storable w now x a) storing k in
-      let is = kept-is w (record w { store = v.store }) now arrived storing parts.0 in
+      let parts = kept-before u v now source m (spelling (acknowledgement m.id)) (if_storable w now x a) storing k in
+      let is = kept-is u (record u { store = v.store }) now arrived storing parts.0 in
       ap (remembers now source m) is ∙ said parts.1
     where
-      said : v ≡ with_record now source m (spelling (acknowledgement m.id)) (record w { store = v.store }) → remembers now source m (takes_up (Answered storing) source m (answered_in (record w { store = v.store }) now x.0 a)) ≡ step_left
+      said : v ≡ with_record now source m (spelling (acknowledgement m.id)) (record u { store = v.store }) → remembers now source m (takes_up (Answered storing) source m (answered_in (record u { store = v.store }) now x.0 a)) ≡ step_left
       said e =
-          let worlds : with_record now source m (spelling (acknowledgement m.id)) (answered_in (record w { store = v.store }) now x.0 a) ≡ answered_in v now x.0 a = sym (ap (λ (u : World). answered_in u now x.0 a) e) in
+          let worlds : with_record now source m (spelling (acknowledgement m.id)) (answered_in (record u { store = v.store }) now x.0 a) ≡ answered_in v now x.0 a = sym (ap (λ (z : World). answered_in z now x.0 a) e) in
           let turned = rw con at worlds in
           rw con (λ i. record { report = record { send = Some source; outcome = Answered storing }; bytes = spelling (acknowledgement m.id); world = turned i })
 
   -- either
-  pub answering-is : IsKept (taken_up now source m w) (if_storable w now x a) storing v → answering w now (grown_of (Answered storing)) source m x ≡ step_left
+  pub answering-is : IsKept (taken_up now source m u) (if_storable w now x a) storing v → answering w now (grown_of (Answered storing)) source m x ≡ step_left
   answering-is k = go (is_con m.kind) refl k
     where
-      go : (b : Bool) → is_con m.kind ≡ b → IsKept (cond b (with_record now source m (spelling (acknowledgement m.id)) w) w) (if_storable w now x a) storing v
+      go : (b : Bool) → is_con m.kind ≡ b → IsKept (cond b (with_record now source m (spelling (acknowledgement m.id)) u) u) (if_storable w now x a) storing v
           → cond b (remembers now source m (answers w now (grown_of (Answered storing)) source m x)) (answers w now (grown_of (Answered storing)) source m x) ≡ step_left
       go true e f = con-is e f
       go false e f = other-is e f
 
+-- ---- the tables beside the store
+
+-- what is done with the store leaves the other tables
+store-alone : (w v : World) (entry : Option Entry) (storing : Storing) → IsKept w entry storing v → v ≡ record w { store = v.store }
+store-alone w v None storing k = rw k.1 refl
+store-alone w v (Some entry) Kept k = rw k.0 refl
+store-alone w v (Some entry) TooLarge k = rw k.0 refl
+store-alone w v (Some entry) NoMemory k = rw k.0 refl
+store-alone w v (Some entry) NotStored k = absurd k
+
+module _ (w v : World) (now number : ℕ) (source : Endpoint) (m : Message) (changed : List Target) (entry : Option Entry) (storing : Storing) (kept : IsKept (with_changed changed (taken_up now source m w)) entry storing v) where
+  beside : v ≡ record (taken_up now source m (with_changed changed w)) { store = v.store }
+  beside = subst (λ (u : World). v ≡ record u { store = v.store }) (changes-taken changed now source m w) (store-alone (with_changed changed (taken_up now source m w)) v entry storing kept)
+
+  exchanges-taken : (b : Bool) → (cond b (with_record now source m (spelling (acknowledgement m.id)) (with_changed changed w)) (with_changed changed w)).exchanges ≡ tainted_all changed w.exchanges
+  exchanges-taken true = refl
+  exchanges-taken false = refl
+
+  events-taken : (b : Bool) → (cond b (with_record now source m (spelling (acknowledgement m.id)) (with_changed changed w)) (with_changed changed w)).events ≡ w.events
+  events-taken true = refl
+  events-taken false = refl
+
+  -- the exchange that has its answer then was open
+  pub left-open : IsOpenAt number w.exchanges → IsOpenAt number v.exchanges
+  left-open was = subst (λ (xs : List (Numbered Exchange)). IsOpenAt number xs) (sym (ap (λ (u : World). u.exchanges) beside ∙ exchanges-taken (is_con m.kind))) (open-changed number changed w.exchanges was)
+
+  -- no event was counted yet
+  pub left-events : v.events ≡ w.events
+  left-events = ap (λ (u : World). u.events) beside ∙ events-taken (is_con m.kind)
+
 -- what is done for the exchange of a number
-pub answer-does : (w v : World) (now number : ℕ) (source : Endpoint) (m : Message) (entry : Option Entry) (storing : Storing) (report : Report) (old new : Datagram) (after : World) → (a : Answer) → a ≡ answer_of w.setting.limits.datagram now m
-    → IfSome (item_at number w.exchanges) (λ x. entry ≡ if_storable w now (number, x) a) → IsKept (taken_up now source m w) entry storing v
+pub answer-does : (w v : World) (now number : ℕ) (source : Endpoint) (m : Message) (entry : Option Entry) (changed : List Target) (storing : Storing) (report : Report) (old new : Datagram) (after : World) (a : Answer)
+    → Some a ≡ option_map (answer_for w now m) (item_at number w.exchanges)
+    → IfSome (item_at number w.exchanges) (λ x. entry ≡ if_storable w now (number, x) a)
+    → IfSome (item_at number w.exchanges) (λ x. changed ≡ changed_by x.key.target m)
+    → IsKept (with_changed changed (taken_up now source m w)) entry storing v
     → report ≡ record { send = taken_up_to source m; outcome = Answered storing } → new ≡ holding old (taken_up_bytes m) → after ≡ answered_in v now number a
     → IfSome (answering_at w now (grown_of report.outcome) source m number) (λ step. Does step report old new after)
-answer-does w v now number source m entry storing report old new after a is made kept told said left = go (item_at number w.exchanges) made
+answer-does w v now number source m entry changed storing report old new after a is made marked kept told said left = go (item_at number w.exchanges) is made marked
   where
-    go : (o : Option Exchange) → IfSome o (λ x. entry ≡ if_storable w now (number, x) a) → IfSome (option_map (λ x. answering w now (grown_of report.outcome) source m (number, x)) o) (λ step. Does step report old new after)
-    go None e = tt
-    go (Some x) e =
-        let k : IsKept (taken_up now source m w) (if_storable w now (number, x) (answer_of w.setting.limits.datagram now m)) storing v = rw (e, is) at kept in
+    go : (o : Option Exchange) → Some a ≡ option_map (answer_for w now m) o → IfSome o (λ x. entry ≡ if_storable w now (number, x) a) → IfSome o (λ x. changed ≡ changed_by x.key.target m)
+        → IfSome (option_map (λ x. answering w now (grown_of report.outcome) source m (number, x)) o) (λ step. Does step report old new after)
+    go None i e t = tt
+    go (Some x) i e t =
+        let same : a ≡ answer_for w now m x = same_Some a (answer_for w now m x) i in
+        let beside = subst (λ (u : World). IsKept u entry storing v) (changes-taken changed now source m w) kept in
+        let k : IsKept (taken_up now source m (with_changed (changed_by x.key.target m) w)) (if_storable w now (number, x) (answer_for w now m x)) storing v = rw (t, e, same) at beside in
         let step = answering-is w v now source m (number, x) storing k in
-        rw (told, step) (refl, said, left ∙ ap (answered_in v now number) is)
+        rw (told, step) (refl, said, left ∙ ap (answered_in v now number) same)
 
 -- ---- the exchange that awaits a response
 
@@ -190,24 +265,24 @@ module _ (w : World) (now : ℕ) (grown : Bool) (a : Arrived) where
 
   -- whatever becomes of an answer takes memory
   with-takes : wants_memory (answers_with w now grown a) ≡ true
-  with-takes = storable (is_storable a.answer) refl
+  with-takes = storable (may_store a.exchange.1 a.answer) refl
     where
       short : (b : Bool) → nat_le (entry_size (entry_made w now a.exchange a.answer)) w.setting.limits.cache_bytes ≡ b → wants_memory (stores w now grown a) ≡ true
       short true e = rw e (kept-takes grown (of_key entry_key a.exchange.1.key w.store))
       short false e = rw e (so-takes TooLarge (others entry_key a.exchange.1.key w.store))
 
-      storable : (b : Bool) → is_storable a.answer ≡ b → wants_memory (answers_with w now grown a) ≡ true
+      storable : (b : Bool) → may_store a.exchange.1 a.answer ≡ b → wants_memory (answers_with w now grown a) ≡ true
       storable true e = rw e (short (nat_le (entry_size (entry_made w now a.exchange a.answer)) w.setting.limits.cache_bytes) refl)
       storable false e = rw e (so-takes NotStored w.store)
 
 -- an answer takes memory
 pub answer-takes : (w : World) (now : ℕ) (grown : Bool) (source : Endpoint) (m : Message) (x : Numbered Exchange) → wants_memory (answers w now grown source m x) ≡ true
-answer-takes w now grown source m x = with-takes w now grown (record { source = source; message = m; exchange = x; answer = answer_of w.setting.limits.datagram now m })
+answer-takes w now grown source m x = with-takes (with_changed (changed_by x.1.key.target m) w) now grown (record { source = source; message = m; exchange = x; answer = answer_for w now m x.1 })
 
 -- ---- a Reset
 
 -- what is bare and no acknowledgement is a Reset
-pub rst-of_bare : (m : Message) → is_bare m ≡ true → is_ack m.kind ≡ false → is_rst m.kind ≡ true
+rst-of_bare : (m : Message) → is_bare m ≡ true → is_ack m.kind ≡ false → is_rst m.kind ≡ true
 rst-of_bare m bare other = go (is_empty m.code) (is_ack m.kind) (is_rst m.kind) bare other
   where
     go : (e a r : Bool) → (e && (a || r)) ≡ true → a ≡ false → r ≡ true
@@ -230,19 +305,38 @@ rst-alone Ack e = absurd cc
 rst-alone Rst e = refl
 
 -- a Reset gives an answer of the proxy's own
-reset-answer : (most now : ℕ) (m : Message) → is_rst m.kind ≡ true → answer_of most now m ≡ own_answer now bad_gateway
+reset-answer : (most : ℕ) (to_get : Bool) (copy : Option Message) (now : ℕ) (m : Message) → is_rst m.kind ≡ true → answer_of most to_get copy now m ≡ own_answer now bad_gateway
 unfolding answer_of
-reset-answer most now m rst = rw rst refl
+reset-answer most to_get copy now m rst = rw rst refl
+
+-- what is bare says of no change
+bare-changes : (t : Target) (m : Message) → is_bare m ≡ true → changed_by t m ≡ []
+unfolding changed_by
+bare-changes t m bare = let code : m.code.0 ≡ 0 = eqb-true m.code.0 0 (empty (is_empty m.code) (is_ack m.kind || is_rst m.kind) bare) in rw code refl
+  where
+    empty : (a b : Bool) → (a && b) ≡ true → a ≡ true
+    empty true b e = refl
+    empty false b e = absurd cc
 
 -- which isn't stored
-pub reset-is : (w : World) (now : ℕ) (grown : Bool) (source : Endpoint) (m : Message) (number : ℕ) (x : Exchange) → is_rst m.kind ≡ true → answers w now grown source m (number, x) ≡ resets w now number
-reset-is w now grown source m number x rst = rw (reset-answer w.setting.limits.datagram now m rst, rst-alone m.kind rst) refl
+never-stored : (x : Exchange) (now : ℕ) → may_store x (own_answer now bad_gateway) ≡ false
+never-stored x now = go x.is_get (not x.tainted)
+  where
+    go : (a b : Bool) → (a && (b && false)) ≡ false
+    go true true = refl
+    go true false = refl
+    go false b = refl
+
+-- and changes nothing
+pub reset-is : (w : World) (now : ℕ) (grown : Bool) (source : Endpoint) (m : Message) (number : ℕ) (x : Exchange) → is_bare m ≡ true → is_rst m.kind ≡ true → answers w now grown source m (number, x) ≡ resets w now number
+reset-is w now grown source m number x bare rst =
+    rw (bare-changes x.key.target m bare, reset-answer w.setting.limits.datagram x.is_get (option_map (λ s. s.response) x.copy) now m rst, never-stored x now, rst-alone m.kind rst) refl
 
 -- so it is the step of what was sent
-pub reset-step : (w : World) (now : ℕ) (grown : Bool) (source : Endpoint) (m : Message) (number : ℕ) (x : Exchange) → item_at number w.exchanges ≡ Some x → is_sent x ≡ true → is_ack m.kind ≡ false → is_rst m.kind ≡ true
+pub reset-step : (w : World) (now : ℕ) (grown : Bool) (source : Endpoint) (m : Message) (number : ℕ) (x : Exchange) → item_at number w.exchanges ≡ Some x → is_sent x ≡ true → is_bare m ≡ true → is_ack m.kind ≡ false
     → on_exchange w now grown source m number (item_at number w.exchanges) ≡ resets w now number
-reset-step w now grown source m number x found sent other rst =
-    ap (on_exchange w now grown source m number) found ∙ (pick-true (is_sent x) _ _ sent ∙ (pick-false (is_ack m.kind) _ _ other ∙ reset-is w now grown source m number x rst))
+reset-step w now grown source m number x found sent bare other =
+    ap (on_exchange w now grown source m number) found ∙ (pick-true (is_sent x) _ _ sent ∙ (pick-false (is_ack m.kind) _ _ other ∙ reset-is w now grown source m number x bare (rst-of_bare m bare other)))
 
 -- ---- what is taken up
 

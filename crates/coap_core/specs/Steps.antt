@@ -4,7 +4,7 @@ use Rattle.coap_message.specs.Datagram.{Datagram, holding}
 use Rattle.coap_message.specs.Message.{Message}
 use Rattle.coap_message.specs.declared.kind.Kind.{Kind}
 use Rattle.coap_exchange.specs.declared.exchange.Exchange.{Exchange}
-use Rattle.coap_exchange.specs.Exchanges.{is_done, is_sent, answered, due_among, answer_in, fire_of_sending}
+use Rattle.coap_exchange.specs.Exchanges.{is_done, is_sent, answered, due_among, fire_of_sending}
 use Rattle.coap_exchange.specs.Ids.{given_in}
 use Rattle.coap_exchange.specs.declared.waiter.Waiter.{Waiter}
 use Rattle.coap_exchange.specs.declared.waiter.WaiterState.{WaiterState}
@@ -13,7 +13,7 @@ use Rattle.coap_exchange.specs.Table.{Numbered, IsRising, changed_at, item_at, w
 use Rattle.coap_exchange.specs.Timers.{started, fire_of}
 use Rattle.coap_exchange.specs.Waiters.{delivered, due_after}
 use Rattle.coap_forward.specs.Answers.{own_answer, bad_gateway}
-use Rattle.coap_forward.specs.Messages.{is_con}
+use Rattle.coap_forward.specs.Messages.{is_con, is_get}
 use Rattle.coap_model.specs.declared.report.Outcome.TheVariants.{Answered, Delivered}
 use Rattle.coap_model.specs.declared.report.Report.{Report}
 use Rattle.coap_model.specs.declared.report.Storing.TheVariants.{NotStored}
@@ -21,6 +21,8 @@ use Rattle.coap_model.specs.Verdicts as verdicts
 use Rattle.coap_routes.specs.Routes.{AreRoutes}
 use Rattle.coap_option.specs.Selection.{tags_of}
 use Rattle.coap_cache.specs.declared.key.CacheKey.{CacheKey}
+use Rattle.coap_cache.specs.declared.stored.Stored.{Stored}
+use Rattle.coap_cache.specs.Entries.{stored_for}
 use Rattle.coap_core.specs.declared.request_target.Asked.{Asked}
 use Rattle.coap_model.specs.Events.{Event}
 use Rattle.coap_model.specs.History.{Entry, is_con_datagram}
@@ -34,7 +36,7 @@ use Rattle.coap_model.specs.World.{World, Step, later, silent, records_of, reser
 use Rattle.coap_model.specs.Requests.{joins, turns_away}
 use Rattle.coap_core.specs.declared.requests.Verdict.{Verdict}
 use Rattle.coap_core.specs.declared.requests.Verdict.TheVariants.{RefusedWith, MayAsk}
-use Rattle.coap_model.specs.Ticks.{idles, sends, on_fire, on_answer, on_unheard}
+use Rattle.coap_model.specs.Ticks.{idles, sends, on_fire, on_awaited, on_unheard}
 
 -- the report, the datagram and the tables after it are those of the step
 abbrev pub Does : Step → Report → Datagram → Datagram → World → Type 0
@@ -121,6 +123,10 @@ pub record IsAsked (w : World) (m : Message) (asked : Asked) : Type 0 where
   pub key : verdicts.verdict_of w.setting.routes m ≡ verdicts.may_ask asked.key
   pub tags : asked.tags ≡ tags_of m
 
+-- what is stored for the key of a request: a GET alone is answered from the store, or validates
+abbrev pub held_for : World → Message → CacheKey → Option Stored
+held_for w m key = if is_get m.code then stored_for key w.store else None
+
 -- the step of a request for whose key the exchange of this number is under way
 abbrev pub joinable_step : World → ℕ → Endpoint → Message → ℕ → Step
 joinable_step w now client m exchange =
@@ -167,7 +173,7 @@ firing_at w now number =
 -- the client of this number is given the answer of this exchange
 abbrev pub delivery_at : World → ℕ → ℕ → ℕ → ℕ → Step
 delivery_at w now draw number exchange =
-    step_with w now (λ v. on_answer w now draw number v exchange (answer_in exchange w.exchanges))
+    step_with w now (λ v. on_awaited w now draw number v exchange (item_at exchange w.exchanges))
     (item_at number w.waiters)
 
 -- the clients, after the one of this number was given a message of this type with the next id

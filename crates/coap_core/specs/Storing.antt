@@ -1,5 +1,5 @@
 -- The store of the program: its limits, and what is done with an answer.
-use Rattle.std.specs.Prelude.{◌≡◌, ℕ, ◌<◌, ◌≤◌, Bool, if◌then◌else◌, List, [], Option, Some, None, option_map}
+use Rattle.std.specs.Prelude.{◌≡◌, ℕ, ◌<◌, ◌≤◌, Bool, if◌then◌else◌, List, [], ◌∷◌, Option, Some, None, option_map}
 use Rattle.coap_cache.specs.Entries as store
 use Rattle.coap_cache.specs.Entries.{Entry, entry_key, entry_size}
 use Rattle.coap_cache.specs.Lists.{of_key, others, put}
@@ -9,23 +9,33 @@ use Rattle.coap_exchange.specs.Table.{Numbered, item_at}
 use Rattle.coap_message.specs.Message.{Message}
 use Rattle.coap_model.specs.declared.report.Storing.{Storing}
 use Rattle.coap_model.specs.declared.report.Storing.TheVariants.{Kept, TooLarge, NoMemory, NotStored}
-use Rattle.coap_forward.specs.Answers.{is_storable}
 use Rattle.coap_limits.specs.Limits.{Limits}
 use Rattle.coap_forward.specs.Messages.{is_con, acknowledgement}
-use Rattle.coap_model.specs.Answers.{entry_made, answers}
+use Rattle.coap_model.specs.Answers.{entry_made, may_store, answers}
 use Rattle.coap_model.specs.Responses.{awaiting, on_awaited, on_separate, on_unknown}
 use Rattle.coap_model.specs.World.{World, Step, known_of, remembers, with_record}
 use Rattle.coap_message.specs.Spelling.{spelling}
 use Rattle.coap_target.specs.declared.endpoint.Endpoint.{Endpoint}
+use Rattle.coap_target.specs.declared.target.Target.{Target}
+use Rattle.coap_core.specs.declared.responses.Changed.{Changed}
 
 -- it keeps as much as the limits say
 abbrev pub AreStoreLimits : Limits → store.Limits → Type 0
 AreStoreLimits limits of_store =
     of_store ≡ record { bytes = limits.cache_bytes; entries = limits.cache_entries }
 
--- what is to be stored of an answer, if it may be
+-- what is to be stored of the answer of an exchange, if it may be
 abbrev pub if_storable : World → ℕ → Numbered Exchange → Answer → Option Entry
-if_storable w now x a = if is_storable a then Some (entry_made w now x a) else None
+if_storable w now x a = if may_store x.1 a then Some (entry_made w now x a) else None
+
+-- the targets that a response changes
+abbrev pub targets_with : Target → Option Target → List Target
+targets_with target None = target ∷ []
+targets_with target (Some created) = target ∷ created ∷ []
+
+abbrev pub targets_in : Option Changed → List Target
+targets_in None = []
+targets_in (Some changed) = targets_with changed.target changed.created
 
 -- the step of a response that is the answer of an exchange: a Confirmable one is remembered
 abbrev pub answering : World → ℕ → Bool → Endpoint → Message → Numbered Exchange → Step

@@ -1,5 +1,5 @@
 //! What a request asks for: its target, before anything of it is kept, and its key.
-ghost use Rattle.std.specs.Prelude.{◌≡◌, OnOk};
+ghost use Rattle.std.specs.Prelude.{◌≡◌, IfOk, OnOk};
 ghost use Rattle.coap_option.specs.Selection.{tags_of};
 ghost use Rattle.coap_model.specs.Keys.{request_key};
 ghost use Rattle.coap_core.specs.Forms.{seen};
@@ -51,6 +51,24 @@ impl Asked {
             key: CacheKey { target, options },
             tags: Pieces::new(alloc),
         }
+    }
+
+    /// The same once more, in no more room than it needs.
+    pub(crate) fn copied(&self) -> Result<Asked, OutOfMemory>
+        ensures { IfOk result (λ copy. copy ≡ self.now) }
+    {
+        Ok(Asked {
+            key: self.key.copied()?,
+            tags: self.tags.clone()?,
+        })
+    }
+
+    /// The key and the tags.
+    pub(crate) fn into_parts(self) -> (CacheKey, Pieces)
+        ensures { result ≡ (self.key, self.tags) }
+    {
+        let Asked { key, tags } = self;
+        (key, tags)
     }
 
     /// Reads what a request for a target asks for.

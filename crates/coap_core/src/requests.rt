@@ -1,29 +1,30 @@
 //! The step of a request (RFC 7252, 5.7.3).
-ghost use Rattle.std.specs.Prelude.{◌≡◌, ◌⊎◌, ◌+◌, ◌<◌, ◌≤◌, ◌^◌, true, length, None, Ok, Err, IfOk, IfErr, IfSome, IsSome, OnErr};
-ghost use Rattle.coap_message.specs.declared.code.TheConstants.Code.{GET};
+ghost use Rattle.std.specs.Prelude.{◌≡◌, ◌⊎◌, ◌+◌, ◌<◌, ◌≤◌, ◌^◌, true, length, option_map, None, Ok, Err, IfOk, IfErr, IfSome, OnOk, OnErr};
 ghost use Rattle.coap_message.specs.Spelling.{spelling};
 ghost use Rattle.coap_option.specs.declared.side.Side.{Side};
 ghost use Rattle.coap_option.specs.Screening.{first_refused};
-ghost use Rattle.coap_option.specs.Selection.{sent_on, tags_of};
+ghost use Rattle.coap_option.specs.Selection.{tags_of};
 ghost use Rattle.coap_target.specs.Target.{IsTarget};
 ghost use Rattle.coap_routes.specs.declared.error.TargetError.TheVariants as errors;
 ghost use Rattle.coap_routes.specs.Request.{request_target};
-ghost use Rattle.coap_forward.specs.Forms.{forwarded};
-ghost use Rattle.coap_model.specs.Verdicts.{form_fits, verdict_of};
+ghost use Rattle.coap_forward.specs.Forms.{form_fits, forwarded};
+ghost use Rattle.coap_forward.specs.Messages.{is_get, is_method};
+ghost use Rattle.coap_model.specs.Verdicts.{verdict_of};
 ghost use Rattle.coap_cache.specs.Entries.{has_usable};
 ghost use Rattle.coap_message.specs.Datagram.{holding};
-ghost use Rattle.coap_model.specs.Requests.{lacks_id, refuses, overloads, opens, next_token, joins, on_key, on_miss, on_wanted, on_new, on_request};
+ghost use Rattle.coap_model.specs.Requests.{lacks_id, refuses, overloads, opens, next_token, copy_of, tag_carried, joins, on_key, on_miss, on_wanted, on_new, on_request};
 ghost use Rattle.coap_model.specs.World.{can_reply, later, remembers, takes_up};
 ghost use Rattle.coap_core.specs.Forms.{says_uri, seen};
-ghost use Rattle.coap_core.specs.Steps.{Does, CanGoOn, CanRemember, IsAsked, joinable_step, verdict_seen, wants_memory};
+ghost use Rattle.coap_core.specs.Steps.{Does, CanGoOn, CanRemember, IsAsked, held_for, joinable_step, verdict_seen, wants_memory};
 ghost use Rattle.coap_core.specs.Storing.{taken_up_bytes};
 ghost use Rattle.coap_core.specs.declared.requests.Verdict.TheVariants as verdicts;
 
+use crate::copies::stored_again;
 use crate::known::{put_taken_up, reply_kind};
 use crate::request_target::{Asked, RequestTarget};
 use crate::world::{World, silent};
-use coap_cache::{CacheKey, Store};
-use coap_forward::{put_bare, put_forwarded, put_stored, put_with_max_age, token_of};
+use coap_cache::{CacheKey, Store, Stored};
+use coap_forward::{put_bare, put_forwarded, put_stored, put_with_max_age, tag_to_send, token_of};
 use coap_message::{Code, Datagram, MessageRef, OutOfMemory, Pieces, Seq};
 use coap_model::{Outcome, Report};
 use coap_option::{numbers, screen_request};
@@ -38,6 +39,20 @@ pub(crate) enum Verdict {
     RefusedWith(Code),
     /// It may be asked for.
     MayAsk,
+}
+
+/// Whether the method is GET.
+fn is_get(code: Code) -> bool
+    ensures { result ≡ is_get code }
+{
+    code == Code::GET
+}
+
+/// Whether requests of this method are sent on (RFC 7252, 5.8).
+fn is_method(code: Code) -> bool
+    ensures { result ≡ is_method code }
+{
+    code == Code::GET || code == Code::POST || code == Code::PUT || code == Code::DELETE
 }
 
 /// Whether a request says its target by a URI (RFC 7252, 5.10.2).
@@ -156,7 +171,7 @@ impl<S: Store + Drop> World<S> {
         ensures tags { IfOk result (λ verdict.
             verdict ≡ verdicts.MayAsk → asked.new.tags ≡ tags_of request.now) }
     {
-        if request.code != Code::GET {
+        if !is_method(request.code) {
             return Ok(Verdict::RefusedWith(Code::METHOD_NOT_ALLOWED));
         }
         if screen_request(request).is_err() {
@@ -174,7 +189,7 @@ impl<S: Store + Drop> World<S> {
         }
     }
 
-    /// A request for a key: a response that is stored for it and usable answers it; else an
+    /// A request for a key: a response that is stored for it and usable answers a GET; else an
     /// exchange is wanted.
     fn on_key(
         &mut self,
@@ -201,6 +216,9 @@ impl<S: Store + Drop> World<S> {
         ensures err { OnErr result (self.new ≡ self.old) }
         ensures kept { out.new.room ≡ out.old.room }
     {
+        if !is_get(request.code) {
+            return self.on_wanted(now, client, request, asked, out);
+        }
         if self.put_usable(now, client, request, asked, out) {
             let report = self.reply(now, client, request, Outcome::Hit, out)?;
             self.store.touch(&asked.key);
@@ -219,6 +237,7 @@ impl<S: Store + Drop> World<S> {
         asked: &Asked,
         out: &mut Datagram,
     ) -> bool
+        requires get { is_get request.now.code ≡ true }
         requires ids { can_reply self.now now request.now.kind ≡ true }
         requires tags { asked.now.tags ≡ tags_of request.now }
         requires fits { length (on_key self.now now client request.now asked.now.key).bytes
@@ -257,12 +276,15 @@ impl<S: Store + Drop> World<S> {
         requires ids { can_reply self.old now request.now.kind ≡ true }
         requires asked { IsAsked self.old request.now asked.now }
         requires room { self.old.setting.limits.datagram ≤ out.old.room }
-        requires fits { length (on_miss self.old now client request.now asked.now.key).bytes
+        requires fits { length
+            (on_miss self.old now client request.now asked.now.key
+            (held_for self.old request.now asked.now.key)).bytes
             ≤ out.old.room }
         ensures exact { IfOk result (λ report.
             Does
             (remembers now client request.now
-            (on_miss self.old now client request.now asked.now.key))
+            (on_miss self.old now client request.now asked.now.key
+            (held_for self.old request.now asked.now.key)))
             report out.old out.new self.new) }
         ensures err { OnErr result (self.new ≡ self.old) }
         ensures kept { out.new.room ≡ out.old.room }
@@ -322,26 +344,83 @@ impl<S: Store + Drop> World<S> {
         requires ids { can_reply self.old now request.now.kind ≡ true }
         requires asked { IsAsked self.old request.now asked.now }
         requires room { self.old.setting.limits.datagram ≤ out.old.room }
-        requires fits { length (on_wanted self.old now client request.now asked.now.key).bytes
+        requires fits { length
+            (on_wanted self.old now client request.now asked.now.key
+            (held_for self.old request.now asked.now.key)).bytes
             ≤ out.old.room }
         ensures exact { IfOk result (λ report.
             Does
             (remembers now client request.now
-            (on_wanted self.old now client request.now asked.now.key))
+            (on_wanted self.old now client request.now asked.now.key
+            (held_for self.old request.now asked.now.key)))
             report out.old out.new self.new) }
         ensures err { OnErr result (self.new ≡ self.old) }
         ensures kept { out.new.room ≡ out.old.room }
     {
-        if !self.fits(request, &asked.key.target, out) {
+        if !self.put_request(request, &asked.key.target, None, out) {
             let code = Code::REQUEST_ENTITY_TOO_LARGE;
             return self.refuse(now, client, request, code, out);
         }
         if !self.has_room_to_open(now) {
             return self.overload(now, client, request, out);
         }
-        let key = asked.key.copied()?;
-        let tags = asked.tags.clone()?;
-        self.open(now, client, request, key, tags, out)
+        let copy = self.put_validating(request, asked, out)?;
+        let asked = asked.copied()?;
+        self.open(now, client, request, asked, copy, out)
+    }
+
+    /// What is stored for the key of a request, which is a GET.
+    fn held_for(&self, request: &MessageRef<'_>, key: &CacheKey) -> Option<&Stored>
+        ensures { option_map (λ stored. stored.now) result ≡ held_for self.now request.now key.now }
+    {
+        if is_get(request.code) {
+            self.store.peek(key)
+        } else {
+            None
+        }
+    }
+
+    /// Writes what is sent on, with the tag of what is stored for the key, if it fits with that. Then
+    /// the answer is a copy of what is stored (RFC 7252, 5.6.2).
+    fn put_validating(
+        &self,
+        request: &MessageRef<'_>,
+        asked: &Asked,
+        out: &mut Datagram,
+    ) -> Result<Option<Stored>, OutOfMemory>
+        requires can { CanGoOn self.now }
+        requires room { self.now.setting.limits.datagram ≤ out.old.room }
+        requires method { is_method request.now.code ≡ true }
+        requires screened { first_refused Side.Request request.now.options ≡ None }
+        requires target { IsTarget asked.now.key.target }
+        requires fits { form_fits self.now.setting.limits.datagram asked.now.key.target None
+            request.now
+            ≡ true }
+        ensures copy { IfOk result (λ copy.
+            copy
+            ≡ copy_of self.now.setting.limits.datagram asked.now.key.target request.now
+            (held_for self.now request.now asked.now.key)) }
+        ensures form { OnOk result
+            (out.new.bytes
+            ≡ spelling
+            (forwarded (next_token self.now) asked.now.key.target
+            (tag_carried self.now.setting.limits.datagram asked.now.key.target request.now
+            (held_for self.now request.now asked.now.key))
+            request.now 0)) }
+        ensures kept { out.new.room ≡ out.old.room }
+    {
+        let target = &asked.key.target;
+        let Some(stored) = self.held_for(request, &asked.key) else {
+            self.put_request(request, target, None, out);
+            return Ok(None);
+        };
+        let most = self.limits.values().datagram as usize;
+        let tag = tag_to_send(most, request, target, &stored.response, out);
+        self.put_request(request, target, tag, out);
+        if tag.is_none() {
+            return Ok(None);
+        }
+        Ok(Some(stored_again(stored)?))
     }
 
     /// The target of a request that passed the screening. What is mapped is lent, so that it takes
@@ -371,22 +450,33 @@ impl<S: Store + Drop> World<S> {
         }
     }
 
-    /// Whether the form that is sent on fits a datagram. Then `out` holds it.
-    fn fits(&self, request: &MessageRef<'_>, target: &Target, out: &mut Datagram) -> bool
+    /// Writes what is sent on, with this tag, if it fits a datagram. The answer is whether it does.
+    fn put_request(
+        &self,
+        request: &MessageRef<'_>,
+        target: &Target,
+        tag: Option<&[u8]>,
+        out: &mut Datagram,
+    ) -> bool
         requires can { CanGoOn self.now }
         requires room { self.now.setting.limits.datagram ≤ out.old.room }
-        requires get { request.now.code ≡ GET }
+        requires method { is_method request.now.code ≡ true }
         requires screened { first_refused Side.Request request.now.options ≡ None }
         requires target { IsTarget target.now }
-        ensures exact { result ≡ form_fits self.now.setting.limits.datagram target.now request.now }
+        requires short { IfSome tag (λ tag. length tag.now ≤ 8) }
+        ensures exact { result
+            ≡ form_fits self.now.setting.limits.datagram target.now
+            (option_map (λ tag. tag.now) tag.entry) request.now }
         ensures form { result ≡ true
             → out.new.bytes
-            ≡ spelling (forwarded (next_token self.now) target.now (sent_on request.now) 0) }
+            ≡ spelling
+            (forwarded (next_token self.now) target.now (option_map (λ tag. tag.now) tag.entry)
+            request.now 0) }
         ensures kept { out.new.room ≡ out.old.room }
     {
         let token = token_of(self.salt, self.exchanges.admitted() + 1);
         let room = self.limits.values().datagram as usize;
-        put_forwarded(out, room, &token, request, target).is_ok()
+        put_forwarded(out, room, &token, request, target, tag).is_ok()
     }
 
     /// The client is refused with a code.
@@ -487,31 +577,47 @@ impl<S: Store + Drop> World<S> {
         Ok(Report { send, outcome })
     }
 
-    /// An exchange is opened for a key, and the client waits for it. `out` holds what is sent on.
+    /// An exchange is opened for a key, and the client waits for it. `out` holds what is sent on, and
+    /// `copy` is what that asks to validate.
     fn open(
         &mut self,
         now: u64,
         client: Endpoint,
         request: &MessageRef<'_>,
-        key: CacheKey,
-        tags: Pieces,
+        asked: Asked,
+        copy: Option<Stored>,
         out: &mut Datagram,
     ) -> Result<Report, OutOfMemory>
         requires can { CanGoOn self.old }
         requires moment { now ≤ 2 ^ 62 }
         requires new { CanRemember now client request.now self.old }
-        requires tags { tags ≡ tags_of request.now }
-        requires fits { length (opens self.old now client request.now key).bytes ≤ out.old.room }
+        requires tags { asked.tags ≡ tags_of request.now }
+        requires copy { copy
+            ≡ copy_of self.old.setting.limits.datagram asked.key.target request.now
+            (held_for self.old request.now asked.key) }
         requires form { out.old.bytes
-            ≡ spelling (forwarded (next_token self.old) key.target (sent_on request.now) 0) }
+            ≡ spelling
+            (forwarded (next_token self.old) asked.key.target
+            (tag_carried self.old.setting.limits.datagram asked.key.target request.now
+            (held_for self.old request.now asked.key))
+            request.now 0) }
+        requires fits { length
+            (opens self.old now client request.now asked.key
+            (held_for self.old request.now asked.key)).bytes
+            ≤ out.old.room }
         ensures exact { IfOk result (λ report.
-            Does (remembers now client request.now (opens self.old now client request.now key))
+            Does
+            (remembers now client request.now
+            (opens self.old now client request.now asked.key
+            (held_for self.old request.now asked.key)))
             report out.old out.new self.new) }
         ensures err { OnErr result (self.new ≡ self.old) }
         ensures kept { out.new.room ≡ out.old.room }
     {
+        let (key, tags) = asked.into_parts();
         let form = Seq::from_slice(self.alloc, out.bytes())?;
-        let Ok(number) = self.exchanges.admit(key, true, form, None, now) else {
+        let to_get = is_get(request.code);
+        let Ok(number) = self.exchanges.admit(key, to_get, form, copy, now) else {
             return Err(OutOfMemory);
         };
         let (kind, token) = (request.kind, request.token);

@@ -1,24 +1,27 @@
 //! The step of a response: in an acknowledgement, or separately in a message of its own (RFC 7252,
 //! 5.2.1, 5.2.2 and 5.3.2).
-ghost use Rattle.std.specs.Prelude.{◌≡◌, ◌≤◌, ◌&&◌, true, false, length, option_map, IfOk, IfSome, OnOk, OnErr};
+ghost use Rattle.std.specs.Prelude.{◌≡◌, ◌≤◌, ◌&&◌, [], ◌∷◌, true, false, length, option_map, IfOk, IfSome, OnOk, OnErr};
 ghost use Rattle.coap_message.specs.Datagram.{holding};
 ghost use Rattle.coap_target.specs.Endpoint.{same_endpoint};
 ghost use Rattle.coap_forward.specs.Messages.{is_con};
-ghost use Rattle.coap_model.specs.Answers.{asked_of};
+ghost use Rattle.coap_forward.specs.Changes.{changed_by};
+ghost use Rattle.coap_model.specs.Answers.{answer_for, asked_of, may_store, with_changed};
 ghost use Rattle.coap_model.specs.Responses.{is_in_flight, was_sent_with, has_id, awaiting, on_response};
 ghost use Rattle.coap_exchange.specs.Table.{item_at};
 ghost use Rattle.coap_model.specs.History.{grown_of};
-ghost use Rattle.coap_core.specs.Storing.{IsKept, answering_at, awaited_step, confirmable_step, separate_step, if_storable, taken_up, taken_up_bytes, taken_up_to};
+ghost use Rattle.coap_core.specs.Storing.{IsKept, answering_at, awaited_step, confirmable_step, separate_step, if_storable, targets_in, taken_up, taken_up_bytes, taken_up_to};
 ghost use Rattle.coap_core.specs.Steps.{Does, CanGoOn, CanRemember, IsOpenAt, wants_memory};
 
+use crate::copies::message_again;
 use crate::known::put_taken_up;
 use crate::world::World;
 use coap_cache::{CacheKey, Put, Store, Stored};
 use coap_exchange::{Answer, Exchange, Sending};
-use coap_forward::{answer_of, is_storable, number_of};
-use coap_message::{Datagram, Kind, Message, MessageRef, OutOfMemory};
+use coap_forward::{answer_of, created_by, is_change, is_storable, number_of};
+use coap_message::{Datagram, Kind, MessageRef, OutOfMemory};
 use coap_model::{Outcome, Report, Storing};
-use coap_target::Endpoint;
+use coap_target::{Endpoint, Target};
+use std::alloc::Global;
 
 /// Whether its request was sent, and has no answer.
 fn is_in_flight(exchange: &Exchange) -> bool
@@ -69,11 +72,41 @@ fn asked_of(sending: &Option<Sending>) -> u64
     }
 }
 
-/// The same message once more.
-fn copied(message: &Message) -> Result<Message, OutOfMemory>
-    ensures { IfOk result (λ copy. copy ≡ message.now) }
+/// Whether an answer may be stored: it is to a GET, and its target wasn't changed since that was
+/// sent (RFC 7252, 5.9.1).
+fn may_store(exchange: &Exchange, answer: &Answer) -> bool
+    ensures { result ≡ may_store exchange.now answer.now }
 {
-    Ok(message.clone()?)
+    exchange.is_get && !exchange.tainted && is_storable(answer)
+}
+
+/// What a response changes.
+#[derive(Drop)]
+pub(crate) struct Changed {
+    /// The target of its request.
+    target: Target,
+    /// The one that the Location options of a 2.01 name.
+    created: Option<Target>,
+}
+
+/// What a response to a request for this target changes, if it changes something.
+#[tactic(auto, unfolding(coap_forward::specs::Changes::changed_by))]
+fn changed_by(
+    alloc: Global,
+    target: &Target,
+    response: &MessageRef<'_>,
+) -> Result<Option<Changed>, OutOfMemory>
+    ensures { IfOk result (λ changed. targets_in changed ≡ changed_by target.now response.now) }
+{
+    if !is_change(response.code) {
+        return Ok(None);
+    }
+    let target_again = target.copied()?;
+    let created = created_by(alloc, target, response)?;
+    Ok(Some(Changed {
+        target: target_again,
+        created,
+    }))
 }
 
 impl<S: Store + Drop> World<S> {
@@ -210,7 +243,8 @@ impl<S: Store + Drop> World<S> {
         }
     }
 
-    /// The exchange of this number has its answer, which is stored if it may be.
+    /// The exchange of this number has its answer. What the response changes is marked and tainted
+    /// first, and then the answer is stored if it may be.
     fn answer(
         &mut self,
         now: u64,
@@ -230,10 +264,14 @@ impl<S: Store + Drop> World<S> {
         ensures err { OnErr result (self.new ≡ self.old) }
         ensures kept { out.new.room ≡ out.old.room }
     {
-        let most = self.limits.values().datagram as usize;
-        let answer = answer_of(self.alloc, most, now, response, out)?;
+        self.is_wide();
+        let Some(answer) = self.answer_made(now, number, response, out)? else {
+            return Ok(self.ignore(now, out));
+        };
         let entry = self.entry_made(now, number, &answer)?;
+        let changed = self.changed_by(number, response)?;
         let send = self.take_up(now, source, response, out)?;
+        self.change_all(&changed);
         let storing = self.keep(entry);
         self.exchanges.answered(number, answer);
         self.pass(now);
@@ -268,7 +306,54 @@ impl<S: Store + Drop> World<S> {
         Ok(send)
     }
 
-    /// What is to be stored of an answer for the key of its exchange, if it may be.
+    // Nothing is done: a proof learns here how long a datagram may be at least.
+    fn is_wide(&self)
+        ensures { 128 ≤ self.now.setting.limits.datagram }
+    {
+        let _values = self.limits.values();
+    }
+
+    /// What a response gives for the exchange of this number.
+    fn answer_made(
+        &self,
+        now: u64,
+        number: u64,
+        response: &MessageRef<'_>,
+        out: &mut Datagram,
+    ) -> Result<Option<Answer>, OutOfMemory>
+        requires room { self.now.setting.limits.datagram ≤ out.old.room }
+        ensures exact { IfOk result (λ answer.
+            answer
+            ≡ option_map (answer_for self.now now response.now)
+            (item_at number self.now.exchanges)) }
+        ensures kept { out.new.room ≡ out.old.room }
+    {
+        let Some(exchange) = self.exchanges.get(number) else {
+            return Ok(None);
+        };
+        let most = self.limits.values().datagram as usize;
+        let (to_get, copy) = (exchange.is_get, exchange.copy.as_ref());
+        let answer = answer_of(self.alloc, most, to_get, copy, now, response, out)?;
+        Ok(Some(answer))
+    }
+
+    /// What a response to the request of the exchange of this number changes.
+    fn changed_by(
+        &self,
+        number: u64,
+        response: &MessageRef<'_>,
+    ) -> Result<Option<Changed>, OutOfMemory>
+        ensures { IfOk result (λ changed.
+            IfSome (item_at number self.now.exchanges) (λ x.
+            targets_in changed ≡ changed_by x.key.target response.now)) }
+    {
+        match self.exchanges.get(number) {
+            Some(exchange) => changed_by(self.alloc, &exchange.key.target, response),
+            None => Ok(None),
+        }
+    }
+
+    /// What is to be stored of the answer of the exchange of this number, if it may be.
     fn entry_made(
         &self,
         now: u64,
@@ -279,21 +364,43 @@ impl<S: Store + Drop> World<S> {
             IfSome (item_at number self.now.exchanges) (λ x.
             entry ≡ if_storable self.now now (number, x) answer.now)) }
     {
-        if !is_storable(answer) {
-            return Ok(None);
-        }
         let Some(exchange) = self.exchanges.get(number) else {
             return Ok(None);
         };
+        if !may_store(exchange, answer) {
+            return Ok(None);
+        }
         let key = exchange.key.copied()?;
         let stored = Stored {
-            response: copied(&answer.message)?,
+            response: message_again(&answer.message)?,
             asked: asked_of(&exchange.sending),
             got_no: self.events,
             got: now,
             marked: false,
         };
         Ok(Some((key, stored)))
+    }
+
+    /// What a response changes is out of date.
+    fn change_all(&mut self, changed: &Option<Changed>)
+        ensures { self.new ≡ with_changed (targets_in changed.now) self.old }
+    {
+        let Some(changed) = changed else {
+            return;
+        };
+        self.change(&changed.target);
+        if let Some(created) = &changed.created {
+            self.change(created);
+        }
+    }
+
+    /// What is stored for a target is marked, and the exchanges of it are tainted whose request was
+    /// sent (RFC 7252, 5.9.1).
+    fn change(&mut self, target: &Target)
+        ensures { self.new ≡ with_changed (target.now ∷ []) self.old }
+    {
+        self.store.mark(target);
+        self.exchanges.taint(target);
     }
 
     /// It is stored in place of the one of its key, if there is something to be stored.

@@ -280,12 +280,16 @@ impl<S: Store + Drop> World<S> {
         let Some(waiter) = self.waiters.get(number) else {
             return Ok(self.idle(now, out));
         };
-        let Some(answer) = self.exchanges.answer_of(exchange) else {
+        let Some(awaited) = self.exchanges.get(exchange) else {
+            return Ok(self.idle(now, out));
+        };
+        let Some(answer) = awaited.answer() else {
             return Ok(self.idle(now, out));
         };
         let (client, kind, id) = (waiter.client, waiter.kind, self.next_id());
-        is_short(&waiter.token);
-        put_shown(out, now, answer, kind, id, &waiter.token, &waiter.tags);
+        let (token, tags) = (&waiter.token, &waiter.tags);
+        is_short(token);
+        put_shown(out, now, answer, kind, awaited.is_get, id, token, tags);
         self.tell(now, draw, number, kind, out)?;
         self.take_id(now);
         self.let_go(exchange);

@@ -21,7 +21,8 @@ use Rattle.coap_target.specs.declared.target.Target.{Target}
 use Rattle.coap_target.specs.Target.{IsShort, IsTarget}
 use Rattle.coap_target.proofs.Lists.{All-weaken}
 use Rattle.coap_cache.proofs.Picked.{AreOptions-filter, AreOptions-weaken}
-use Rattle.coap_forward.specs.Forms.{is_used_up, goes_on, host_options, put_in, merged, target_options, forwarded}
+use Rattle.coap_forward.specs.Forms.{is_used_up, goes_on, host_options, put_in, merged, target_options, tagged, forwarded}
+use Rattle.coap_forward.specs.Messages.{is_method}
 
 -- ---- which options are sent on, by the option alone
 
@@ -196,19 +197,70 @@ target-options t is = go t.host is.host
 pub sent-options : (m : Message) → AreOptions 0 m.options → first_refused Request m.options ≡ None → AreOptions 0 (sent_on m)
 sent-options m are screened = subst (AreOptions 0) (sym (sent-screened m screened)) (AreOptions-filter (goes_on m.code) 0 m.options are)
 
+-- ---- the tag
+
+-- a tag has one to eight bytes (RFC 7252, 5.10.6)
+abbrev pub IsTag : List ℕ → Type 0
+IsTag v = (1 ≤ length v) × (length v ≤ 8)
+
+-- it is written where it is short
+abbrev pub IsShortTag : Option (List ℕ) → Type 0
+IsShortTag tag = IfSome tag (λ v. length v ≤ 8)
+
+-- as each tag is
+pub short-tag : (tag : Option (List ℕ)) → IfSome tag IsTag → IsShortTag tag
+short-tag None is = tt
+short-tag (Some v) is = is.1
+
+-- with the tag the others are in order
+pub tagged-options : (tag : Option (List ℕ)) (os : List Opt) → IsShortTag tag → AreOptions 0 os → AreOptions 0 (tagged tag os)
+tagged-options None os short are = are
+tagged-options (Some v) os short are = AreOptions-put_in 0 (option_of 4 v) os (omega arith) (omega arith) (omega (arith, short)) are
+
+-- an option that is left out may be put in
+pub filter-put_in : (keep : Opt → Bool) (o : Opt) (os : List Opt) → keep o ≡ false → filter keep (put_in o os) ≡ filter keep os
+filter-put_in keep o [] out = rw out refl
+filter-put_in keep o (p ∷ ps) out = go (leb o.number p.number) (filter-put_in keep o ps out)
+  where
+    go : (b : Bool) → filter keep (put_in o ps) ≡ filter keep ps → filter keep (cond b (o ∷ p ∷ ps) (p ∷ put_in o ps)) ≡ filter keep (p ∷ ps)
+    go true rest = rw out refl
+    go false rest = rw rest refl
+
+-- one more that isn't used up
+unused-put_in : (o : Opt) (os : List Opt) → is_used_up o.number ≡ false → AreUnused os → AreUnused (put_in o os)
+unused-put_in o [] out none = (out, tt)
+unused-put_in o (p ∷ ps) out none = go (leb o.number p.number) (unused-put_in o ps out none.1)
+  where
+    go : (b : Bool) → AreUnused (put_in o ps) → AreUnused (cond b (o ∷ p ∷ ps) (p ∷ put_in o ps))
+    go true rest = (out, none)
+    go false rest = (none.0, rest)
+
+-- with the tag none of the others is used up
+pub tagged-unused : (tag : Option (List ℕ)) (os : List Opt) → AreUnused os → AreUnused (tagged tag os)
+tagged-unused None os none = none
+tagged-unused (Some v) os none = unused-put_in (option_of 4 v) os refl none
+
+-- ---- the request that is sent on
+
 -- the request that is sent on is a message
-pub forwarded-is : (token : List ℕ) (t : Target) (m : Message) (id : ℕ) → IsTarget t → AreOptions 0 m.options → first_refused Request m.options ≡ None → length token ≤ 8 → IsMessage (forwarded token t (sent_on m) id)
-forwarded-is token t m id is are screened short =
+pub forwarded-is : (token : List ℕ) (t : Target) (tag : Option (List ℕ)) (m : Message) (id : ℕ) → IsTarget t → AreOptions 0 m.options → first_refused Request m.options ≡ None → is_method m.code ≡ true → IsShortTag tag → length token ≤ 8 → IsMessage (forwarded token t tag m id)
+forwarded-is token t tag m id is are screened method tagged_short short =
     record {
       token = short;
-      options = AreOptions-merged 0 (target_options t) (sent_on m) (target-options t is) (sent-options m are screened);
-      bare = record { token = λ e. absurd (omega arith); options = λ e. absurd (omega arith); payload = λ e. absurd (omega arith) };
+      options = AreOptions-merged 0 (target_options t) (tagged tag (sent_on m)) (target-options t is) (tagged-options tag (sent_on m) tagged_short (sent-options m are screened));
+      bare = record { token = λ e. absurd (not_empty e); options = λ e. absurd (not_empty e); payload = λ e. absurd (not_empty e) };
     }
+  where
+    not_empty : m.code.0 ≡ 0 → ⊥
+    not_empty e =
+        let none : is_method m.code ≡ false = rw e refl in
+        let f = sym none ∙ method in
+        cc
 
 -- a form with an id is the request with that id
-pub with_id-forwarded : (id : ℕ) (token : List ℕ) (t : Target) (others : List Opt) → with_id id (spelling (forwarded token t others 0)) ≡ spelling (forwarded token t others id)
+pub with_id-forwarded : (id : ℕ) (token : List ℕ) (t : Target) (tag : Option (List ℕ)) (m : Message) → with_id id (spelling (forwarded token t tag m 0)) ≡ spelling (forwarded token t tag m id)
 unfolding with_id spelling
-with_id-forwarded id token t others = refl
+with_id-forwarded id token t tag m = refl
 
 -- another id leaves a form as long as it is
 pub length-with_id : (id : ℕ) (form : List ℕ) → length (with_id id form) ≡ length form

@@ -1,12 +1,11 @@
 -- The request that is sent on, as it is written: its head, then its options, part by part.
-use Rattle.std.proofs.Common.{◌≡◌, ℕ, ◌<◌, ◌≤◌, Bool, true, false, cond, ltb, List, [], ◌∷◌, ◌++◌, length, map, filter, Option, Some, None, Result, Ok, Err, refl, sym, ap, ◌∙◌, subst, append_assoc, arith}
-use Rattle.std.specs.Prelude.{◌&&◌, IfSome, IfOk}
+use Rattle.std.proofs.Common.{◌≡◌, ℕ, ◌<◌, ◌≤◌, Bool, true, false, cond, ltb, leb, List, [], ◌∷◌, ◌++◌, length, map, filter, Option, Some, None, Result, Ok, Err, refl, sym, ap, ◌∙◌, subst, append_assoc, arith, Bor}
+use Rattle.std.specs.Prelude.{◌&&◌, IfSome, IfOk, option_map}
 use Rattle.std.specs.List.{AllByRecursion}
-use Rattle.std.proofs.lemmas.Bool.{lt-leb, le-leb, ltb-true, ltb-false, le-ltb}
+use Rattle.std.proofs.lemmas.Bool.{lt-leb, le-leb, leb-false, ltb-true, ltb-false, le-ltb}
 use Rattle.std.proofs.lemmas.List.{append-nil, length-append}
 use Rattle.coap_message.specs.declared.error.Full.{Full}
 use Rattle.coap_message.specs.declared.code.Code.{Code}
-use Rattle.coap_message.specs.declared.code.TheConstants.Code.{GET}
 use Rattle.coap_message.specs.declared.options.Opt.{Opt}
 use Rattle.coap_message.specs.Datagram.{Datagram, Appends}
 use Rattle.coap_message.specs.Message.{Message}
@@ -22,11 +21,11 @@ use Rattle.coap_target.specs.declared.target.Target.{Target}
 use Rattle.coap_target.specs.Target.{IsShort, IsTarget}
 use Rattle.coap_cache.specs.Renewing.{below, above}
 use Rattle.coap_cache.proofs.Picked.{AreOptions-above, AreOptions-weaken}
-use Rattle.coap_forward.specs.Forms.{is_used_up, goes_on, put_in, merged, host_options, target_options}
-use Rattle.coap_forward.proofs.Forms.{AreUnused, AreOptions-merged, sent-screened, sent-unused, sent-options}
+use Rattle.coap_forward.specs.Forms.{is_used_up, goes_on, put_in, merged, host_options, target_options, tagged}
+use Rattle.coap_forward.proofs.Forms.{AreUnused, IsShortTag, AreOptions-merged, filter-put_in, sent-screened, sent-unused, sent-options, tagged-options, tagged-unused}
 use Rattle.coap_forward.specs.declared.form.Gap.{Gap}
 use Rattle.coap_forward.specs.declared.form.Gap.TheVariants.{BeforeHost, BeforePath, BeforeQuery, Last}
-use Rattle.coap_forward.specs.Gaps.{host_values, is_in, floor_of, end_of, others_in}
+use Rattle.coap_forward.specs.Gaps.{given, is_in, floor_of, end_of, others_in, part_of}
 
 -- ---- writing
 
@@ -69,7 +68,7 @@ in-gap : (gap : Gap) (number : ℕ) → is_in gap number ≡ true → floor_of g
 in-gap BeforeHost number is = omega arith
 in-gap BeforePath number is = go (ltb 3 number) refl is
   where
-    go : (b : Bool) → ltb 3 number ≡ b → (b && ltb number 11) ≡ true → 3 ≤ number
+    go : (b : Bool) → ltb 3 number ≡ b → (b && ltb number 11) ≡ true → 4 ≤ number
     go true e f = let lt = ltb-true 3 number e in omega arith
     go false e f = absurd cc
 in-gap BeforeQuery number is = go (ltb 11 number) refl is
@@ -85,9 +84,9 @@ first-holds true b e = refl
 first-holds false b e = absurd cc
 
 -- the others in a gap are in order after what may stand before it
-pub AreOptions-others : (gap : Gap) (before : ℕ) (os : List Opt) → before ≤ floor_of gap → AreOptions 0 os → AreOptions before (others_in gap os)
-AreOptions-others gap before os le are =
-    AreOptions-above (λ o. is_in gap o.number && goes_on GET o) before 0 os (λ o is. let low = in-gap gap o.number (first-holds (is_in gap o.number) (goes_on GET o) is) in omega arith) are
+pub AreOptions-others : (code : Code) (gap : Gap) (before : ℕ) (os : List Opt) → before ≤ floor_of gap → AreOptions 0 os → AreOptions before (others_in code gap os)
+AreOptions-others code gap before os le are =
+    AreOptions-above (λ o. is_in gap o.number && goes_on code o) before 0 os (λ o is. let low = in-gap gap o.number (first-holds (is_in gap o.number) (goes_on code o) is) in omega arith) are
 
 -- an option in a gap has a number below the one that it ends at
 below-end : (gap : Gap) (number : ℕ) → number < 65536 → is_in gap number ≡ true → number ≤ end_of gap
@@ -105,8 +104,8 @@ below-end BeforeQuery number small is = go (ltb 11 number) is
 below-end Last number small is = omega arith
 
 -- so the last number of the others in a gap is at most that
-pub last-others : (gap : Gap) (before : ℕ) (os : List Opt) → AreOptions 0 os → before ≤ floor_of gap → last_number before (others_in gap os) ≤ end_of gap
-last-others gap before os are le = go 0 os before are (within gap le)
+pub last-others : (code : Code) (gap : Gap) (before : ℕ) (os : List Opt) → AreOptions 0 os → before ≤ floor_of gap → last_number before (others_in code gap os) ≤ end_of gap
+last-others code gap before os are le = go 0 os before are (within gap le)
   where
     within : (g : Gap) → before ≤ floor_of g → before ≤ end_of g
     within BeforeHost le' = omega arith
@@ -114,11 +113,11 @@ last-others gap before os are le = go 0 os before are (within gap le)
     within BeforeQuery le' = omega arith
     within Last le' = omega arith
 
-    go : (low : ℕ) (rest : List Opt) (at : ℕ) → AreOptions low rest → at ≤ end_of gap → last_number at (others_in gap rest) ≤ end_of gap
+    go : (low : ℕ) (rest : List Opt) (at : ℕ) → AreOptions low rest → at ≤ end_of gap → last_number at (others_in code gap rest) ≤ end_of gap
     go low [] at are' le' = le'
-    go low (o ∷ rest) at are' le' = pick (is_in gap o.number) refl (goes_on GET o) (λ n small. go o.number rest n are'.3 small)
+    go low (o ∷ rest) at are' le' = pick (is_in gap o.number) refl (goes_on code o) (λ n small. go o.number rest n are'.3 small)
       where
-        pick : (b : Bool) → is_in gap o.number ≡ b → (g : Bool) → ((n : ℕ) → n ≤ end_of gap → last_number n (others_in gap rest) ≤ end_of gap) → last_number at (cond (b && g) (o ∷ others_in gap rest) (others_in gap rest)) ≤ end_of gap
+        pick : (b : Bool) → is_in gap o.number ≡ b → (g : Bool) → ((n : ℕ) → n ≤ end_of gap → last_number n (others_in code gap rest) ≤ end_of gap) → last_number at (cond (b && g) (o ∷ others_in code gap rest) (others_in code gap rest)) ≤ end_of gap
         pick true e true more = more o.number (below-end gap o.number are'.1 e)
         pick true e false more = more at le'
         pick false e g more = more at le'
@@ -306,52 +305,90 @@ module _ (t : Target) (is : IsTarget t) (os : List Opt) (are : AreOptions 0 os) 
           ∙ merged-past 3 3 (option_of 3 h ∷ (paths ++ queries)) (below 3 os) (behind 3) (omega arith) named (below-all 3 os)
           ∙ ap (λ (l : List Opt). below 3 os ++ l) (put_in-front (option_of 3 h) (merged (paths ++ queries) (behind 3)) in_order ∙ ap (λ (l : List Opt). option_of 3 h ∷ l) from-paths)
 
--- parts in pairs are parts in a row
-pairs : (a b c d e f g : List Opt) → (a ++ b) ++ ((c ++ d) ++ ((e ++ f) ++ g)) ≡ a ++ (b ++ (c ++ (d ++ (e ++ (f ++ g)))))
-pairs a b c d e f g =
-    append_assoc a b _
-    ∙ ap (λ (l : List Opt). a ++ (b ++ l)) (append_assoc c d _ ∙ ap (λ (l : List Opt). c ++ (d ++ l)) (append_assoc e f g))
-
--- the options of the request that is sent on, part by part
-pub form-options : (t : Target) (m : Message) → IsTarget t → AreOptions 0 m.options → first_refused Request m.options ≡ None → m.code ≡ GET
-    → (others_in BeforeHost m.options ++ host_options t.host) ++ ((others_in BeforePath m.options ++ map (option_of 11) t.path) ++ ((others_in BeforeQuery m.options ++ map (option_of 15) t.query) ++ others_in Last m.options)) ≡ merged (target_options t) (sent_on m)
-form-options t m is are screened get =
-    let os = sent_on m in
-    let sent : os ≡ filter (goes_on GET) m.options = sent-screened m screened ∙ ap (λ (c : Code). filter (goes_on c) m.options) get in
-    let before_host : others_in BeforeHost m.options ≡ below 3 os = fuse (λ o. ltb o.number 3) (goes_on GET) m.options ∙ ap (below 3) (sym sent) in
-    let before_path : others_in BeforePath m.options ≡ below 11 (above 3 os) = fuse-both (λ o. ltb 3 o.number) (λ o. ltb o.number 11) (goes_on GET) m.options ∙ ap (λ (l : List Opt). below 11 (above 3 l)) (sym sent) in
-    let before_query : others_in BeforeQuery m.options ≡ below 15 (above 11 os) = fuse-both (λ o. ltb 11 o.number) (λ o. ltb o.number 15) (goes_on GET) m.options ∙ ap (λ (l : List Opt). below 15 (above 11 l)) (sym sent) in
-    let last : others_in Last m.options ≡ above 15 os = fuse (λ o. ltb 15 o.number) (goes_on GET) m.options ∙ ap (above 15) (sym sent) in
-    pairs (others_in BeforeHost m.options) (host_options t.host) (others_in BeforePath m.options) (map (option_of 11) t.path) (others_in BeforeQuery m.options) (map (option_of 15) t.query) (others_in Last m.options)
-    ∙ rw (before_host, before_path, before_query, last) (sym (all-parts t is os (sent-options m are screened) (sent-unused m screened)))
-
 -- the values of a host are its options
-pub hosts-are : (host : Option (List ℕ)) → map (option_of 3) (host_values host) ≡ host_options host
+hosts-are : (host : Option (List ℕ)) → map (option_of 3) (given host) ≡ host_options host
 hosts-are None = refl
 hosts-are (Some h) = refl
 
--- a host that is short is short as a value
-pub hosts-short : (host : Option (List ℕ)) → IfSome host IsShort → AllByRecursion IsShort (host_values host)
-hosts-short None short = tt
-hosts-short (Some h) short = (short, tt)
+-- the options of a tag
+abbrev pub tag_options : Option (List ℕ) → List Opt
+tag_options tag = map (option_of 4) (given tag)
 
--- the four parts, of the options of a request
-module _ (t : Target) (os : List Opt) where
-  abbrev pub part-1 : List Opt
-  part-1 = others_in BeforeHost os ++ map (option_of 3) (host_values t.host)
+-- with the tag those below a number up to it are what they were
+below-tagged : (n : ℕ) (tag : Option (List ℕ)) (os : List Opt) → n ≤ 4 → below n (tagged tag os) ≡ below n os
+below-tagged n None os le = refl
+below-tagged n (Some v) os le = filter-put_in (λ o. ltb o.number n) (option_of 4 v) os (le-ltb 4 n le)
 
-  abbrev pub part-2 : List Opt
-  part-2 = others_in BeforePath os ++ map (option_of 11) t.path
+-- and those above a number from it on
+above-tagged : (n : ℕ) (tag : Option (List ℕ)) (os : List Opt) → 4 ≤ n → above n (tagged tag os) ≡ above n os
+above-tagged n None os le = refl
+above-tagged n (Some v) os le = filter-put_in (λ o. ltb n o.number) (option_of 4 v) os (le-ltb n 4 le)
 
-  abbrev pub part-3 : List Opt
-  part-3 = others_in BeforeQuery os ++ map (option_of 15) t.query
+-- after the Uri-Host the tag stands first
+first-tagged : (tag : Option (List ℕ)) (os : List Opt) → above 3 (tagged tag os) ≡ tag_options tag ++ above 3 os
+first-tagged None os = refl
+first-tagged (Some v) [] = refl
+first-tagged (Some v) (p ∷ ps) = go (leb 4 p.number) refl (first-tagged (Some v) ps)
+  where
+    go : (b : Bool) → leb 4 p.number ≡ b → above 3 (put_in (option_of 4 v) ps) ≡ option_of 4 v ∷ above 3 ps → above 3 (cond b (option_of 4 v ∷ p ∷ ps) (p ∷ put_in (option_of 4 v) ps)) ≡ option_of 4 v ∷ above 3 (p ∷ ps)
+    go true e rest = refl
+    go false e rest =
+        let low = leb-false 4 p.number e in
+        let out : ltb 3 p.number ≡ false = le-ltb 3 p.number (omega arith) in
+        rw out rest
 
-  abbrev pub part-4 : List Opt
-  part-4 = others_in Last os
+-- so of those after it that are below the segments
+between-tagged : (tag : Option (List ℕ)) (os : List Opt) → below 11 (above 3 (tagged tag os)) ≡ tag_options tag ++ below 11 (above 3 os)
+between-tagged None os = refl
+between-tagged (Some v) os = ap (below 11) (first-tagged (Some v) os)
 
-  -- what is written of them is written of all options
-  pub of-all : (m : Message) → os ≡ m.options → IsTarget t → AreOptions 0 os → first_refused Request m.options ≡ None → m.code ≡ GET
-      → (old new : Datagram) (room : ℕ) (r : Result (Unit {0}) Full) → Appends old new room (options_spelling 0 (part-1 ++ (part-2 ++ (part-3 ++ part-4)))) r → Appends old new room (options_spelling 0 (merged (target_options t) (sent_on m))) r
-  of-all m same is are screened get old new room r a =
-      let whole : part-1 ++ (part-2 ++ (part-3 ++ part-4)) ≡ merged (target_options t) (sent_on m) = rw (same, hosts-are t.host) (form-options t m is (subst (AreOptions 0) same are) screened get) in
-      subst (λ (l : List Opt). Appends old new room (options_spelling 0 l) r) whole a
+-- the options of the request that is sent on, part by part
+pub form-options : (t : Target) (tag : Option (List ℕ)) (m : Message) → IsTarget t → IsShortTag tag → AreOptions 0 m.options → first_refused Request m.options ≡ None
+    → part_of m BeforeHost (given t.host) ++ (tag_options tag ++ (part_of m BeforePath t.path ++ (part_of m BeforeQuery t.query ++ others_in m.code Last m.options))) ≡ merged (target_options t) (tagged tag (sent_on m))
+form-options t tag m is short are screened =
+    let os = sent_on m in
+    let with = tagged tag os in
+    let sent : os ≡ filter (goes_on m.code) m.options = sent-screened m screened in
+    let before_host : others_in m.code BeforeHost m.options ≡ below 3 with =
+    fuse (λ o. ltb o.number 3) (goes_on m.code) m.options ∙ ap (below 3) (sym sent) ∙ sym (below-tagged 3 tag os (omega arith))
+    in
+    let before_path : tag_options tag ++ others_in m.code BeforePath m.options ≡ below 11 (above 3 with) =
+    ap (λ (l : List Opt). tag_options tag ++ l) (fuse-both (λ o. ltb 3 o.number) (λ o. ltb o.number 11) (goes_on m.code) m.options ∙ ap (λ (l : List Opt). below 11 (above 3 l)) (sym sent))
+    ∙ sym (between-tagged tag os)
+    in
+    let before_query : others_in m.code BeforeQuery m.options ≡ below 15 (above 11 with) =
+    fuse-both (λ o. ltb 11 o.number) (λ o. ltb o.number 15) (goes_on m.code) m.options ∙ ap (λ (l : List Opt). below 15 (above 11 l)) (sym sent) ∙ ap (below 15) (sym (above-tagged 11 tag os (omega arith)))
+    in
+    let last : others_in m.code Last m.options ≡ above 15 with =
+    fuse (λ o. ltb 15 o.number) (goes_on m.code) m.options ∙ ap (above 15) (sym sent) ∙ sym (above-tagged 15 tag os (omega arith))
+    in
+    pairs (others_in m.code BeforeHost m.options) (map (option_of 3) (given t.host)) (tag_options tag) (others_in m.code BeforePath m.options) (map (option_of 11) t.path) (others_in m.code BeforeQuery m.options) (map (option_of 15) t.query) (others_in m.code Last m.options)
+    ∙ rw (before_host, before_path, before_query, last, hosts-are t.host) (sym (all-parts t is with (tagged-options tag os short (sent-options m are screened)) (tagged-unused tag os (sent-unused m screened))))
+  where
+    -- parts in pairs are parts in a row, the tag with what stands behind it
+    pairs : (a b x c d e f g : List Opt) → (a ++ b) ++ (x ++ ((c ++ d) ++ ((e ++ f) ++ g))) ≡ a ++ (b ++ ((x ++ c) ++ (d ++ (e ++ (f ++ g)))))
+    pairs a b x c d e f g =
+        append_assoc a b _
+        ∙ ap (λ (l : List Opt). a ++ (b ++ (x ++ l))) (append_assoc c d _ ∙ ap (λ (l : List Opt). c ++ (d ++ l)) (append_assoc e f g))
+        ∙ ap (λ (l : List Opt). a ++ (b ++ l)) (sym (append_assoc x c _))
+
+-- what is written part by part is written of all options
+pub of-all : (t : Target) (tag : Option (List ℕ)) (m : Message) → IsTarget t → IsShortTag tag → AreOptions 0 m.options → first_refused Request m.options ≡ None
+    → (old new : Datagram) (room : ℕ) (r : Result (Unit {0}) Full) → Appends old new room (options_spelling 0 (part_of m BeforeHost (given t.host) ++ (tag_options tag ++ (part_of m BeforePath t.path ++ (part_of m BeforeQuery t.query ++ others_in m.code Last m.options))))) r
+    → Appends old new room (options_spelling 0 (merged (target_options t) (tagged tag (sent_on m)))) r
+of-all t tag m is short are screened old new room r a = subst (λ (l : List Opt). Appends old new room (options_spelling 0 l) r) (form-options t tag m is short are screened) a
+
+-- what is short is short as a value
+pub given-short : (value : Option (List ℕ)) → IfSome value IsShort → AllByRecursion IsShort (given value)
+given-short None short = tt
+given-short (Some v) short = (short, tt)
+
+-- as a lent tag is
+pub tag-given : (tag : Option (Bor (List ℕ))) → IfSome tag (λ v. length v.now ≤ 8) → IsShortTag (option_map (λ v. v.now) tag)
+tag-given None short = tt
+tag-given (Some v) short = short
+
+-- and so one that is short
+pub tag-short : (tag : Option (Bor (List ℕ))) → IfSome tag (λ v. length v.now ≤ 8) → AllByRecursion IsShort (given (option_map (λ v. v.now) tag))
+tag-short None short = tt
+tag-short (Some v) short = (omega (arith, short), tt)

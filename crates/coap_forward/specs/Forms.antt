@@ -3,15 +3,20 @@ use Rattle.std.specs.Prelude.{ℕ, ◌==◌, ◌&&◌, ◌||◌, Bool, not, nat_
 use Rattle.std.specs.List.{list_any}
 use Rattle.coap_message.specs.declared.kind.Kind.TheVariants.{Con}
 use Rattle.coap_message.specs.declared.code.Code.{Code}
-use Rattle.coap_message.specs.declared.code.TheConstants.Code.{GET}
+use Rattle.coap_message.specs.declared.code.TheConstants.Code.{POST, PUT}
+use Rattle.coap_message.specs.Codes.{is_code}
+use Rattle.coap_message.specs.Spelling.{spelling}
 use Rattle.coap_message.specs.declared.options.Opt.{Opt}
 use Rattle.coap_message.specs.Message.{Message}
 use Rattle.coap_message.specs.Options.{option_of}
-use Rattle.coap_option.specs.declared.numbers.TheConstants.{URI_HOST, URI_PATH, URI_QUERY}
+use Rattle.coap_option.specs.declared.numbers.TheConstants.{URI_HOST, ETAG, URI_PATH, URI_QUERY}
 use Rattle.coap_option.specs.declared.side.Side.TheVariants.{Request}
 use Rattle.coap_option.specs.Recognition.{is_recognised}
-use Rattle.coap_option.specs.Selection.{used_up, is_tag_of_get}
+use Rattle.coap_option.specs.Selection.{used_up, is_tag_of_get, sent_on}
 use Rattle.coap_target.specs.declared.target.Target.{Target}
+use Rattle.coap_cache.specs.Renewing.{tag_of}
+use Rattle.coap_cache.specs.Showing.{is_content}
+use Rattle.coap_forward.specs.Messages.{is_get, eight_zeros}
 
 -- ---- which options go on
 
@@ -52,14 +57,48 @@ unfoldable pub target_options : Target → List Opt
 target_options t =
     host_options t.host ++ (map (option_of URI_PATH) t.path ++ map (option_of URI_QUERY) t.query)
 
--- a confirmable GET of the target, with these options of the client's besides
-abbrev pub forwarded : List ℕ → Target → List Opt → ℕ → Message
-forwarded token t others id =
+-- the tag of a stored response stands before other ETags (RFC 7252, 5.10.6.2)
+abbrev pub tagged : Option (List ℕ) → List Opt → List Opt
+tagged None others = others
+tagged (Some tag) others = put_in (option_of ETAG tag) others
+
+-- the payload of a POST and of a PUT goes on; that of another method has no meaning (RFC 7252, 5.8)
+abbrev pub payload_sent : Message → List ℕ
+payload_sent m = if is_code m.code POST || is_code m.code PUT then m.payload else []
+
+-- the request for a target that is sent on for a client's request: confirmable, with what goes on
+-- of its options, and with this tag
+abbrev pub forwarded : List ℕ → Target → Option (List ℕ) → Message → ℕ → Message
+forwarded token t tag m id =
     record {
       kind = Con;
-      code = GET;
+      code = m.code;
       id = id;
       token = token;
-      options = merged (target_options t) others;
-      payload = [];
+      options = merged (target_options t) (tagged tag (sent_on m));
+      payload = payload_sent m;
     }
+
+-- What would be sent on fits a datagram of so many bytes. It is as long with any token of eight
+-- bytes and any id.
+unfoldable pub form_fits : ℕ → Target → Option (List ℕ) → Message → Bool
+form_fits most t tag m = nat_le (length (spelling (forwarded eight_zeros t tag m 0))) most
+
+-- ---- validation
+
+abbrev pub tag_if_fits : ℕ → Target → Message → Option (List ℕ) → Option (List ℕ)
+tag_if_fits most t m None = None
+tag_if_fits most t m (Some tag) = if form_fits most t (Some tag) m then Some tag else None
+
+-- the tag that a request carries where this response is stored for its key: that of a 2.05 to a
+-- GET, if the request still fits a datagram with it (RFC 7252, 5.6.2)
+abbrev pub tag_to_send : ℕ → Target → Message → Message → Option (List ℕ)
+tag_to_send most t m response =
+    if is_get m.code && is_content response.code
+    then tag_if_fits most t m (tag_of response.options)
+    else None
+
+-- the tag of what is stored for the key, where something is
+abbrev pub tag_for : ℕ → Target → Message → Option Message → Option (List ℕ)
+tag_for most t m None = None
+tag_for most t m (Some response) = tag_to_send most t m response

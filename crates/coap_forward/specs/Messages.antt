@@ -5,7 +5,7 @@ use Rattle.std.specs.Int.{w64, to_be_bytes}
 use Rattle.coap_message.specs.declared.kind.Kind.{Kind}
 use Rattle.coap_message.specs.declared.kind.Kind.TheVariants.{Con, Non, Ack, Rst}
 use Rattle.coap_message.specs.declared.code.Code.{Code}
-use Rattle.coap_message.specs.declared.code.TheConstants.Code.{EMPTY, SERVICE_UNAVAILABLE}
+use Rattle.coap_message.specs.declared.code.TheConstants.Code.{EMPTY, GET, POST, PUT, DELETE, SERVICE_UNAVAILABLE}
 use Rattle.coap_message.specs.Codes.{is_code, is_request, is_response}
 use Rattle.coap_message.specs.declared.options.Opt.{Opt}
 use Rattle.coap_message.specs.Message.{Message}
@@ -53,6 +53,14 @@ is_rst Ack = false
 is_rst Rst = true
 
 -- ---- codes
+
+abbrev pub is_get : Code → Bool
+is_get code = is_code code GET
+
+-- the methods of requests that are sent on (RFC 7252, 5.8)
+abbrev pub is_method : Code → Bool
+is_method code =
+    is_code code GET || (is_code code POST || (is_code code PUT || is_code code DELETE))
 
 abbrev pub is_empty : Code → Bool
 is_empty code = is_code code EMPTY

@@ -1,16 +1,18 @@
 //! What a proxy makes of a response: the answer that it keeps, and how long that is fresh.
-ghost use Rattle.std.specs.Prelude.{◌≡◌, ◌≤◌, ◌==◌, true, not, [], filter, IfOk};
+ghost use Rattle.std.specs.Prelude.{◌≡◌, ◌≤◌, ◌==◌, true, not, [], filter, option_map, IfOk, IsOk};
 ghost use Rattle.std.specs.List.{list_any};
 ghost use Rattle.coap_message.specs.declared.code.Code.{Code};
+ghost use Rattle.coap_message.specs.declared.kind.Kind.{Kind};
 ghost use Rattle.coap_message.specs.declared.kind.Kind.TheVariants.{Non};
 ghost use Rattle.coap_option.specs.declared.numbers.TheConstants.{OBSERVE};
-ghost use Rattle.coap_forward.specs.Answers.{is_storable, without_observe, fits, answer_of, left_of, left_told, bad_gateway, gateway_timeout, own_answer};
+ghost use Rattle.coap_forward.specs.Answers.{is_storable, without_observe, taken_of, validates, fits, answer_if_fits, answer_of, validated, left_of, left_told, bad_gateway, gateway_timeout, origin_answer, own_answer};
 
-use coap_cache::{Answer, put_aged, tells_age};
+use coap_cache::{Answer, Stored, put_aged, tells_age};
 use coap_message::{
     Code, Datagram, Head, Kind, Message, MessageRef, OptionList, Options, OutOfMemory, Seq, Token,
 };
 use coap_option::{max_age, numbers, screen_response};
+use coap_renewal::{RenewError, renewed};
 use std::alloc::Global;
 
 /// The greatest Max-Age, in seconds: it takes four bytes (RFC 7252, 5.10.5).
@@ -45,17 +47,31 @@ fn without_observe(alloc: Global, options: &Options<'_>) -> Result<OptionList, O
     Ok(list)
 }
 
-/// A copy of what goes on of a response: Observe is taken off (RFC 7641, 2).
-fn kept(alloc: Global, response: &MessageRef<'_>) -> Result<Message, OutOfMemory>
-    ensures { IfOk result (λ message. message ≡ without_observe response.now) }
+/// Whether a response to a GET, or to another method, is a 2.03 that validates what is stored (RFC
+/// 7252, 5.9.1.3).
+fn validates(to_get: bool, response: &MessageRef<'_>) -> bool
+    ensures { result ≡ validates to_get response.now }
 {
+    to_get && response.code == Code::VALID
+}
+
+/// A copy of what is taken of a response: Observe is taken off (RFC 7641, 2), and of one that
+/// validates the payload, too.
+fn taken_of(alloc: Global, to_get: bool, response: &MessageRef<'_>) -> Result<Message, OutOfMemory>
+    ensures { IfOk result (λ message. message ≡ taken_of to_get response.now) }
+{
+    let payload = if validates(to_get, response) {
+        &[]
+    } else {
+        response.payload
+    };
     Ok(Message {
         kind: response.kind,
         code: response.code,
         id: response.id,
         token: response.token,
         options: without_observe(alloc, &response.options)?,
-        payload: Seq::from_slice(alloc, response.payload)?,
+        payload: Seq::from_slice(alloc, payload)?,
     })
 }
 
@@ -110,35 +126,102 @@ pub fn gateway_timeout(alloc: Global, now: u64) -> Answer
     own_answer(alloc, now, Code::GATEWAY_TIMEOUT)
 }
 
-/// The answer that a message gives which came for a request. What may be passed on is copied here.
-/// A Reset takes no memory.
+/// A response of an origin, as an answer.
+fn origin_answer(now: u64, message: Message) -> Answer
+    ensures { result ≡ origin_answer now message }
+{
+    Answer {
+        message,
+        got: now,
+        own: false,
+    }
+}
+
+/// A response of an origin, as an answer, if it fits a datagram, and else 5.02.
+fn answer_if_fits(
+    alloc: Global,
+    most: usize,
+    now: u64,
+    message: Message,
+    out: &mut Datagram,
+) -> Answer
+    requires { most ≤ out.old.room }
+    ensures exact { result ≡ answer_if_fits most now message }
+    ensures kept { out.new.room ≡ out.old.room }
+{
+    if fits(&message, most, out) {
+        origin_answer(now, message)
+    } else {
+        bad_gateway(alloc, now)
+    }
+}
+
+/// What a 2.03 gives for what is stored: that response, renewed, if it is the one that is validated
+/// (RFC 7252, 5.9.1.3).
+fn validated(
+    alloc: Global,
+    most: usize,
+    now: u64,
+    copy: Option<&Stored>,
+    valid: &Message,
+    out: &mut Datagram,
+) -> Result<Answer, OutOfMemory>
+    requires { most ≤ out.old.room }
+    ensures exact { IfOk result (λ answer.
+        answer
+        ≡ validated most now (option_map (λ stored. stored.now.response) copy.entry) valid.now) }
+    ensures kept { out.new.room ≡ out.old.room }
+{
+    let Some(stored) = copy else {
+        return Ok(bad_gateway(alloc, now));
+    };
+    match renewed(alloc, stored, &valid.lent()) {
+        Ok(message) => Ok(answer_if_fits(alloc, most, now, message, out)),
+        Err(RenewError::WrongTag) => Ok(bad_gateway(alloc, now)),
+        Err(RenewError::OutOfMemory) => Err(OutOfMemory),
+    }
+}
+
+/// The answer that a message gives which came for a request, a GET or of another method (RFC 7252,
+/// 5.7.1). What may be passed on is copied. A 2.03 to a GET renews `copy`, the stored response whose
+/// tag the request carried (RFC 7252, 5.6.2). Everything else gives 5.02; a Reset takes no memory.
+///
+/// # Errors
+/// Want of memory.
 #[tactic(auto, unfolding(crate::specs::Answers::answer_of))]
 pub fn answer_of(
     alloc: Global,
     most: usize,
+    to_get: bool,
+    copy: Option<&Stored>,
     now: u64,
     response: &MessageRef<'_>,
     out: &mut Datagram,
 ) -> Result<Answer, OutOfMemory>
     requires { most ≤ out.old.room }
-    ensures exact { IfOk result (λ answer. answer ≡ answer_of most now response.now) }
+    ensures exact { IfOk result (λ answer.
+        answer
+        ≡ answer_of most to_get (option_map (λ stored. stored.now.response) copy.entry) now
+        response.now) }
     ensures kept { out.new.room ≡ out.old.room }
+    ensures reset { response.now.kind ≡ Kind.Rst → IsOk result }
 {
-    if response.kind == Kind::Rst {
+    if response.kind == Kind::Rst || screen_response(response).is_err() {
         return Ok(bad_gateway(alloc, now));
     }
-    if screen_response(response).is_err() || response.code == Code::VALID {
+    let valid = validates(to_get, response);
+    if valid && copy.is_none() {
         return Ok(bad_gateway(alloc, now));
     }
-    let message = kept(alloc, response)?;
+    let message = taken_of(alloc, to_get, response)?;
     if !fits(&message, most, out) {
         return Ok(bad_gateway(alloc, now));
     }
-    Ok(Answer {
-        message,
-        got: now,
-        own: false,
-    })
+    if valid {
+        validated(alloc, most, now, copy, &message, out)
+    } else {
+        Ok(origin_answer(now, message))
+    }
 }
 
 /// For how many seconds an answer still is fresh (RFC 7252, 5.7.1).
@@ -149,14 +232,14 @@ fn left_of(now: u64, answer: &Answer) -> u64
     u64::from(max_age(&answer.message.lent())).saturating_sub(age.div_ceil(1000))
 }
 
-/// That is told of what an origin answered, and not of the proxy's own replies.
-pub fn left_told(now: u64, answer: &Answer) -> Option<u64>
-    ensures { result ≡ left_told now answer.now }
+/// That is told of what an origin answered to a GET, and not of other answers.
+pub(crate) fn left_told(to_get: bool, now: u64, answer: &Answer) -> Option<u64>
+    ensures { result ≡ left_told to_get now answer.now }
 {
-    if answer.own {
-        None
-    } else {
+    if to_get && !answer.own {
         Some(left_of(now, answer))
+    } else {
+        None
     }
 }
 

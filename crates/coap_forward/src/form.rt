@@ -1,5 +1,6 @@
-//! The request that is sent on, written part by part into the caller's datagram, without memory.
-ghost use Rattle.std.specs.Prelude.{◌≡◌, ◌≤◌, ◌++◌, None, [], length, map, IfOk, IfSome};
+//! The request that is sent on, written part by part into the caller's datagram, without memory
+//! (RFC 7252, 5.7 and 5.8).
+ghost use Rattle.std.specs.Prelude.{◌≡◌, ◌≤◌, None, [], true, length, map, option_map, IfOk, IfSome};
 ghost use Rattle.std.specs.List.{AllByRecursion};
 ghost use Rattle.coap_message.specs.declared.code.Code.{Code};
 ghost use Rattle.coap_message.specs.Datagram.{Appends, holding, unit_of};
@@ -10,12 +11,15 @@ ghost use Rattle.coap_option.specs.declared.side.Side.{Side};
 ghost use Rattle.coap_option.specs.Screening.{first_refused};
 ghost use Rattle.coap_option.specs.Selection.{sent_on};
 ghost use Rattle.coap_target.specs.Target.{IsTarget, IsShort};
-ghost use Rattle.coap_forward.specs.Forms.{merged, target_options, forwarded, goes_on};
-ghost use Rattle.coap_forward.specs.Gaps.{end_of, floor_of, is_in, others_in, values_left};
+ghost use Rattle.coap_forward.specs.Forms.{merged, target_options, tagged, forwarded, goes_on, payload_sent, tag_to_send};
+ghost use Rattle.coap_forward.specs.Gaps.{end_of, floor_of, is_in, others_in, part_of, values_left};
+ghost use Rattle.coap_forward.specs.Messages.{is_method};
 
 use crate::part::{PartValues, host_of};
+use coap_cache::tag_of;
 use coap_message::{
-    Code, Datagram, Full, Head, Kind, MessageRef, OptRef, OptRefs, Token, put_head, put_option,
+    Code, Datagram, Full, Head, Kind, Message, MessageRef, OptRef, Token, put_head, put_option,
+    put_payload,
 };
 use coap_option::{Side, numbers, recognised};
 use coap_target::Target;
@@ -59,9 +63,10 @@ impl Gap {
     }
 }
 
-/// Whether an option of a GET is sent on, where no option of the request is refused.
-fn goes_on(option: OptRef<'_>) -> bool
-    ensures { result ≡ goes_on Code.GET (opt.seen option.entry) }
+/// Whether an option of a request with this code is sent on, where no option of the request is
+/// refused: the ETags of a GET are for the proxy (RFC 7252, 5.10.6.2).
+fn goes_on(code: Code, option: OptRef<'_>) -> bool
+    ensures { result ≡ goes_on code (opt.seen option.entry) }
 {
     match option.number {
         numbers::URI_HOST
@@ -72,33 +77,37 @@ fn goes_on(option: OptRef<'_>) -> bool
         | numbers::URI_QUERY
         | numbers::PROXY_URI
         | numbers::PROXY_SCHEME => false,
-        numbers::ETAG => !recognised(Side::Request, numbers::ETAG, option.value.len(), 0),
+        numbers::ETAG => {
+            code != Code::GET || !recognised(Side::Request, numbers::ETAG, option.value.len(), 0)
+        }
         _ => true,
     }
 }
 
 // ---- options, after one of the number `before`; what is answered is the number of the last
 
-/// Adds those options of a GET in a gap that are sent on.
+/// Adds those options of a request in a gap that are sent on.
 fn put_others(
     out: &mut Datagram,
     room: usize,
     before: u16,
-    options: &OptRefs<'_>,
+    request: &MessageRef<'_>,
     gap: Gap,
 ) -> Result<u16, Full>
     requires room { room ≤ out.old.room }
     requires held { length out.old.bytes ≤ room }
     requires above { before ≤ floor_of gap }
-    requires in_order { AreOptions 0 options.now }
     ensures written { Appends out.old out.new room
-        (options_spelling before (others_in gap options.now)) (unit_of result) }
-    ensures last { IfOk result (λ last. last ≡ last_number before (others_in gap options.now)) }
+        (options_spelling before (others_in request.now.code gap request.now.options))
+        (unit_of result) }
+    ensures last { IfOk result (λ last.
+        last ≡ last_number before (others_in request.now.code gap request.now.options)) }
     ensures below { IfOk result (λ last. last ≤ end_of gap) }
+    ensures in_order { AreOptions 0 request.now.options }
 {
     let mut last = before;
-    for option in options.again() {
-        if gap.has(option.number) && goes_on(option) {
+    for option in request.options.iter() {
+        if gap.has(option.number) && goes_on(request.code, option) {
             put_option(out, room, last, option.number, option.value)?;
             last = option.number;
         }
@@ -139,57 +148,75 @@ fn put_part(
     out: &mut Datagram,
     room: usize,
     before: u16,
-    options: &OptRefs<'_>,
+    request: &MessageRef<'_>,
     gap: Gap,
     part: PartValues<'_>,
 ) -> Result<u16, Full>
     requires room { room ≤ out.old.room }
     requires held { length out.old.bytes ≤ room }
     requires above { before ≤ floor_of gap }
-    requires in_order { AreOptions 0 options.now }
     requires within { AllByRecursion IsShort (values_left part) }
     ensures written { Appends out.old out.new room
-        (options_spelling before
-        (others_in gap options.now ++ map (option_of (end_of gap)) (values_left part.entry)))
+        (options_spelling before (part_of request.now gap (values_left part.entry)))
         (unit_of result) }
     ensures last { IfOk result (λ last.
-        last
-        ≡ last_number before
-        (others_in gap options.now ++ map (option_of (end_of gap)) (values_left part.entry))) }
+        last ≡ last_number before (part_of request.now gap (values_left part.entry))) }
     ensures below { IfOk result (λ last. last ≤ end_of gap) }
+    ensures in_order { AreOptions 0 request.now.options }
 {
-    let last = put_others(out, room, before, options, gap)?;
+    let last = put_others(out, room, before, request, gap)?;
     put_values(out, room, last, gap.end(), part)
 }
 
-/// Adds all options that are sent on.
+/// Adds all options that are sent on, and the tag after the Uri-Host, so that it stands before
+/// other ETags.
 fn put_form_options(
     out: &mut Datagram,
     room: usize,
     request: &MessageRef<'_>,
     target: &Target,
+    tag: Option<&[u8]>,
 ) -> Result<(), Full>
     requires room { room ≤ out.old.room }
     requires held { length out.old.bytes ≤ room }
-    requires get { request.now.code ≡ Code.GET }
     requires screened { first_refused Side.Request request.now.options ≡ None }
     requires target { IsTarget target.now }
+    requires short { IfSome tag (λ tag. length tag.now ≤ 8) }
     ensures { Appends out.old out.new room
-        (options_spelling 0 (merged (target_options target.now) (sent_on request.now))) result }
+        (options_spelling 0
+        (merged (target_options target.now)
+        (tagged (option_map (λ tag. tag.now) tag.entry) (sent_on request.now))))
+        result }
 {
-    let options = request.options.iter();
-    let last = put_part(out, room, 0, &options, Gap::BeforeHost, host_of(target))?;
+    let last = put_part(out, room, 0, request, Gap::BeforeHost, host_of(target))?;
+    let last = put_values(out, room, last, numbers::ETAG, PartValues::Given(tag))?;
     let path = PartValues::Kept(target.path.iter());
-    let last = put_part(out, room, last, &options, Gap::BeforePath, path)?;
+    let last = put_part(out, room, last, request, Gap::BeforePath, path)?;
     let query = PartValues::Kept(target.query.iter());
-    let last = put_part(out, room, last, &options, Gap::BeforeQuery, query)?;
-    put_others(out, room, last, &options, Gap::Last)?;
+    let last = put_part(out, room, last, request, Gap::BeforeQuery, query)?;
+    put_others(out, room, last, request, Gap::Last)?;
     Ok(())
 }
 
-/// Writes the request that is sent on for a GET that passed the screening, with the id 0, if it is
-/// at most `room` bytes: Uri-Host, a Uri-Path for each segment and a Uri-Query for each part (RFC
-/// 7252, 5.10.1), with the other options in their places.
+/// The payload of a request that goes on: that of a POST and of a PUT (RFC 7252, 5.8).
+fn payload_sent<'a>(request: &MessageRef<'a>) -> &'a [u8]
+    ensures { result.now ≡ payload_sent request.now }
+{
+    if request.code == Code::POST || request.code == Code::PUT {
+        request.payload
+    } else {
+        &[]
+    }
+}
+
+/// Writes the request that is sent on for one that passed the screening, with the id 0, if it is at
+/// most `room` bytes: Uri-Host, a Uri-Path for each segment and a Uri-Query for each part (RFC
+/// 7252, 5.10.1), with the other options in their places. `tag` is that of the stored response
+/// which the origin may validate, as an ETag before all others (RFC 7252, 5.6.2 and 5.10.6.2). It
+/// takes no memory.
+///
+/// # Errors
+/// `Full`, exactly where it is longer than `room` bytes. Then a part of it may have been written.
 #[tactic(auto, unfolding(coap_message::specs::Spelling::spelling))]
 pub fn put_forwarded(
     out: &mut Datagram,
@@ -197,19 +224,54 @@ pub fn put_forwarded(
     token: &Token,
     request: &MessageRef<'_>,
     target: &Target,
+    tag: Option<&[u8]>,
 ) -> Result<(), Full>
     requires room { room ≤ out.old.room }
-    requires get { request.now.code ≡ Code.GET }
+    requires method { is_method request.now.code ≡ true }
     requires screened { first_refused Side.Request request.now.options ≡ None }
     requires target { IsTarget target.now }
+    requires short { IfSome tag (λ tag. length tag.now ≤ 8) }
     ensures { Appends (holding out.old []) out.new room
-        (spelling (forwarded token.now target.now (sent_on request.now) 0)) result }
+        (spelling
+        (forwarded token.now target.now (option_map (λ tag. tag.now) tag.entry) request.now 0))
+        result }
 {
     let head = Head {
         kind: Kind::Con,
-        code: Code::GET,
+        code: request.code,
         id: 0,
     };
     put_head(out, room, head, token)?;
-    put_form_options(out, room, request, target)
+    put_form_options(out, room, request, target, tag)?;
+    put_payload(out, room, payload_sent(request))
+}
+
+/// The tag that the request for a GET carries where this response is stored for its key: that of a
+/// 2.05, if the request fits a datagram of so many bytes with it and a token of eight bytes (RFC
+/// 7252, 5.6.2). It is written for that, without memory.
+#[tactic(auto, unfolding(crate::specs::Forms::form_fits))]
+pub fn tag_to_send<'a>(
+    most: usize,
+    request: &MessageRef<'_>,
+    target: &Target,
+    response: &'a Message,
+    out: &mut Datagram,
+) -> Option<&'a [u8]>
+    requires room { most ≤ out.old.room }
+    requires screened { first_refused Side.Request request.now.options ≡ None }
+    requires target { IsTarget target.now }
+    ensures exact { option_map (λ tag. tag.now) result
+        ≡ tag_to_send most target.now request.now response.now }
+    ensures short { IfSome result (λ tag. length tag.now ≤ 8) }
+    ensures kept { out.new.room ≡ out.old.room }
+{
+    if request.code != Code::GET || response.code != Code::CONTENT {
+        return None;
+    }
+    let tag = tag_of(&response.options.lent())?;
+    let token = Token::new(&[0; 8]);
+    match put_forwarded(out, most, &token, request, target, Some(tag)) {
+        Ok(()) => Some(tag),
+        Err(_) => None,
+    }
 }

@@ -3,12 +3,14 @@
 #![tactic(auto)]
 
 mod answers;
+mod changes;
 mod form;
 mod part;
 mod token;
 mod writing;
 
 pub use answers::{answer_of, bad_gateway, gateway_timeout, is_storable};
-pub use form::put_forwarded;
+pub use changes::{created_by, is_change};
+pub use form::{put_forwarded, tag_to_send};
 pub use token::{number_of, token_of};
 pub use writing::{put_bare, put_shown, put_stored, put_with_max_age};

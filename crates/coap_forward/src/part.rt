@@ -1,15 +1,15 @@
-//! Values that say a part of a target.
+//! Values of options that are written one after the other.
 ghost use Rattle.std.specs.Prelude.{◌≡◌, ◌∷◌, [], MatchOption};
-ghost use Rattle.coap_forward.specs.Gaps.{host_values, values_left};
+ghost use Rattle.coap_forward.specs.Gaps.{given, values_left};
 
 use coap_message::PieceRefs;
 use coap_target::Target;
 
-/// Values that say a part of a target.
+/// Values that say a part of a target, or a tag.
 #[derive(Drop)]
 pub(crate) enum PartValues<'a> {
-    /// A host, or none.
-    Host(Option<&'a [u8]>),
+    /// A value, or none.
+    Given(Option<&'a [u8]>),
     /// Those of a list.
     Kept(PieceRefs<'a>),
 }
@@ -21,7 +21,7 @@ impl<'a> PartValues<'a> {
             (λ value. values_left self.old ≡ value.now ∷ values_left self.new) }
     {
         match self {
-            PartValues::Host(host) => host.take(),
+            PartValues::Given(value) => value.take(),
             PartValues::Kept(pieces) => pieces.next(),
         }
     }
@@ -29,10 +29,10 @@ impl<'a> PartValues<'a> {
 
 /// The value that says the host, if there is one.
 pub(crate) fn host_of(target: &Target) -> PartValues<'_>
-    ensures { values_left result ≡ host_values target.now.host }
+    ensures { values_left result ≡ given target.now.host }
 {
     match &target.host {
-        Some(host) => PartValues::Host(Some(host.as_slice())),
-        None => PartValues::Host(None),
+        Some(host) => PartValues::Given(Some(host.as_slice())),
+        None => PartValues::Given(None),
     }
 }

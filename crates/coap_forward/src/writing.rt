@@ -1,6 +1,6 @@
 //! The messages that a proxy sends, written part by part into the caller's datagram, without
 //! memory.
-ghost use Rattle.std.specs.Prelude.{◌≡◌, ◌≤◌, ◌∷◌, [], length};
+ghost use Rattle.std.specs.Prelude.{◌≡◌, ◌≤◌, ◌∷◌, [], true, length};
 ghost use Rattle.coap_message.specs.Datagram.{Appends, holding};
 ghost use Rattle.coap_message.specs.Message.{message_of};
 ghost use Rattle.coap_message.specs.Spelling.{spelling};
@@ -61,29 +61,32 @@ fn try_with_max_age(
 
 // ---- what clients are shown
 
-/// Writes what a client with these tags is given for an answer, in a message of this type.
+/// Writes what a client with these tags is given for an answer to a GET, or to another method, in a
+/// message of this type.
 pub fn put_shown(
     out: &mut Datagram,
     now: u64,
     answer: &Answer,
     kind: Kind,
+    to_get: bool,
     id: u16,
     token: &Token,
     tags: &Pieces,
 )
-    requires fits { length (spelling (shown_as kind now answer.now id token.now tags.now))
+    requires fits { length (spelling (shown_as kind to_get now answer.now id token.now tags.now))
         ≤ out.old.room }
     ensures { out.new
-        ≡ holding out.old (spelling (shown_as kind now answer.now id token.now tags.now)) }
+        ≡ holding out.old (spelling (shown_as kind to_get now answer.now id token.now tags.now)) }
 {
-    let left = left_told(now, answer);
+    let left = left_told(to_get, now, answer);
     let room = out.room();
     if show_into(&answer.message, kind, id, token, left, tags, out, room).is_err() {
         unreachable!();
     }
 }
 
-/// Writes what a client with these tags is given for what is stored, in a message of this type.
+/// Writes what a client with these tags is given for what is stored, the answer to a GET, in a
+/// message of this type.
 pub fn put_stored(
     out: &mut Datagram,
     now: u64,
@@ -94,11 +97,11 @@ pub fn put_stored(
     tags: &Pieces,
 )
     requires fits { length
-        (spelling (shown_as kind now (stored_answer stored.now) id token.now tags.now))
+        (spelling (shown_as kind true now (stored_answer stored.now) id token.now tags.now))
         ≤ out.old.room }
     ensures { out.new
         ≡ holding out.old
-        (spelling (shown_as kind now (stored_answer stored.now) id token.now tags.now)) }
+        (spelling (shown_as kind true now (stored_answer stored.now) id token.now tags.now)) }
 {
     let left = Some(stored.left(now));
     let room = out.room();

@@ -1,5 +1,6 @@
 -- An answer that is got keeps what is carried.
-use Rattle.std.proofs.Common.{◌≡◌, inl, ℕ, Bool, ◌<◌, ◌≤◌, true, false, List, [], ◌∷◌, Option, Some, None, refl, sym, ap, ◌∙◌, subst, arith}
+use Rattle.std.specs.Prelude.{◌||◌, ◌&&◌}
+use Rattle.std.proofs.Common.{◌≡◌, inl, ℕ, Bool, ◌≤◌, true, false, List, [], ◌∷◌, Option, Some, None, refl, sym, ap, ◌∙◌, subst, arith}
 use Rattle.coap_message.specs.declared.kind.Kind.TheVariants.{Con, Non}
 use Rattle.coap_message.specs.Uint.{IsBytes}
 use Rattle.coap_message.specs.Message.{Message}
@@ -9,78 +10,45 @@ use Rattle.coap_target.specs.declared.endpoint.Endpoint.{Endpoint}
 use Rattle.coap_target.proofs.Lists.{All-weaken}
 use Rattle.coap_dedup.specs.Records.{Records}
 use Rattle.coap_exchange.specs.declared.exchange.Exchange.{Exchange}
-use Rattle.coap_exchange.specs.declared.exchange.Sending.{Sending}
 use Rattle.coap_exchange.specs.Exchanges.{acked, answered, is_queued, is_sent_to}
 use Rattle.coap_exchange.specs.Table.{Numbered, item_at, passes}
 use Rattle.coap_exchange.proofs.Counts.{one_if, count-moved}
 use Rattle.coap_model.specs.Events.{arrival}
 use Rattle.coap_forward.specs.Messages.{is_con, is_ack, acknowledgement}
-use Rattle.coap_cache.specs.Entries.{Entry, entry_size}
-use Rattle.coap_cache.specs.declared.answer.Answer.{Answer}
+use Rattle.coap_cache.specs.Entries.{Entry}
 use Rattle.coap_model.specs.declared.report.Outcome.TheVariants.{Answered}
 use Rattle.coap_model.specs.declared.report.Storing.{Storing}
-use Rattle.coap_model.specs.declared.report.Storing.TheVariants.{Kept, TooLarge, NoMemory, NotStored}
-use Rattle.coap_forward.specs.Answers.{answer_of, is_storable}
-use Rattle.coap_model.specs.Cached.{leaves, cached_here, entry_of_cached, IsObtained, IsStoreOf}
-use Rattle.coap_model.specs.Justified.{TakesUp, IsNew, Acknowledges, to_acknowledge, to_reset, a_request, IsAnswer, IsObtainedHere, JustifiedBy, got}
+use Rattle.coap_model.specs.Justified.{TakesUp, IsNew, Acknowledges, to_acknowledge, to_reset, a_request, IsAnswer, got}
 use Rattle.coap_model.specs.World.{World, silent, says, known_of, has_record_room, remembers}
 use Rattle.coap_model.specs.Step.{message_in}
-use Rattle.coap_model.specs.Answers.{asked_of, entry_made}
 use Rattle.coap_model.specs.Empties.{acknowledges}
-use Rattle.coap_model.specs.History.{moves, Deed, Gets, last_of}
+use Rattle.coap_model.specs.History.{moves, Deed, Brings, last_of}
 use Rattle.coap_model.specs.Standing as stage
 use Rattle.coap_model.specs.Runs.{entry_of}
-use Rattle.coap_model.specs.Carries.{WasAsked, AreRemembered, Bears}
-use Rattle.coap_model.proofs.Awaiting.{awaited-by, ack-is, empty-is, answer-here, about-here, sent-unsettled, from-here, meets-here}
-use Rattle.coap_model.proofs.Frames.{asked_frame, sent_frame, sends-quiet, schedules_frame}
+use Rattle.coap_model.specs.Carries.{AreRemembered, Bears}
+use Rattle.coap_model.proofs.Awaiting.{awaited-by, ack-is, empty-is, answer-here, about-here, sent-unsettled, from-here}
+use Rattle.coap_model.proofs.Frames.{is_flying, asked_frame, sent_frame, sends-quiet, schedules_frame}
 use Rattle.coap_model.proofs.Getting.{got-is}
 use Rattle.coap_model.proofs.Giving.{ids-kept, ids-differ}
 use Rattle.coap_model.proofs.Lists.{Has, Has-all}
-use Rattle.coap_model.proofs.Moving.{moved_world, keeps_moving}
+use Rattle.coap_model.proofs.Moving.{moved_world, AreOthers, others-quiet, others-changed, found-tainted, count-tainted, keeps_moving}
+use Rattle.coap_model.proofs.Received.{gets, result-is, stored-then, answered-so}
+use Rattle.coap_model.proofs.Changing.{told-stays}
+use Rattle.coap_model.specs.Answers.{tainted_all, answer_for}
+use Rattle.coap_forward.specs.Changes.{changed_by, concerns}
+use Rattle.coap_cache.specs.declared.key.CacheKey.{CacheKey}
 use Rattle.coap_model.specs.Promised.{IdsDiffer}
 use Rattle.coap_model.proofs.OneMeant.{one-meant}
 use Rattle.coap_model.proofs.Places.{here, doing, opened-later, one-brought}
 use Rattle.coap_model.proofs.Quiet.{remembered-still, room-still}
 use Rattle.coap_model.proofs.Remembering.{remembered-on, record-new, now-remembered, answer-leaves}
 use Rattle.coap_model.proofs.Repeating.{ended-seen, ended-room, ended-pace}
-use Rattle.coap_model.proofs.Rules.{Recorded, IsAbout, IsAnswerFor, recorded-kind, answered_world, IsStoring, kept, too_large, no_memory, not_stored}
+use Rattle.coap_model.proofs.Rules.{Recorded, IsAbout, IsAnswerFor, recorded-kind, answered_world, changed_world, IsStoring}
 use Rattle.coap_model.proofs.Seen.{staged-seen}
 use Rattle.coap_model.proofs.Sendings.{was-sent}
 use Rattle.coap_model.proofs.Spelled.{message_in-is, acknowledgement-is, acknowledgement-short}
 use Rattle.coap_model.proofs.TakingUp.{silent-up, told-up}
-use Rattle.coap_model.proofs.Stores.{store-kept, store-too_large, store-otherwise, none-found}
-
--- ---- what is stored
-
--- what is stored of an answer, as the history says it
-module _ (w : World) (history : List Deed) (c : Bears history w) (now : ℕ) (grown : Bool) (x : Numbered Exchange) (a : Answer) (e : Deed) where
-  -- it is the entry of the cache
-  made : (s : Sending) → x.1.sending ≡ Some s → (was : WasAsked w.setting history x.0 x.1.key x.1.form s) → e.entry.now ≡ now → entry_made w now x a ≡ entry_of_cached (cached_here x.1.key a.message was.asking history e)
-  made s is was at = rw (ap asked_of is, was.number, c.clock.events, at) refl
-
-  -- the store then has the cache of the history
-  stored-then : (storing : Storing) (store : List Entry) (s : Sending) → x.1.sending ≡ Some s → (was : WasAsked w.setting history x.0 x.1.key x.1.form s) → e.entry.now ≡ now → e.entry.report.outcome ≡ Answered storing → (is_storable a ≡ true → IsObtained w.setting x.1.key a.message was.asking (here history e)) → IsStoring w now grown x a storing store → IsStoreOf w.setting (e ∷ history) store
-  stored-then Kept _ s is was at outcome obtains (kept can small) = store-kept w.setting history w.store e x.1.key a.message was.asking (entry_made w now x a) outcome (obtains can) (made s is was at) c.store
-  stored-then TooLarge _ s is was at outcome obtains (too_large can large) = store-too_large w.setting history w.store e x.1.key a.message was.asking outcome (obtains can) c.store
-  stored-then NoMemory _ s is was at outcome obtains (no_memory can small new g) = store-otherwise w.setting history w.store e (ap leaves outcome) c.store
-  stored-then NotStored _ s is was at outcome obtains (not_stored can) = store-otherwise w.setting history w.store e (ap leaves outcome) c.store
-
-  -- and the deed is justified
-  answered-so : (storing : Storing) (store : List Entry) (s : Sending) → x.1.sending ≡ Some s → (was : WasAsked w.setting history x.0 x.1.key x.1.form s) → e.entry.now ≡ now → e.entry.report.outcome ≡ Answered storing → IsAnswer w.setting history e → (is_storable a ≡ true → IsObtained w.setting x.1.key a.message was.asking (here history e)) → (IsObtainedHere w.setting history e → is_storable a ≡ true) → IsStoring w now grown x a storing store → JustifiedBy (Answered storing) w.setting history e
-  answered-so Kept _ s is was at outcome answer obtains only (kept can small) =
-      record { answer = answer; here = record { key = x.1.key; response = a.message; asking = was.asking; obtained = obtains can }; small = subst (λ (t : Entry). entry_size t ≤ w.setting.limits.cache_bytes) (made s is was at) small }
-  answered-so TooLarge _ s is was at outcome answer obtains only (too_large can large) =
-      record { answer = answer; here = record { key = x.1.key; response = a.message; asking = was.asking; obtained = obtains can }; large = subst (λ (t : Entry). w.setting.limits.cache_bytes < entry_size t) (made s is was at) large }
-  answered-so NoMemory _ s is was at outcome answer obtains only (no_memory can small new g) =
-      record {
-        answer = answer;
-        here = record { key = x.1.key; response = a.message; asking = was.asking; obtained = obtains can };
-        small = subst (λ (t : Entry). entry_size t ≤ w.setting.limits.cache_bytes) (made s is was at) small;
-        cached = c.store.cached;
-        is_cache = c.store.is_cache;
-        new = none-found w.store c.store.cached x.1.key c.store.each new;
-      }
-  answered-so NotStored _ s is was at outcome answer obtains only (not_stored can) = record { answer = answer; none = λ o. absurd (let f = sym can ∙ only o in cc) }
+use Rattle.coap_model.proofs.Stores.{store-otherwise}
 
 -- ---- one request
 
@@ -99,15 +67,18 @@ module _ (w : World) (history : List Deed) (c : Bears history w) (now draw : ℕ
   abbrev answer_deed : Deed
   answer_deed = doing (moves x.0) (record { now = now; draw = draw; event = arrival source bytes; report = record { send = send; outcome = Answered storing }; bytes = told })
 
-  keeps-answer : w.last ≤ now → IsBytes bytes → message_in w.setting.limits.datagram bytes ≡ Some m → IsAnswerFor w now source m x → IsStoring w now grown x (answer_of w.setting.limits.datagram now m) storing store
+  -- the exchanges, after what the answer changes
+  abbrev others : List (Numbered Exchange)
+  others = tainted_all (changed_by x.1.key.target m) w.exchanges
+
+  keeps-answer : w.last ≤ now → IsBytes bytes → message_in w.setting.limits.datagram bytes ≡ Some m → IsAnswerFor w now source m x → IsStoring (changed_world w m x) now grown x (answer_for w now m x.1) storing store
       → TakesUp m.kind source m.id answer_deed.entry
       → (m.kind ≡ Con → IsNew w.setting history now source m)
       → AreRemembered w.setting (answer_deed ∷ history) Con con × AreRemembered w.setting (answer_deed ∷ history) Non non
-      → Bears (answer_deed ∷ history) (moved_world w now x.0 (answered (answer_of w.setting.limits.datagram now m)) w.ids store con non)
+      → Bears (answer_deed ∷ history) (moved_world w now others x.0 (answered (answer_for w now m x.1)) w.ids store con non)
   keeps-answer onward fits read for stored taken new remembered =
-      let result = answer_of w.setting.limits.datagram now m in
+      let result = answer_for w now m x.1 in
       let e = answer_deed in
-      let p = here history e in
       let a = answer-here w history c now source m x for in
       let h = a.0 in
       let f = h.exchange in
@@ -115,52 +86,56 @@ module _ (w : World) (history : List Deed) (c : Bears history w) (now draw : ℕ
       let was = flight.asked in
       let came = message_in-is w.setting.limits.datagram bytes m fits read in
       let from = from-here w history c now source m x h in
-      let gets : Gets w.setting x.0 p = record { act = refl; outcome = refl; meets = meets-here w history c now source m x h a.1 bytes came.0 came.1; bytes = fits } in
-      let obtains : is_storable result ≡ true → IsObtained w.setting x.1.key result.message was.asking p = λ can. record { exchange = x.0; gets = gets; asking_is = refl; asked_key = was.asked_key; storable = can; response_is = refl } in
-      let only : IsObtainedHere w.setting history e → is_storable result ≡ true = λ o. ap (λ (r : Message). is_storable (answer_of w.setting.limits.datagram now r)) (one-brought gets.meets.brings o.obtained.gets.meets.brings).1 ∙ o.obtained.storable in
+      let brings : Brings w.setting.limits.datagram was.asks.sends.to m e.entry.event = record { bytes = bytes; came = ap (λ (to : Endpoint). arrival to bytes) from; spells = came.0; short = came.1 } in
+      let g = gets w history c now m x e refl flight refl refl brings a.1 fits in
+      let is = result-is w history c now m x e refl flight refl refl brings a.1 fits in
       let answer : IsAnswer w.setting history e = record {
         exchange = x.0;
-        gets = gets;
+        gets = g;
         first = flight.unended;
         unsettled = a.2;
-        only = λ reset other also. one-meant w.setting history now (arrival source bytes) other (moves x.0) (differ w history c) c.clock.in_order (last-now w history c now onward) also (to_reset x.0 (awaited-by w history c now source m x bytes fits read for) refl (sym (ap (λ (k : Message). k.kind) (one-brought gets.meets.brings (awaited-by w history c now source m x bytes fits read for).meets.brings).1) ∙ reset));
-        new = λ is. subst (λ (to : Endpoint). IsNew w.setting history now to m) from (new is);
+        only = λ reset other also. one-meant w.setting history now (arrival source bytes) other (moves x.0) (differ w history c) c.clock.in_order (last-now w history c now onward) also (to_reset x.0 (awaited-by w history c now source m x bytes fits read for) refl (sym (ap (λ (k : Message). k.kind) (one-brought brings (awaited-by w history c now source m x bytes fits read for).meets.brings).1) ∙ reset));
+        new = λ con. subst (λ (to : Endpoint). IsNew w.setting history now to m) from (new con);
         takes_up = subst (λ (to : Endpoint). TakesUp m.kind to m.id e.entry) from taken;
       } in
-      keeps_moving w history c e x.0 x.1 (answered result) w.ids store con non
+      let changed = subst (λ (k : CacheKey). AreOthers w history e x.0 (tainted_all (changed_by k.target m) w.exchanges)) was.asked_key (others-changed w history c e x.0 g) in
+      let taint = x.1.tainted || (is_flying x.1.state && concerns (changed_by x.1.key.target m) x.1.key.target) in
+      keeps_moving w history c e others x.0 (record x.1 { tainted = taint }) (answered result) w.ids store con non
       (record { act = refl; opens = refl; admits = refl; stands = λ standing. refl })
-      h.found onward
+      changed (found-tainted (changed_by x.1.key.target m) x.0 w.exchanges x.1 h.found) onward
       (record {
         opened = opened-later e f.opened;
         admitted = f.admitted;
         verdict = f.verdict;
+        method = f.method;
+        former = f.former;
+        was_cache = f.was_cache;
         form_is = f.form_is;
         form_short = f.form_short;
-        is_get = f.is_get;
-        untainted = f.untainted;
+        copy_is = f.copy_is;
         state = record {
-          ending = p;
+          ending = here history e;
           was_ended = inl refl;
           ends = record { act = refl; outcome = refl };
-          with = got gets was.asked_key refl;
-          got = got-is w.setting.limits.datagram now m;
+          with = got g flight.former flight.was_cache was.asked_key is;
+          got = got-is w.setting.limits.datagram now x.1.is_get _ m;
           was_sent = sent_frame w.setting history x.0 x.1.key x.1.form x.1.sending e (sends-quiet (moves x.0) history e refl) (was-sent w.setting history x x.1.state f.state);
         };
       })
-      (ended-seen x.0 result w.exchanges)
+      (ended-seen x.0 result others)
       (ids-kept history w _ e c.clock c.ids onward refl refl refl)
       (schedules_frame history e refl c.schedules)
-      (ended-pace w history c x.0 result)
-      (λ later after. ended-room w history c now x.0 result onward later after)
-      (stored-then w history c now grown x result e storing store flight.sending flight.sending_is was refl refl obtains stored)
+      (λ to. ended-pace w history c x.0 result others changed.rising to (count-tainted (is_sent_to to) (λ b t. refl) (changed_by x.1.key.target m) w.exchanges))
+      (λ later after. ended-room w history c now x.0 result others changed.rising (count-tainted is_queued (λ b t. refl) (changed_by x.1.key.target m) w.exchanges) onward later after)
+      (stored-then w history c now m x e refl flight refl refl brings a.1 fits grown storing store refl stored)
       remembered
-      (answered-so w history c now grown x result e storing store flight.sending flight.sending_is was refl refl answer obtains only stored, c.past)
+      (answered-so w history c now m x e refl flight refl refl brings a.1 fits grown storing store answer stored, c.past)
 
 -- an answer that isn't Confirmable keeps what is carried
-pub keeps_answering : (w : World) (history : List Deed) (c : Bears history w) → (now draw : ℕ) (source : Endpoint) (bytes : List ℕ) (grown : Bool) (m : Message) (x : Numbered Exchange) (storing : Storing) (store : List Entry) → w.last ≤ now → IsBytes bytes → message_in w.setting.limits.datagram bytes ≡ Some m → IsAnswerFor w now source m x → is_con m.kind ≡ false → IsStoring w now grown x (answer_of w.setting.limits.datagram now m) storing store
-    → Bears (doing (moves x.0) (entry_of now draw (arrival source bytes) (silent (Answered storing) (answered_world w now x.0 (answer_of w.setting.limits.datagram now m) store))) ∷ history) (answered_world w now x.0 (answer_of w.setting.limits.datagram now m) store)
+pub keeps_answering : (w : World) (history : List Deed) (c : Bears history w) → (now draw : ℕ) (source : Endpoint) (bytes : List ℕ) (grown : Bool) (m : Message) (x : Numbered Exchange) (storing : Storing) (store : List Entry) → w.last ≤ now → IsBytes bytes → message_in w.setting.limits.datagram bytes ≡ Some m → IsAnswerFor w now source m x → is_con m.kind ≡ false → IsStoring (changed_world w m x) now grown x (answer_for w now m x.1) storing store
+    → Bears (doing (moves x.0) (entry_of now draw (arrival source bytes) (silent (Answered storing) (answered_world (changed_world w m x) now x.0 (answer_for w now m x.1) store))) ∷ history) (answered_world (changed_world w m x) now x.0 (answer_for w now m x.1) store)
 keeps_answering w history c now draw source bytes grown m x storing store onward fits read for other stored =
-    let e = doing (moves x.0) (entry_of now draw (arrival source bytes) (silent (Answered storing) (answered_world w now x.0 (answer_of w.setting.limits.datagram now m) store))) in
+    let e = doing (moves x.0) (entry_of now draw (arrival source bytes) (silent (Answered storing) (answered_world (changed_world w m x) now x.0 (answer_for w now m x.1) store))) in
     let since = last-now w history c now onward in
     keeps-answer w history c now draw source bytes grown m x storing store None [] w.con_records w.non_records onward fits read for stored
     (silent-up m.kind source m.id e.entry other (record { sent = refl; bytes = refl }))
@@ -170,10 +145,10 @@ keeps_answering w history c now draw source bytes grown m x storing store onward
     )
 
 -- and one that is, which is acknowledged and remembered
-pub keeps_answering_con : (w : World) (history : List Deed) (c : Bears history w) → (now draw : ℕ) (source : Endpoint) (bytes : List ℕ) (grown : Bool) (m : Message) (x : Numbered Exchange) (storing : Storing) (store : List Entry) → w.last ≤ now → IsBytes bytes → Recorded w bytes m → IsAnswerFor w now source m x → is_con m.kind ≡ true → known_of w now source m ≡ None → has_record_room w now m.kind ≡ true → IsStoring w now grown x (answer_of w.setting.limits.datagram now m) storing store
-    → Bears (doing (moves x.0) (entry_of now draw (arrival source bytes) (says (Answered storing) source (acknowledgement m.id) (answered_world w now x.0 (answer_of w.setting.limits.datagram now m) store))) ∷ history) (remembers now source m (says (Answered storing) source (acknowledgement m.id) (answered_world w now x.0 (answer_of w.setting.limits.datagram now m) store))).world
+pub keeps_answering_con : (w : World) (history : List Deed) (c : Bears history w) → (now draw : ℕ) (source : Endpoint) (bytes : List ℕ) (grown : Bool) (m : Message) (x : Numbered Exchange) (storing : Storing) (store : List Entry) → w.last ≤ now → IsBytes bytes → Recorded w bytes m → IsAnswerFor w now source m x → is_con m.kind ≡ true → known_of w now source m ≡ None → has_record_room w now m.kind ≡ true → IsStoring (changed_world w m x) now grown x (answer_for w now m x.1) storing store
+    → Bears (doing (moves x.0) (entry_of now draw (arrival source bytes) (says (Answered storing) source (acknowledgement m.id) (answered_world (changed_world w m x) now x.0 (answer_for w now m x.1) store))) ∷ history) (remembers now source m (says (Answered storing) source (acknowledgement m.id) (answered_world (changed_world w m x) now x.0 (answer_for w now m x.1) store))).world
 keeps_answering_con w history c now draw source bytes grown m x storing store onward fits recorded for con unknown room stored =
-    let s = says (Answered storing) source (acknowledgement m.id) (answered_world w now x.0 (answer_of w.setting.limits.datagram now m) store) in
+    let s = says (Answered storing) source (acknowledgement m.id) (answered_world (changed_world w m x) now x.0 (answer_for w now m x.1) store) in
     let e = doing (moves x.0) (entry_of now draw (arrival source bytes) s) in
     let kind = recorded-kind m recorded.recorded in
     keeps-answer w history c now draw source bytes grown m x storing store (Some source) (spelling (acknowledgement m.id)) _ _ onward fits recorded.read for stored
@@ -207,25 +182,27 @@ keeps_acknowledging w history c now draw source bytes m x onward fits read about
       empty = empty-is m about.bare;
       id_is = sym a.id_is ∙ was.id_is;
     } in
-    keeps_moving w history c e x.0 x.1 acked w.ids w.store w.con_records w.non_records
+    keeps_moving w history c e w.exchanges x.0 x.1 acked w.ids w.store w.con_records w.non_records
     (record { act = refl; opens = refl; admits = refl; stands = λ standing. refl })
-    h.found onward
+    (others-quiet w history c e x.0 refl refl) h.found onward
     (record {
       opened = opened-later e f.opened;
       admitted = f.admitted;
       verdict = f.verdict;
+      method = f.method;
+      former = f.former;
+      was_cache = f.was_cache;
       form_is = f.form_is;
       form_short = f.form_short;
-      is_get = f.is_get;
-      untainted = f.untainted;
-      state = record { sending = flight.sending; sending_is = flight.sending_is; asked = asked_frame e quiet was; unended = ((λ ended. let k = ended.outcome in absurd cc), flight.unended) };
+      copy_is = f.copy_is;
+      state = record { sending = flight.sending; sending_is = flight.sending_is; asked = asked_frame e quiet was; method = flight.method; former = flight.former; was_cache = flight.was_cache; copy_is = flight.copy_is; told = told-stays x.1.tainted w.setting x.1.key.target was.asking history e refl flight.told; unended = ((λ ended. let k = ended.outcome in absurd cc), flight.unended) };
     })
     (staged-seen x.0 acked stage.acked w.exchanges (All-weaken (λ y. Has y w.exchanges) (λ y. y.0 ≡ x.0 → stage.acked ≡ stage.acked) w.exchanges (λ y there same. refl) (Has-all w.exchanges)))
     (ids-kept history w _ e c.clock c.ids onward refl refl refl)
     (schedules_frame history e refl c.schedules)
     (λ to. let pace = c.within.pace to in let moved = count-moved (is_sent_to to) x.0 0 acked w.exchanges c.whole.rising in let none = unsent-acked (is_sent_to to) (λ b. refl) (item_at x.0 w.exchanges) in omega arith)
     (λ later after. let room = room-still w history c now onward later after in let moved = count-moved is_queued x.0 0 acked w.exchanges c.whole.rising in let none = unsent-acked is_queued (λ b. refl) (item_at x.0 w.exchanges) in omega arith)
-    (store-otherwise w.setting history w.store e refl c.store)
+    (store-otherwise w.setting history w.store e refl refl c.store)
     (remembered-still w history c e onward (λ k. refl)) (
       record {
         settles = a_request x.0 refl acknowledges_it;

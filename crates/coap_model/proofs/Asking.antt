@@ -3,11 +3,12 @@ use Rattle.std.proofs.Common.{◌≡◌, List, sym, ap, ◌∙◌}
 use Rattle.coap_message.specs.Message.{Message}
 use Rattle.coap_message.specs.Spelling.{Spells}
 use Rattle.coap_message.proofs.WholeMessages.{one_message}
-use Rattle.coap_option.specs.Selection.{sent_on}
 use Rattle.coap_routes.specs.Routes.{AreRoutes}
 use Rattle.coap_model.specs.Setting.{Setting}
 use Rattle.coap_forward.specs.Messages.{token_of}
-use Rattle.coap_forward.specs.Forms.{forwarded}
+use Rattle.coap_forward.specs.Forms.{forwarded, tag_for}
+use Rattle.coap_forward.proofs.Tagging.{tag_for-is, tag_for-other}
+use Rattle.coap_model.specs.Cached.{kept_for}
 use Rattle.coap_model.specs.Keys.{key_sent}
 use Rattle.coap_model.specs.History.{Deed}
 use Rattle.coap_model.specs.Justified.{IsForwarding}
@@ -21,5 +22,7 @@ key-kept setting past d f m routes spells =
     let request = f.to_send.opened.request in
     let may = askable setting.routes request routes key f.to_send.verdict in
     let token = token_of setting.salt f.exchange in
-    let same = one_message d.entry.bytes m (forwarded token key.target (sent_on request) f.id) spells f.tells.spells in
-    ap (key_sent key.target.at) same ∙ key-forwarded token key.target request f.id may.screened may.get ∙ sym may.key_is
+    let kept = kept_for key f.former in
+    let tag = tag_for setting.limits.datagram key.target request kept in
+    let same = one_message d.entry.bytes m (forwarded token key.target tag request f.id) spells f.tells.spells in
+    ap (key_sent key.target.at) same ∙ key-forwarded token key.target tag request f.id may.screened (tag_for-is setting.limits.datagram key.target request kept) (tag_for-other setting.limits.datagram key.target request kept) ∙ sym may.key_is

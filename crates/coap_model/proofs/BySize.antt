@@ -1,10 +1,11 @@
 -- How an answer is stored goes by its size; what is kept stands first.
-use Rattle.std.proofs.Common.{◌≡◌, inl, inr, ℕ, ◌<◌, ◌≤◌, true, List, [], ◌∷◌, refl, sym, ap, ◌∙◌, subst, arith}
-use Rattle.coap_message.specs.Message.{Message}
-use Rattle.coap_cache.specs.declared.key.CacheKey.{CacheKey}
+use Rattle.std.proofs.Common.{◌≡◌, inl, inr, ℕ, ◌<◌, ◌≤◌, Bool, true, false, List, [], ◌∷◌, refl, ap, ◌∙◌, subst, arith}
+use Rattle.coap_option.specs.Selection.{tags_of}
+use Rattle.coap_target.specs.declared.target.Target.{Target}
 use Rattle.coap_cache.specs.Entries.{Entry}
 use Rattle.coap_cache.specs.Lists.{others, cut}
 use Rattle.coap_cache.proofs.Cuts.{cut-fits}
+use Rattle.coap_forward.specs.Changes.{changed_by, concerns}
 use Rattle.coap_model.specs.declared.report.Outcome.{Outcome}
 use Rattle.coap_model.specs.declared.report.Outcome.TheVariants.{Answered}
 use Rattle.coap_model.specs.declared.report.Storing.TheVariants.{Kept, TooLarge, NoMemory, NotStored}
@@ -12,22 +13,19 @@ use Rattle.coap_limits.specs.declared.limits.Limit.TheVariants.{CacheEntries}
 use Rattle.coap_limits.specs.Limits.{AreLimits}
 use Rattle.coap_model.specs.Setting.{Setting}
 use Rattle.coap_model.specs.World.{World}
-use Rattle.coap_model.specs.History.{Entry as Told, Deed, Place, takes}
+use Rattle.coap_model.specs.History.{Entry as Told, Deed, takes, Gets}
 use Rattle.coap_model.specs.Pairs.{Pairs}
-use Rattle.coap_model.specs.Cached.{IsObtained, Cached, cached_key, cached_size, cached_here, entry_of_cached, IsCacheOf, kept, too_large, hit, otherwise, StandsFirst, IsStored, IsStoreOf}
-use Rattle.coap_model.specs.Justified.{IsObtainedHere, size_here, JustifiedBy, AllJustified, IsKeptIfGrown, IsOwed, AllOwed}
+use Rattle.coap_model.specs.Changed.{asked_of, key_asked, to_get, Unchanged, IsTold}
+use Rattle.coap_model.specs.Cached.{Cached, cached_key, cached_size, entry_marked, entry_of_cached, copied, entry_got, IsCacheOf, kept, too_large, hit, otherwise, WasCacheAt, StandsFirst, IsStored, IsStoreOf}
+use Rattle.coap_model.specs.Justified.{IsObtainedHere, entry_here, size_here, JustifiedBy, AllJustified, IsKeptIfGrown, IsOwed, AllOwed}
 use Rattle.coap_model.specs.Carries.{Carries}
-use Rattle.coap_model.proofs.Places.{here}
-use Rattle.coap_model.proofs.Cached.{obtained-unique, clash, apart}
+use Rattle.coap_model.proofs.Places.{here, index_below}
+use Rattle.coap_model.proofs.Changing.{told-on, told-contrary, storable-quiet}
+use Rattle.coap_model.proofs.Cached.{same-entry, clash, apart}
+use Rattle.coap_model.proofs.OneStoring.{one-former, one-size}
 use Rattle.coap_model.proofs.Owing.{given_again, given_dropped, given_no_room, given_hit}
 
 module _ (setting : Setting) (past : List Deed) (d : Deed) where
-  -- what is obtained at a place has one size
-  one-size : (o p : IsObtainedHere setting past d) → size_here o ≡ size_here p
-  one-size o p =
-      let same = obtained-unique setting o.key p.key o.response p.response o.asking p.asking (here past d) o.obtained p.obtained in
-      λ i. cached_size (cached_here (same.0 i) (same.1 i) (same.2 i) past d)
-
   -- what is small is kept, memory aside
   small-so : (o : Outcome) → JustifiedBy o setting past d → takes o ≡ true → (h : IsObtainedHere setting past d) → size_here h ≤ setting.limits.cache_bytes → IsKeptIfGrown o
   small-so (Answered Kept) j t h small = inl refl
@@ -61,8 +59,8 @@ module _ (setting : Setting) (past : List Deed) (d : Deed) where
         no_room = λ client request r. given_dropped o setting past d client request j r;
         no_answer_room = λ exchange awaited. given_no_room o setting past d exchange j awaited;
         hit = λ client request key cached entry r new. given_hit o setting past d client request j r new key cached entry;
-        small = λ h. small-so o j h.obtained.gets.outcome h;
-        large = λ h. large-so o j h.obtained.gets.outcome h;
+        small = λ h. small-so o j h.gets.outcome h;
+        large = λ h. large-so o j h.gets.outcome h;
         other = other-so o j;
       }
 
@@ -78,33 +76,58 @@ first-of-cut : (bytes count : ℕ) (x : Cached) (xs : List Cached) → cached_si
 first-of-cut bytes count x xs small some = rw (cut-fits cached_size bytes count x xs small some) refl
 
 -- an answer that is kept stands first in the cache
-pub kept-first : (setting : Setting) (past : List Deed) (d : Deed) (key : CacheKey) (response : Message) (asking : Place) (cached : List Cached) → 1 ≤ setting.limits.cache_entries → JustifiedBy d.entry.report.outcome setting past d → d.entry.report.outcome ≡ Answered Kept → IsObtained setting key response asking (here past d) → IsCacheOf setting (d ∷ past) cached
-    → StandsFirst (cached_here key response asking past d) cached
-kept-first setting past d key response asking _ some j is got (kept {cached = cs} _ k m a also o c) =
-    let new = cached_here k m a past d in
-    let same = obtained-unique setting key k response m asking a (here past d) got o in
+pub kept-first : (setting : Setting) (past : List Deed) (d : Deed) (cached : List Cached) → 1 ≤ setting.limits.cache_entries → JustifiedBy d.entry.report.outcome setting past d → d.entry.report.outcome ≡ Answered Kept → (o : IsObtainedHere setting past d) → IsCacheOf setting (d ∷ past) cached
+    → StandsFirst (entry_here o) cached
+kept-first setting past d _ some j is o (kept {cached = cs} {former = former} _ x gets opening also was opens at c) =
+    let new = entry_got former gets in
+    let there : WasCacheAt setting gets.meets.asking.before x former = record { opening = opening; was_opened = was; opens = opens; is_cache = at } in
+    let entry : new ≡ entry_here o = same-entry gets o.gets former o.former (one-former gets o.gets there o.was_cache) in
     let justified = subst (λ (p : Outcome). JustifiedBy p setting past d) is j in
-    let size : cached_size new ≡ size_here justified.here = one-size setting past d (record { key = k; response = m; asking = a; obtained = o }) justified.here in
+    let size : cached_size new ≡ size_here justified.here = ap cached_size entry ∙ one-size o justified.here in
     let small = justified.small in
-    let first = first-of-cut setting.limits.cache_bytes setting.limits.cache_entries new (others cached_key k cs) (omega (arith, size, small)) some in
-    let entry : new ≡ cached_here key response asking past d = λ i. cached_here (sym same.0 i) (sym same.1 i) (sym same.2 i) past d in
-    subst (λ (x : Cached). StandsFirst x (cut cached_size setting.limits.cache_bytes setting.limits.cache_entries (new ∷ others cached_key k cs))) entry first
-kept-first setting past d key response asking _ some j is got (too_large _ k m a also o c) = absurd (apart _ _ _ (λ f. cc) is also)
-kept-first setting past d key response asking _ some j is got (hit _ client request target entry also came to found c) = absurd (apart _ _ _ (λ f. cc) is also)
-kept-first setting past d key response asking _ some j is got (otherwise _ leaving c) = absurd (clash _ _ is refl leaving)
+    let first = first-of-cut setting.limits.cache_bytes setting.limits.cache_entries new (others cached_key (key_asked gets) cs) (omega (arith, size, small)) some in
+    subst (λ (x : Cached). StandsFirst x (cut cached_size setting.limits.cache_bytes setting.limits.cache_entries (new ∷ others cached_key (key_asked gets) cs))) entry first
+kept-first setting past d _ some j is o (too_large _ x gets also c) = absurd (apart _ _ _ (λ f. cc) is also)
+kept-first setting past d _ some j is o (hit _ client request target entry also came to found c) = absurd (apart _ _ _ (λ f. cc) is also)
+kept-first setting past d _ some j is o (otherwise _ leaving c) = absurd (clash _ _ is refl leaving)
 
--- what a store has of the first stands first in it
-first-stored : (store : List Entry) (cs : List Cached) (c : Cached) → Pairs IsStored store cs → StandsFirst c cs → StandsFirst (entry_of_cached c) store
-first-stored [] [] c each first = first
-first-stored [] (x ∷ xs) c each first = absurd each
-first-stored (s ∷ ss) [] c each first = absurd first
-first-stored (s ∷ ss) (x ∷ xs) c each first = each.0 ∙ ap entry_of_cached first
+-- the store has what is kept of the first first
+pub record FirstStored (setting : Setting) (history : List Deed) (c : Cached) (store : List Entry) : Type 0 where
+  pub stored : Entry
+  pub is_first : StandsFirst stored store
+  pub stored_is : IsStored setting history stored c
+
+first-stored : (setting : Setting) (history : List Deed) (store : List Entry) (cs : List Cached) (c : Cached) → Pairs (IsStored setting history) store cs → StandsFirst c cs → FirstStored setting history c store
+first-stored setting history [] [] c each first = absurd first
+first-stored setting history [] (x ∷ xs) c each first = absurd each
+first-stored setting history (s ∷ ss) [] c each first = absurd first
+first-stored setting history (s ∷ ss) (x ∷ xs) c each first = record { stored = s; is_first = refl; stored_is = subst (IsStored setting history s) first each.0 }
+
+-- what is stored of an answer that is kept isn't marked
+newest-unmarked : (setting : Setting) (past : List Deed) (d : Deed) (o : IsObtainedHere setting past d) (stored : Entry) → IsStored setting (d ∷ past) stored (entry_here o) → stored ≡ entry_of_cached (entry_here o)
+newest-unmarked setting past d o stored is = is.same ∙ ap (λ (b : Bool). entry_marked b (entry_here o)) (go stored.1.marked is.told)
+  where
+    gets : Gets setting o.exchange (here past d)
+    gets = o.gets
+
+    target : Target
+    target = (key_asked gets).target
+
+    quiet : concerns (changed_by target gets.meets.message) target ≡ false
+    quiet = storable-quiet setting.limits.datagram d.entry.now (to_get gets) (copied (tags_of (asked_of gets)) (key_asked gets) o.former) gets.meets.message target target o.storable
+
+    unchanged : Unchanged setting target gets.meets.asking (d ∷ past)
+    unchanged = subst (λ (b : Bool). IsTold b setting target gets.meets.asking (d ∷ past)) quiet (told-on false target gets.meets.asking gets (index_below past gets.meets.asking gets.meets.was_asked) o.unchanged)
+
+    go : (b : Bool) → IsTold b setting target gets.meets.asking (d ∷ past) → b ≡ false
+    go false t = refl
+    go true t = absurd (told-contrary gets.meets.asking unchanged t)
 
 -- and in the store of a proxy
-pub stored-first : (w : World) (history : List Told) (c : Carries history w) (past : List Deed) (d : Deed) (key : CacheKey) (response : Message) (asking : Place) → AreLimits w.setting.limits → c.deeds ≡ d ∷ past → d.entry.report.outcome ≡ Answered Kept → IsObtained w.setting key response asking (here past d)
-    → StandsFirst (entry_of_cached (cached_here key response asking past d)) w.store
-stored-first w history c past d key response asking limits deeds is got =
+pub stored-first : (w : World) (history : List Told) (c : Carries history w) (past : List Deed) (d : Deed) → AreLimits w.setting.limits → c.deeds ≡ d ∷ past → d.entry.report.outcome ≡ Answered Kept → (o : IsObtainedHere w.setting past d) → StandsFirst (entry_of_cached (entry_here o)) w.store
+stored-first w history c past d limits deeds is o =
     let store = subst (λ (ds : List Deed). IsStoreOf w.setting ds w.store) deeds c.bears.store in
     let all = subst (λ (ds : List Deed). AllJustified w.setting ds) deeds c.bears.past in
     let some = (limits CacheEntries).0 in
-    first-stored w.store store.cached (cached_here key response asking past d) store.each (kept-first w.setting past d key response asking store.cached some all.0 is got store.is_cache)
+    let first = first-stored w.setting (d ∷ past) w.store store.cached (entry_here o) store.each (kept-first w.setting past d store.cached some all.0 is o store.is_cache) in
+    subst (λ (s : Entry). StandsFirst s w.store) (newest-unmarked w.setting past d o first.stored first.stored_is) first.is_first

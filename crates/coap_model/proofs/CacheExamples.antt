@@ -1,5 +1,5 @@
 -- Histories and their caches, computed.
-use Rattle.std.proofs.Common.{◌≡◌, ◌≢◌, inl, ℕ, true, List, [], ◌∷◌, refl, sym, ap, ◌∙◌, arith, nat_lt}
+use Rattle.std.proofs.Common.{◌≡◌, ◌≢◌, inl, ℕ, true, ◌≤◌, List, [], ◌∷◌, length, refl, sym, ap, arith, nat_lt}
 use Rattle.std.specs.Prelude.{zero, suc, codes}
 use Rattle.std.specs.List.{list_all}
 use Rattle.std.proofs.lemmas.Bool.{and_parts, ltb-true}
@@ -26,11 +26,11 @@ use Rattle.coap_forward.specs.Answers.{answer_of}
 use Rattle.coap_model.specs.Examples.{origin, client, get_t, get_temp}
 use Rattle.coap_model.specs.LimitExamples as limited
 use Rattle.coap_model.specs.OptionExamples.{key_of_temp}
-use Rattle.coap_model.specs.History.{Deed, Place, IsPlaceOf, Never, Sends, Asks, in_acknowledgement}
+use Rattle.coap_model.specs.History.{Deed, Place, IsPlaceOf, Never, Sends, Asks, Gets, in_acknowledgement}
 use Rattle.coap_model.specs.Forged as forged
 use Rattle.coap_model.specs.Forged.{setting, opened, asked}
-use Rattle.coap_model.specs.Cached.{IsObtained, IsCacheOf, empty, kept, too_large, hit, otherwise}
-use Rattle.coap_model.specs.CacheExamples.{content_for, get_for, answered, kept_past, hits, hit_past, asks_again, asked_past, first_entry, second_entry}
+use Rattle.coap_model.specs.Cached.{IsCacheOf, empty, kept, too_large, hit, otherwise}
+use Rattle.coap_model.specs.CacheExamples.{content_for, get_for, answered, kept_past, hits, hit_past, opens_again, opened_past, asks_again, asked_past, first_entry, second_entry}
 use Rattle.coap_model.proofs.Places.{here, same_moves}
 
 -- numbers that are below 256 are bytes
@@ -51,29 +51,29 @@ unfolding read_message body_at options_within option_at extended token_of target
 first_sent = read_is (get_temp []) (get_for 1 1) (are-bytes (get_temp []) refl) refl
 
 -- and the second the second's
-second_sent : Spells (limited.asked 3 2) (get_for 3 2)
+pub second_sent : Spells (limited.asked 3 2) (get_for 3 2)
 unfolding read_message body_at options_within option_at extended token_of target_options uint_spelling
 second_sent = read_is (limited.asked 3 2) (get_for 3 2) (are-bytes (limited.asked 3 2) refl) refl
 
 -- neither was sent before
-first_unsent : Never (Sends 0 1) (opened ∷ [])
+pub first_unsent : Never (Sends 0 1) (opened ∷ [])
 first_unsent = (unsent 1 [] opened (λ e. cc), tt)
 
 -- the second one was never sent before it was
-second_unsent : Never (Sends 0 2) hit_past
-second_unsent = (unsent 2 kept_past hits (λ e. cc), (unsent 2 (asked ∷ opened ∷ []) (answered 5 1 1 (Answered Kept)) (λ e. cc), (other, (unsent 2 [] opened (λ e. cc), tt))))
+pub second_unsent : Never (Sends 0 2) opened_past
+second_unsent = (unsent 2 hit_past opens_again (λ e. cc), (unsent 2 kept_past hits (λ e. cc), (unsent 2 (asked ∷ opened ∷ []) (answered 5 1 1 (Answered Kept)) (λ e. cc), (other, (unsent 2 [] opened (λ e. cc), tt)))))
   where
     other : ¬ Sends 0 2 (here (opened ∷ []) asked)
     other s = let e = same_moves 1 2 s.act in omega (arith, e)
 
 -- so each was asked there
-abbrev first_asks : Asks 0 1 (here (opened ∷ []) asked)
+abbrev pub first_asks : Asks 0 1 (here (opened ∷ []) asked)
 first_asks = record {
   sends = record { act = refl; outcome = refl; to = origin; sent = refl; message = get_for 1 1; spells = first_sent; token = refl };
   first = first_unsent;
 }
 
-abbrev second_asks : Asks 0 2 (here hit_past asks_again)
+abbrev pub second_asks : Asks 0 2 (here opened_past asks_again)
 second_asks = record {
   sends = record { act = refl; outcome = refl; to = origin; sent = refl; message = get_for 3 2; spells = second_sent; token = refl };
   first = second_unsent;
@@ -87,44 +87,34 @@ unfolding read_message body_at options_within option_at extended token_of
 first_got = read_is (limited.got 1 1) (content_for 1 1) (are-bytes (limited.got 1 1) refl) refl
 
 -- what comes for the second one is its answer
-second_got : Spells (limited.got 3 2) (content_for 3 2)
+pub second_got : Spells (limited.got 3 2) (content_for 3 2)
 unfolding read_message body_at options_within option_at extended token_of
 second_got = read_is (limited.got 3 2) (content_for 3 2) (are-bytes (limited.got 3 2) refl) refl
 
--- so what was asked is obtained at its answer, however it is stored
-content_obtained : (past : List Deed) (now id x : ℕ) (storing : Storing) (asking : Place) → IsPlaceOf past asking → (asks : Asks 0 x asking) → asks.sends.to ≡ origin → asks.sends.message ≡ get_for id x → key_sent origin (get_for id x) ≡ key_of_temp → IsBytes (limited.got id x) → Spells (limited.got id x) (content_for id x)
-    → IsObtained setting key_of_temp (content_for id x) asking (here past (answered now id x (Answered storing)))
-unfolding answer_of spelling option_spelling uint_spelling
-content_obtained past now id x storing asking was_asked asks to message key bytes spells = record {
-  exchange = x;
-  gets = record {
-    act = refl;
-    outcome = refl;
-    meets = record {
-      asking = asking;
-      was_asked = was_asked;
-      asks = asks;
-      message = content_for id x;
-      brings = record { bytes = limited.got id x; came = ap (λ (e : Endpoint). arrival e (limited.got id x)) (sym to); spells = spells; short = omega arith };
-      matches = in_acknowledgement refl refl refl (ap (λ (m : Message). m.id) (sym message));
-    };
-    bytes = bytes;
+-- so what was asked is got at its answer, however it is stored
+abbrev pub content_gets : (past : List Deed) (now id x : ℕ) (storing : Storing) (asking : Place) → IsPlaceOf past asking → (asks : Asks 0 x asking) → asks.sends.to ≡ origin → asks.sends.message ≡ get_for id x → IsBytes (limited.got id x) → Spells (limited.got id x) (content_for id x)
+    → length (limited.got id x) ≤ 1500 → Gets setting x (here past (answered now id x (Answered storing)))
+content_gets past now id x storing asking was_asked asks to message bytes spells short = record {
+  act = refl;
+  outcome = refl;
+  meets = record {
+    asking = asking;
+    was_asked = was_asked;
+    asks = asks;
+    message = content_for id x;
+    brings = record { bytes = limited.got id x; came = ap (λ (e : Endpoint). arrival e (limited.got id x)) (sym to); spells = spells; short = short };
+    matches = in_acknowledgement refl refl refl (ap (λ (m : Message). m.id) (sym message));
   };
-  asking_is = refl;
-  asked_key = (λ i. key_sent (to i) (message i)) ∙ key;
-  storable = refl;
-  response_is = refl;
+  bytes = bytes;
 }
 
 -- the first answer
-first_obtained : (storing : Storing) → IsObtained setting key_of_temp (content_for 1 1) (here (opened ∷ []) asked) (here (asked ∷ opened ∷ []) (answered 5 1 1 (Answered storing)))
-unfolding token_of target_options target_sent key_sent
-first_obtained storing = content_obtained (asked ∷ opened ∷ []) 5 1 1 storing (here (opened ∷ []) asked) (inl refl) first_asks refl refl refl (are-bytes (limited.got 1 1) refl) first_got
+abbrev pub first_gets : (storing : Storing) → Gets setting 1 (here (asked ∷ opened ∷ []) (answered 5 1 1 (Answered storing)))
+first_gets storing = content_gets (asked ∷ opened ∷ []) 5 1 1 storing (here (opened ∷ []) asked) (inl refl) first_asks refl refl (are-bytes (limited.got 1 1) refl) first_got (omega arith)
 
 -- the second
-second_obtained : (storing : Storing) → IsObtained setting key_of_temp (content_for 3 2) (here hit_past asks_again) (here asked_past (answered 20 3 2 (Answered storing)))
-unfolding token_of target_options target_sent key_sent
-second_obtained storing = content_obtained asked_past 20 3 2 storing (here hit_past asks_again) (inl refl) second_asks refl refl refl (are-bytes (limited.got 3 2) refl) second_got
+abbrev second_gets : (storing : Storing) → Gets setting 2 (here asked_past (answered 20 3 2 (Answered storing)))
+second_gets storing = content_gets asked_past 20 3 2 storing (here opened_past asks_again) (inl refl) second_asks refl refl (are-bytes (limited.got 3 2) refl) second_got (omega arith)
 
 -- ---- the caches
 
@@ -138,7 +128,8 @@ cache_not_stored = otherwise forged.answered refl cache_asked
 
 -- one that is kept is in it
 pub cache_kept : IsCacheOf setting kept_past (first_entry ∷ [])
-cache_kept = kept (answered 5 1 1 (Answered Kept)) key_of_temp (content_for 1 1) (here (opened ∷ []) asked) refl (first_obtained Kept) cache_asked
+unfolding token_of target_options target_sent key_sent answer_of spelling option_spelling uint_spelling
+cache_kept = kept (answered 5 1 1 (Answered Kept)) 1 (first_gets Kept) (here [] opened) refl (inl refl) (refl, refl) empty cache_asked
 
 -- the request of another client
 abbrev pub get_read : Message
@@ -155,13 +146,18 @@ unfolding mapped_target request_target
 cache_hit = hit hits (client 2) get_read key_of_temp.target first_entry refl (record { bytes = get_t []; came = refl; spells = get_spelled; short = omega arith }) refl refl cache_kept
 
 -- asking anew leaves it
+cache_opened_again : IsCacheOf setting opened_past (first_entry ∷ [])
+cache_opened_again = otherwise opens_again refl cache_hit
+
 pub cache_asked_again : IsCacheOf setting asked_past (first_entry ∷ [])
-cache_asked_again = otherwise asks_again refl cache_hit
+cache_asked_again = otherwise asks_again refl cache_opened_again
 
 -- another answer takes its place
 pub cache_in_place : IsCacheOf setting (answered 20 3 2 (Answered Kept) ∷ asked_past) (second_entry ∷ [])
-cache_in_place = kept (answered 20 3 2 (Answered Kept)) key_of_temp (content_for 3 2) (here hit_past asks_again) refl (second_obtained Kept) cache_asked_again
+unfolding token_of target_options target_sent key_sent answer_of spelling option_spelling uint_spelling
+cache_in_place = kept (answered 20 3 2 (Answered Kept)) 2 (second_gets Kept) (here hit_past opens_again) refl (inl refl) (refl, refl) cache_hit cache_asked_again
 
 -- or gives it up, where it is too large
 pub cache_too_large : IsCacheOf setting (answered 20 3 2 (Answered TooLarge) ∷ asked_past) []
-cache_too_large = too_large (answered 20 3 2 (Answered TooLarge)) key_of_temp (content_for 3 2) (here hit_past asks_again) refl (second_obtained TooLarge) cache_asked_again
+unfolding token_of target_options target_sent key_sent
+cache_too_large = too_large (answered 20 3 2 (Answered TooLarge)) 2 (second_gets TooLarge) refl cache_asked_again

@@ -32,8 +32,8 @@ keeps_rule : {w : World} {now draw : ℕ} {grown : Bool} {event : Event} {s : St
 keeps_rule {w = w} {now = now} {draw = draw} history c onward (refusing client bytes m code first denied free) = record { act = no_item; bears = keeps_refusing w history c now draw client bytes m onward first code denied free }
 keeps_rule {w = w} {now = now} {draw = draw} history c onward (lacking client bytes m first free) = record { act = no_item; bears = keeps_lacking w history c now draw client bytes m onward first free }
 keeps_rule {w = w} {now = now} {draw = draw} history c onward (overloading client bytes m key first verdict lacks free) = record { act = no_item; bears = keeps_overloading w history c now draw client bytes m onward first key verdict lacks free }
-keeps_rule {w = w} {now = now} {draw = draw} history c onward (hitting client bytes m key entry first verdict found usable free) = record { act = no_item; bears = keeps_hitting w history c now draw client bytes m key entry onward first verdict found usable free }
-keeps_rule {w = w} {now = now} {draw = draw} history c onward (joining client bytes m key exchange send told first verdict none found room up) = record { act = admits (admitted_in history + 1) exchange; bears = keeps_joining w history c now draw client bytes m key exchange send told onward first verdict none found room up }
+keeps_rule {w = w} {now = now} {draw = draw} history c onward (hitting client bytes m key entry first get verdict found usable free) = record { act = no_item; bears = keeps_hitting w history c now draw client bytes m key entry onward first get verdict found usable free }
+keeps_rule {w = w} {now = now} {draw = draw} history c onward (joining client bytes m key exchange send told first get verdict none found room up) = record { act = admits (admitted_in history + 1) exchange; bears = keeps_joining w history c now draw client bytes m key exchange send told onward first get verdict none found room up }
 keeps_rule {w = w} {now = now} {draw = draw} history c onward (opening client bytes m key send told first verdict none short room up) = record { act = admits (admitted_in history + 1) (opened_in history + 1); bears = keeps_opening w history c now draw client bytes m key send told onward first verdict none short room up }
 keeps_rule {w = w} {now = now} {draw = draw} history c onward (repeating client bytes m known fits asked found) = record { act = no_item; bears = keeps_repeating w history c now draw client bytes m known onward fits asked found }
 keeps_rule {w = w} {now = now} {draw = draw} history c onward (dropping source bytes m fits recorded wanted unknown full) = record { act = no_item; bears = keeps_dropping w history c now draw source bytes m onward fits recorded wanted unknown full }
@@ -46,7 +46,7 @@ keeps_rule {w = w} {now = now} {draw = draw} history c onward (ignoring source b
 keeps_rule {w = w} {now = now} {draw = draw} history c onward (forwarding at number x turn is early) = record { act = moves number; bears = keeps_forwarding w history c now draw at number x onward turn is early }
 keeps_rule {w = w} {now = now} {draw = draw} history c onward (resending at number x turn is early fire) = record { act = moves number; bears = keeps_resending w history c now draw at number x onward turn is early fire }
 keeps_rule {w = w} {now = now} {draw = draw} history c onward (giving_up at number x turn over) = record { act = moves number; bears = keeps_giving_up w history c now draw at number x onward turn over }
-keeps_rule {w = w} {now = now} {draw = draw} history c onward (delivering at number exchange v a left due found waits answer told) = record { act = serves number; bears = keeps_delivering w history c now draw at number exchange v a left onward due found waits answer told }
+keeps_rule {w = w} {now = now} {draw = draw} history c onward (delivering at number exchange v x a left due found waits there answer told) = record { act = serves number; bears = keeps_delivering w history c now draw at number exchange v x a left onward due found waits there answer told }
 keeps_rule {w = w} {now = now} {draw = draw} history c onward (redelivering at number v bytes id timer turn fire) = record { act = serves number; bears = keeps_redelivering w history c now draw at number v bytes id timer onward turn fire }
 keeps_rule {w = w} {now = now} {draw = draw} history c onward (abandoning at number v bytes id timer turn fire) = record { act = serves number; bears = keeps_abandoning w history c now draw at number v bytes id timer onward turn fire }
 keeps_rule {w = w} {now = now} {draw = draw} history c onward (idling nothing) = record { act = no_item; bears = keeps_idling w history c now draw onward nothing }

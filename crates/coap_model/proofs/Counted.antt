@@ -2,26 +2,30 @@
 use Rattle.std.proofs.Common.{◌≡◌, List, length, ap, ◌∙◌, arith}
 use Rattle.coap_message.specs.declared.kind.Kind.{Kind}
 use Rattle.coap_dedup.specs.Records.{Records, living_at}
-use Rattle.coap_cache.specs.Entries.{entry_size}
+use Rattle.coap_cache.specs.Entries.{Entry, entry_size}
 use Rattle.coap_cache.specs.Lists.{total}
+use Rattle.coap_model.specs.Setting.{Setting}
 use Rattle.coap_model.specs.World.{World}
 use Rattle.coap_model.specs.History.{Deed}
 use Rattle.coap_model.specs.Remembered.{remembered_at}
 use Rattle.coap_model.specs.Cached.{Cached, cached_size, IsCacheOf, IsStored}
 use Rattle.coap_model.specs.Carries.{Bears, AreRemembered}
 use Rattle.coap_model.proofs.Cached.{cache-unique}
-use Rattle.coap_model.proofs.Stores.{store-total}
-use Rattle.coap_model.proofs.Pairs.{Pairs-length}
+use Rattle.coap_model.proofs.Pairs.{Pairs-length, Pairs-total}
 
 -- the store has as many entries as the cache of the deeds
 pub store-entries : (deeds : List Deed) (w : World) (cached : List Cached) → Bears deeds w → IsCacheOf w.setting deeds cached → length w.store ≡ length cached
 store-entries deeds w cached c is =
-    Pairs-length IsStored w.store c.store.cached c.store.each ∙ ap length (cache-unique w.setting deeds c.store.cached cached c.store.is_cache is)
+    Pairs-length (IsStored w.setting deeds) w.store c.store.cached c.store.each ∙ ap length (cache-unique w.setting deeds c.store.cached cached c.store.is_cache is)
+
+-- what is stored counts as the entry of the cache, marked or not
+same-size : (setting : Setting) (history : List Deed) (e : Entry) (c : Cached) → IsStored setting history e c → entry_size e ≡ cached_size c
+same-size setting history e c s = ap entry_size s.same
 
 -- and counts as many bytes
 pub store-bytes : (deeds : List Deed) (w : World) (cached : List Cached) → Bears deeds w → IsCacheOf w.setting deeds cached → total entry_size w.store ≡ total cached_size cached
 store-bytes deeds w cached c is =
-    store-total w.store c.store.cached c.store.each ∙ ap (total cached_size) (cache-unique w.setting deeds c.store.cached cached c.store.is_cache is)
+    Pairs-total (IsStored w.setting deeds) entry_size cached_size w.store c.store.cached (same-size w.setting deeds) c.store.each ∙ ap (total cached_size) (cache-unique w.setting deeds c.store.cached cached c.store.is_cache is)
 
 -- as many records live as requests are still remembered
 pub records-living : (deeds : List Deed) (w : World) (kind : Kind) (records : Records) → Bears deeds w → AreRemembered w.setting deeds kind records → length (living_at w.last records) ≡ length (remembered_at kind w.last deeds)

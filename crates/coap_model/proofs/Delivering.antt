@@ -8,7 +8,7 @@ use Rattle.coap_message.specs.declared.kind.Kind.{Kind}
 use Rattle.coap_message.specs.declared.message.Head.{Head}
 use Rattle.coap_message.specs.Message.{Message}
 use Rattle.coap_message.specs.Spelling.{IsMessage, Spells, spelling}
-use Rattle.coap_message.proofs.Spellings.{spelled, spelling-length}
+use Rattle.coap_message.proofs.Spellings.{spelled}
 use Rattle.coap_message.proofs.WholeMessages.{head_read, read_again}
 use Rattle.coap_option.specs.Selection.{tags_of}
 use Rattle.coap_target.proofs.Lists.{All-weaken}
@@ -18,7 +18,7 @@ use Rattle.coap_exchange.specs.declared.exchange.Exchange.{Exchange}
 use Rattle.coap_exchange.specs.declared.waiter.Waiter.{Waiter}
 use Rattle.coap_exchange.specs.declared.waiter.WaiterState.{WaiterState}
 use Rattle.coap_exchange.specs.declared.waiter.WaiterState.TheVariants.{Waiting, Delivering}
-use Rattle.coap_exchange.specs.Exchanges.{is_queued, is_sent_to, answer_in}
+use Rattle.coap_exchange.specs.Exchanges.{is_queued, is_sent_to, answer_in_state, answer_at, answer_of}
 use Rattle.coap_exchange.specs.declared.timer.Timer.{Timer}
 use Rattle.coap_exchange.specs.Timers.{started}
 use Rattle.coap_exchange.specs.Waiters.{is_waiting, is_waiting_state, waits_for, waits_in_state, delivered, moment_of, due_in, due_after}
@@ -26,12 +26,15 @@ use Rattle.coap_exchange.specs.Table.{Numbered, IsRising, item_at, changed, chan
 use Rattle.coap_exchange.proofs.Changes.{length-changed_at, IsRising-changed_at}
 use Rattle.coap_exchange.proofs.Counts.{one_if, count-moved, count-without}
 use Rattle.coap_exchange.proofs.Tables.{IsRising-without}
-use Rattle.coap_forward.specs.Answers.{shown, shown_as}
-use Rattle.coap_forward.specs.Messages.{is_con}
+use Rattle.coap_forward.specs.Answers.{shown_as}
+use Rattle.coap_forward.specs.Messages.{is_con, is_get}
 use Rattle.coap_model.specs.declared.due.DueItem.TheVariants.{OfWaiter}
 use Rattle.coap_model.specs.declared.report.Outcome.{Outcome}
 use Rattle.coap_model.specs.declared.report.Outcome.TheVariants.{Answered, GaveUp}
 use Rattle.coap_model.specs.Events.{tick}
+use Rattle.coap_exchange.specs.declared.exchange.ExchangeState.{ExchangeState}
+use Rattle.coap_exchange.specs.declared.exchange.ExchangeState.TheVariants.{Queued, Sent, Acked, Done}
+use Rattle.coap_model.specs.Setting.{Setting}
 use Rattle.coap_model.specs.World.{World, next_id}
 use Rattle.coap_model.specs.Ticks.{item_due, if_due, without_idle, given_to, tells}
 use Rattle.coap_model.specs.Schedules.{IsSchedule, sends_by}
@@ -39,72 +42,65 @@ use Rattle.coap_model.specs.History.{Entry, serves, moves, Deed, Place, IsPlaceO
 use Rattle.coap_model.specs.Standing as stages
 use Rattle.coap_model.specs.Standing.{Standing, Open, awaited, standing_in, open_in}
 use Rattle.coap_model.specs.Due.{IsToServe}
-use Rattle.coap_model.specs.Justified.{EndsWith, got, given_up, verdict_on}
+use Rattle.coap_model.specs.Justified.{EndsWith, verdict_on}
 use Rattle.coap_model.specs.Runs.{entry_of}
 use Rattle.coap_model.specs.Carries.{HasNumber, HasExchange, stage_seen, standing_seen, IsTimer, AreOfBytes, IsDone, IsState, IsExchangeOf, IsWaiting, IsDelivering, IsWaiterIn, IsWaiterOf, Bears}
 use Rattle.coap_model.proofs.Clients.{others-are}
 use Rattle.coap_model.proofs.Rules.{IsTold, done_with, to_acknowledge}
-use Rattle.coap_model.proofs.Acting.{answer-of, acting, turn-is, client-turn}
+use Rattle.coap_model.proofs.Acting.{acting, turn-is, client-turn}
 use Rattle.coap_model.proofs.FirstDue.{first_due-holds}
 use Rattle.std.proofs.lemmas.Option.{same_Some}
 use Rattle.coap_model.proofs.Frames.{clock_frame, numbers_frame, exchanges_frame, waiter_frame, unused_frame, same_act-client, sends-grow, schedules_with, opened-before, admitted-before}
-use Rattle.coap_model.proofs.Getting.{timeout-is, timeout-fits}
 use Rattle.coap_model.proofs.Giving.{ids-given, room-called}
 use Rattle.coap_model.proofs.Lists.{Has, Has-holds, Has-all, All-there, All-filter, All-map}
 use Rattle.coap_model.proofs.Places.{here, in-order, doing, admitted-later, same_serves, Never-at, one-opened, admitted-number}
 use Rattle.coap_model.proofs.Quiet.{remembered-still}
 use Rattle.coap_model.proofs.Replying.{id-same}
 use Rattle.coap_model.proofs.Seen.{gone-seen, told-seen, kept-but, kept-all, who-waits}
-use Rattle.coap_model.proofs.Showing.{matches-response, shown-is, answer-fits}
+use Rattle.coap_model.proofs.Showing.{shown-is, shown-fits}
+use Rattle.coap_model.proofs.Endings.{ending-holdable}
 use Rattle.coap_model.proofs.Stores.{store-otherwise}
 use Rattle.coap_model.proofs.Tables.{item-Has, item-holds, one-item, without-fewer, HasNumber-without, HasNumber-changed, changed-cases, count-some}
 
 -- ---- what is served
 
 -- what is known of a client that is served with an answer
-pub record IsServed (w : World) (history : List Deed) (number exchange : ℕ) (v : Waiter) (a : Answer) : Type 0 where
+pub record IsServed (w : World) (history : List Deed) (number exchange : ℕ) (v : Waiter) (x : Exchange) (a : Answer) : Type 0 where
   pub waits : IsWaiting w.setting history (number, v) exchange
-  pub x : Exchange
   pub is : IsExchangeOf w.setting history (exchange, x)
   pub there : Has (exchange, x) w.exchanges
   pub done : IsDone w.setting history (exchange, x) a
   pub short : length v.token ≤ 8
 
+-- an exchange with an answer is done
+done-by : (setting : Setting) (history : List Deed) (x : Numbered Exchange) (a : Answer) (s : ExchangeState) → answer_in_state s ≡ Some a → IsState setting history x s → IsDone setting history x a
+done-by setting history x a Queued e state = absurd cc
+done-by setting history x a Sent e state = absurd cc
+done-by setting history x a Acked e state = absurd cc
+done-by setting history x a (Done b) e state = subst (IsDone setting history x) (same_Some b a e) state
+
 -- a client whose exchange has its answer is served with that
-pub served : (w : World) (history : List Deed) (c : Bears history w) (number exchange : ℕ) (v : Waiter) (a : Answer) → item_at number w.waiters ≡ Some v → v.state ≡ Waiting exchange → answer_in exchange w.exchanges ≡ Some a → IsServed w history number exchange v a
-served w history c number exchange v a found waits answer =
+pub served : (w : World) (history : List Deed) (c : Bears history w) (number exchange : ℕ) (v : Waiter) (x : Exchange) (a : Answer) → item_at number w.waiters ≡ Some v → v.state ≡ Waiting exchange → item_at exchange w.exchanges ≡ Some x → answer_at x ≡ Some a → IsServed w history number exchange v x a
+served w history c number exchange v x a found waits there answer =
     let g : IsWaiting w.setting history (number, v) exchange = subst (IsWaiterIn w.setting history (number, v)) waits (item-holds (IsWaiterOf w.setting history) number w.waiters v c.waiters found) in
-    let f = answer-of (λ y. IsExchangeOf w.setting history y × Has y w.exchanges) exchange w.exchanges a (All-there (IsExchangeOf w.setting history) w.exchanges c.exchanges) answer in
+    let is = item-holds (IsExchangeOf w.setting history) exchange w.exchanges x c.exchanges there in
     record {
       waits = g;
-      x = f.0;
-      is = f.1.0;
-      there = f.1.1;
-      done = subst (IsState w.setting history (exchange, f.0)) f.2 f.1.0.state;
+      is = is;
+      there = item-Has exchange w.exchanges x there;
+      done = done-by w.setting history (exchange, x) a x.state answer is.state;
       short = subst (λ (t : List ℕ). length t ≤ 8) (sym g.token_is) g.admitted.asked.brings.spells.message.token;
     }
 
 -- ---- what is told
 
 -- what an exchange ends with is shown as a message
-pub ending-is : (w : World) (kind : Kind) (now id x : ℕ) (key : CacheKey) (p : Place) (a : Answer) (token : List ℕ) (tags : List (List ℕ)) → EndsWith w.setting x key p a → length token ≤ 8 → IsMessage (shown_as kind now a id token tags)
-ending-is w kind now id x key p a token tags ending short = let is = whole ending in record { token = is.token; options = is.options; bare = record { token = is.bare.token; options = is.bare.options; payload = is.bare.payload } }
-  where
-    whole : EndsWith w.setting x key p a → IsMessage (shown now a id token tags)
-    whole (got gets asked is) =
-        let m = gets.meets in
-        subst (λ (b : Answer). IsMessage (shown now b id token tags)) (sym is) (shown-is w.setting.limits.datagram now p.deed.entry.now m.message id token tags m.brings.spells.message (matches-response m.matches) short)
-    whole (given_up gives is) = subst (λ (b : Answer). IsMessage (shown now b id token tags)) (sym is) (timeout-is now p.deed.entry.now id token tags short)
+pub ending-is : (w : World) (kind : Kind) (to_get : Bool) (now id x : ℕ) (key : CacheKey) (p : Place) (a : Answer) (token : List ℕ) (tags : List (List ℕ)) → EndsWith w.setting x key p a → length token ≤ 8 → IsMessage (shown_as kind to_get now a id token tags)
+ending-is w kind to_get now id x key p a token tags ending short = shown-is w.setting.limits.datagram kind to_get now a id token tags (ending-holdable w.setting x key p a ending) short
 
 -- and is no longer than the longest datagram, or than a short one
-pub ending-fits : (w : World) (kind : Kind) (now id x : ℕ) (key : CacheKey) (p : Place) (a : Answer) (token : List ℕ) (tags : List (List ℕ)) (most : ℕ) → EndsWith w.setting x key p a → length token ≤ 8 → 128 ≤ most → w.setting.limits.datagram ≤ most → length (spelling (shown_as kind now a id token tags)) ≤ most
-ending-fits w kind now id x key p a token tags most ending short wide long = omega (arith, spelling-length (shown_as kind now a id token tags), spelling-length (shown now a id token tags), whole ending)
-  where
-    whole : EndsWith w.setting x key p a → length (spelling (shown now a id token tags)) ≤ most
-    whole (got gets asked is) =
-        let m = gets.meets in
-        subst (λ (b : Answer). length (spelling (shown now b id token tags)) ≤ most) (sym is) (answer-fits w.setting.limits.datagram most now p.deed.entry.now id m.brings.bytes m.message token tags wide long gets.bytes m.brings.spells short)
-    whole (given_up gives is) = subst (λ (b : Answer). length (spelling (shown now b id token tags)) ≤ most) (sym is) (timeout-fits now p.deed.entry.now id most token tags short wide)
+pub ending-fits : (w : World) (kind : Kind) (to_get : Bool) (now id x : ℕ) (key : CacheKey) (p : Place) (a : Answer) (token : List ℕ) (tags : List (List ℕ)) (most : ℕ) → EndsWith w.setting x key p a → length token ≤ 8 → 128 ≤ most → w.setting.limits.datagram ≤ most → length (spelling (shown_as kind to_get now a id token tags)) ≤ most
+ending-fits w kind to_get now id x key p a token tags most ending short wide long = shown-fits w.setting.limits.datagram most kind to_get now a id token tags wide long (ending-holdable w.setting x key p a ending) short
 
 -- it goes out in a Confirmable message where the client asked in one
 con-told : (bytes : List ℕ) (m : Message) → Spells bytes m → is_con_datagram bytes ≡ is_con m.kind
@@ -260,15 +256,15 @@ module _ (w : World) (history : List Deed) (c : Bears history w) (number exchang
           has
 
 -- it is to be served since the end of its exchange
-served-at : (w : World) (history : List Deed) (c : Bears history w) (at number exchange : ℕ) (v : Waiter) (a : Answer) (f : IsServed w history number exchange v a) → item_due w ≡ Some (OfWaiter at number) → item_at number w.waiters ≡ Some v → v.state ≡ Waiting exchange → answer_in exchange w.exchanges ≡ Some a → at ≡ f.done.ending.deed.entry.now
-served-at w history c at number exchange v a f due found waits answer =
+served-at : (w : World) (history : List Deed) (c : Bears history w) (at number exchange : ℕ) (v : Waiter) (x : Exchange) (a : Answer) (f : IsServed w history number exchange v x a) → item_due w ≡ Some (OfWaiter at number) → item_at number w.waiters ≡ Some v → v.state ≡ Waiting exchange → item_at exchange w.exchanges ≡ Some x → answer_at x ≡ Some a → at ≡ f.done.ending.deed.entry.now
+served-at w history c at number exchange v x a f due found waits there answer =
     let d = first_due-holds (λ u. Has u w.waiters) (due_after w.exchanges) w.waiters (at, number) (Has-all w.waiters) (client-turn w history c at number due) in
     let here : due_after w.exchanges v ≡ Some at = subst (λ (u : Waiter). due_after w.exchanges u ≡ Some at) (one-item 0 w.waiters d.0 (number, v) c.whole.waiters_rise d.1 (item-Has number w.waiters v found) d.2) d.3 in
-    let moment : Some a.got ≡ Some at = sym (ap (λ (s : WaiterState). due_in s w.exchanges) waits ∙ ap moment_of answer) ∙ here in
+    let moment : Some a.got ≡ Some at = sym (ap (λ (s : WaiterState). due_in s w.exchanges) waits ∙ ap moment_of (ap answer_of there ∙ answer)) ∙ here in
     sym (same_Some a.got at moment) ∙ f.done.got
 
-abbrev to-serve : (w : World) (history : List Deed) (c : Bears history w) (at number exchange : ℕ) (v : Waiter) (a : Answer) (f : IsServed w history number exchange v a) → at ≡ f.done.ending.deed.entry.now → IsToServe w.setting history number at
-to-serve w history c at number exchange v a f moment =
+abbrev to-serve : (w : World) (history : List Deed) (c : Bears history w) (at number exchange : ℕ) (v : Waiter) (x : Exchange) (a : Answer) (f : IsServed w history number exchange v x a) → at ≡ f.done.ending.deed.entry.now → IsToServe w.setting history number at
+to-serve w history c at number exchange v x a f moment =
     record {
       admitted = f.waits.admitted;
       unserved = f.waits.unserved;
@@ -279,8 +275,8 @@ to-serve w history c at number exchange v a f moment =
     }
 
 -- the exchange ended after the client had come
-ended-later : (w : World) (history : List Deed) (number exchange : ℕ) (v : Waiter) (a : Answer) (f : IsServed w history number exchange v a) → IsPlaceOf f.done.ending.before f.waits.admitted.admission
-ended-later w history number exchange v a f =
+ended-later : (w : World) (history : List Deed) (number exchange : ℕ) (v : Waiter) (x : Exchange) (a : Answer) (f : IsServed w history number exchange v x a) → IsPlaceOf f.done.ending.before f.waits.admitted.admission
+ended-later w history number exchange v x a f =
     ⊎_elim
     (λ (same : f.done.ending ≡ admission). absurd (no-both f.done.ending.deed.entry.report.outcome f.done.ends.outcome (ap (λ (p : Place). admits_one p.deed.entry.report.outcome) same ∙ f.waits.admitted.admits.outcome)))
     (λ (other : IsPlaceOf f.done.ending.before admission ⊎ IsPlaceOf admission.before f.done.ending).
@@ -301,12 +297,12 @@ ended-later w history number exchange v a f =
 -- ---- the client
 
 -- where it is done with, the others stay; where it is to acknowledge its answer, it was given that once
-module _ (w : World) (history : List Deed) (c : Bears history w) (now draw at number exchange : ℕ) (v : Waiter) (a : Answer) (found : item_at number w.waiters ≡ Some v) (waits : v.state ≡ Waiting exchange) (f : IsServed w history number exchange v a) where
+module _ (w : World) (history : List Deed) (c : Bears history w) (now draw at number exchange : ℕ) (v : Waiter) (x : Exchange) (a : Answer) (found : item_at number w.waiters ≡ Some v) (waits : v.state ≡ Waiting exchange) (f : IsServed w history number exchange v x a) where
   abbrev reply : Message
-  reply = given_to w now v a
+  reply = given_to w now v x.is_get a
 
   reply-spelled : Spells (spelling reply) reply
-  reply-spelled = spelled reply (ending-is w v.kind now (next_id w) exchange f.x.key f.done.ending a v.token v.tags f.done.with f.short)
+  reply-spelled = spelled reply (ending-is w v.kind x.is_get now (next_id w) exchange x.key f.done.ending a v.token v.tags f.done.with f.short)
 
   abbrev served_deed : List (Numbered Waiter) → Deed
   served_deed left = doing (serves number) (entry_of now draw tick (tells w now v exchange reply left))
@@ -331,7 +327,7 @@ module _ (w : World) (history : List Deed) (c : Bears history w) (now draw at nu
         started = refl;
         timer_is = subst (IsTimer (started now draw)) (sym (sends-first left)) (refl, refl, omega arith, refl);
         bytes_are = subst (AreOfBytes v.client (spelling reply)) (sym (sends-first left)) ((refl, refl), tt);
-        short = λ most wide long. ending-fits w v.kind now (next_id w) exchange f.x.key f.done.ending a v.token v.tags most f.done.with f.short wide long;
+        short = λ most wide long. ending-fits w v.kind x.is_get now (next_id w) exchange x.key f.done.ending a v.token v.tags most f.done.with f.short wide long;
         token_gone = refl;
         tags_gone = refl;
       }
@@ -372,17 +368,17 @@ module _ (w : World) (history : List Deed) (c : Bears history w) (now draw at nu
 -- ---- the rule
 
 -- serving a client keeps what is carried
-pub keeps_delivering : (w : World) (history : List Deed) (c : Bears history w) (now draw at number exchange : ℕ) (v : Waiter) (a : Answer) (left : List (Numbered Waiter)) → w.last ≤ now → if_due now (item_due w) ≡ Some (OfWaiter at number) → item_at number w.waiters ≡ Some v → v.state ≡ Waiting exchange → answer_in exchange w.exchanges ≡ Some a → IsTold w now draw number (given_to w now v a) left
-    → Bears (doing (serves number) (entry_of now draw tick (tells w now v exchange (given_to w now v a) left)) ∷ history) (tells w now v exchange (given_to w now v a) left).world
-keeps_delivering w history c now draw at number exchange v a left onward due found waits answer told =
-    let s = tells w now v exchange (given_to w now v a) left in
+pub keeps_delivering : (w : World) (history : List Deed) (c : Bears history w) (now draw at number exchange : ℕ) (v : Waiter) (x : Exchange) (a : Answer) (left : List (Numbered Waiter)) → w.last ≤ now → if_due now (item_due w) ≡ Some (OfWaiter at number) → item_at number w.waiters ≡ Some v → v.state ≡ Waiting exchange → item_at exchange w.exchanges ≡ Some x → answer_at x ≡ Some a → IsTold w now draw number (given_to w now v x.is_get a) left
+    → Bears (doing (serves number) (entry_of now draw tick (tells w now v exchange (given_to w now v x.is_get a) left)) ∷ history) (tells w now v exchange (given_to w now v x.is_get a) left).world
+keeps_delivering w history c now draw at number exchange v x a left onward due found waits there answer told =
+    let s = tells w now v exchange (given_to w now v x.is_get a) left in
     let e = doing (serves number) (entry_of now draw tick s) in
-    let f = served w history c number exchange v a found waits answer in
+    let f = served w history c number exchange v x a found waits there answer in
     let g = f.waits in
     let d = f.done in
-    let reply = given_to w now v a in
-    let spells = reply-spelled w history c now draw at number exchange v a found waits f in
-    let are = are-served w history c now draw at number exchange v a found waits f left told in
+    let reply = given_to w now v x.is_get a in
+    let spells = reply-spelled w history c now draw at number exchange v x a found waits f in
+    let are = are-served w history c now draw at number exchange v x a found waits f left told in
     let r = are.serving in
     let xs = without_idle exchange left w.exchanges in
     let l = is-left w history c number exchange left r in
@@ -392,13 +388,14 @@ keeps_delivering w history c now draw at number exchange v a left onward due fou
     let within = c.within.ids now onward in
     let remembered = remembered-still w history c e onward (λ k. refl) in
     let first = turn-is w history c now (OfWaiter at number) due in
+    let method : x.is_get ≡ is_get g.admitted.request.code = f.is.method ∙ ap (λ (m : Message). is_get m.code) (sym (one-opened refl g.opened f.is.opened).2) ∙ g.method in
     record {
       routes = c.routes;
       clock = clock_frame c.clock onward refl refl;
       numbers = numbers_frame c.numbers (omega arith) (omega arith);
       ids = ids-given history w s.world e c.clock c.ids onward refl refl refl (omega arith) (record { gives = refl; message = reply; spells = spells; id_is = id-same w history c });
       unused = unused_frame w.setting history e (λ x above. unmoved x) (λ u above same. let k = same_serves number u same in let i = admitted-number g.admitted in omega (arith, k, above, i.1)) c.unused;
-      schedules = schedules_with history e (subst IsSchedule (sym (sends-first w history c now draw at number exchange v a found waits f left)) (record { few = omega arith; spaced = tt })) c.schedules;
+      schedules = schedules_with history e (subst IsSchedule (sym (sends-first w history c now draw at number exchange v x a found waits f left)) (record { few = omega arith; spaced = tt })) c.schedules;
       whole = record {
         exchanges = left-seen w history c number exchange left r xs l ∙ (λ i. awaited (are.seen i) (c.whole.exchanges i));
         waiters = are.seen;
@@ -409,9 +406,9 @@ keeps_delivering w history c now draw at number exchange v a left onward due fou
         unended = λ x was never. left-number w history c number exchange left r xs l x (λ none same. Never-at (Ends exchange) history d.ending (subst (λ (n : ℕ). Never (Ends n) history) same never.1) d.was_ended d.ends) (c.whole.unended x (opened-before history e x refl was) never.1);
         unserved = λ u x was never. r.numbers u (λ same. never.0 (record { act = ap serves (sym same); outcome = refl })) (c.whole.unserved u x (admitted-before history e u x refl was) never.1);
       };
-      exchanges = left-all w history c number exchange left r (IsExchangeOf w.setting (e ∷ history)) xs l (exchanges_frame w.setting history e w.exchanges unmoved c.exchanges);
+      exchanges = left-all w history c number exchange left r (IsExchangeOf w.setting (e ∷ history)) xs l (exchanges_frame w.setting history e w.exchanges refl unmoved c.exchanges);
       waiters = are.each;
-      store = store-otherwise w.setting history w.store e refl c.store;
+      store = store-otherwise w.setting history w.store e refl refl c.store;
       con_records = remembered.0;
       non_records = remembered.1;
       within = record {
@@ -425,19 +422,20 @@ keeps_delivering w history c now draw at number exchange v a left onward due fou
           waiter = number;
           act = refl;
           acting = acting w history c now (OfWaiter at number) due e refl refl refl;
-          to_serve = to-serve w history c at number exchange v a f (served-at w history c at number exchange v a f first.0 found waits answer);
-          later = ended-later w history number exchange v a f;
-          key = f.x.key;
+          to_serve = to-serve w history c at number exchange v x a f (served-at w history c at number exchange v x a f first.0 found waits there answer);
+          later = ended-later w history number exchange v x a f;
+          key = x.key;
           verdict = sym g.verdict ∙ ap (verdict_on w.setting) (one-opened refl g.opened f.is.opened).2 ∙ f.is.verdict;
           answer = a;
-          ended = subst (λ (n : ℕ). EndsWith w.setting n f.x.key d.ending a) (sym g.exchange_is) d.with;
+          ended = subst (λ (n : ℕ). EndsWith w.setting n x.key d.ending a) (sym g.exchange_is) d.with;
           id = next_id w;
           tells = record {
             sent = ap Some g.client_is;
             spells =
-                subst (λ (k : Kind). Spells (spelling reply) (shown_as k now a (next_id w) g.admitted.request.token (tags_of g.admitted.request))) g.kind_is
-                (subst (λ (ts : List (List ℕ)). Spells (spelling reply) (shown_as v.kind now a (next_id w) g.admitted.request.token ts)) g.tags_are
-                (subst (λ (t : List ℕ). Spells (spelling reply) (shown_as v.kind now a (next_id w) t v.tags)) g.token_is spells));
+                subst (λ (b : Bool). Spells (spelling reply) (shown_as g.admitted.request.kind b now a (next_id w) g.admitted.request.token (tags_of g.admitted.request))) method
+                (subst (λ (k : Kind). Spells (spelling reply) (shown_as k x.is_get now a (next_id w) g.admitted.request.token (tags_of g.admitted.request))) g.kind_is
+                (subst (λ (ts : List (List ℕ)). Spells (spelling reply) (shown_as v.kind x.is_get now a (next_id w) g.admitted.request.token ts)) g.tags_are
+                (subst (λ (t : List ℕ). Spells (spelling reply) (shown_as v.kind x.is_get now a (next_id w) t v.tags)) g.token_is spells)));
           };
         },
         c.past,

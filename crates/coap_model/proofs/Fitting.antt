@@ -43,8 +43,8 @@ rule_fits : {w : World} {now draw : ℕ} {grown : Bool} {event : Event} {s : Ste
 rule_fits {w = w} history c are (refusing client bytes m code first denied free) = let came = request-came w client bytes m first.fits first.asked in omega (arith, (are Datagram).0, own-short m code (next_id w) m.token came.brings.spells.message.token)
 rule_fits {w = w} history c are (lacking client bytes m first free) = omega arith
 rule_fits {w = w} history c are (overloading client bytes m key first verdict lacks free) = let came = request-came w client bytes m first.fits first.asked in omega (arith, (are Datagram).0, busy-short m w.setting.limits.retry_s (next_id w) m.token came.brings.spells.message.token)
-rule_fits {w = w} {now = now} history c are (hitting client bytes m key entry first verdict found usable free) = let came = request-came w client bytes m first.fits first.asked in hit-fits w history c key entry found w.setting.limits.datagram now m (next_id w) m.token (tags_of m) (are Datagram).0 (omega arith) came.brings.spells.message.token
-rule_fits {w = w} history c are (joining client bytes m key exchange send told first verdict none found room up) = taken-short client m send told up w.setting.limits.datagram (are Datagram).0
+rule_fits {w = w} {now = now} history c are (hitting client bytes m key entry first get verdict found usable free) = let came = request-came w client bytes m first.fits first.asked in hit-fits w history c key entry found w.setting.limits.datagram now m (next_id w) m.token (tags_of m) (are Datagram).0 (omega arith) came.brings.spells.message.token
+rule_fits {w = w} history c are (joining client bytes m key exchange send told first get verdict none found room up) = taken-short client m send told up w.setting.limits.datagram (are Datagram).0
 rule_fits {w = w} history c are (opening client bytes m key send told first verdict none short room up) = taken-short client m send told up w.setting.limits.datagram (are Datagram).0
 rule_fits {w = w} {now = now} history c are (repeating client bytes m known fits asked found) = go m.kind refl
   where
@@ -73,9 +73,9 @@ rule_fits {w = w} history c are (ignoring source bytes quiet none) = omega arith
 rule_fits {w = w} {now = now} history c are (forwarding at number x turn is early) = omega (arith, length-with_id (next_id w) x.form, (turn-exchange w history c now at number x turn).form_short)
 rule_fits {w = w} {now = now} history c are (resending at number x turn is early fire) = (turn-exchange w history c now at number x turn).form_short
 rule_fits {w = w} history c are (giving_up at number x turn over) = omega arith
-rule_fits {w = w} {now = now} history c are (delivering at number exchange v a left due found waits answer told) =
-    let s = served w history c number exchange v a found waits answer in
-    ending-fits w v.kind now (next_id w) exchange s.x.key s.done.ending a v.token v.tags w.setting.limits.datagram s.done.with s.short (are Datagram).0 (omega arith)
+rule_fits {w = w} {now = now} history c are (delivering at number exchange v x a left due found waits there answer told) =
+    let s = served w history c number exchange v x a found waits there answer in
+    ending-fits w v.kind x.is_get now (next_id w) exchange x.key s.done.ending a v.token v.tags w.setting.limits.datagram s.done.with s.short (are Datagram).0 (omega arith)
 rule_fits {w = w} {now = now} history c are (redelivering at number v bytes id timer turn fire) = (told-is w history c number id v bytes timer turn.found turn.state).short w.setting.limits.datagram (are Datagram).0 (omega arith)
 rule_fits {w = w} history c are (abandoning at number v bytes id timer turn fire) = omega arith
 rule_fits {w = w} history c are (idling nothing) = omega arith

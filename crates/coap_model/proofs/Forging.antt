@@ -1,5 +1,5 @@
 -- Forged deliveries.
-use Rattle.std.proofs.Common.{◌≡◌, inl, inr, ⊎_elim, ℕ, Bool, true, false, List, [], ◌∷◌, Some, Result, Ok, Err, refl, sym, ap, ◌∙◌, subst, length, arith}
+use Rattle.std.proofs.Common.{◌≡◌, inl, inr, ⊎_elim, ℕ, Bool, true, false, List, [], ◌∷◌, Some, None, Result, Ok, Err, refl, sym, ap, ◌∙◌, subst, length, arith}
 use Rattle.std.proofs.lemmas.Option.{same_Some}
 use Rattle.coap_message.specs.declared.error.ReadError.{ReadError}
 use Rattle.coap_target.specs.declared.endpoint.Endpoint.{Endpoint}
@@ -10,10 +10,10 @@ use Rattle.coap_message.specs.Uint.{uint_spelling}
 use Rattle.coap_message.specs.Spelling.{spelling, option_spelling}
 use Rattle.coap_message.proofs.WholeMessages.{read_again}
 use Rattle.coap_option.specs.Selection.{tags_of, max_age_of}
-use Rattle.coap_forward.specs.Messages.{is_con, is_rst}
-use Rattle.coap_forward.specs.Answers.{answer_of, shown, shown_as}
+use Rattle.coap_forward.specs.Messages.{is_con, is_rst, is_get, token_of}
+use Rattle.coap_forward.specs.Answers.{answer_of, shown_as}
 use Rattle.coap_model.specs.Events.{arrival}
-use Rattle.coap_model.specs.Examples.{origin, client, get_t, get_temp, content, content_for_client, content_in}
+use Rattle.coap_model.specs.Examples.{origin, client, get_t, content, content_for_client, content_in}
 use Rattle.coap_cache.specs.declared.answer.Answer.{Answer}
 use Rattle.coap_model.specs.Verdicts.{Verdict, may_ask, refused_with, verdict_of}
 use Rattle.coap_model.specs.History.{no_item, moves, serves, Deed, Sends, Place, IsPlaceOf, admits_one, Admits, ends, Ends, GivesUp}
@@ -25,14 +25,16 @@ use Rattle.coap_routes.specs.Routes.{mapped_target}
 use Rattle.coap_routes.specs.Request.{request_target}
 use Rattle.coap_cache.specs.declared.key.CacheKey.{CacheKey}
 use Rattle.coap_model.specs.Keys.{key_sent, target_sent}
-use Rattle.coap_model.specs.Cached.{IsOfOrigin, WasObtained}
+use Rattle.coap_model.specs.Cached.{copied, IsObtained, WasObtained}
+use Rattle.coap_model.specs.Changed.{key_asked}
+use Rattle.coap_model.proofs.Obtaining.{obtained-fetched}
 use Rattle.std.specs.List.{sum_by}
 use Rattle.coap_model.specs.CacheExamples as cached
 use Rattle.coap_model.specs.CacheExamples.{content_for, first_entry}
 use Rattle.coap_model.specs.LimitExamples as limited
 use Rattle.coap_model.specs.OptionExamples.{key_of_temp}
 use Rattle.coap_model.specs.declared.report.Storing.TheVariants.{Kept}
-use Rattle.coap_model.proofs.Places.{here, same_serves, arrival-same, admitted-number, place-before}
+use Rattle.coap_model.proofs.Places.{here, same_moves, same_serves, arrival-same, admitted-number, place-before}
 use Rattle.coap_model.proofs.Sorts.{token-or-reset}
 use Rattle.coap_model.proofs.CacheExamples.{get_read, get_spelled}
 
@@ -152,28 +154,53 @@ told_by (Err e) = 0
 
 -- the Max-Age that is to be told of an answer
 abbrev owed_by : ℕ → Message → Result Message ReadError → ℕ
-owed_by id request (Ok m) = max_age_of (shown 2500 (answer_of 1500 0 m) id request.token (tags_of request))
+owed_by id request (Ok m) = max_age_of (shown_as request.kind true 2500 (answer_of 1500 true None 0 m) id request.token (tags_of request))
 owed_by id request (Err e) = 0
 
--- what was got there is an answer, and its Max-Age is that of what came
-got_age : (x : ℕ) (key : CacheKey) (p : Place) (answer : Answer) (id : ℕ) (request : Message) → p ≡ here (asked ∷ opened ∷ []) answered → EndsWith setting x key p answer → max_age_of (shown 2500 answer id request.token (tags_of request)) ≡ 7
+-- whether a request is a GET, and its tags
+abbrev get_told : Result Message ReadError → Bool
+get_told (Ok m) = is_get m.code
+get_told (Err e) = false
+
+abbrev tags_told : Result Message ReadError → List (List ℕ)
+tags_told (Ok m) = tags_of m
+tags_told (Err e) = []
+
+-- where its request was sent
+sent_there : (p : Place) (x : ℕ) → IsPlaceOf (asked ∷ opened ∷ []) p → Sends 0 x p → p ≡ here (opened ∷ []) asked
+sent_there p x at s =
+    ⊎_elim
+    (λ (e : here (opened ∷ []) asked ≡ p). sym e)
+    (λ (t : IsPlaceOf (opened ∷ []) p). ⊎_elim (λ (e : here [] opened ≡ p). absurd (let f = ap (λ (q : Place). q.deed.entry.report.outcome) e ∙ s.outcome in cc)) (λ (h : ⊥). absurd h) t)
+    at
+
+-- what was got there is an answer to a GET without tags, and its Max-Age is that of what came
+got_age : (x : ℕ) (key : CacheKey) (p : Place) (answer : Answer) (id : ℕ) (request : Message) → is_get request.code ≡ true → p ≡ here (asked ∷ opened ∷ []) answered → EndsWith setting x key p answer → max_age_of (shown_as request.kind (is_get request.code) 2500 answer id request.token (tags_of request)) ≡ 7
 unfolding read_message body_at options_within option_at extended answer_of spelling option_spelling uint_spelling
-got_age x key p answer id request place (got gets asked_key is) =
+got_age x key p answer id request get place (got gets former was asked_key is) =
     let m = gets.meets in
     let same = arrival-same m.asks.sends.to _ m.brings.bytes content (sym m.brings.came ∙ ap (λ (q : Place). q.deed.entry.event) place) in
     let read = ap read_message (sym same.1) ∙ read_again m.brings.bytes m.message m.brings.spells in
-    let answer_is : answer ≡ answer_of 1500 0 m.message = is ∙ ap (λ (q : Place). answer_of 1500 q.deed.entry.now m.message) place in
-    ap (λ (a : Answer). max_age_of (shown 2500 a id request.token (tags_of request))) answer_is ∙ sym (ap (owed_by id request) read)
-got_age x key p answer id request place (given_up gives is) = absurd (let e = ap (λ (q : Place). q.deed.entry.report.outcome) (sym place) ∙ gives.outcome in cc)
+    let there = sent_there m.asking x (subst (λ (q : Place). IsPlaceOf q.before m.asking) place m.was_asked) m.asks.sends in
+    let sent = ap (λ (q : Place). read_message q.deed.entry.bytes) (sym there) ∙ read_again m.asking.deed.entry.bytes m.asks.sends.message m.asks.sends.spells in
+    let to_get : is_get m.asks.sends.message.code ≡ true = sym (ap get_told sent) in
+    let tags : tags_of m.asks.sends.message ≡ [] = sym (ap tags_told sent) in
+    let answer_is : answer ≡ answer_of 1500 true None 0 m.message = is ∙ (λ i. answer_of 1500 (to_get i) (copied (tags i) (key_asked gets) former) (place i).deed.entry.now m.message) in
+    (λ i. max_age_of (shown_as request.kind (get i) 2500 (answer_is i) id request.token (tags_of request))) ∙ sym (ap (owed_by id request) read)
+got_age x key p answer id request get place (given_up gives is) = absurd (let e = ap (λ (q : Place). q.deed.entry.report.outcome) (sym place) ∙ gives.outcome in cc)
 
 -- the Max-Age that is told is what is left: seven seconds, and not ten
 pub another_age : ¬ IsDelivery setting past (delivery (client 1) (content_for_client 10) (serves 1))
 unfolding read_message body_at options_within option_at extended
 another_age s =
     let p = s.to_serve in
-    let place = one_end p.ending p.admitted.exchange p.was_ended p.ends in
-    let told = read_again (content_for_client 10) (shown_as p.admitted.request.kind 2500 s.answer s.id p.admitted.request.token (tags_of p.admitted.request)) s.tells.spells in
-    let ten : 10 ≡ 7 = ap told_by told ∙ got_age p.admitted.exchange s.key p.ending s.answer s.id p.admitted.request place s.ended in
+    let a = p.admitted in
+    let place = one_end p.ending a.exchange p.was_ended p.ends in
+    let admission = one_admission opened asked a.admission s.waiter a.exchange refl a.was_admitted a.admits in
+    let same = arrival-same a.client (client 1) a.asked.brings.bytes (get_t []) (sym a.asked.brings.came ∙ ap (λ (q : Place). q.deed.entry.event) admission) in
+    let get : true ≡ is_get a.request.code = ap get_told (ap read_message (sym same.1) ∙ read_again a.asked.brings.bytes a.request a.asked.brings.spells) in
+    let told = read_again (content_for_client 10) (shown_as a.request.kind (is_get a.request.code) 2500 s.answer s.id a.request.token (tags_of a.request)) s.tells.spells in
+    let ten : 10 ≡ 7 = ap told_by told ∙ got_age a.exchange s.key p.ending s.answer s.id a.request (sym get) place s.ended in
     omega (arith, ten)
 
 -- ---- the type of the message that was asked in
@@ -190,7 +217,7 @@ kind_asked o bytes told came s =
     let place = one_admission o asked a.admission s.waiter a.exchange refl a.was_admitted a.admits in
     let same = arrival-same a.client (client 1) a.asked.brings.bytes bytes (sym a.asked.brings.came ∙ ap (λ (p : Place). p.deed.entry.event) place ∙ came) in
     let read = ap read_message (sym same.1) ∙ read_again a.asked.brings.bytes a.request a.asked.brings.spells in
-    let shown_again = read_again told (shown_as a.request.kind 2500 s.answer s.id a.request.token (tags_of a.request)) s.tells.spells in
+    let shown_again = read_again told (shown_as a.request.kind (is_get a.request.code) 2500 s.answer s.id a.request.token (tags_of a.request)) s.tells.spells in
     ap con_told read ∙ sym (ap con_told shown_again)
 
 -- a client that asked in a Non-confirmable message is given none that is Confirmable
@@ -245,7 +272,7 @@ elsewhere_kept p x at g =
 -- the answer to it is for the key of that
 key_elsewhere : (x : ℕ) (key : CacheKey) (p : Place) (answer : Answer) → IsPlaceOf past_elsewhere p → EndsWith setting x key p answer → 2 ≡ length key.target.path
 unfolding read_message body_at options_within option_at extended key_sent target_sent
-key_elsewhere x key p answer at (got gets asked_key is) =
+key_elsewhere x key p answer at (got gets former was asked_key is) =
     let m = gets.meets in
     let sends = m.asks.sends in
     let place = elsewhere_sent m.asking x (place-before past_elsewhere p m.asking at m.was_asked) sends in
@@ -288,16 +315,19 @@ abbrev is_reset : Result Message ReadError → Bool
 is_reset (Ok m) = is_rst m.kind
 is_reset (Err e) = false
 
--- what answers another request came from no origin of this one
-pub not_its_answer : ¬ IsOfOrigin setting key_of_temp (content_for 1 2) (here (opened ∷ []) asked) (here (asked ∷ opened ∷ []) (cached.answered 5 1 2 (Answered Kept)))
-unfolding read_message body_at options_within option_at extended
+-- what answers another request was not obtained by this one
+pub not_its_answer : ¬ IsObtained setting key_of_temp (content_for 1 2) (here (opened ∷ []) asked) (here (asked ∷ opened ∷ []) (record (cached.answered 5 1 2 (Answered Kept)) { act = moves 1 }))
+unfolding read_message body_at options_within option_at extended token_of
 not_its_answer o =
-    let same = arrival-same o.origin origin o.brings.bytes (limited.got 1 2) (sym o.brings.came) in
-    let read = ap read_message (sym same.1) ∙ read_again o.brings.bytes o.came o.brings.spells in
-    let told : 2 ≡ sum_by (λ b. b) o.came.token = ap token_told read in
-    let sent : 1 ≡ sum_by (λ b. b) o.request.token = ap token_told (read_again (get_temp []) o.request o.spells) in
-    let kind : false ≡ is_rst o.came.kind = ap is_reset read in
+    let f = obtained-fetched o in
+    let m = f.gets.meets in
+    let number = same_moves 1 f.exchange f.gets.act in
+    let same = arrival-same m.asks.sends.to origin m.brings.bytes (limited.got 1 2) (sym m.brings.came) in
+    let read = ap read_message (sym same.1) ∙ read_again m.brings.bytes m.message m.brings.spells in
+    let told : 2 ≡ sum_by (λ b. b) m.message.token = ap token_told read in
+    let sent : 1 ≡ sum_by (λ b. b) (token_of 0 f.exchange) = ap (λ (x : ℕ). sum_by (λ b. b) (token_of 0 x)) number in
+    let kind : false ≡ is_rst m.message.kind = ap is_reset read in
     ⊎_elim
-    (λ (same_token : o.came.token ≡ o.request.token). let token = ap (λ (t : List ℕ). sum_by (λ b. b) t) same_token in omega (arith, told, sent, token))
-    (λ (reset : o.came.kind ≡ Rst). let e : false ≡ true = kind ∙ ap is_rst reset in cc)
-    (token-or-reset o.came o.matches)
+    (λ (same_token : m.message.token ≡ token_of 0 f.exchange). let token = ap (λ (t : List ℕ). sum_by (λ b. b) t) same_token in omega (arith, told, sent, token))
+    (λ (reset : m.message.kind ≡ Rst). let e : false ≡ true = kind ∙ ap is_rst reset in cc)
+    (token-or-reset m.message m.matches)

@@ -1,6 +1,14 @@
 -- What stays as the history grows by an entry.
-use Rattle.std.proofs.Common.{◌≡◌, ◌≢◌, ⊎_elim, inr, ℕ, ◌+◌, ◌<◌, ◌≤◌, Bool, true, false, List, [], ◌∷◌, length, Option, Some, None, refl, sym, ap, ◌∙◌, subst, arith}
-use Rattle.std.specs.Prelude.{◌&&◌}
+use Rattle.std.proofs.Common.{◌≡◌, ◌≢◌, ⊎_elim, inr, ℕ, ◌+◌, ◌<◌, ◌≤◌, Bool, true, false, cond, List, [], ◌∷◌, length, Option, Some, None, refl, sym, ap, ◌∙◌, subst, arith}
+use Rattle.std.specs.Prelude.{◌&&◌, ◌||◌, map}
+use Rattle.coap_target.specs.declared.target.Target.{Target}
+use Rattle.coap_target.specs.Equality.{same_target}
+use Rattle.coap_exchange.specs.Exchanges.{is_sent_state, is_acked_state, tainted_by}
+use Rattle.coap_exchange.specs.Table.{all_changed}
+use Rattle.coap_forward.specs.Changes.{changed_by, concerns}
+use Rattle.coap_model.specs.Answers.{tainted_all}
+use Rattle.coap_model.specs.Changed.{key_asked, IsTold}
+use Rattle.coap_model.proofs.Changing.{told-stays, told-on}
 use Rattle.std.specs.List.{AllByRecursion}
 use Rattle.std.proofs.lemmas.Bool.{eqb-true, eq-eqb}
 use Rattle.coap_target.proofs.Lists.{All-weaken}
@@ -17,10 +25,10 @@ use Rattle.coap_model.specs.declared.report.Outcome.{Outcome}
 use Rattle.coap_model.specs.declared.report.Outcome.TheVariants.{Opened}
 use Rattle.coap_model.specs.Setting.{Setting}
 use Rattle.coap_model.specs.World.{World}
-use Rattle.coap_model.specs.History.{Act, no_item, admits, moves, serves, Deed, Place, IsPlaceOf, Somewhere, opens_one, admits_one, opened_in, admitted_in, Opens, Admits}
+use Rattle.coap_model.specs.History.{Act, no_item, admits, moves, serves, Deed, Place, IsPlaceOf, Somewhere, opens_one, admits_one, takes, Gets, opened_in, admitted_in, Opens, Admits}
 use Rattle.coap_model.specs.Schedules.{same_act, is_sending, sends_for, sends_by, IsSchedule}
 use Rattle.coap_model.specs.Carries.{Clock, Numbers, IsTimer, AreOfBytes, WasAsked, WasSent, IsInFlight, IsState, IsExchangeOf, IsWaiterIn, IsWaiterOf, AreUnused, AreSchedules}
-use Rattle.coap_model.proofs.Places.{here, opened-later, admitted-later}
+use Rattle.coap_model.proofs.Places.{here, index_below, opened-later, admitted-later}
 
 -- ---- the clock and the numbers
 
@@ -98,7 +106,7 @@ sends-grow a history d same sending = let one : sends_for a d ≡ true = rw (sam
 -- ---- exchanges
 
 -- what was asked stays so at an entry that sends nothing for it
-pub asked_frame : {setting : Setting} {history : List Deed} {x : ℕ} {key : CacheKey} {form : List ℕ} {s : Sending} (e : Deed) → sends_by (moves x) (e ∷ history) ≡ sends_by (moves x) history → WasAsked setting history x key form s → WasAsked setting (e ∷ history) x key form s
+abbrev pub asked_frame : {setting : Setting} {history : List Deed} {x : ℕ} {key : CacheKey} {form : List ℕ} {s : Sending} (e : Deed) → sends_by (moves x) (e ∷ history) ≡ sends_by (moves x) history → WasAsked setting history x key form s → WasAsked setting (e ∷ history) x key form s
 asked_frame {key = key} {form = form} {s = s} e same a =
     record {
       asking = a.asking;
@@ -117,28 +125,47 @@ pub sent_frame : (setting : Setting) (history : List Deed) (x : ℕ) (key : Cach
 sent_frame setting history x key form None e same a = tt
 sent_frame setting history x key form (Some s) e same a = asked_frame e same a
 
+-- what a change does to an exchange: one that is on its way is tainted, if its target is changed
+abbrev pub is_flying : ExchangeState → Bool
+is_flying s = is_sent_state s || is_acked_state s
+
+-- an exchange that is tainted so
+abbrev pub with_taint : Bool → Numbered Exchange → Numbered Exchange
+with_taint b x = (x.0, record x.1 { tainted = b })
+
+-- what is known of a taint after an entry: it tells whether the target was changed, where the exchange is on its way, and else it is as before
+pub record IsTaint (setting : Setting) (history : List Deed) (e : Deed) (x : Numbered Exchange) (b : Bool) : Type 0 where
+  pub flying : is_flying x.1.state ≡ true → (since : Place) → IsPlaceOf history since → IsTold x.1.tainted setting x.1.key.target since history → IsTold b setting x.1.key.target since (e ∷ history)
+  pub resting : is_flying x.1.state ≡ false → b ≡ x.1.tainted
+
 -- so does an exchange that is on its way, where the entry acts on another
-flight_frame : (setting : Setting) (history : List Deed) (e : Deed) (x : Numbered Exchange) → e.act ≢ moves x.0 → IsInFlight setting history x → IsInFlight setting (e ∷ history) x
-flight_frame setting history e x other s =
+flight_frame : (setting : Setting) (history : List Deed) (e : Deed) (x : Numbered Exchange) (b : Bool) → e.act ≢ moves x.0 → is_flying x.1.state ≡ true → IsTaint setting history e x b → IsInFlight setting history x → IsInFlight setting (e ∷ history) (with_taint b x)
+flight_frame setting history e x b other flying taint s =
     record {
       sending = s.sending;
       sending_is = s.sending_is;
       asked = asked_frame e (sends-stay (moves x.0) history e other) s.asked;
+      method = s.method;
+      former = s.former;
+      was_cache = s.was_cache;
+      copy_is = s.copy_is;
+      told = taint.flying flying s.asked.asking s.asked.was_asked s.told;
       unended = ((λ h. other h.act), s.unended);
     }
 
 -- a state stays at an entry that acts on another
-state_frame : (setting : Setting) (history : List Deed) (e : Deed) (x : Numbered Exchange) (s : ExchangeState) → e.act ≢ moves x.0 → IsState setting history x s → IsState setting (e ∷ history) x s
-state_frame setting history e x Queued other s =
+state_frame : (setting : Setting) (history : List Deed) (e : Deed) (x : Numbered Exchange) (b : Bool) (s : ExchangeState) → x.1.state ≡ s → e.act ≢ moves x.0 → IsTaint setting history e x b → IsState setting history x s → IsState setting (e ∷ history) (with_taint b x) s
+state_frame setting history e x b Queued is other taint s =
     record {
       unsent = s.unsent;
+      untainted = taint.resting (ap is_flying is) ∙ s.untainted;
       never_sent = ((λ h. other h.act), s.never_sent);
       no_sends = sends-stay (moves x.0) history e other ∙ s.no_sends;
       unended = ((λ h. other h.act), s.unended);
     }
-state_frame setting history e x Sent other s = flight_frame setting history e x other s
-state_frame setting history e x Acked other s = flight_frame setting history e x other s
-state_frame setting history e x (Done answer) other s =
+state_frame setting history e x b Sent is other taint s = flight_frame setting history e x b other (ap is_flying is) taint s
+state_frame setting history e x b Acked is other taint s = flight_frame setting history e x b other (ap is_flying is) taint s
+state_frame setting history e x b (Done answer) is other taint s =
     record {
       ending = s.ending;
       was_ended = inr s.was_ended;
@@ -149,24 +176,89 @@ state_frame setting history e x (Done answer) other s =
     }
 
 -- an exchange stays at an entry that acts on another
-pub exchange_frame : (setting : Setting) (history : List Deed) (e : Deed) (x : Numbered Exchange) → e.act ≢ moves x.0 → IsExchangeOf setting history x → IsExchangeOf setting (e ∷ history) x
-exchange_frame setting history e x other f =
+pub exchange_tainted : (setting : Setting) (history : List Deed) (e : Deed) (x : Numbered Exchange) (b : Bool) → e.act ≢ moves x.0 → IsTaint setting history e x b → IsExchangeOf setting history x → IsExchangeOf setting (e ∷ history) (with_taint b x)
+exchange_tainted setting history e x b other taint f =
     record {
       opened = opened-later e f.opened;
       admitted = f.admitted;
       verdict = f.verdict;
+      method = f.method;
+      former = f.former;
+      was_cache = f.was_cache;
       form_is = f.form_is;
       form_short = f.form_short;
-      is_get = f.is_get;
-      untainted = f.untainted;
-      state = state_frame setting history e x x.1.state other f.state;
+      copy_is = f.copy_is;
+      state = state_frame setting history e x b x.1.state refl other taint f.state;
     }
 
--- all stay at an entry that acts on none
-pub exchanges_frame : (setting : Setting) (history : List Deed) (e : Deed) (xs : List (Numbered Exchange)) → ((x : ℕ) → e.act ≢ moves x)
+-- so it stays as it is where no answer is got
+pub exchange_frame : (setting : Setting) (history : List Deed) (e : Deed) (x : Numbered Exchange) → takes e.entry.report.outcome ≡ false → e.act ≢ moves x.0 → IsExchangeOf setting history x → IsExchangeOf setting (e ∷ history) x
+exchange_frame setting history e x none other f =
+    exchange_tainted setting history e x x.1.tainted other (record { flying = λ flying since at told. told-stays x.1.tainted setting x.1.key.target since history e none told; resting = λ resting. refl }) f
+
+-- all stay at an entry that gets no answer, and acts on none
+pub exchanges_frame : (setting : Setting) (history : List Deed) (e : Deed) (xs : List (Numbered Exchange)) → takes e.entry.report.outcome ≡ false → ((x : ℕ) → e.act ≢ moves x)
     → AllByRecursion (IsExchangeOf setting history) xs → AllByRecursion (IsExchangeOf setting (e ∷ history)) xs
-exchanges_frame setting history e xs other all =
-    All-weaken (IsExchangeOf setting history) (IsExchangeOf setting (e ∷ history)) xs (λ x f. exchange_frame setting history e x (other x.0) f) all
+exchanges_frame setting history e xs none other all =
+    All-weaken (IsExchangeOf setting history) (IsExchangeOf setting (e ∷ history)) xs (λ x f. exchange_frame setting history e x none (other x.0) f) all
+
+-- ---- changes
+
+-- after an answer that changes these targets
+abbrev pub tainted_here : List Target → Numbered Exchange → Numbered Exchange
+tainted_here changed x = with_taint (x.1.tainted || (is_flying x.1.state && concerns changed x.1.key.target)) x
+
+-- another exchange is tainted exactly where its target was changed
+pub exchange_changed : {setting : Setting} {n : ℕ} (history : List Deed) (e : Deed) (x : Numbered Exchange) (gets : Gets setting n (here history e)) → e.act ≢ moves x.0 → IsExchangeOf setting history x → IsExchangeOf setting (e ∷ history) (tainted_here (changed_by (key_asked gets).target gets.meets.message) x)
+exchange_changed {setting} history e x gets other f =
+    exchange_tainted setting history e x _ other (
+    record {
+      flying = λ flying since at told.
+          subst (λ (b : Bool). IsTold (x.1.tainted || (b && concerns changed x.1.key.target)) setting x.1.key.target since (e ∷ history)) (sym flying)
+          (told-on x.1.tainted x.1.key.target since gets (index_below history since at) told);
+      resting = λ resting. still (is_flying x.1.state) x.1.tainted resting;
+    }
+    ) f
+  where
+    changed : List Target
+    changed = changed_by (key_asked gets).target gets.meets.message
+
+    still : (b t : Bool) → b ≡ false → (t || (b && concerns changed x.1.key.target)) ≡ t
+    still true t e = absurd cc
+    still false true e = refl
+    still false false e = refl
+
+-- one change after the other taints it so
+tainted-one : (t : Target) (changed : List Target) (x : Numbered Exchange) → tainted_here changed (x.0, tainted_by t x.1) ≡ tainted_here (t ∷ changed) x
+tainted-one t changed x = go (is_flying x.1.state) refl (same_target x.1.key.target t)
+  where
+    or-true : (m : Bool) → true ≡ (m || true)
+    or-true true = refl
+    or-true false = refl
+
+    go : (f : Bool) → is_flying x.1.state ≡ f → (b : Bool) → tainted_here changed (x.0, cond (f && b) (record x.1 { tainted = true }) x.1) ≡ with_taint (x.1.tainted || (f && (b || concerns changed x.1.key.target))) x
+    go true is true = ap (λ (m : Bool). with_taint m x) (or-true x.1.tainted)
+    go true is false = ap (λ (f : Bool). with_taint (x.1.tainted || (f && concerns changed x.1.key.target)) x) is
+    go false is b = ap (λ (f : Bool). with_taint (x.1.tainted || (f && concerns changed x.1.key.target)) x) is
+
+-- so all are tainted
+pub tainted-all : (changed : List Target) (xs : List (Numbered Exchange)) → tainted_all changed xs ≡ map (tainted_here changed) xs
+tainted-all [] xs = sym (plain xs)
+  where
+    none : (f m : Bool) → (m || (f && false)) ≡ m
+    none true true = refl
+    none true false = refl
+    none false true = refl
+    none false false = refl
+
+    plain : (ys : List (Numbered Exchange)) → map (tainted_here []) ys ≡ ys
+    plain [] = refl
+    plain (y ∷ ys) = λ i. (y.0, record y.1 { tainted = none (is_flying y.1.state) y.1.tainted i }) ∷ plain ys i
+tainted-all (t ∷ changed) xs = tainted-all changed (all_changed (tainted_by t) xs) ∙ both xs
+  where
+    both : (ys : List (Numbered Exchange)) → map (tainted_here changed) (all_changed (tainted_by t) ys) ≡ map (tainted_here (t ∷ changed)) ys
+    both [] = refl
+    both (y ∷ ys) = λ i. tainted-one t changed y i ∷ both ys i
 
 -- ---- clients
 
@@ -187,6 +279,7 @@ waiter_frame setting history e v other f = go v.1.state f
           unserved = ((λ h. other h.act), g.unserved);
           no_sends = sends-stay (serves v.0) history e other ∙ g.no_sends;
           opened = opened-later e g.opened;
+          method = g.method;
           verdict = g.verdict;
         }
     go (Delivering bytes id timer) g =

@@ -1,23 +1,36 @@
 -- When an answer is got, and what the proxy's own answer is shown as.
-use Rattle.std.proofs.Common.{◌≡◌, ℕ, ◌≤◌, Bool, true, false, cond, List, length, refl, arith}
+use Rattle.std.proofs.Common.{◌≡◌, ℕ, ◌≤◌, Bool, true, false, cond, List, length, Option, Some, None, refl, arith}
 use Rattle.coap_message.specs.Message.{Message}
 use Rattle.coap_message.specs.Spelling.{IsMessage, spelling}
 use Rattle.coap_message.specs.declared.code.TheConstants.Code.{GATEWAY_TIMEOUT}
 use Rattle.coap_message.proofs.Spellings.{spelling-length}
 use Rattle.std.specs.Prelude.{◌&&◌, not}
 use Rattle.coap_forward.specs.Messages.{is_rst}
-use Rattle.coap_cache.specs.declared.answer.Answer.{Answer}
-use Rattle.coap_forward.specs.Answers.{without_observe, is_passed_on, bad_gateway, own_answer, gateway_timeout, answer_of, shown}
+use Rattle.coap_forward.specs.Answers.{fits, validates, taken_of, is_passed_on, bad_gateway, own_answer, origin_answer, answer_if_fits, validated, gateway_timeout, answer_of, shown}
+use Rattle.coap_cache.specs.Renewing.{is_validated, renewed}
 use Rattle.coap_model.proofs.Spelled.{own_reply-is}
 
 -- an answer is got at the moment of its response
-pub got-is : (most now : ℕ) (m : Message) → (answer_of most now m).got ≡ now
+pub got-is : (most now : ℕ) (to_get : Bool) (copy : Option Message) (m : Message) → (answer_of most to_get copy now m).got ≡ now
 unfolding answer_of
-got-is most now m = go (not (is_rst m.kind) && is_passed_on most m)
+got-is most now to_get copy m = go (not (is_rst m.kind) && is_passed_on most to_get m) (validates to_get m) (taken_of to_get m) copy
   where
-    go : (b : Bool) → (cond {A = Answer} b (record { message = without_observe m; got = now; own = false }) (record { message = bad_gateway; got = now; own = true })).got ≡ now
-    go true = refl
-    go false = refl
+    fitting : (b : Bool) (r : Message) → (cond b (origin_answer now r) (own_answer now bad_gateway)).got ≡ now
+    fitting true r = refl
+    fitting false r = refl
+
+    valid : (o : Option Message) (taken : Message) → (validated most now o taken).got ≡ now
+    valid None taken = refl
+    valid (Some r) taken = both (is_validated r taken)
+      where
+        both : (b : Bool) → (cond b (answer_if_fits most now (renewed r taken)) (own_answer now bad_gateway)).got ≡ now
+        both true = fitting (fits most (renewed r taken)) (renewed r taken)
+        both false = refl
+
+    go : (p v : Bool) (taken : Message) (o : Option Message) → (cond p (cond v (validated most now o taken) (origin_answer now taken)) (own_answer now bad_gateway)).got ≡ now
+    go true true taken o = valid o taken
+    go true false taken o = refl
+    go false v taken o = refl
 
 -- 5.04 is a message as it is shown
 pub timeout-is : (now got id : ℕ) (token : List ℕ) (tags : List (List ℕ)) → length token ≤ 8 → IsMessage (shown now (own_answer got gateway_timeout) id token tags)

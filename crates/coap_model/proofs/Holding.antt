@@ -1,6 +1,6 @@
 -- The bytes that a proxy holds are within its bound.
 use Rattle.std.proofs.Common.{◌≡◌, ℕ, ◌+◌, ◌*◌, ◌/◌, ◌≤◌, Bool, true, false, cond, leb, ltb, List, [], ◌∷◌, ◌++◌, map, length, Option, Some, None, refl, sym, ap, ◌∙◌, subst, arith}
-use Rattle.std.specs.Prelude.{◌&&◌, ◌==◌, not, filter}
+use Rattle.std.specs.Prelude.{◌&&◌, ◌==◌, filter, is_some, option_map, IfSome}
 use Rattle.std.specs.List.{AllByRecursion, sum_by}
 use Rattle.std.proofs.lemmas.Bool.{eqb-true, leb-true, ltb-true, and_parts}
 use Rattle.std.proofs.Math.Nat.{add-mul}
@@ -8,17 +8,15 @@ use Rattle.std.proofs.lemmas.Nat.{mul-le}
 use Rattle.std.proofs.lemmas.List.{append-nil}
 use Rattle.std.proofs.lemmas.List.Elements.{All-from_recursion}
 use Rattle.std.proofs.lemmas.List.Sums.{sum_by-le}
-use Rattle.coap_message.specs.declared.code.TheConstants.Code.{VALID}
 use Rattle.coap_message.specs.declared.options.Opt.{Opt}
 use Rattle.coap_message.specs.Message.{Message}
 use Rattle.coap_message.specs.Pieces.{pieces_spelling}
-use Rattle.coap_message.specs.Spelling.{spelling, options_spelling, more_length, options_length, payload_length}
+use Rattle.coap_message.specs.Spelling.{spelling, options_spelling, more_length, options_length}
 use Rattle.coap_message.proofs.PieceSpellings.{pieces-length}
 use Rattle.coap_message.proofs.Spellings.{options-length, spelled_once, spelling-length}
 use Rattle.coap_target.specs.declared.target.Target.{Target}
 use Rattle.coap_cache.specs.declared.key.CacheKey.{CacheKey}
 use Rattle.coap_target.proofs.Lists.{All-weaken}
-use Rattle.coap_cache.specs.declared.answer.Answer.{Answer}
 use Rattle.coap_exchange.specs.declared.exchange.ExchangeState.{ExchangeState}
 use Rattle.coap_exchange.specs.declared.exchange.ExchangeState.TheVariants.{Queued, Sent, Acked, Done}
 use Rattle.coap_exchange.specs.declared.exchange.Exchange.{Exchange}
@@ -27,36 +25,37 @@ use Rattle.coap_exchange.specs.declared.waiter.WaiterState.{WaiterState}
 use Rattle.coap_exchange.specs.declared.waiter.WaiterState.TheVariants.{Waiting, Delivering}
 use Rattle.coap_exchange.specs.Table.{Numbered}
 use Rattle.coap_model.specs.Setting.{Setting}
-use Rattle.coap_message.specs.Codes.{is_code}
 use Rattle.coap_message.specs.Options.{AreOptions, option_of}
 use Rattle.coap_option.specs.declared.side.Side.{Side}
 use Rattle.coap_option.specs.declared.side.Side.TheVariants.{Request, Response}
 use Rattle.coap_option.specs.Places.{PlacedOption, places_behind, count_of, is_recognised_at}
 use Rattle.coap_option.specs.Recognition.{is_recognised}
-use Rattle.coap_option.specs.Selection.{sent_on, key_of, is_of}
+use Rattle.coap_option.specs.Selection.{sent_on, is_of}
 use Rattle.coap_option.specs.Screening.{first_refused}
 use Rattle.coap_option.specs.Side.{side_of}
 use Rattle.coap_routes.specs.Routes.{AreRoutes}
-use Rattle.coap_forward.specs.Forms.{host_options, target_options, merged, forwarded}
-use Rattle.coap_model.specs.Keys.{says_target}
-use Rattle.coap_forward.specs.Answers.{is_screened, without_observe, widest, fits, bad_gateway, is_passed_on, answer_of}
+use Rattle.coap_forward.specs.Forms.{host_options, target_options, merged, tagged, forwarded, tag_for}
+use Rattle.coap_model.specs.Keys.{request_key, says_target}
+use Rattle.coap_model.specs.Cached.{kept_for}
+use Rattle.coap_cache.specs.declared.stored.Stored.{Stored}
 use Rattle.coap_model.specs.World.{World}
-use Rattle.coap_model.specs.History.{Deed, Place}
-use Rattle.coap_model.specs.Justified.{EndsWith, got, given_up}
-use Rattle.coap_model.specs.Carries.{form_id, IsState, IsExchangeOf, IsWaiterIn, IsWaiterOf, Bears}
+use Rattle.coap_model.specs.History.{Deed}
+use Rattle.coap_model.specs.Carries.{form_id, copy_for, IsState, IsExchangeOf, IsWaiterIn, IsWaiterOf, Bears}
 use Rattle.coap_target.specs.Target.{IsShort, IsTarget}
-use Rattle.coap_forward.proofs.Forms.{AreUnused, in_key, key-screened, sent-unused, AreOptions-merged, target-options, sent-options, with_id-forwarded, length-with_id}
-use Rattle.coap_forward.specs.Messages.{is_rst, token_of}
-use Rattle.coap_model.proofs.Keys.{target-kept}
+use Rattle.coap_forward.proofs.Forms.{AreUnused, IsTag, in_key, short-tag, sent-unused, tagged-options, tagged-unused, AreOptions-merged, target-options, sent-options, with_id-forwarded, length-with_id}
+use Rattle.coap_forward.proofs.Tagging.{tag_for-is, tag_for-other}
+use Rattle.coap_forward.specs.Messages.{is_get, token_of}
+use Rattle.coap_model.proofs.Keys.{all-say, target-kept, others-kept, key-among}
 use Rattle.coap_model.proofs.Verdicts.{IsAskable, askable}
-use Rattle.coap_model.proofs.OptionLengths.{filter-length}
-use Rattle.coap_model.proofs.Showing.{within-widest}
+use Rattle.coap_model.proofs.OptionLengths.{filter-length, plain_length, small-numbers, says-small, both-apart}
+use Rattle.coap_model.proofs.Showing.{IsHoldable, holdable-short}
+use Rattle.coap_model.proofs.Endings.{kept-holdable, cache-holdable, ending-holdable}
 use Rattle.coap_cache.specs.Entries.{entry_size}
 use Rattle.coap_cache.specs.Lists.{total}
 use Rattle.coap_dedup.specs.Lists.{bytes_of}
 use Rattle.coap_dedup.proofs.Passing.{bytes-bounded}
 use Rattle.coap_model.proofs.Stores.{store-within}
-use Rattle.coap_model.specs.Held.{host_bytes, target_bytes, key_bytes, response_bytes, state_bytes, exchange_bytes, answer_bytes, waiter_bytes, held, most_held}
+use Rattle.coap_model.specs.Held.{host_bytes, target_bytes, key_bytes, response_bytes, copy_bytes, state_bytes, exchange_bytes, answer_bytes, waiter_bytes, held, most_held}
 
 -- ---- a target is held in no more than its options
 
@@ -92,40 +91,38 @@ target-short before t is = go t.host
     go None = omega (arith, path before)
     go (Some h) = omega (arith, path 3)
 
--- and so no more than the form, which says more
-form-holds : (token : List ℕ) (t : Target) (others : List Opt) → IsTarget t → AreOptions 0 others → AreUnused others → target_bytes t ≤ length (spelling (forwarded token t others 0))
-form-holds token t others is are none =
+-- so a target and the options beside it take little more than the request that has both
+both-short : (t : Target) (others : List Opt) → IsTarget t → AreOptions 0 others → AreUnused others → target_bytes t + options_length 0 others ≤ options_length 0 (merged (target_options t) others) + 4
+both-short t others is are none =
     let whole : List Opt = merged (target_options t) others in
-    let less = filter-length (λ o. says_target o.number) 0 whole (AreOptions-merged 0 (target_options t) others (target-options t is) are) in
-    omega (arith, spelling-length (forwarded token t others 0), target-short 0 t is, less, ap (options_length 0) (target-kept t others is none))
+    let in_order = AreOptions-merged 0 (target_options t) others (target-options t is) are in
+    let small = All-weaken (λ o. says_target o.number ≡ true) (λ o. o.number ≤ 15) (target_options t) (λ o says. says-small o.number says) (all-say t) in
+    let said = small-numbers 0 (target_options t) (target-options t is) small in
+    omega (arith, target-short 0 t is, said, both-apart whole in_order, ap (options_length 0) (others-kept t others none), ap plain_length (target-kept t others is none))
 
--- ---- the options of a key are held in no more than the request
+-- ---- the key is held in no more than the form
 
--- they are some of its options
-key-held : (m : Message) → AreOptions 0 m.options → first_refused Request m.options ≡ None → length (options_spelling 0 (key_of m)) ≤ options_length 0 m.options
-key-held m are screened =
-    omega (arith, ap (λ (os : List Opt). length (options_spelling 0 os)) (key-screened m screened), options-length 0 (filter (in_key m.code) m.options), filter-length (in_key m.code) 0 m.options are)
+-- its options are among those that go on
+key-held : (form most : ℕ) (token : List ℕ) (t : Target) (tag : Option (List ℕ)) (m : Message) (key : CacheKey) → key ≡ request_key t m → IsTarget t → AreOptions 0 m.options → first_refused Request m.options ≡ None → IfSome tag IsTag → (is_get m.code ≡ false → tag ≡ None) → form ≡ length (spelling (forwarded token t tag m 0)) → form ≤ most → key_bytes key ≤ most + 4
+key-held form most token t tag m key key_is is options screened tag_is other form_is short =
+    let others : List Opt = tagged tag (sent_on m) in
+    let are = tagged-options tag (sent_on m) (short-tag tag tag_is) (sent-options m options screened) in
+    let none = tagged-unused tag (sent_on m) (sent-unused m screened) in
+    let target : target_bytes key.target ≡ target_bytes t = ap (λ (k : CacheKey). target_bytes k.target) key_is in
+    let spelled : length (options_spelling 0 key.options) ≡ options_length 0 (filter (in_key m.code) others) = ap (λ (k : CacheKey). length (options_spelling 0 k.options)) key_is ∙ ap (λ (os : List Opt). length (options_spelling 0 os)) (key-among tag m screened tag_is other) ∙ options-length 0 (filter (in_key m.code) others) in
+    omega (arith, target, spelled, filter-length (in_key m.code) 0 others are, both-short t others is are none, spelling-length (forwarded token t tag m 0), form_is, short)
 
--- ---- an answer is held in no more than a datagram and a Max-Age
+-- ---- a response is held in no more than a datagram
 
--- a payload is no longer than with its marker
-payload-least : (payload : List ℕ) → length payload ≤ payload_length payload
-payload-least [] = omega arith
-payload-least (p ∷ ps) = omega arith
+-- one that an answer has
+holdable-held : (most : ℕ) (m : Message) → IsHoldable most m → response_bytes m ≤ most
+holdable-held most m is = omega (arith, options-length 0 m.options, holdable-short most m is)
 
--- an answer takes no more than a datagram
-answer-short : (most now : ℕ) (m : Message) → AreOptions 0 m.options → response_bytes (answer_of most now m).message ≤ most
-unfolding answer_of
-answer-short most now m are = go (is_rst m.kind) (is_passed_on most m) refl
-  where
-    go : (r b : Bool) → is_passed_on most m ≡ b → response_bytes (cond {A = Answer} (not r && b) (record { message = without_observe m; got = now; own = false }) (record { message = bad_gateway; got = now; own = true })).message ≤ most
-    go false true e =
-        let parts = and_parts (is_screened m) (not (is_code m.code VALID) && fits most (without_observe m)) e in
-        let more = and_parts (not (is_code m.code VALID)) (fits most (without_observe m)) parts.1 in
-        let kept : Message = without_observe m in
-        omega (arith, options-length 0 kept.options, within-widest m are parts.0, spelling-length (widest kept), payload-least m.payload, leb-true (length (spelling (widest kept))) most more.1)
-    go false false e = omega arith
-    go true b e = omega arith
+-- a copy is, where it is one that was kept
+copy-held : (most : ℕ) (copy : Option Stored) (o : Option Message) → option_map (λ s. s.response) copy ≡ o → IfSome o (IsHoldable most) → copy_bytes copy ≤ most
+copy-held most None o e holdable = omega arith
+copy-held most (Some s) None e holdable = absurd cc
+copy-held most (Some s) (Some r) e holdable = let same : s.response ≡ r = cc in holdable-held most s.response (subst (IsHoldable most) (sym same) holdable)
 
 -- ---- tags are held in no more than the request
 
@@ -158,41 +155,40 @@ tags-held side low passed (o ∷ os) = go (is_of side 4 (record { option = o; be
 exchange-held : (setting : Setting) (history : List Deed) → AreRoutes setting.routes → (x : Numbered Exchange) → IsExchangeOf setting history x → exchange_bytes x ≤ 4 * setting.limits.datagram + 256
 exchange-held setting history routes x f = go x.1.state f.state
   where
+    most : ℕ
+    most = setting.limits.datagram
+
     request : Message
     request = f.opened.request
 
-    options : AreOptions 0 request.options
-    options = f.opened.asked.brings.spells.message.options
+    kept : Option Message
+    kept = kept_for x.1.key f.former
+
+    tag : Option (List ℕ)
+    tag = tag_for most x.1.key.target request kept
 
     may : IsAskable setting.routes request x.1.key
     may = askable setting.routes request routes x.1.key f.verdict
 
-    target : target_bytes x.1.key.target ≤ length x.1.form
-    target =
-        let form = spelling (forwarded (token_of setting.salt x.0) x.1.key.target (sent_on request) 0) in
-        let id = form_id x.1.sending in
-        let same : length x.1.form ≡ length form = ap length (f.form_is ∙ sym (with_id-forwarded id (token_of setting.salt x.0) x.1.key.target (sent_on request))) ∙ length-with_id id form in
-        omega (arith, same, form-holds (token_of setting.salt x.0) x.1.key.target (sent_on request) may.sound (sent-options request options may.screened) (sent-unused request may.screened))
-
-    key : length (options_spelling 0 x.1.key.options) ≤ setting.limits.datagram
+    key : key_bytes x.1.key ≤ most + 4
     key =
-        let b = f.opened.asked.brings in
-        let spelled : length b.bytes ≡ length (spelling request) = ap length (spelled_once b.bytes request b.spells) in
-        let less = key-held request options may.screened in
-        let is : length (options_spelling 0 x.1.key.options) ≡ length (options_spelling 0 (key_of request)) = ap (λ (k : CacheKey). length (options_spelling 0 k.options)) may.key_is in
-        omega (arith, is, less, spelled, spelling-length request, b.short)
+        let token = token_of setting.salt x.0 in
+        let id = form_id x.1.sending in
+        let same : length x.1.form ≡ length (spelling (forwarded token x.1.key.target tag request 0)) = ap length (f.form_is ∙ sym (with_id-forwarded id token x.1.key.target tag request)) ∙ length-with_id id (spelling (forwarded token x.1.key.target tag request 0)) in
+        key-held (length x.1.form) most token x.1.key.target tag request x.1.key may.key_is may.sound f.opened.asked.brings.spells.message.options may.screened (tag_for-is most x.1.key.target request kept) (tag_for-other most x.1.key.target request kept) same f.form_short
 
-    ended : (a : Answer) (p : Place) → EndsWith setting x.0 x.1.key p a → response_bytes a.message ≤ setting.limits.datagram
-    ended a p (got gets asked is) =
-        let short = answer-short setting.limits.datagram p.deed.entry.now gets.meets.message gets.meets.brings.spells.message.options in
-        subst (λ (b : Answer). response_bytes b.message ≤ setting.limits.datagram) (sym is) short
-    ended a p (given_up gives is) = subst (λ (b : Answer). response_bytes b.message ≤ setting.limits.datagram) (sym is) (omega arith)
+    copy : copy_bytes x.1.copy ≤ most
+    copy = copy-held most x.1.copy (copy_for most x.1.key.target request kept) f.copy_is (given (is_some tag))
+      where
+        given : (b : Bool) → IfSome (cond b kept None) (IsHoldable most)
+        given true = kept-holdable setting x.1.key f.former (cache-holdable setting f.opened.opening.before f.former f.was_cache)
+        given false = tt
 
-    go : (s : ExchangeState) → IsState setting history x s → length x.1.form + key_bytes x.1.key + state_bytes s ≤ 4 * setting.limits.datagram + 256
-    go Queued state = omega (arith, target, key, f.form_short)
-    go Sent state = omega (arith, target, key, f.form_short)
-    go Acked state = omega (arith, target, key, f.form_short)
-    go (Done a) state = omega (arith, target, key, f.form_short, ended a state.ending state.with)
+    go : (s : ExchangeState) → IsState setting history x s → length x.1.form + key_bytes x.1.key + copy_bytes x.1.copy + state_bytes s ≤ 4 * setting.limits.datagram + 256
+    go Queued state = omega (arith, key, copy, f.form_short)
+    go Sent state = omega (arith, key, copy, f.form_short)
+    go Acked state = omega (arith, key, copy, f.form_short)
+    go (Done a) state = omega (arith, key, copy, f.form_short, holdable-held most a.message (ending-holdable setting x.0 x.1.key state.ending a state.with))
 
 -- what a waiter holds is within its part
 waiter-held : (setting : Setting) (history : List Deed) (v : Numbered Waiter) → IsWaiterOf setting history v → waiter_bytes v ≤ setting.limits.datagram + 256

@@ -28,7 +28,7 @@ use Rattle.coap_model.proofs.Turns.{turn-due}
 pub keeps_idling : (w : World) (history : List Deed) (c : Bears history w) (now draw : ℕ) → w.last ≤ now → if_due now (item_due w) ≡ None → Bears (doing no_item (entry_of now draw tick (idles w now)) ∷ history) (idles w now).world
 keeps_idling w history c now draw onward nothing =
     let e = doing no_item (entry_of now draw tick (idles w now)) in
-    keeps_quiet w history c e (record { act = refl; opens = refl; admits = refl; sends = refl; leaves_open = λ standing xs. refl; stands = λ standing. refl }) refl (λ k. refl) onward refl
+    keeps_quiet w history c e (record { act = refl; opens = refl; admits = refl; sends = refl; takes = refl; leaves_open = λ standing xs. refl; stands = λ standing. refl }) refl (λ k. refl) onward refl
     (record { act = refl; ticked = refl; nothing = idling-due w history c now nothing; silent = record { sent = refl; bytes = refl } }, c.past)
 
 -- a client that is due first is there, and is due since its moment

@@ -1,6 +1,6 @@
 -- The target and the cache key are read back off the request that was sent on.
 use Rattle.std.proofs.Common.{◌≡◌, ℕ, ◌<◌, Bool, true, false, cond, eqb, leb, List, [], ◌∷◌, ◌++◌, Option, Some, None, refl, sym, ap, subst, ◌∙◌, arith}
-use Rattle.std.specs.Prelude.{◌&&◌, ◌||◌, ◌==◌, not, map, filter}
+use Rattle.std.specs.Prelude.{◌&&◌, ◌||◌, ◌==◌, not, map, filter, IfSome}
 use Rattle.std.specs.List.{AllByRecursion}
 use Rattle.std.proofs.lemmas.Bool.{leb-false, eqb-true}
 use Rattle.std.proofs.lemmas.List.{append-nil}
@@ -19,8 +19,11 @@ use Rattle.coap_target.proofs.Lists.{All-weaken}
 use Rattle.coap_routes.specs.Request.{first_value}
 use Rattle.coap_routes.specs.Routes.{values_of}
 use Rattle.coap_cache.specs.declared.key.CacheKey.{CacheKey}
-use Rattle.coap_forward.specs.Forms.{is_used_up, goes_on, host_options, put_in, merged, target_options, forwarded}
-use Rattle.coap_forward.proofs.Forms.{in_key, AreUnused, unused-clean, key-clean, key-screened, sent-screened, sent-unused, target-options}
+use Rattle.coap_forward.specs.Messages.{is_get}
+use Rattle.coap_forward.specs.Forms.{is_used_up, goes_on, host_options, put_in, merged, target_options, tagged, forwarded}
+use Rattle.coap_forward.proofs.Forms.{in_key, AreUnused, unused-clean, key-clean, key-screened, sent-screened, sent-unused, target-options, IsTag, tagged-unused}
+use Rattle.coap_forward.proofs.Tagging.{key-tagged, filter-merged}
+use Rattle.coap_model.proofs.Verdicts.{code-same}
 use Rattle.coap_model.specs.Keys.{request_key, says_target, beside_target, target_sent, key_sent}
 
 -- ---- the target, read off the request
@@ -115,36 +118,25 @@ read-back t = record { host = host t.host; path = path t.host; query = query t.h
     query (Some h) = parts
 
 -- so the target is read back off the request, whatever else is sent on
-target-sent : (token : List ℕ) (t : Target) (others : List Opt) (id : ℕ) → AreUnused others → target_sent t.at (forwarded token t others id) ≡ t
+target-sent : (token : List ℕ) (t : Target) (tag : Option (List ℕ)) (m : Message) (id : ℕ) → first_refused Request m.options ≡ None → target_sent t.at (forwarded token t tag m id) ≡ t
 unfolding target_sent
-target-sent token t others id none =
+target-sent token t tag m id screened =
     let back = read-back t in
     made (ap first_value (merges 3 refl) ∙ back.host) (merges 11 refl ∙ back.path) (merges 15 refl ∙ back.query)
   where
+    others : List Opt
+    others = tagged tag (sent_on m)
+
     merges : (number : ℕ) → is_used_up number ≡ true → values_of number (merged (target_options t) others) ≡ values_of number (target_options t)
-    merges number used = values-merged number (target_options t) others (values-unused number others used none)
+    merges number used = values-merged number (target_options t) others (values-unused number others used (tagged-unused tag (sent_on m) (sent-unused m screened)))
 
     made : {h h' : Option (List ℕ)} {p p' q q' : List (List ℕ)} → h ≡ h' → p ≡ p' → q ≡ q' → ◌≡◌ {A = Target} (record { host = h; at = t.at; path = p; query = q }) (record { host = h'; at = t.at; path = p'; query = q' })
     made e f g = cc
 
 -- ---- the key, read off the request
 
--- an option that is left out may be put in
-filter-put_in : (keep : Opt → Bool) (o : Opt) (os : List Opt) → keep o ≡ false → filter keep (put_in o os) ≡ filter keep os
-filter-put_in keep o [] out = rw out refl
-filter-put_in keep o (p ∷ ps) out = go (leb o.number p.number) (filter-put_in keep o ps out)
-  where
-    go : (b : Bool) → filter keep (put_in o ps) ≡ filter keep ps → filter keep (cond b (o ∷ p ∷ ps) (p ∷ put_in o ps)) ≡ filter keep (p ∷ ps)
-    go true rest = rw out refl
-    go false rest = rw rest refl
-
--- so may a list of which all are left out
-filter-merged : (keep : Opt → Bool) (os others : List Opt) → AllByRecursion (λ o. keep o ≡ false) os → filter keep (merged os others) ≡ filter keep others
-filter-merged keep [] others out = refl
-filter-merged keep (o ∷ os) others out = filter-put_in keep o (merged os others) out.0 ∙ filter-merged keep os others out.1
-
 -- all options of a target say a part of it
-all-say : (t : Target) → AllByRecursion (λ o. says_target o.number ≡ true) (target_options t)
+pub all-say : (t : Target) → AllByRecursion (λ o. says_target o.number ≡ true) (target_options t)
 unfolding target_options
 all-say t = host t.host
   where
@@ -227,20 +219,32 @@ key-of-sent code (o ∷ os) = go (goes_on code o) refl (in_key code o) refl (key
     go false e true f rest = absurd (let g = out (goes_on code o) true e f in cc)
     go false e false f rest = rest
 
--- the request that is sent on for a GET has its key
-pub key-forwarded : (token : List ℕ) (t : Target) (m : Message) (id : ℕ) → first_refused Request m.options ≡ None → m.code ≡ GET → key_sent t.at (forwarded token t (sent_on m) id) ≡ request_key t m
+-- so what isn't of the target stands beside it
+pub others-kept : (t : Target) (others : List Opt) → AreUnused others → filter (λ o. not (says_target o.number)) (merged (target_options t) others) ≡ others
+others-kept t others none = filter-merged (λ o. not (says_target o.number)) (target_options t) others (All-weaken (λ o. says_target o.number ≡ true) (λ o. not (says_target o.number) ≡ false) (target_options t) (λ o says. ap not says) (all-say t)) ∙ unused-beside others none
+
+-- the tag isn't part of a key
+key-untagged : (tag : Option (List ℕ)) (m : Message) → IfSome tag IsTag → (is_get m.code ≡ false → tag ≡ None) → filter (in_key m.code) (tagged tag (sent_on m)) ≡ filter (in_key m.code) (sent_on m)
+key-untagged tag m is none = go (is_get m.code) refl
+  where
+    go : (b : Bool) → is_get m.code ≡ b → filter (in_key m.code) (tagged tag (sent_on m)) ≡ filter (in_key m.code) (sent_on m)
+    go true get = subst (λ (code : Code). filter (in_key code) (tagged tag (sent_on m)) ≡ filter (in_key code) (sent_on m)) (sym (code-same m.code GET (eqb-true m.code.0 1 get))) (key-tagged tag (sent_on m) is)
+    go false other = ap (λ (o : Option (List ℕ)). filter (in_key m.code) (tagged o (sent_on m))) (none other)
+
+-- so the options of a key are among those that go on
+pub key-among : (tag : Option (List ℕ)) (m : Message) → first_refused Request m.options ≡ None → IfSome tag IsTag → (is_get m.code ≡ false → tag ≡ None) → key_of m ≡ filter (in_key m.code) (tagged tag (sent_on m))
+key-among tag m screened is other = key-screened m screened ∙ sym (ap (filter (in_key m.code)) (sent-screened m screened) ∙ key-of-sent m.code m.options) ∙ sym (key-untagged tag m is other)
+
+-- the request that is sent on has the client's key: the proxy's tag isn't part of it
+pub key-forwarded : (token : List ℕ) (t : Target) (tag : Option (List ℕ)) (m : Message) (id : ℕ) → first_refused Request m.options ≡ None → IfSome tag IsTag → (is_get m.code ≡ false → tag ≡ None) → key_sent t.at (forwarded token t tag m id) ≡ request_key t m
 unfolding key_sent
-key-forwarded token t m id screened get =
-    let none = sent-unused m screened in
-    let sent : Message = beside_target (forwarded token t (sent_on m) id) in
-    let options : sent.options ≡ sent_on m = filter-merged (λ o. not (says_target o.number)) (target_options t) (sent_on m) (All-weaken (λ o. says_target o.number ≡ true) (λ o. not (says_target o.number) ≡ false) (target_options t) (λ o says. ap not says) (all-say t)) ∙ unused-beside (sent_on m) none in
+key-forwarded token t tag m id screened is other =
+    let none = tagged-unused tag (sent_on m) (sent-unused m screened) in
+    let sent : Message = beside_target (forwarded token t tag m id) in
+    let options : sent.options ≡ tagged tag (sent_on m) = others-kept t (tagged tag (sent_on m)) none in
     let unused : AreUnused sent.options = subst AreUnused (sym options) none in
-    let of_sent : key_of sent ≡ filter (in_key GET) sent.options = key-clean sent (unused-clean sent.options unused) in
-    let of_all : key_of m ≡ filter (in_key m.code) m.options = key-screened m screened in
-    let same : filter (in_key GET) (sent_on m) ≡ filter (in_key m.code) m.options =
-    subst (λ (c : Code). filter (in_key c) (sent_on m) ≡ filter (in_key m.code) m.options) get (ap (filter (in_key m.code)) (sent-screened m screened) ∙ key-of-sent m.code m.options)
-    in
-    made (target-sent token t (sent_on m) id none) (of_sent ∙ ap (filter (in_key GET)) options ∙ same ∙ sym of_all)
+    let of_sent : key_of sent ≡ filter (in_key m.code) sent.options = key-clean sent (unused-clean sent.options unused) in
+    made (target-sent token t tag m id screened) (of_sent ∙ ap (filter (in_key m.code)) options ∙ sym (key-among tag m screened is other))
   where
     made : {a b : Target} {p q : List Opt} → a ≡ b → p ≡ q → ◌≡◌ {A = CacheKey} (record { target = a; options = p }) (record { target = b; options = q })
     made e f = cc

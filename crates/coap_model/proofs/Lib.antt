@@ -1,4 +1,5 @@
 pub mod Places
+pub mod Changing
 pub mod Lists
 pub mod FirstDue
 pub mod Tables
@@ -50,7 +51,9 @@ pub mod Forging
 pub mod Forwarding
 pub mod Repeating
 pub mod Getting
+pub mod Received
 pub mod Answering
+pub mod Endings
 pub mod Hitting
 pub mod Delivering
 pub mod Clients

@@ -18,22 +18,26 @@ use Rattle.coap_exchange.specs.Table.{Numbered, first_that}
 use Rattle.coap_model.specs.Setting.{Setting}
 use Rattle.coap_model.specs.Verdicts.{may_ask}
 use Rattle.coap_model.specs.World.{World}
-use Rattle.coap_model.specs.History.{Deed, Never, Ends}
-use Rattle.coap_model.specs.Cached.{entry_of_cached}
+use Rattle.coap_model.specs.History.{Deed, Place, IsPlaceOf, Never, Sends, Asks, Ends}
+use Rattle.coap_forward.specs.Messages.{is_get}
+use Rattle.coap_cache.specs.Entries.{Entry}
+use Rattle.coap_model.specs.Changed.{Unchanged, IsTold}
+use Rattle.coap_model.proofs.Changing.{told-contrary}
 use Rattle.coap_model.specs.Justified.{verdict_on, IsMiss, IsJoinable, IsUnanswered, Deserves, by_verdict, by_length, LacksRoom, to_join, to_open}
-use Rattle.coap_model.specs.Carries.{HasNumber, IsState, IsExchangeOf, Bears}
+use Rattle.coap_model.specs.Carries.{HasNumber, IsInFlight, IsState, IsExchangeOf, Bears}
 use Rattle.coap_model.proofs.Rules as rules
 use Rattle.coap_model.proofs.Rules.{IsMissed, IsDenied, IsFull}
 use Rattle.coap_model.proofs.Lists.{find-holds, Has, All-there, Has-holds}
-use Rattle.coap_model.proofs.Places.{Never-at, one-opened}
+use Rattle.coap_model.proofs.Places.{Never-at, first-once, one-opened}
 use Rattle.coap_model.proofs.Room.{join-none, room-none}
 use Rattle.coap_model.proofs.Tables.{Has-number, at-number}
 use Rattle.coap_model.proofs.Stores.{cached-found}
 
--- what isn't usable and wasn't marked isn't fresh
-stale-at : (b : Bool) → (b && not false) ≡ false → b ≡ false
-stale-at true e = absurd cc
-stale-at false e = refl
+-- what may answer is fresh, and not marked
+usable-of : (fresh marked : Bool) → fresh ≡ true → (fresh && not marked) ≡ false → marked ≡ true
+usable-of true true e f = refl
+usable-of true false e f = absurd cc
+usable-of false marked e f = absurd cc
 
 -- what the store misses the cache misses
 pub missed : (w : World) (history : List Deed) (c : Bears history w) (now : ℕ) (key : CacheKey) → IsMissed w now key → IsMiss w.setting history key now
@@ -42,7 +46,11 @@ missed w history c now key none =
     record {
       cached = s.cached;
       is_cache = s.is_cache;
-      stale = λ entry found. stale-at (is_fresh now (entry_of_cached entry).1) (none (entry_of_cached entry) (cached-found w.store s.cached key entry s.each found));
+      unusable = λ entry found usable.
+          let k = cached-found w.setting history w.store s.cached key entry s.each found in
+          let fresh : is_fresh now k.entry.1 ≡ true = ap (λ (e : Entry). is_fresh now e.1) k.stored.same ∙ usable.fresh in
+          let marked = usable-of (is_fresh now k.entry.1) k.entry.1.marked fresh (none k.entry k.is_there) in
+          told-contrary entry.asking usable.unchanged (subst (λ (b : Bool). IsTold b w.setting entry.key.target entry.asking history) marked k.stored.told);
     }
 
 -- ---- exchanges that may be joined
@@ -61,6 +69,36 @@ missing-unended setting history x Sent s never = refl
 missing-unended setting history x Acked s never = refl
 missing-unended setting history x (Done a) s never = absurd (Never-at (Ends x.0) history s.ending never s.was_ended s.ends)
 
+-- an exchange that isn't tainted was asked before no change of its target
+unchanged-flight : (setting : Setting) (history : List Deed) (x : Numbered Exchange) → IsInFlight setting history x → x.1.tainted ≡ false → (asking : Place) → IsPlaceOf history asking → Asks setting.salt x.0 asking → Unchanged setting x.1.key.target asking history
+unchanged-flight setting history x s clean asking at asks =
+    let own = first-once (Sends setting.salt x.0) history s.asked.asking asking s.asked.was_asked at s.asked.asks.sends asks.sends s.asked.asks.first asks.first in
+    subst (λ (p : Place). Unchanged setting x.1.key.target p history) own (subst (λ (b : Bool). IsTold b setting x.1.key.target s.asked.asking history) clean s.told)
+
+unchanged-since : (setting : Setting) (history : List Deed) (x : Numbered Exchange) (s : ExchangeState) → IsState setting history x s → is_missing (answer_in_state s) ≡ true → x.1.tainted ≡ false → (asking : Place) → IsPlaceOf history asking → Asks setting.salt x.0 asking → Unchanged setting x.1.key.target asking history
+unchanged-since setting history x Queued s none clean asking at asks = absurd (Never-at (Sends setting.salt x.0) history asking s.never_sent at asks.sends)
+unchanged-since setting history x Sent s none clean asking at asks = unchanged-flight setting history x s clean asking at asks
+unchanged-since setting history x Acked s none clean asking at asks = unchanged-flight setting history x s clean asking at asks
+unchanged-since setting history x (Done a) s none clean asking at asks = absurd cc
+
+-- and one whose target is unchanged since it was asked isn't tainted
+pub clean-flight : (setting : Setting) (history : List Deed) (x : Numbered Exchange) (s : IsInFlight setting history x) → Unchanged setting x.1.key.target s.asked.asking history → x.1.tainted ≡ false
+clean-flight setting history x s same = go x.1.tainted refl
+  where
+    go : (b : Bool) → x.1.tainted ≡ b → b ≡ false
+    go false e = refl
+    go true e = absurd (told-contrary s.asked.asking same (subst (λ (b : Bool). IsTold b setting x.1.key.target s.asked.asking history) e s.told))
+
+clean-since : (setting : Setting) (history : List Deed) (x : Numbered Exchange) (s : ExchangeState) → IsState setting history x s → is_missing (answer_in_state s) ≡ true → ((asking : Place) → IsPlaceOf history asking → Asks setting.salt x.0 asking → Unchanged setting x.1.key.target asking history) → x.1.tainted ≡ false
+clean-since setting history x Queued s none same = s.untainted
+clean-since setting history x Sent s none same = clean-flight setting history x s (same s.asked.asking s.asked.was_asked s.asked.asks)
+clean-since setting history x Acked s none same = clean-flight setting history x s (same s.asked.asking s.asked.was_asked s.asked.asks)
+clean-since setting history x (Done a) s none same = absurd cc
+
+pub not-true : (b : Bool) → not b ≡ true → b ≡ false
+not-true true e = absurd cc
+not-true false e = refl
+
 -- what the search finds may be joined by the history too, and is there
 pub joinable-found : (w : World) (history : List Deed) (c : Bears history w) (key : CacheKey) (n : ℕ) → first_that (is_joinable key) w.exchanges ≡ Some n → IsJoinable w.setting history key n × HasNumber n w.exchanges
 joinable-found w history c key n e = go (find (λ (x : Numbered Exchange). is_joinable key x.1) w.exchanges) refl e
@@ -72,11 +110,14 @@ joinable-found w history c key n e = go (find (λ (x : Numbered Exchange). is_jo
         let get = and_parts x.1.is_get (not x.1.tainted && (is_missing (answer_at x.1) && same_key x.1.key key)) h.1 in
         let clean = and_parts (not x.1.tainted) (is_missing (answer_at x.1) && same_key x.1.key key) get.1 in
         let rest = and_parts (is_missing (answer_at x.1)) (same_key x.1.key key) clean.1 in
+        let keys = same_key-only x.1.key key rest.1 in
         subst (λ (k : ℕ). IsJoinable w.setting history key k × HasNumber k w.exchanges) (same_Some x.0 n f) (
           record {
             opened = h.0.0.opened;
-            verdict = h.0.0.verdict ∙ ap may_ask (same_key-only x.1.key key rest.1);
+            method = sym h.0.0.method ∙ get.0;
+            verdict = h.0.0.verdict ∙ ap may_ask keys;
             unended = unended-missing w.setting history x x.1.state h.0.0.state rest.0;
+            unchanged = λ asking at asks. subst (λ (k : CacheKey). Unchanged w.setting k.target asking history) keys (unchanged-since w.setting history x x.1.state h.0.0.state rest.0 (not-true x.1.tainted clean.0) asking at asks);
           },
           Has-number w.exchanges x h.0.1,
         )
@@ -95,8 +136,10 @@ none-joinable w history c key e x j = go (find (λ (y : Numbered Exchange). is_j
         let one = one-opened there.1 j.opened own.opened in
         let keys : may_ask y.1.key ≡ may_ask key = sym own.verdict ∙ ap (verdict_on w.setting) (sym one.2) ∙ j.verdict in
         let same = same_asked y.1.key key keys in
+        let get : y.1.is_get ≡ true = own.method ∙ ap (λ (m : Message). is_get m.code) (sym one.2) ∙ j.method in
         let missing = missing-unended w.setting history y y.1.state own.state (subst (λ (k : ℕ). Never (Ends k) history) there.1 j.unended) in
-        let passes = and_from y.1.is_get (not y.1.tainted && (is_missing (answer_at y.1) && same_key y.1.key key)) own.is_get (and_from (not y.1.tainted) (is_missing (answer_at y.1) && same_key y.1.key key) (ap not own.untainted) (and_from (is_missing (answer_at y.1)) (same_key y.1.key key) missing (subst (λ (k : CacheKey). same_key y.1.key k ≡ true) same (same_key-itself y.1.key)))) in
+        let clean = clean-since w.setting history y y.1.state own.state missing (λ asking at asks. subst (λ (k : CacheKey). Unchanged w.setting k.target asking history) (sym same) (j.unchanged asking at (subst (λ (k : ℕ). Asks w.setting.salt k asking) (sym there.1) asks))) in
+        let passes = and_from y.1.is_get (not y.1.tainted && (is_missing (answer_at y.1) && same_key y.1.key key)) get (and_from (not y.1.tainted) (is_missing (answer_at y.1) && same_key y.1.key key) (ap not clean) (and_from (is_missing (answer_at y.1)) (same_key y.1.key key) missing (subst (λ (k : CacheKey). same_key y.1.key k ≡ true) same (same_key-itself y.1.key)))) in
         let fails = Has-holds (λ (z : Numbered Exchange). is_joinable key z.1 ≡ false) w.exchanges y (none-found (λ (z : Numbered Exchange). is_joinable key z.1) w.exchanges is) there.3 in
         absurd (let both : true ≡ false = sym passes ∙ fails in cc)
       where
@@ -104,17 +147,17 @@ none-joinable w history c key e x j = go (find (λ (y : Numbered Exchange). is_j
         same_asked a b f = cc
 
 -- so what nothing answers here nothing answers by the history
-pub unanswered : (w : World) (history : List Deed) (c : Bears history w) (now : ℕ) (key : CacheKey) → rules.IsUnanswered w now key → IsUnanswered w.setting history now key
-unanswered w history c now key none = record { miss = missed w history c now key none.missed; alone = none-joinable w history c key none.alone }
+pub unanswered : (w : World) (history : List Deed) (c : Bears history w) (now : ℕ) (key : CacheKey) (m : Message) → rules.IsUnanswered w now key m → IsUnanswered w.setting history now key m
+unanswered w history c now key m none = record { miss = λ get. missed w history c now key (none.missed get); alone = λ get. none-joinable w history c key (none.alone get) }
 
 -- ---- what a request is turned away for
 
 -- a request that is denied deserves its code
 pub deserves : (w : World) (history : List Deed) (c : Bears history w) (now : ℕ) (m : Message) (code : Code) → IsDenied w now m code → Deserves w.setting history now m code
 deserves w history c now m code (rules.by_verdict verdict) = by_verdict verdict
-deserves w history c now m code (rules.by_length key verdict none long is) = by_length key verdict (unanswered w history c now key none) long is
+deserves w history c now m code (rules.by_length key verdict none long is) = by_length key verdict (unanswered w history c now key m none) long is
 
 -- where the tables have no room for it, nor has the history
 pub lacks_room : (w : World) (history : List Deed) (c : Bears history w) (now : ℕ) (key : CacheKey) (m : Message) → w.last ≤ now → IsFull w now key m → LacksRoom w.setting history now key m
-lacks_room w history c now key m onward (rules.to_join exchange none found full) = to_join exchange (missed w history c now key none) (joinable-found w history c key exchange found).0 (join-none now history w c onward full)
-lacks_room w history c now key m onward (rules.to_open none short full) = to_open (unanswered w history c now key none) short (room-none now history w c onward full)
+lacks_room w history c now key m onward (rules.to_join exchange get none found full) = to_join exchange get (missed w history c now key none) (joinable-found w history c key exchange found).0 (join-none now history w c onward full)
+lacks_room w history c now key m onward (rules.to_open none short full) = to_open (unanswered w history c now key m none) short (room-none now history w c onward full)

@@ -5,9 +5,10 @@ use Rattle.coap_model.specs.declared.report.Outcome.TheVariants.{Opened, Answere
 use Rattle.coap_cache.specs.declared.key.CacheKey.{CacheKey}
 use Rattle.coap_model.specs.Setting.{Setting}
 use Rattle.coap_model.specs.History.{moves, Deed, Place, IsPlaceOf, Never, opened_in, ends, Sends, Ends, Serves}
-use Rattle.coap_model.specs.Justified.{verdict_on, IsJoinable, IsOpening, IsForwarding, IsDelivery, IsGivingUp, overdue, unheard, unacknowledged, JustifiedBy, AllJustified}
+use Rattle.coap_model.specs.Changed.{ChangesAfter}
+use Rattle.coap_model.specs.Justified.{verdict_on, IsGet, IsJoinable, IsOpening, IsForwarding, IsDelivery, IsGivingUp, overdue, unheard, unacknowledged, JustifiedBy, AllJustified}
 use Rattle.coap_model.proofs.Owing.{one_key, taken-so}
-use Rattle.coap_model.proofs.Places.{first-once, same_moves, same_serves, never-before, in-order, request-unique, justified-at}
+use Rattle.coap_model.proofs.Places.{first-once, same_moves, same_serves, never-before, place-before, in-order, request-unique, justified-at}
 use Rattle.coap_model.proofs.Stages.{all-before, queued-unsent}
 
 -- an exchange was never sent before the place where its request is
@@ -61,8 +62,10 @@ joinable-before setting history key x p at j before =
     let o = j.opened in
     record {
       opened = record { opening = o.opening; client = o.client; request = o.request; was_opened = before; opens = o.opens; asked = o.asked };
+      method = j.method;
       verdict = j.verdict;
       unended = never-before (Ends x) history p j.unended at;
+      unchanged = λ asking was asks. never-before (ChangesAfter setting key.target asking) history p (j.unchanged asking (place-before history p asking at was) asks) at;
     }
 
 -- so none was opened after it for its key
@@ -73,7 +76,7 @@ none-after setting history key x y all later former before =
     let j : IsOpening setting p.before p.deed = justified-at setting history p Opened all o.was_opened o.opens.0 in
     let one = (request-unique setting p.deed.entry.event o.client j.client o.request j.request o.asked j.asked).1 in
     let same : key ≡ j.key = one_key (sym later.verdict ∙ ap (verdict_on setting) one ∙ j.verdict) in
-    absurd (j.unanswered.alone y (subst (λ (k : CacheKey). IsJoinable setting p.before k y) same (joinable-before setting history key y p o.was_opened former before)))
+    absurd (j.unanswered.alone (subst IsGet one later.method) y (subst (λ (k : CacheKey). IsJoinable setting p.before k y) same (joinable-before setting history key y p o.was_opened former before)))
 
 -- one exchange of a key may be joined
 pub one-joinable : (setting : Setting) (history : List Deed) (key : CacheKey) (x y : ℕ) → AllJustified setting history → IsJoinable setting history key x → IsJoinable setting history key y → x ≡ y

@@ -13,33 +13,33 @@ use Rattle.coap_message.proofs.Spellings.{spelled_once}
 use Rattle.coap_message.proofs.WholeMessages.{one_message}
 use Rattle.coap_target.specs.declared.endpoint.Endpoint.{Endpoint}
 use Rattle.coap_target.specs.declared.target.Target.{Target}
-use Rattle.coap_option.specs.Selection.{sent_on, tags_of}
+use Rattle.coap_option.specs.Selection.{tags_of}
 use Rattle.coap_model.specs.declared.report.Outcome.{Outcome}
 use Rattle.coap_model.specs.declared.report.Outcome.TheVariants.{Ignored, Rejected, Again, NoRecordRoom, Refused, Hit, Joined, Opened, Overloaded, NoId, Answered, Acked, SentRequest, Resent, GaveUp, Delivered, Idle}
 use Rattle.coap_model.specs.declared.report.Storing.{Storing}
 use Rattle.coap_model.specs.Setting.{Setting}
 use Rattle.coap_dedup.specs.declared.record.Record.{Record}
 use Rattle.coap_model.specs.Events.{Event}
-use Rattle.coap_forward.specs.Messages.{is_con, brings_requests, acknowledgement, reset, own_reply, busy_reply, at_once, reply_kind, reply_id, token_of}
-use Rattle.coap_forward.specs.Forms.{forwarded}
-use Rattle.coap_forward.specs.Answers.{answer_of, own_answer, gateway_timeout, stored_answer, shown, shown_as}
+use Rattle.coap_forward.specs.Messages.{is_con, brings_requests, acknowledgement, reset, own_reply, busy_reply, at_once, reply_kind, reply_id, token_of, is_get}
+use Rattle.coap_forward.specs.Forms.{forwarded, tag_for}
+use Rattle.coap_forward.specs.Answers.{stored_answer, shown, shown_as}
 use Rattle.coap_model.specs.History.{Entry, Act, no_item, admits, moves, serves, Deed, Place, ids_in, opened_in, admitted_in, comes_con, ids_given, takes, Brings, Meets, Gets, Ends, Gives, IsRequestOf}
 use Rattle.coap_model.specs.Standing.{HasIds, HasRoomToJoin, HasRoomToOpen, queued, stage_of}
 use Rattle.coap_model.specs.Schedules.{sends_by, MayGoOn, SaysAsBefore}
 use Rattle.coap_model.specs.Due.{IsToEnd, IsToRepeat, IsToServe, IsDueAt, ComesBefore}
 use Rattle.coap_model.specs.Verdicts.{verdict_of}
 use Rattle.coap_cache.specs.declared.answer.Answer.{Answer}
-use Rattle.coap_model.specs.Justified.{Comes, known_of, HasRecordRoom, IsMiss, IsJoinable, IsUnanswered, LacksRoom, Deserves, HaveOneMemory, is_fresh_at, verdict_on, IsNew, HasIdFor, SaysAgain, Tells, IsSilent, TakesUp, IsAwaited, Acknowledges, Closes, IsMeant, to_acknowledge, to_reset, to_close, Settles, a_request, an_answer, IsDropped, IsAnswer, IsActing, InTime, IsForwarding, IsToSendAgain, request_again, answer_again, IsResending, IsGivingUp, overdue, unheard, unacknowledged, EndsWith, got, given_up as was_given_up, IsDelivery, IsIdle, IsUnprocessable, JustifiedBy, AllJustified, MayFollow, AreOfOneTurn}
+use Rattle.coap_model.specs.Justified.{Comes, known_of, HasRecordRoom, IsMiss, IsJoinable, IsUnanswered, LacksRoom, Deserves, HaveOneMemory, IsUsable, verdict_on, IsNew, HasIdFor, SaysAgain, Tells, IsSilent, TakesUp, IsAwaited, Acknowledges, Closes, IsMeant, to_acknowledge, to_reset, to_close, Settles, a_request, an_answer, IsDropped, IsAnswer, IsActing, InTime, IsForwarding, IsToSendAgain, request_again, answer_again, IsResending, IsGivingUp, overdue, unheard, unacknowledged, EndsWith, got, given_up as was_given_up, IsDelivery, IsIdle, IsUnprocessable, JustifiedBy, AllJustified, MayFollow, AreOfOneTurn}
 use Rattle.coap_model.proofs.Places.{here, same_moves, same_serves, arrival-same, one-brought, request-unique, one-opened, one-admitted}
 use Rattle.coap_model.proofs.Once.{ended-once, one-joinable}
 use Rattle.coap_model.proofs.Services.{serves-apart}
 use Rattle.coap_model.proofs.Stages.{opened-before, sent-number}
 use Rattle.coap_forward.proofs.Tokens.{token-same}
 use Rattle.coap_model.proofs.Cached.{cache-unique}
-use Rattle.coap_model.proofs.OneStoring.{one-storing}
+use Rattle.coap_model.proofs.OneStoring.{one-former, one-answer as one-gotten, one-storing}
 use Rattle.coap_cache.specs.declared.key.CacheKey.{CacheKey}
 use Rattle.coap_cache.specs.Lists.{of_key}
-use Rattle.coap_model.specs.Cached.{cached_key, entry_of_cached}
+use Rattle.coap_model.specs.Cached.{cached_key, entry_of_cached, kept_for, IsCacheOf}
 use Rattle.coap_model.proofs.Arrivals.{request_con}
 use Rattle.coap_model.proofs.Sorts.{recorded-sorts, token-or-reset}
 use Rattle.coap_model.proofs.Owing.{one_key, taken-so, answer-awaited, given_again, given_dropped, given_no_room, given_either, given_hit, given_refused, given_overloaded, given_no_id, given_joined, given_opened, given_answered, given_rejected, given_ignored, given_up-so, OnTick, sent as sending, resent, given_up, delivered, idle, on-tick}
@@ -88,13 +88,14 @@ at_once-same : (r s reply other : Message) → r.kind ≡ s.kind → reply.code 
 at_once-same r s reply other kind code token options payload id =
     λ i. record { kind = reply_kind (kind i); code = code i; id = id i; token = token i; options = options i; payload = payload i }
 
--- requests that are sent on for one target and one request, with one token and one id, are one
-forwarded-same : (salt x y : ℕ) (a b : Target) (m n : Message) (i k : ℕ) → x ≡ y → a ≡ b → m ≡ n → i ≡ k → forwarded (token_of salt x) a (sent_on m) i ≡ forwarded (token_of salt y) b (sent_on n) k
-forwarded-same salt x y a b m n i k number target request id = rw (number, target, request, id) refl
+-- requests that are sent on for one target and one request, with one token, one tag and one id, are
+-- one
+forwarded-same : (salt x y : ℕ) (a b : Target) (g h : Option (List ℕ)) (m n : Message) (i k : ℕ) → x ≡ y → a ≡ b → g ≡ h → m ≡ n → i ≡ k → forwarded (token_of salt x) a g m i ≡ forwarded (token_of salt y) b h n k
+forwarded-same salt x y a b g h m n i k number target tag request id = λ j. forwarded (token_of salt (number j)) (target j) (tag j) (request j) (id j)
 
 -- and so is what is shown for one request at one moment of one answer
-shown-same : (now later : ℕ) (a b : Answer) (i k : ℕ) (r s : Message) → now ≡ later → a ≡ b → i ≡ k → r ≡ s → shown_as r.kind now a i r.token (tags_of r) ≡ shown_as s.kind later b k s.token (tags_of s)
-shown-same now later a b i k r s moment answer id request = rw (moment, answer, id, request) refl
+shown-same : (now later : ℕ) (a b : Answer) (i k : ℕ) (r s : Message) → now ≡ later → a ≡ b → i ≡ k → r ≡ s → shown_as r.kind (is_get r.code) now a i r.token (tags_of r) ≡ shown_as s.kind (is_get s.code) later b k s.token (tags_of s)
+shown-same now later a b i k r s moment answer id request = λ j. shown_as (request j).kind (is_get (request j).code) (moment j) (answer j) (id j) (request j).token (tags_of (request j))
 
 -- what is told has the id that is given
 id-told : (e : Entry) (id : ℕ) (to : Endpoint) (m : Message) → Gives id e → Tells to m e → m.id ≡ id
@@ -139,32 +140,33 @@ one-act setting past d e p q = ⊎_elim (λ (same : d.act ≡ e.act). same) (λ 
 
 -- ---- one answer of each kind
 
--- an answer at a place is the one that its event brings
-one-message : (setting : Setting) (x y : ℕ) (p q : Place) → p ≡ q → (g : Gets setting x p) (h : Gets setting y q) → g.meets.message ≡ h.meets.message
-one-message setting x y p q e g h =
-    let m = g.meets in
-    (one-brought (subst (λ (r : Place). Brings setting.limits.datagram m.asks.sends.to m.message r.deed.entry.event) e m.brings) h.meets.brings).1
-
 -- an exchange ends with one answer at a place
+ending-there : (setting : Setting) (x y : ℕ) (k l : CacheKey) (p : Place) (a b : Answer) → EndsWith setting x k p a → EndsWith setting y l p b → a ≡ b
+ending-there setting x y k l p a b (got g former was key is) (got h older before other also) =
+    is ∙ one-gotten g h (one-former g h was before) ∙ sym also
+ending-there setting x y k l p a b (got g former was key is) (was_given_up h also) = absurd (let e = sym g.outcome ∙ ap takes h.outcome in cc)
+ending-there setting x y k l p a b (was_given_up g is) (got h older before other also) = absurd (let e = sym h.outcome ∙ ap takes g.outcome in cc)
+ending-there setting x y k l p a b (was_given_up g is) (was_given_up h also) = is ∙ sym also
+
+-- so with one at places that are one
 one-ending : (setting : Setting) (x y : ℕ) (k l : CacheKey) (p q : Place) (a b : Answer) → p ≡ q → EndsWith setting x k p a → EndsWith setting y l q b → a ≡ b
-one-ending setting x y k l p q a b same (got g key is) (got h other also) =
-    let message = one-message setting x y p q same g h in
-    is ∙ (λ i. answer_of setting.limits.datagram (same i).deed.entry.now (message i)) ∙ sym also
-one-ending setting x y k l p q a b same (got g key is) (was_given_up h also) = absurd (let e = sym g.outcome ∙ ap (λ (r : Place). takes r.deed.entry.report.outcome) same ∙ ap takes h.outcome in cc)
-one-ending setting x y k l p q a b same (was_given_up g is) (got h other also) = absurd (let e = sym h.outcome ∙ ap (λ (r : Place). takes r.deed.entry.report.outcome) (sym same) ∙ ap takes g.outcome in cc)
-one-ending setting x y k l p q a b same (was_given_up g is) (was_given_up h also) = is ∙ ap (λ (r : Place). own_answer r.deed.entry.now gateway_timeout) same ∙ sym also
+one-ending setting x y k l p q a b same e f = ending-there setting x y k l q a b (subst (λ (r : Place). EndsWith setting x k r a) same e) f
 
 -- for one exchange one request is sent
 one-forwarding : (setting : Setting) (past : List Deed) (d e : Deed) (id : ℕ) → Gives id d.entry → Gives id e.entry → IsForwarding setting past d → IsForwarding setting past e → d.act ≡ e.act → SayTheSame d.entry e.entry
 one-forwarding setting past d e id g h j k act =
     let p = j.to_send in
     let q = k.to_send in
+    let most = setting.limits.datagram in
     let number = same_moves j.exchange k.exchange (sym j.act ∙ act ∙ k.act) in
-    let request = (one-opened number p.opened q.opened).2 in
-    let target = ap (λ (c : CacheKey). c.target) (one_key (sym p.verdict ∙ ap (verdict_of setting.routes) request ∙ q.verdict)) in
-    let sent_id = id-told d.entry id p.key.target.at (forwarded (token_of setting.salt j.exchange) p.key.target (sent_on p.opened.request) j.id) g j.tells in
-    let other_id = id-told e.entry id q.key.target.at (forwarded (token_of setting.salt k.exchange) q.key.target (sent_on q.opened.request) k.id) h k.tells in
-    let same = forwarded-same setting.salt j.exchange k.exchange p.key.target q.key.target p.opened.request q.opened.request j.id k.id number target request (sent_id ∙ sym other_id) in
+    let one = one-opened number p.opened q.opened in
+    let key : p.key ≡ q.key = one_key (sym p.verdict ∙ ap (verdict_of setting.routes) one.2 ∙ q.verdict) in
+    let target = ap (λ (c : CacheKey). c.target) key in
+    let former : j.former ≡ k.former = cache-unique setting q.opened.opening.before j.former k.former (subst (λ (r : Place). IsCacheOf setting r.before j.former) one.0 j.is_cache) k.is_cache in
+    let tag : tag_for most p.key.target p.opened.request (kept_for p.key j.former) ≡ tag_for most q.key.target q.opened.request (kept_for q.key k.former) = λ i. tag_for most (key i).target (one.2 i) (kept_for (key i) (former i)) in
+    let sent_id = id-told d.entry id p.key.target.at (forwarded (token_of setting.salt j.exchange) p.key.target (tag_for most p.key.target p.opened.request (kept_for p.key j.former)) p.opened.request j.id) g j.tells in
+    let other_id = id-told e.entry id q.key.target.at (forwarded (token_of setting.salt k.exchange) q.key.target (tag_for most q.key.target q.opened.request (kept_for q.key k.former)) q.opened.request k.id) h k.tells in
+    let same = forwarded-same setting.salt j.exchange k.exchange p.key.target q.key.target _ _ p.opened.request q.opened.request j.id k.id number target tag one.2 (sent_id ∙ sym other_id) in
     told-same d.entry e.entry p.key.target.at q.key.target.at _ _ j.tells k.tells (ap (λ (t : Target). t.at) target) same
 
 -- the exchange of a response has one of the numbers that were given
@@ -227,8 +229,8 @@ one-delivery setting past all d e id g h j k act now =
     let ends = subst (λ (n : ℕ). Ends n p.ending) one.3 p.ends in
     let ending = ended-once setting past q.admitted.exchange p.ending q.ending all p.was_ended q.was_ended ends q.ends in
     let answer = one-ending setting p.admitted.exchange q.admitted.exchange j.key k.key p.ending q.ending j.answer k.answer ending j.ended k.ended in
-    let said_id = id-told d.entry id p.admitted.client (shown_as p.admitted.request.kind d.entry.now j.answer j.id p.admitted.request.token (tags_of p.admitted.request)) g j.tells in
-    let other_id = id-told e.entry id q.admitted.client (shown_as q.admitted.request.kind e.entry.now k.answer k.id q.admitted.request.token (tags_of q.admitted.request)) h k.tells in
+    let said_id = id-told d.entry id p.admitted.client (shown_as p.admitted.request.kind (is_get p.admitted.request.code) d.entry.now j.answer j.id p.admitted.request.token (tags_of p.admitted.request)) g j.tells in
+    let other_id = id-told e.entry id q.admitted.client (shown_as q.admitted.request.kind (is_get q.admitted.request.code) e.entry.now k.answer k.id q.admitted.request.token (tags_of q.admitted.request)) h k.tells in
     let same = shown-same d.entry.now e.entry.now j.answer k.answer j.id k.id p.admitted.request q.admitted.request now answer (said_id ∙ sym other_id) one.2 in
     told-same d.entry e.entry p.admitted.client q.admitted.client _ _ j.tells k.tells one.1 same
 
@@ -448,7 +450,7 @@ one-answer setting past d e all few f g turn =
         record { outcome = is ∙ sym o; act = j.act ∙ sym k.act; say = silent-same d.entry e.entry j.silent k.silent }
     by_outcome Joined is j =
         let r = same_request j.client j.request j.asked in
-        let o = given_joined e.entry.report.outcome setting past e j.client j.request g.justified r (new_too j.client j.request j.new) j.key j.exchange j.verdict (same_miss j.key j.miss) j.joinable (subst (λ (n : ℕ). HasRoomToJoin setting.limits n past) turn.now j.room) in
+        let o = given_joined e.entry.report.outcome setting past e j.client j.request g.justified r (new_too j.client j.request j.new) j.key j.exchange j.method j.verdict (same_miss j.key j.miss) j.joinable (subst (λ (n : ℕ). HasRoomToJoin setting.limits n past) turn.now j.room) in
         let k = holds Joined o in
         let one = request-unique setting e.entry.event j.client k.client j.request k.request r k.asked in
         let key : j.key ≡ k.key = one_key (sym j.verdict ∙ ap (verdict_on setting) one.1 ∙ k.verdict) in
@@ -456,13 +458,13 @@ one-answer setting past d e all few f g turn =
         record { outcome = is ∙ sym o; act = j.act ∙ ap (admits (admitted_in past + 1)) exchange ∙ sym k.act; say = taken_up-same d.entry e.entry j.request.kind k.request.kind j.client k.client j.request.id k.request.id (ap (λ (m : Message). m.kind) one.1) one.0 (ap (λ (m : Message). m.id) one.1) j.takes_up k.takes_up }
     by_outcome Opened is j =
         let r = same_request j.client j.request j.asked in
-        let o = given_opened e.entry.report.outcome setting past e j.client j.request g.justified r (new_too j.client j.request j.new) j.key j.verdict (subst (λ (n : ℕ). IsUnanswered setting past n j.key) turn.now j.unanswered) j.fits (subst (λ (n : ℕ). HasRoomToOpen setting.limits n past) turn.now j.room) in
+        let o = given_opened e.entry.report.outcome setting past e j.client j.request g.justified r (new_too j.client j.request j.new) j.key j.verdict (subst (λ (n : ℕ). IsUnanswered setting past n j.key j.request) turn.now j.unanswered) j.fits (subst (λ (n : ℕ). HasRoomToOpen setting.limits n past) turn.now j.room) in
         let k = holds Opened o in
         let one = request-unique setting e.entry.event j.client k.client j.request k.request r k.asked in
         record { outcome = is ∙ sym o; act = j.act ∙ sym k.act; say = taken_up-same d.entry e.entry j.request.kind k.request.kind j.client k.client j.request.id k.request.id (ap (λ (m : Message). m.kind) one.1) one.0 (ap (λ (m : Message). m.id) one.1) j.takes_up k.takes_up }
     by_outcome Hit is j =
         let r = same_request j.client j.request j.asked in
-        let o = given_hit e.entry.report.outcome setting past e j.client j.request g.justified r (new_too j.client j.request j.new) j.key j.cached j.entry j.verdict j.is_cache j.found (subst (λ (n : ℕ). is_fresh_at n j.entry ≡ true) turn.now j.fresh) (same_ids j.request j.ids) in
+        let o = given_hit e.entry.report.outcome setting past e j.client j.request g.justified r (new_too j.client j.request j.new) j.key j.cached j.entry j.method j.verdict j.is_cache j.found (subst (λ (n : ℕ). IsUsable setting past n j.entry) turn.now j.usable) (same_ids j.request j.ids) in
         let k = holds Hit o in
         let one = request-unique setting e.entry.event j.client k.client j.request k.request r k.asked in
         let key = one_key (sym j.verdict ∙ ap (verdict_on setting) one.1 ∙ k.verdict) in

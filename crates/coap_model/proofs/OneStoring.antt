@@ -1,56 +1,94 @@
 -- What is done with an answer towards the store is one thing.
-use Rattle.std.proofs.Common.{◌≡◌, ◌<◌, ◌≤◌, List, refl, sym, ◌∙◌, arith}
+use Rattle.std.proofs.Common.{◌≡◌, ℕ, ◌<◌, ◌≤◌, true, List, refl, sym, ap, ◌∙◌, subst, arith}
+use Rattle.coap_option.specs.Selection.{tags_of}
 use Rattle.coap_model.specs.declared.report.Outcome.TheVariants.{Answered}
 use Rattle.coap_model.specs.declared.report.Storing.{Storing}
 use Rattle.coap_model.specs.declared.report.Storing.TheVariants.{Kept, TooLarge, NoMemory, NotStored}
 use Rattle.coap_model.specs.Setting.{Setting}
-use Rattle.coap_model.specs.Keys.{key_sent}
+use Rattle.coap_model.specs.Events.{Event}
 use Rattle.coap_forward.specs.Answers.{answer_of, is_storable}
-use Rattle.coap_model.specs.History.{Deed}
-use Rattle.coap_model.specs.Cached.{cached_size, cached_here, IsObtained}
-use Rattle.coap_model.specs.Justified.{IsAnswer, IsObtainedHere, size_here, JustifiedBy, HaveOneMemory}
-use Rattle.coap_model.proofs.Places.{here, same_moves}
-use Rattle.coap_model.proofs.Cached.{meets-unique, obtained-unique}
+use Rattle.coap_forward.specs.Messages.{is_get}
+use Rattle.coap_model.specs.History.{Deed, Place, takes, Meets, Gets}
+use Rattle.coap_model.specs.Changed.{asked_of, key_asked, to_get}
+use Rattle.coap_model.specs.Cached.{Cached, cached_size, cached_here, copied, answer_got, WasCacheAt}
+use Rattle.coap_model.specs.Justified.{IsAnswer, IsObtainedHere, entry_here, size_here, JustifiedBy, HaveOneMemory}
+use Rattle.coap_model.proofs.Places.{here}
+use Rattle.coap_model.proofs.Changing.{one-getting}
+use Rattle.coap_model.proofs.Cached.{same-entry, former-once}
 
--- what one deed obtains another obtains that takes the same answer
-obtained-over : (setting : Setting) (past : List Deed) (d e : Deed) → d.entry.event ≡ e.entry.event → d.entry.now ≡ e.entry.now → d.act ≡ e.act → IsAnswer setting past e → (o : IsObtainedHere setting past d) → IsObtained setting o.key o.response o.asking (here past e)
-obtained-over setting past d e event now act k o =
-    let g = o.obtained.gets in
-    let h = k.gets in
-    let exchange = same_moves o.obtained.exchange k.exchange (sym g.act ∙ act ∙ h.act) in
-    let m = meets-unique setting o.obtained.exchange k.exchange past d.entry.event e.entry.event exchange event g.meets h.meets in
-    let answer : answer_of setting.limits.datagram d.entry.now g.meets.message ≡ answer_of setting.limits.datagram e.entry.now h.meets.message = λ i. answer_of setting.limits.datagram (now i) (m.answer i) in
-    let key : key_sent g.meets.asks.sends.to g.meets.asks.sends.message ≡ key_sent h.meets.asks.sends.to h.meets.asks.sends.message = λ i. key_sent (m.to i) (m.message i) in
-    record {
-      exchange = k.exchange;
-      gets = h;
-      asking_is = sym m.asking ∙ o.obtained.asking_is;
-      asked_key = sym key ∙ o.obtained.asked_key;
-      storable = sym (λ i. is_storable (answer i)) ∙ o.obtained.storable;
-      response_is = o.obtained.response_is ∙ (λ i. (answer i).message);
-    }
+-- ---- at one deed
 
--- it counts as many bytes
-same-size : (setting : Setting) (past : List Deed) (d e : Deed) → d.entry.event ≡ e.entry.event → d.entry.now ≡ e.entry.now → d.act ≡ e.act → IsAnswer setting past e → (o : IsObtainedHere setting past d) (p : IsObtainedHere setting past e) → size_here o ≡ size_here p
-same-size setting past d e event now act k o p =
-    let same = obtained-unique setting o.key p.key o.response p.response o.asking p.asking (here past e) (obtained-over setting past d e event now act k o) p.obtained in
-    λ i. cached_size (cached_here (same.0 i) (same.1 i) o.asking past d)
+-- what there was for what was got is one
+pub one-former : {setting : Setting} {x y : ℕ} {p : Place} {a b : List Cached} (g : Gets setting x p) (h : Gets setting y p) → WasCacheAt setting g.meets.asking.before x a → WasCacheAt setting h.meets.asking.before y b → a ≡ b
+one-former {setting} {x} {y} {p} {a} g h was also =
+    let one = one-getting g h in
+    let there : WasCacheAt setting h.meets.asking.before y a = subst (λ (q : Place). WasCacheAt setting q.before y a) one.asking (subst (λ (n : ℕ). WasCacheAt setting g.meets.asking.before n a) one.exchange was) in
+    former-once there also
+
+-- so is the answer that was got
+pub one-answer : {setting : Setting} {x y : ℕ} {p : Place} {a b : List Cached} (g : Gets setting x p) (h : Gets setting y p) → a ≡ b → answer_got a g ≡ answer_got b h
+one-answer {setting} {x} {y} {p} g h former =
+    let one = one-getting g h in
+    λ i. answer_of setting.limits.datagram (is_get (one.asked i).code) (copied (tags_of (one.asked i)) (one.key i) (former i)) p.deed.entry.now (one.message i)
+
+-- what a deed obtains is one entry
+pub one-entry : {setting : Setting} {past : List Deed} {d : Deed} (o p : IsObtainedHere setting past d) → entry_here o ≡ entry_here p
+one-entry o p = same-entry o.gets p.gets o.former p.former (one-former o.gets p.gets o.was_cache p.was_cache)
+
+-- of one size
+pub one-size : {setting : Setting} {past : List Deed} {d : Deed} (o p : IsObtainedHere setting past d) → size_here o ≡ size_here p
+one-size o p = ap cached_size (one-entry o p)
+
+-- ---- at two deeds of one event
+
+-- an answer that an event brings another brings that is the same
+abbrev meets-over : {setting : Setting} {x : ℕ} {past : List Deed} {a b : Event} → b ≡ a → Meets setting x past a → Meets setting x past b
+meets-over same m = record {
+  asking = m.asking;
+  was_asked = m.was_asked;
+  asks = m.asks;
+  message = m.message;
+  brings = record { bytes = m.brings.bytes; came = same ∙ m.brings.came; spells = m.brings.spells; short = m.brings.short };
+  matches = m.matches;
+}
+
+-- so what one deed got another got
+abbrev gets-over : {setting : Setting} {x : ℕ} {past : List Deed} (d e : Deed) → e.entry.event ≡ d.entry.event → e.act ≡ d.act → takes e.entry.report.outcome ≡ true → Gets setting x (here past d) → Gets setting x (here past e)
+gets-over d e event act took g = record { act = act ∙ g.act; outcome = took; meets = meets-over event g.meets; bytes = g.bytes }
+
+-- and what one obtained
+abbrev obtained-over : (setting : Setting) (past : List Deed) (d e : Deed) → e.entry.event ≡ d.entry.event → e.entry.now ≡ d.entry.now → e.act ≡ d.act → takes e.entry.report.outcome ≡ true → IsObtainedHere setting past d → IsObtainedHere setting past e
+obtained-over setting past d e event now act took o = record {
+  exchange = o.exchange;
+  gets = gets-over d e event act took o.gets;
+  method = o.method;
+  unchanged = o.unchanged;
+  former = o.former;
+  was_cache = o.was_cache;
+  storable = (λ i. is_storable (answer_of setting.limits.datagram (to_get o.gets) (copied (tags_of (asked_of o.gets)) (key_asked o.gets) o.former) (now i) o.gets.meets.message)) ∙ o.storable;
+}
 
 module _ (setting : Setting) (past : List Deed) (d e : Deed) (event : d.entry.event ≡ e.entry.event) (now : d.entry.now ≡ e.entry.now) (act : d.act ≡ e.act) where
+  -- it counts as many bytes
+  same-size : IsAnswer setting past e → (o : IsObtainedHere setting past d) (p : IsObtainedHere setting past e) → size_here o ≡ size_here p
+  same-size k o p =
+      let moved : size_here o ≡ size_here (obtained-over setting past d e (sym event) (sym now) (sym act) k.gets.outcome o) = λ i. cached_size (cached_here (key_asked o.gets) (answer_of setting.limits.datagram (to_get o.gets) (copied (tags_of (asked_of o.gets)) (key_asked o.gets) o.former) (now i) o.gets.meets.message).message o.gets.meets.asking past d) in
+      moved ∙ one-size (obtained-over setting past d e (sym event) (sym now) (sym act) k.gets.outcome o) p
+
   -- it isn't small and large
   sized : {A : Type 0} → IsAnswer setting past e → (o : IsObtainedHere setting past d) (p : IsObtainedHere setting past e) → size_here o ≤ setting.limits.cache_bytes → setting.limits.cache_bytes < size_here p → A
-  sized k o p small large = absurd (let same = same-size setting past d e event now act k o p in omega (arith, small, large, same))
+  sized k o p small large = absurd (let same = same-size k o p in omega (arith, small, large, same))
 
   -- nor large and small
   sized-other : {A : Type 0} → IsAnswer setting past e → (o : IsObtainedHere setting past d) (p : IsObtainedHere setting past e) → setting.limits.cache_bytes < size_here o → size_here p ≤ setting.limits.cache_bytes → A
-  sized-other k o p large small = absurd (let same = same-size setting past d e event now act k o p in omega (arith, small, large, same))
+  sized-other k o p large small = absurd (let same = same-size k o p in omega (arith, small, large, same))
 
   -- nor obtained there and not here
   here-too : IsAnswer setting past e → IsObtainedHere setting past d → IsObtainedHere setting past e
-  here-too k o = record { key = o.key; response = o.response; asking = o.asking; obtained = obtained-over setting past d e event now act k o }
+  here-too k o = obtained-over setting past d e (sym event) (sym now) (sym act) k.gets.outcome o
 
   there-too : IsAnswer setting past d → IsObtainedHere setting past e → IsObtainedHere setting past d
-  there-too k o = record { key = o.key; response = o.response; asking = o.asking; obtained = obtained-over setting past e d (sym event) (sym now) (sym act) k o }
+  there-too k o = obtained-over setting past e d event now act k.gets.outcome o
 
   -- answers that are one are stored in one way
   pub one-storing : (s t : Storing) → JustifiedBy (Answered s) setting past d → JustifiedBy (Answered t) setting past e → HaveOneMemory (Answered s) (Answered t) → s ≡ t

@@ -1,12 +1,19 @@
 -- Joining an exchange, and opening one, keep what is carried.
-use Rattle.std.proofs.Common.{◌≡◌, ◌≢◌, inl, ⊎_elim, ℕ, ◌+◌, ◌<◌, ◌≤◌, true, Option, Some, List, [], ◌∷◌, ◌++◌, length, map, length-append, refl, sym, ap, ◌∙◌, subst, arith}
-use Rattle.std.specs.Prelude.{◌&&◌}
+use Rattle.std.proofs.Common.{◌≡◌, ◌≢◌, inl, ⊎_elim, ℕ, ◌+◌, ◌<◌, ◌≤◌, Bool, true, false, cond, Option, Some, None, List, [], ◌∷◌, ◌++◌, length, map, length-append, refl, sym, ap, ◌∙◌, subst, arith}
+use Rattle.std.specs.Prelude.{◌&&◌, is_some, option_map}
 use Rattle.std.specs.List.{AllByRecursion}
 use Rattle.std.proofs.lemmas.Bool.{leb-true, ltb-true, and_parts, eq-eqb}
 use Rattle.std.proofs.lemmas.List.{map-append}
 use Rattle.coap_message.specs.Message.{Message}
+use Rattle.coap_message.specs.Spelling.{spelling}
 use Rattle.coap_target.specs.declared.endpoint.Endpoint.{Endpoint}
+use Rattle.coap_target.specs.declared.target.Target.{Target}
 use Rattle.coap_cache.specs.declared.key.CacheKey.{CacheKey}
+use Rattle.coap_cache.specs.declared.stored.Stored.{Stored}
+use Rattle.coap_cache.specs.Entries.{Entry, entry_key}
+use Rattle.coap_cache.specs.Lists.{of_key}
+use Rattle.coap_cache.specs.Renewing.{tag_of}
+use Rattle.coap_cache.specs.Showing.{is_content}
 use Rattle.coap_target.proofs.Lists.{All-append, All-weaken}
 use Rattle.coap_exchange.specs.declared.exchange.Exchange.{Exchange}
 use Rattle.coap_exchange.specs.declared.waiter.Waiter.{Waiter}
@@ -18,18 +25,22 @@ use Rattle.coap_exchange.specs.Table.{Numbered, IsRising, count, first_that}
 use Rattle.coap_exchange.specs.Waiters.{is_waiting, waits_for}
 use Rattle.coap_exchange.proofs.Counts.{one_if, count-push}
 use Rattle.coap_exchange.proofs.Tables.{IsRising-push}
+use Rattle.coap_forward.specs.Messages.{is_get}
+use Rattle.coap_forward.specs.Forms.{forwarded, form_fits, tag_if_fits, tag_to_send, tag_for}
 use Rattle.coap_forward.proofs.Tokens.{length-token_of}
+use Rattle.coap_forward.proofs.Tagging.{tag_for-other}
 use Rattle.coap_model.specs.declared.report.Outcome.TheVariants.{Joined, Opened}
 use Rattle.coap_model.specs.Events.{arrival}
 use Rattle.coap_model.specs.Verdicts.{may_ask}
 use Rattle.coap_model.specs.Justified.{verdict_on}
 use Rattle.coap_model.specs.World.{World, remembers, reserved, has_ids, has_exchange_room, has_waiter_room, has_room_to_join, has_room_to_open}
-use Rattle.coap_model.specs.Requests.{new_exchange, new_waiter, next_token}
+use Rattle.coap_model.specs.Requests.{new_exchange, new_waiter, next_token, tag_carried, copy_of}
+use Rattle.coap_model.specs.Cached.{kept_for}
 use Rattle.coap_model.specs.History.{Act, admits, moves, serves, Deed, Somewhere, Never, admits_one, opened_in, admitted_in, last_of, Opens, Admits, Ends, Serves, IsRequestOf, WasOpened}
 use Rattle.coap_model.specs.Standing as stages
 use Rattle.coap_model.specs.Standing.{standing_in}
 use Rattle.coap_model.specs.Runs.{entry_of}
-use Rattle.coap_model.specs.Carries.{HasNumber, HasExchange, stage_seen, standing_seen, IsExchangeOf, IsWaiterIn, IsWaiterOf, AreUnused, Bears}
+use Rattle.coap_model.specs.Carries.{HasNumber, HasExchange, stage_seen, standing_seen, copy_for, IsExchangeOf, IsWaiterIn, IsWaiterOf, AreUnused, Bears}
 use Rattle.coap_model.proofs.Frames.{clock_frame, numbers_frame, opened-before, exchanges_frame, waiters_frame, unused_frame, schedules_frame, sends-stay}
 use Rattle.coap_model.proofs.Giving.{ids-kept, given-later}
 use Rattle.coap_model.proofs.Missing.{missed, joinable-found, unanswered}
@@ -37,8 +48,8 @@ use Rattle.coap_model.proofs.Places.{here, doing, opened-number, opened-later, a
 use Rattle.coap_model.proofs.Remembering.{first-new, first-remembered}
 use Rattle.coap_model.proofs.Replying.{request-came}
 use Rattle.coap_model.proofs.Room.{join-there, room-there}
-use Rattle.coap_model.proofs.Rules.{IsFirst, verdict_in, fits_in, IsMissed, IsUnanswered, IsTakenUp, sending, joined_world, opened_world}
-use Rattle.coap_model.proofs.Stores.{store-otherwise}
+use Rattle.coap_model.proofs.Rules.{IsFirst, verdict_in, fits_in, IsMissed, IsUnanswered, IsTakenUp, sending, joined_world, opened_world, held_for}
+use Rattle.coap_model.proofs.Stores.{store-otherwise, stored-kept}
 use Rattle.coap_model.proofs.TakingUp.{taken-up, taken-short}
 use Rattle.coap_model.proofs.Tables.{HasNumber-push, HasNumber-last, HasExchange-on}
 use Rattle.coap_model.proofs.Verdicts.{form-short}
@@ -113,8 +124,8 @@ module _ (w : World) (history : List Deed) (c : Bears history w) (e : Deed) (cli
       (λ y some. let one = count-push (waits_for y.0) w.waiters (new_waiter w client m exchange) in omega arith) c.whole.waited
 
   -- each is one that the history admitted
-  pub clients-are : IsRequestOf w.setting client m e.entry.event → Never (Ends exchange) history → (opened : WasOpened w.setting (e ∷ history) exchange) → verdict_on w.setting opened.request ≡ verdict_on w.setting m → AllByRecursion (IsWaiterOf w.setting (e ∷ history)) clients
-  clients-are asked unended opened verdict =
+  pub clients-are : IsRequestOf w.setting client m e.entry.event → Never (Ends exchange) history → (opened : WasOpened w.setting (e ∷ history) exchange) → is_get opened.request.code ≡ is_get m.code → verdict_on w.setting opened.request ≡ verdict_on w.setting m → AllByRecursion (IsWaiterOf w.setting (e ∷ history)) clients
+  clients-are asked unended opened method verdict =
       All-append (IsWaiterOf w.setting (e ∷ history)) w.waiters (new_waiter w client m exchange ∷ []) (waiters_frame w.setting history e w.waiters unserved c.waiters) (
         record {
           admitted = record { exchange = exchange; admission = here history e; client = client; request = m; was_admitted = inl refl; admits = record { act = act ∙ ap (λ (n : ℕ). admits n exchange) (sym place); outcome = outcome; number = place }; asked = asked };
@@ -127,17 +138,68 @@ module _ (w : World) (history : List Deed) (c : Bears history w) (e : Deed) (cli
           unserved = ((λ h. unserved (w.admitted + 1) h.act), c.unused.waiters (w.admitted + 1) (omega (arith, place)));
           no_sends = sends-stay (serves (w.admitted + 1)) history e (unserved (w.admitted + 1)) ∙ c.unused.deliveries (w.admitted + 1) (omega (arith, place));
           opened = opened;
+          method = method;
           verdict = verdict;
         },
         tt,
       )
 
+-- ---- the tag that a request carries
+
+-- what fits without a tag fits with the one that goes along
+carried-fits : (most : ℕ) (t : Target) (m : Message) (kept : Option Message) → form_fits most t None m ≡ true → form_fits most t (tag_for most t m kept) m ≡ true
+carried-fits most t m None e = e
+carried-fits most t m (Some r) e = go (is_get m.code && is_content r.code) (tag_of r.options)
+  where
+    fitting : (tag : List ℕ) (b : Bool) → form_fits most t (Some tag) m ≡ b → form_fits most t (cond b (Some tag) None) m ≡ true
+    fitting tag true f = f
+    fitting tag false f = e
+
+    go : (b : Bool) (o : Option (List ℕ)) → form_fits most t (cond b (tag_if_fits most t m o) None) m ≡ true
+    go true None = e
+    go true (Some tag) = fitting tag (form_fits most t (Some tag) m) refl
+    go false o = e
+
+-- the response of a copy is the copy of the response
+copied-response : (most : ℕ) (t : Target) (m : Message) (stored : Option Stored) → option_map (λ s. s.response) (copy_of most t m stored) ≡ copy_for most t m (option_map (λ s. s.response) stored)
+copied-response most t m None = refl
+copied-response most t m (Some s) = go (is_some (tag_to_send most t m s.response))
+  where
+    go : (b : Bool) → option_map (λ s. s.response) (cond b (Some s) None) ≡ cond b (Some s.response) None
+    go true = refl
+    go false = refl
+
+module _ (w : World) (history : List Deed) (c : Bears history w) (key : CacheKey) (m : Message) where
+  -- the response of what is stored is the one that is kept
+  stored-response : option_map {T = Stored} (λ s. s.response) (option_map (λ (e : Entry). e.1) (of_key entry_key key w.store)) ≡ kept_for key c.store.cached
+  stored-response = go (of_key entry_key key w.store) ∙ stored-kept w.setting history w.store c.store.cached key c.store.each
+    where
+      go : (o : Option Entry) → option_map {T = Stored} (λ s. s.response) (option_map (λ (e : Entry). e.1) o) ≡ option_map (λ (e : Entry). e.1.response) o
+      go None = refl
+      go (Some e) = refl
+
+  -- so the tag that is carried is the tag of that
+  carried-tag : tag_carried w.setting.limits.datagram key.target m (held_for w key m) ≡ tag_for w.setting.limits.datagram key.target m (kept_for key c.store.cached)
+  carried-tag = go (is_get m.code) refl
+    where
+      go : (b : Bool) → is_get m.code ≡ b → tag_for w.setting.limits.datagram key.target m (option_map (λ s. s.response) (cond b (option_map (λ (e : Entry). e.1) (of_key entry_key key w.store)) None)) ≡ tag_for w.setting.limits.datagram key.target m (kept_for key c.store.cached)
+      go true get = ap (tag_for w.setting.limits.datagram key.target m) stored-response
+      go false other = sym (tag_for-other w.setting.limits.datagram key.target m (kept_for key c.store.cached) other)
+
+  -- and so is the copy
+  carried-copy : copy_for w.setting.limits.datagram key.target m (option_map (λ s. s.response) (held_for w key m)) ≡ copy_for w.setting.limits.datagram key.target m (kept_for key c.store.cached)
+  carried-copy = go (is_get m.code) refl
+    where
+      go : (b : Bool) → is_get m.code ≡ b → copy_for w.setting.limits.datagram key.target m (option_map (λ s. s.response) (cond b (option_map (λ (e : Entry). e.1) (of_key entry_key key w.store)) None)) ≡ copy_for w.setting.limits.datagram key.target m (kept_for key c.store.cached)
+      go true get = ap (copy_for w.setting.limits.datagram key.target m) stored-response
+      go false other = sym (ap (λ (o : Option (List ℕ)). cond (is_some o) (kept_for key c.store.cached) None) (tag_for-other w.setting.limits.datagram key.target m (kept_for key c.store.cached) other))
+
 -- ---- the rules
 
 -- joining an exchange keeps what is carried
-pub keeps_joining : (w : World) (history : List Deed) (c : Bears history w) → (now draw : ℕ) (client : Endpoint) (bytes : List ℕ) (m : Message) (key : CacheKey) (exchange : ℕ) (send : Option Endpoint) (told : List ℕ) → w.last ≤ now → IsFirst w now client bytes m → verdict_in w m ≡ may_ask key → IsMissed w now key → first_that (is_joinable key) w.exchanges ≡ Some exchange → has_room_to_join w now ≡ true → IsTakenUp client m send told
+pub keeps_joining : (w : World) (history : List Deed) (c : Bears history w) → (now draw : ℕ) (client : Endpoint) (bytes : List ℕ) (m : Message) (key : CacheKey) (exchange : ℕ) (send : Option Endpoint) (told : List ℕ) → w.last ≤ now → IsFirst w now client bytes m → is_get m.code ≡ true → verdict_in w m ≡ may_ask key → IsMissed w now key → first_that (is_joinable key) w.exchanges ≡ Some exchange → has_room_to_join w now ≡ true → IsTakenUp client m send told
     → Bears (doing (admits (admitted_in history + 1) exchange) (entry_of now draw (arrival client bytes) (sending Joined send told (joined_world w now client m exchange))) ∷ history) (remembers now client m (sending Joined send told (joined_world w now client m exchange))).world
-keeps_joining w history c now draw client bytes m key exchange send told onward first verdict none found may up =
+keeps_joining w history c now draw client bytes m key exchange send told onward first get verdict none found may up =
     let s = sending Joined send told (joined_world w now client m exchange) in
     let act : Act = admits (admitted_in history + 1) exchange in
     let e = doing act (entry_of now draw (arrival client bytes) s) in
@@ -168,9 +230,9 @@ keeps_joining w history c now draw client bytes m key exchange send told onward 
         unended = λ n was never. c.whole.unended n (opened-before history e n refl was) never.1;
         unserved = clients-there w history c e client m exchange refl refl;
       };
-      exchanges = exchanges_frame w.setting history e w.exchanges (unmoved w history c e client m exchange refl refl) c.exchanges;
-      waiters = clients-are w history c e client m exchange refl refl came joined.0.unended (opened-later e joined.0.opened) (joined.0.verdict ∙ sym verdict);
-      store = store-otherwise w.setting history w.store e refl c.store;
+      exchanges = exchanges_frame w.setting history e w.exchanges refl (unmoved w history c e client m exchange refl refl) c.exchanges;
+      waiters = clients-are w history c e client m exchange refl refl came joined.0.unended (opened-later e joined.0.opened) (joined.0.method ∙ sym get) (joined.0.verdict ∙ sym verdict);
+      store = store-otherwise w.setting history w.store e refl refl c.store;
       con_records = remembered.0;
       non_records = remembered.1;
       within = record {
@@ -179,18 +241,22 @@ keeps_joining w history c now draw client bytes m key exchange send told onward 
         pace = c.within.pace;
         ids = λ n after. let fewer = given-later w.ids history c.ids.given c.clock.in_order now n since after in omega arith;
       };
-      past = (record { exchange = exchange; act = refl; client = client; request = m; key = key; asked = came; verdict = verdict; miss = missed w history c now key none; joinable = joined.0; new = first-new w history c now client bytes m onward first; room = join-there now history w c onward may; takes_up = taken-up client m send told e.entry refl refl up }, c.past);
+      past = (record { exchange = exchange; act = refl; client = client; request = m; key = key; asked = came; method = get; verdict = verdict; miss = missed w history c now key none; joinable = joined.0; new = first-new w history c now client bytes m onward first; room = join-there now history w c onward may; takes_up = taken-up client m send told e.entry refl refl up }, c.past);
     }
 
 -- and so does opening one
-pub keeps_opening : (w : World) (history : List Deed) (c : Bears history w) → (now draw : ℕ) (client : Endpoint) (bytes : List ℕ) (m : Message) (key : CacheKey) (send : Option Endpoint) (told : List ℕ) → w.last ≤ now → IsFirst w now client bytes m → verdict_in w m ≡ may_ask key → IsUnanswered w now key → fits_in w key m ≡ true → has_room_to_open w now ≡ true → IsTakenUp client m send told
-    → Bears (doing (admits (admitted_in history + 1) (opened_in history + 1)) (entry_of now draw (arrival client bytes) (sending Opened send told (opened_world w now client m key))) ∷ history) (remembers now client m (sending Opened send told (opened_world w now client m key))).world
+pub keeps_opening : (w : World) (history : List Deed) (c : Bears history w) → (now draw : ℕ) (client : Endpoint) (bytes : List ℕ) (m : Message) (key : CacheKey) (send : Option Endpoint) (told : List ℕ) → w.last ≤ now → IsFirst w now client bytes m → verdict_in w m ≡ may_ask key → IsUnanswered w now key m → fits_in w key m ≡ true → has_room_to_open w now ≡ true → IsTakenUp client m send told
+    → Bears (doing (admits (admitted_in history + 1) (opened_in history + 1)) (entry_of now draw (arrival client bytes) (sending Opened send told (opened_world w now client m key (held_for w key m)))) ∷ history) (remembers now client m (sending Opened send told (opened_world w now client m key (held_for w key m)))).world
 keeps_opening w history c now draw client bytes m key send told onward first verdict none short room up =
-    let s = sending Opened send told (opened_world w now client m key) in
+    let stored = held_for w key m in
+    let s = sending Opened send told (opened_world w now client m key stored) in
     let act : Act = admits (admitted_in history + 1) (opened_in history + 1) in
     let e = doing act (entry_of now draw (arrival client bytes) s) in
     let came = request-came w client bytes m first.fits first.asked in
-    let x = new_exchange w now m key in
+    let x = new_exchange w now m key stored in
+    let most = w.setting.limits.datagram in
+    let kept = kept_for key c.store.cached in
+    let tag : tag_carried most key.target m stored ≡ tag_for most key.target m kept = carried-tag w history c key m in
     let v = new_waiter w client m (w.opened + 1) in
     let remembered = first-remembered w history c now client bytes m onward draw act s first refl (λ most wide long. taken-short client m send told up most wide) in
     let number : w.opened + 1 ≡ opened_in history + 1 = let h = c.numbers.opened in omega arith in
@@ -233,17 +299,20 @@ keeps_opening w history c now draw client bytes m key send told onward first ver
         unserved = clients-there w history c e client m (w.opened + 1) is refl;
       };
       exchanges =
-          All-append (IsExchangeOf w.setting (e ∷ history)) w.exchanges (x ∷ []) (exchanges_frame w.setting history e w.exchanges other c.exchanges) (
+          All-append (IsExchangeOf w.setting (e ∷ history)) w.exchanges (x ∷ []) (exchanges_frame w.setting history e w.exchanges refl other c.exchanges) (
             record {
               opened = opened;
               admitted = refl;
               verdict = verdict;
-              form_is = refl;
-              form_short = form-short w.setting.limits.datagram key.target m short (next_token w) (length-token_of w.setting.salt (w.opened + 1));
-              is_get = refl;
-              untainted = refl;
+              method = refl;
+              former = c.store.cached;
+              was_cache = c.store.is_cache;
+              form_is = ap (λ (o : Option (List ℕ)). spelling (forwarded (next_token w) key.target o m 0)) tag;
+              form_short = form-short most key.target (tag_carried most key.target m stored) m (carried-fits most key.target m (option_map (λ s. s.response) stored) short) (next_token w) (length-token_of w.setting.salt (w.opened + 1));
+              copy_is = copied-response most key.target m stored ∙ carried-copy w history c key m;
               state = record {
                 unsent = refl;
+                untainted = refl;
                 never_sent = ((λ h. other (w.opened + 1) h.act), unused.0);
                 no_sends = sends-stay (moves (w.opened + 1)) history e (other (w.opened + 1)) ∙ c.unused.sends (w.opened + 1) (omega arith);
                 unended = ((λ h. other (w.opened + 1) h.act), unused.1);
@@ -251,8 +320,8 @@ keeps_opening w history c now draw client bytes m key send told onward first ver
             },
             tt,
           );
-      waiters = clients-are w history c e client m (w.opened + 1) is refl came unused.1 opened refl;
-      store = store-otherwise w.setting history w.store e refl c.store;
+      waiters = clients-are w history c e client m (w.opened + 1) is refl came unused.1 opened refl refl;
+      store = store-otherwise w.setting history w.store e refl refl c.store;
       con_records = remembered.0;
       non_records = remembered.1;
       within = record {
@@ -261,5 +330,5 @@ keeps_opening w history c now draw client bytes m key send told onward first ver
         pace = λ to. let pace = c.within.pace to in let one = count-push (is_sent_to to) w.exchanges x in omega arith;
         ids = λ n after. let fewer = given-later w.ids history c.ids.given c.clock.in_order now n since after in omega arith;
       };
-      past = (record { act = refl; client = client; request = m; key = key; asked = came; verdict = verdict; unanswered = unanswered w history c now key none; fits = short; new = first-new w history c now client bytes m onward first; room = room-there now history w c onward room; takes_up = taken-up client m send told e.entry refl refl up }, c.past);
+      past = (record { act = refl; client = client; request = m; key = key; asked = came; verdict = verdict; unanswered = unanswered w history c now key m none; fits = short; new = first-new w history c now client bytes m onward first; room = room-there now history w c onward room; takes_up = taken-up client m send told e.entry refl refl up }, c.past);
     }

@@ -23,7 +23,7 @@ use Rattle.coap_cache.specs.Lists.{of_key}
 use Rattle.coap_model.specs.Cached.{Cached, cached_key, IsCacheOf}
 use Rattle.coap_model.proofs.Cached.{cache-unique}
 use Rattle.coap_model.specs.Due.{IsDueAt}
-use Rattle.coap_model.specs.Justified.{Comes, known_of, HasRecordRoom, IsNew, HasIdFor, IsRepetition, IsDropped, Acknowledges, Closes, to_reset, to_close, Settles, a_request, an_answer, IsSettled, verdict_on, fits_on, Deserves, by_verdict, by_length, IsMiss, IsJoinable, IsUnanswered, is_fresh_at, IsRefusal, IsHit, IsAnswer, LacksRoom, to_join, to_open, IsOverload, IsLack, IsJoining, IsOpening, IsAwaited, IsForwarding, IsResending, IsGivingUp, overdue, unheard, unacknowledged, IsDelivery, IsIdle, IsUnprocessable, IsActing, JustifiedBy}
+use Rattle.coap_model.specs.Justified.{Comes, known_of, HasRecordRoom, IsNew, HasIdFor, IsRepetition, IsDropped, Acknowledges, Closes, to_reset, to_close, Settles, a_request, an_answer, IsSettled, verdict_on, fits_on, Deserves, by_verdict, by_length, IsMiss, IsJoinable, IsUnanswered, IsGet, IsUsable, IsRefusal, IsHit, IsAnswer, LacksRoom, to_join, to_open, IsOverload, IsLack, IsJoining, IsOpening, IsAwaited, IsForwarding, IsResending, IsGivingUp, overdue, unheard, unacknowledged, IsDelivery, IsIdle, IsUnprocessable, IsActing, JustifiedBy}
 use Rattle.coap_model.proofs.Arrivals.{no_tick}
 use Rattle.coap_model.proofs.Places.{arrival-same, one-brought, request-unique}
 use Rattle.coap_model.proofs.Sorts.{empty-no-request, answer-no-request, answer-no-ack, answer-reset, recorded-sorts, recorded-kind, answer-recorded}
@@ -144,14 +144,14 @@ on-request Idle setting past d client request j r = no_tick r.brings.came j.tick
 pub one_key : {a b : CacheKey} → may_ask a ≡ may_ask b → a ≡ b
 one_key e = cc
 
--- what the cache misses it doesn't have
-pub missed-or-hit : {A : Type 0} (setting : Setting) (past : List Deed) (now : ℕ) (key other : CacheKey) (cached : List Cached) (entry : Cached) → IsMiss setting past key now → key ≡ other → IsCacheOf setting past cached → of_key cached_key other cached ≡ Some entry → is_fresh_at now entry ≡ true → A
-missed-or-hit setting past now key other cached entry miss same is found fresh =
-    absurd (let one = cache-unique setting past cached miss.cached is miss.is_cache in let back = sym same in let stale = miss.stale entry (sym (λ i. of_key cached_key (back i) (one i)) ∙ found) in let e = sym fresh ∙ stale in cc)
+-- what the cache misses doesn't answer
+pub missed-or-hit : {A : Type 0} (setting : Setting) (past : List Deed) (now : ℕ) (key other : CacheKey) (cached : List Cached) (entry : Cached) → IsMiss setting past key now → key ≡ other → IsCacheOf setting past cached → of_key cached_key other cached ≡ Some entry → IsUsable setting past now entry → A
+missed-or-hit setting past now key other cached entry miss same is found usable =
+    absurd (let one = cache-unique setting past cached miss.cached is miss.is_cache in let back = sym same in miss.unusable entry (sym (λ i. of_key cached_key (back i) (one i)) ∙ found) usable)
 
--- where nothing answers a key, no exchange of it may be joined
-none-joinable : {A : Type 0} (setting : Setting) (past : List Deed) (now x : ℕ) (key other : CacheKey) → IsUnanswered setting past now key → key ≡ other → IsJoinable setting past other x → A
-none-joinable setting past now x key other unanswered same joinable = absurd (unanswered.alone x (subst (λ (k : CacheKey). IsJoinable setting past k x) (sym same) joinable))
+-- where nothing answers a GET, no exchange of its key may be joined
+none-joinable : {A : Type 0} (setting : Setting) (past : List Deed) (now x : ℕ) (key other : CacheKey) (request : Message) → IsUnanswered setting past now key request → IsGet request → key ≡ other → IsJoinable setting past other x → A
+none-joinable setting past now x key other request unanswered get same joinable = absurd (unanswered.alone get x (subst (λ (k : CacheKey). IsJoinable setting past k x) (sym same) joinable))
 
 -- a request that fits deserves no code
 fits_well : {A : Type 0} (setting : Setting) (past : List Deed) (now : ℕ) (request : Message) (code : Code) (key : CacheKey) → Deserves setting past now request code → verdict_on setting request ≡ may_ask key → fits_on setting key request ≡ true → A
@@ -160,34 +160,34 @@ fits_well setting past now request code key (by_length other asked unanswered lo
     absurd (let same = one_key (sym asked ∙ verdict) in let e = sym long ∙ ap (λ (k : CacheKey). fits_on setting k request) same ∙ short in cc)
 
 -- nor does one that hits
-hits_well : {A : Type 0} (setting : Setting) (past : List Deed) (now : ℕ) (request : Message) (code : Code) (key : CacheKey) (cached : List Cached) (entry : Cached) → Deserves setting past now request code → verdict_on setting request ≡ may_ask key → IsCacheOf setting past cached → of_key cached_key key cached ≡ Some entry → is_fresh_at now entry ≡ true → A
-hits_well setting past now request code key cached entry (by_verdict refusal) verdict is found fresh = absurd (let e = sym refusal ∙ verdict in cc)
-hits_well setting past now request code key cached entry (by_length other asked unanswered long same) verdict is found fresh = missed-or-hit setting past now other key cached entry unanswered.miss (one_key (sym asked ∙ verdict)) is found fresh
+hits_well : {A : Type 0} (setting : Setting) (past : List Deed) (now : ℕ) (request : Message) (code : Code) (key : CacheKey) (cached : List Cached) (entry : Cached) → Deserves setting past now request code → IsGet request → verdict_on setting request ≡ may_ask key → IsCacheOf setting past cached → of_key cached_key key cached ≡ Some entry → IsUsable setting past now entry → A
+hits_well setting past now request code key cached entry (by_verdict refusal) get verdict is found usable = absurd (let e = sym refusal ∙ verdict in cc)
+hits_well setting past now request code key cached entry (by_length other asked unanswered long same) get verdict is found usable = missed-or-hit setting past now other key cached entry (unanswered.miss get) (one_key (sym asked ∙ verdict)) is found usable
 
--- nor does one whose key has an exchange that may be joined
-joins_well : {A : Type 0} (setting : Setting) (past : List Deed) (now x : ℕ) (request : Message) (code : Code) (key : CacheKey) → Deserves setting past now request code → verdict_on setting request ≡ may_ask key → IsJoinable setting past key x → A
-joins_well setting past now x request code key (by_verdict refusal) verdict joinable = absurd (let e = sym refusal ∙ verdict in cc)
-joins_well setting past now x request code key (by_length other asked unanswered long is) verdict joinable = none-joinable setting past now x other key unanswered (one_key (sym asked ∙ verdict)) joinable
+-- nor does a GET whose key has an exchange that may be joined
+joins_well : {A : Type 0} (setting : Setting) (past : List Deed) (now x : ℕ) (request : Message) (code : Code) (key : CacheKey) → Deserves setting past now request code → IsGet request → verdict_on setting request ≡ may_ask key → IsJoinable setting past key x → A
+joins_well setting past now x request code key (by_verdict refusal) get verdict joinable = absurd (let e = sym refusal ∙ verdict in cc)
+joins_well setting past now x request code key (by_length other asked unanswered long is) get verdict joinable = none-joinable setting past now x other key request unanswered get (one_key (sym asked ∙ verdict)) joinable
 
 -- nor does one for which there is no room
 lacks_well : {A : Type 0} (setting : Setting) (past : List Deed) (now : ℕ) (request : Message) (code : Code) (key : CacheKey) → Deserves setting past now request code → verdict_on setting request ≡ may_ask key → LacksRoom setting past now key request → A
-lacks_well setting past now request code key deserved verdict (to_join x miss joinable full) = joins_well setting past now x request code key deserved verdict joinable
+lacks_well setting past now request code key deserved verdict (to_join x get miss joinable full) = joins_well setting past now x request code key deserved get verdict joinable
 lacks_well setting past now request code key deserved verdict (to_open unanswered short full) = fits_well setting past now request code key deserved verdict short
 
--- where there is no room, the cache has nothing
-lacks-miss : {setting : Setting} {past : List Deed} {now : ℕ} {key : CacheKey} {request : Message} → LacksRoom setting past now key request → IsMiss setting past key now
-lacks-miss (to_join x miss joinable full) = miss
-lacks-miss (to_open unanswered short full) = unanswered.miss
+-- where there is no room for a GET, the cache has nothing for it
+lacks-miss : {setting : Setting} {past : List Deed} {now : ℕ} {key : CacheKey} {request : Message} → IsGet request → LacksRoom setting past now key request → IsMiss setting past key now
+lacks-miss get (to_join x also miss joinable full) = miss
+lacks-miss get (to_open unanswered short full) = unanswered.miss get
 
 -- where nothing answers, and there is room to open an exchange, room isn't lacking
-roomy-open : {A : Type 0} (setting : Setting) (past : List Deed) (now : ℕ) (key other : CacheKey) (request : Message) → IsUnanswered setting past now key → HasRoomToOpen setting.limits now past → key ≡ other → LacksRoom setting past now other request → A
-roomy-open setting past now key other request unanswered room same (to_join x miss joinable full) = none-joinable setting past now x key other unanswered same joinable
+roomy-open : {A : Type 0} (setting : Setting) (past : List Deed) (now : ℕ) (key other : CacheKey) (request : Message) → IsUnanswered setting past now key request → HasRoomToOpen setting.limits now past → key ≡ other → LacksRoom setting past now other request → A
+roomy-open setting past now key other request unanswered room same (to_join x get miss joinable full) = none-joinable setting past now x key other request unanswered get same joinable
 roomy-open setting past now key other request unanswered room same (to_open also short full) = absurd (full room)
 
 -- nor is it where an exchange may be joined, and there is room to join it
-roomy-join : {A : Type 0} (setting : Setting) (past : List Deed) (now x : ℕ) (key other : CacheKey) (request : Message) → IsJoinable setting past key x → HasRoomToJoin setting.limits now past → key ≡ other → LacksRoom setting past now other request → A
-roomy-join setting past now x key other request joinable room same (to_join y miss also full) = absurd (full room)
-roomy-join setting past now x key other request joinable room same (to_open unanswered short full) = none-joinable setting past now x other key unanswered (sym same) joinable
+roomy-join : {A : Type 0} (setting : Setting) (past : List Deed) (now x : ℕ) (key other : CacheKey) (request : Message) → IsGet request → IsJoinable setting past key x → HasRoomToJoin setting.limits now past → key ≡ other → LacksRoom setting past now other request → A
+roomy-join setting past now x key other request get joinable room same (to_join y also miss again full) = absurd (full room)
+roomy-join setting past now x key other request get joinable room same (to_open unanswered short full) = none-joinable setting past now x other key request unanswered get (sym same) joinable
 
 -- a request deserves one code
 one_code : (setting : Setting) (past : List Deed) (now : ℕ) (request : Message) (a b : Code) → Deserves setting past now request a → Deserves setting past now request b → a ≡ b
@@ -264,6 +264,13 @@ module _ (o : Outcome) (setting : Setting) (past : List Deed) (d : Deed) (client
   one : (other : Endpoint) (m : Message) → IsRequestOf setting other m d.entry.event → m ≡ request
   one other m asked = (request-unique setting d.entry.event other client m request asked r).1
 
+  -- so it is a GET under either name
+  got-too : (other : Endpoint) (m : Message) → IsRequestOf setting other m d.entry.event → IsGet m → IsGet request
+  got-too other m asked get = subst IsGet (one other m asked) get
+
+  got-there : (other : Endpoint) (m : Message) → IsRequestOf setting other m d.entry.event → IsGet request → IsGet m
+  got-there other m asked get = subst IsGet (sym (one other m asked)) get
+
   -- where there is no room to remember it, there is silence
   pub given_dropped : known_of past d.entry.now client request ≡ None → ¬ HasRecordRoom setting past d.entry.now request → o ≡ NoRecordRoom
   given_dropped unknown full = go (on-request o setting past d client request j r)
@@ -297,22 +304,22 @@ module _ (o : Outcome) (setting : Setting) (past : List Deed) (d : Deed) (client
         go (refused other k) = ap Refused (one_code setting past now request other code (same_deserved setting past now d k.client client k.request request other k.asked r k.deserved) deserved)
         go (overloaded k) = lacks_well setting past now k.request code k.key (same_deserved setting past now d client k.client request k.request code r k.asked deserved) k.verdict k.no_room
         go (lacking k) = absurd (k.no_ids (ids (sym (ap (λ (m : Message). m.kind) (one k.client k.request k.asked)) ∙ k.kind)))
-        go (joined k) = joins_well setting past now k.exchange k.request code k.key (same_deserved setting past now d client k.client request k.request code r k.asked deserved) k.verdict k.joinable
+        go (joined k) = joins_well setting past now k.exchange k.request code k.key (same_deserved setting past now d client k.client request k.request code r k.asked deserved) k.method k.verdict k.joinable
         go (opened k) = fits_well setting past now k.request code k.key (same_deserved setting past now d client k.client request k.request code r k.asked deserved) k.verdict k.fits
-        go (hit k) = hits_well setting past now k.request code k.key k.cached k.entry (same_deserved setting past now d client k.client request k.request code r k.asked deserved) k.verdict k.is_cache k.found k.fresh
+        go (hit k) = hits_well setting past now k.request code k.key k.cached k.entry (same_deserved setting past now d client k.client request k.request code r k.asked deserved) k.method k.verdict k.is_cache k.found k.usable
         go (repeated k) = not-again k
         go (dropped k) = not-dropped k
 
-    -- one whose key has a fresh entry is answered from the cache
-    pub given_hit : (key : CacheKey) (cached : List Cached) (entry : Cached) → verdict_on setting request ≡ may_ask key → IsCacheOf setting past cached → of_key cached_key key cached ≡ Some entry → is_fresh_at d.entry.now entry ≡ true → HasIdFor request d.entry.now past → o ≡ Hit
-    given_hit key cached entry verdict is found fresh ids = go (on-request o setting past d client request j r)
+    -- a GET whose key has an entry that may answer is answered from the cache
+    pub given_hit : (key : CacheKey) (cached : List Cached) (entry : Cached) → IsGet request → verdict_on setting request ≡ may_ask key → IsCacheOf setting past cached → of_key cached_key key cached ≡ Some entry → IsUsable setting past d.entry.now entry → HasIdFor request d.entry.now past → o ≡ Hit
+    given_hit key cached entry get verdict is found usable ids = go (on-request o setting past d client request j r)
       where
         go : {p : Outcome} → OnRequest setting past d p → p ≡ Hit
-        go (refused code k) = hits_well setting past now request code key cached entry (same_deserved setting past now d k.client client k.request request code k.asked r k.deserved) verdict is found fresh
-        go (overloaded k) = missed-or-hit setting past now k.key key cached entry (lacks-miss k.no_room) (key-of setting d k.client client k.request request k.key key k.asked r k.verdict verdict) is found fresh
+        go (refused code k) = hits_well setting past now request code key cached entry (same_deserved setting past now d k.client client k.request request code k.asked r k.deserved) get verdict is found usable
+        go (overloaded k) = missed-or-hit setting past now k.key key cached entry (lacks-miss (got-there k.client k.request k.asked get) k.no_room) (key-of setting d k.client client k.request request k.key key k.asked r k.verdict verdict) is found usable
         go (lacking k) = absurd (k.no_ids (ids (sym (ap (λ (m : Message). m.kind) (one k.client k.request k.asked)) ∙ k.kind)))
-        go (joined k) = missed-or-hit setting past now k.key key cached entry k.miss (key-of setting d k.client client k.request request k.key key k.asked r k.verdict verdict) is found fresh
-        go (opened k) = missed-or-hit setting past now k.key key cached entry k.unanswered.miss (key-of setting d k.client client k.request request k.key key k.asked r k.verdict verdict) is found fresh
+        go (joined k) = missed-or-hit setting past now k.key key cached entry k.miss (key-of setting d k.client client k.request request k.key key k.asked r k.verdict verdict) is found usable
+        go (opened k) = missed-or-hit setting past now k.key key cached entry (k.unanswered.miss (got-there k.client k.request k.asked get)) (key-of setting d k.client client k.request request k.key key k.asked r k.verdict verdict) is found usable
         go (hit k) = refl
         go (repeated k) = not-again k
         go (dropped k) = not-dropped k
@@ -325,37 +332,37 @@ module _ (o : Outcome) (setting : Setting) (past : List Deed) (d : Deed) (client
         go (refused code k) = lacks_well setting past now request code key (same_deserved setting past now d k.client client k.request request code k.asked r k.deserved) verdict lacks
         go (overloaded k) = refl
         go (lacking k) = absurd (k.no_ids (ids (sym (ap (λ (m : Message). m.kind) (one k.client k.request k.asked)) ∙ k.kind)))
-        go (joined k) = roomy-join setting past now k.exchange k.key key request k.joinable k.room (key-of setting d k.client client k.request request k.key key k.asked r k.verdict verdict) lacks
-        go (opened k) = roomy-open setting past now k.key key request k.unanswered k.room (key-of setting d k.client client k.request request k.key key k.asked r k.verdict verdict) lacks
-        go (hit k) = missed-or-hit setting past now key k.key k.cached k.entry (lacks-miss lacks) (key-of setting d client k.client request k.request key k.key r k.asked verdict k.verdict) k.is_cache k.found k.fresh
+        go (joined k) = roomy-join setting past now k.exchange k.key key request (got-too k.client k.request k.asked k.method) k.joinable k.room (key-of setting d k.client client k.request request k.key key k.asked r k.verdict verdict) lacks
+        go (opened k) = roomy-open setting past now k.key key request (subst (IsUnanswered setting past now k.key) (one k.client k.request k.asked) k.unanswered) k.room (key-of setting d k.client client k.request request k.key key k.asked r k.verdict verdict) lacks
+        go (hit k) = missed-or-hit setting past now key k.key k.cached k.entry (lacks-miss (got-too k.client k.request k.asked k.method) lacks) (key-of setting d client k.client request k.request key k.key r k.asked verdict k.verdict) k.is_cache k.found k.usable
         go (repeated k) = not-again k
         go (dropped k) = not-dropped k
 
     -- one that nothing answers, with room, is opened
-    pub given_opened : (key : CacheKey) → verdict_on setting request ≡ may_ask key → IsUnanswered setting past d.entry.now key → fits_on setting key request ≡ true → HasRoomToOpen setting.limits d.entry.now past → o ≡ Opened
+    pub given_opened : (key : CacheKey) → verdict_on setting request ≡ may_ask key → IsUnanswered setting past d.entry.now key request → fits_on setting key request ≡ true → HasRoomToOpen setting.limits d.entry.now past → o ≡ Opened
     given_opened key verdict unanswered short room = go (on-request o setting past d client request j r)
       where
         go : {p : Outcome} → OnRequest setting past d p → p ≡ Opened
         go (refused code k) = fits_well setting past now request code key (same_deserved setting past now d k.client client k.request request code k.asked r k.deserved) verdict short
-        go (overloaded k) = roomy-open setting past now key k.key k.request unanswered room (key-of setting d client k.client request k.request key k.key r k.asked verdict k.verdict) k.no_room
+        go (overloaded k) = roomy-open setting past now key k.key k.request (subst (IsUnanswered setting past now key) (sym (one k.client k.request k.asked)) unanswered) room (key-of setting d client k.client request k.request key k.key r k.asked verdict k.verdict) k.no_room
         go (lacking k) = absurd (k.no_ids (fewer_ids d.entry.now past room.ids))
-        go (joined k) = none-joinable setting past now k.exchange key k.key unanswered (key-of setting d client k.client request k.request key k.key r k.asked verdict k.verdict) k.joinable
+        go (joined k) = none-joinable setting past now k.exchange key k.key request unanswered (got-too k.client k.request k.asked k.method) (key-of setting d client k.client request k.request key k.key r k.asked verdict k.verdict) k.joinable
         go (opened k) = refl
-        go (hit k) = missed-or-hit setting past now key k.key k.cached k.entry unanswered.miss (key-of setting d client k.client request k.request key k.key r k.asked verdict k.verdict) k.is_cache k.found k.fresh
+        go (hit k) = missed-or-hit setting past now key k.key k.cached k.entry (unanswered.miss (got-too k.client k.request k.asked k.method)) (key-of setting d client k.client request k.request key k.key r k.asked verdict k.verdict) k.is_cache k.found k.usable
         go (repeated k) = not-again k
         go (dropped k) = not-dropped k
 
-    -- one that is missed, and whose key has an exchange that may be joined, is joined, with room
-    pub given_joined : (key : CacheKey) (x : ℕ) → verdict_on setting request ≡ may_ask key → IsMiss setting past key d.entry.now → IsJoinable setting past key x → HasRoomToJoin setting.limits d.entry.now past → o ≡ Joined
-    given_joined key x verdict miss joinable room = go (on-request o setting past d client request j r)
+    -- a GET that is missed, and whose key has an exchange that may be joined, is joined, with room
+    pub given_joined : (key : CacheKey) (x : ℕ) → IsGet request → verdict_on setting request ≡ may_ask key → IsMiss setting past key d.entry.now → IsJoinable setting past key x → HasRoomToJoin setting.limits d.entry.now past → o ≡ Joined
+    given_joined key x get verdict miss joinable room = go (on-request o setting past d client request j r)
       where
         go : {p : Outcome} → OnRequest setting past d p → p ≡ Joined
-        go (refused code k) = joins_well setting past now x request code key (same_deserved setting past now d k.client client k.request request code k.asked r k.deserved) verdict joinable
-        go (overloaded k) = roomy-join setting past now x key k.key k.request joinable room (key-of setting d client k.client request k.request key k.key r k.asked verdict k.verdict) k.no_room
+        go (refused code k) = joins_well setting past now x request code key (same_deserved setting past now d k.client client k.request request code k.asked r k.deserved) get verdict joinable
+        go (overloaded k) = roomy-join setting past now x key k.key k.request (got-there k.client k.request k.asked get) joinable room (key-of setting d client k.client request k.request key k.key r k.asked verdict k.verdict) k.no_room
         go (lacking k) = absurd (k.no_ids room.ids)
         go (joined k) = refl
-        go (opened k) = none-joinable setting past now x k.key key k.unanswered (key-of setting d k.client client k.request request k.key key k.asked r k.verdict verdict) joinable
-        go (hit k) = missed-or-hit setting past now key k.key k.cached k.entry miss (key-of setting d client k.client request k.request key k.key r k.asked verdict k.verdict) k.is_cache k.found k.fresh
+        go (opened k) = none-joinable setting past now x k.key key k.request k.unanswered (got-there k.client k.request k.asked get) (key-of setting d k.client client k.request request k.key key k.asked r k.verdict verdict) joinable
+        go (hit k) = missed-or-hit setting past now key k.key k.cached k.entry miss (key-of setting d client k.client request k.request key k.key r k.asked verdict k.verdict) k.is_cache k.found k.usable
         go (repeated k) = not-again k
         go (dropped k) = not-dropped k
 

@@ -1,10 +1,11 @@
 -- Lists of which the elements belong together one by one, and what is done to both.
 use Rattle.std.proofs.Common.{◌≡◌, ℕ, ◌-◌, ◌&&◌, Bool, true, false, cond, not, nat_le, List, [], ◌∷◌, Option, Some, None, length, map, refl, sym, subst, arith}
+use Rattle.std.specs.List.{list_all}
 use Rattle.std.specs.Option.{option_map_or}
 use Rattle.std.proofs.lemmas.List.Sums.{sum_by-cons}
 use Rattle.coap_cache.specs.declared.key.CacheKey.{CacheKey}
 use Rattle.coap_cache.specs.Keys.{same_key}
-use Rattle.coap_cache.specs.Lists.{of_key, others, used, cut, put, total}
+use Rattle.coap_cache.specs.Lists.{has_other_key, are_distinct, of_key, others, used, cut, put, total}
 use Rattle.coap_model.specs.Pairs.{Pairs, Both}
 
 module _ {X Y : Type 0} (R : X → Y → Type 0) where
@@ -48,6 +49,20 @@ module _ {X Y : Type 0} (R : X → Y → Type 0) where
       go false rest = tt
 
   module _ (f : X → CacheKey) (g : Y → CacheKey) (same : (x : X) (y : Y) → R x y → f x ≡ g y) where
+    -- none has this key where none has it there
+    Pairs-keyless : (k : CacheKey) (xs : List X) (ys : List Y) → Pairs R xs ys → list_all (has_other_key f k) xs ≡ list_all (has_other_key g k) ys
+    Pairs-keyless k [] [] p = refl
+    Pairs-keyless k [] (y ∷ ys) p = absurd p
+    Pairs-keyless k (x ∷ xs) [] p = absurd p
+    Pairs-keyless k (x ∷ xs) (y ∷ ys) p = rw (same x y p.0, Pairs-keyless k xs ys p.1) refl
+
+    -- keys are distinct where they are there
+    pub Pairs-distinct : (xs : List X) (ys : List Y) → Pairs R xs ys → are_distinct f xs ≡ are_distinct g ys
+    Pairs-distinct [] [] p = refl
+    Pairs-distinct [] (y ∷ ys) p = absurd p
+    Pairs-distinct (x ∷ xs) [] p = absurd p
+    Pairs-distinct (x ∷ xs) (y ∷ ys) p = rw (same x y p.0, Pairs-keyless (g y) xs ys p.1, Pairs-distinct xs ys p.1) refl
+
     -- of elements of one key both are found, or none
     pub Pairs-of_key : (k : CacheKey) (xs : List X) (ys : List Y) → Pairs R xs ys → Both R (of_key f k xs) (of_key g k ys)
     Pairs-of_key k [] [] p = tt

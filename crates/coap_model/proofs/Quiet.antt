@@ -8,7 +8,7 @@ use Rattle.coap_exchange.specs.declared.ids.Ids.{Ids as Given}
 use Rattle.coap_exchange.specs.Ids.{given_in}
 use Rattle.coap_model.specs.Cached.{leaves, IsStoreOf}
 use Rattle.coap_model.specs.World.{World, reserved, later}
-use Rattle.coap_model.specs.History.{no_item, moves, serves, Deed, opens_one, admits_one, gives_id, last_of}
+use Rattle.coap_model.specs.History.{no_item, moves, serves, Deed, opens_one, admits_one, takes, gives_id, last_of}
 use Rattle.coap_model.specs.Standing.{Standing, Open, standing_by, open_by, standing_in, open_in}
 use Rattle.coap_model.specs.Schedules.{is_sending}
 use Rattle.coap_model.specs.Justified.{AllJustified}
@@ -25,6 +25,7 @@ pub record IsQuiet (e : Deed) : Type 0 where
   pub opens : opens_one e.entry.report.outcome ≡ 0
   pub admits : admits_one e.entry.report.outcome ≡ 0
   pub sends : is_sending e.entry.report.outcome ≡ false
+  pub takes : takes e.entry.report.outcome ≡ false
   pub leaves_open : (standing : List Standing) (xs : List Open) → open_by e.entry.report.outcome e.act e.entry.report.send standing xs ≡ xs
   pub stands : (standing : List Standing) → standing_by e.entry.report.outcome e.act e.entry.bytes standing ≡ standing
 
@@ -69,7 +70,7 @@ keeps_still w history c e ids store con non q onward given room stored remembere
         unended = λ x s never. c.whole.unended x (opened-before history e x q.opens s) never.1;
         unserved = λ v x s never. c.whole.unserved v x (admitted-before history e v x q.admits s) never.1;
       };
-      exchanges = exchanges_frame w.setting history e w.exchanges unmoved c.exchanges;
+      exchanges = exchanges_frame w.setting history e w.exchanges q.takes unmoved c.exchanges;
       waiters = waiters_frame w.setting history e w.waiters unserved c.waiters;
       store = stored;
       con_records = remembered.0;
@@ -92,4 +93,4 @@ room-still w history c later onward now after = c.within.ids now (omega arith)
 pub keeps_quiet : (w : World) (history : List Deed) (c : Bears history w) (e : Deed) → IsQuiet e → leaves e.entry.report.outcome ≡ true → ((k : Kind) → is_remembered e.entry.report.outcome k ≡ false) → w.last ≤ e.entry.now → gives_id e.entry ≡ 0
     → AllJustified w.setting (e ∷ history) → Bears (e ∷ history) (later w e.entry.now)
 keeps_quiet w history c e q leaving none onward gives past =
-    keeps_still w history c e w.ids w.store w.con_records w.non_records q onward (ids-kept history w (later w e.entry.now) e c.clock c.ids onward refl gives refl) (room-still w history c e.entry.now onward) (store-otherwise w.setting history w.store e leaving c.store) (remembered-still w history c e onward none) past
+    keeps_still w history c e w.ids w.store w.con_records w.non_records q onward (ids-kept history w (later w e.entry.now) e c.clock c.ids onward refl gives refl) (room-still w history c e.entry.now onward) (store-otherwise w.setting history w.store e leaving q.takes c.store) (remembered-still w history c e onward none) past

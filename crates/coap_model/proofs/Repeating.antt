@@ -13,13 +13,14 @@ use Rattle.coap_exchange.specs.declared.timer.Timer.{Timer}
 use Rattle.coap_exchange.specs.declared.timer.Fire.TheVariants.{Again, GiveUp}
 use Rattle.coap_exchange.specs.Exchanges.{is_queued, is_sent_to, is_blocked, deadline, due_in, answered, fired_sending, fired_option, fired_exchange, fire_of_sending}
 use Rattle.coap_exchange.specs.Ids.{given_in}
-use Rattle.coap_exchange.specs.Table.{Numbered, item_at, changed_at, count, passes}
+use Rattle.coap_exchange.specs.Table.{Numbered, IsRising, item_at, changed_at, count, passes}
 use Rattle.coap_exchange.specs.Timers.{goes_on, fire_of, fired}
 use Rattle.coap_exchange.specs.Waiters.{is_waiting}
 use Rattle.coap_exchange.proofs.Counts.{one_if, count-moved, count-kept}
 use Rattle.coap_message.specs.Spelling.{spelling}
-use Rattle.coap_option.specs.Selection.{sent_on}
-use Rattle.coap_forward.specs.Forms.{forwarded}
+use Rattle.coap_forward.specs.Forms.{forwarded, tag_for}
+use Rattle.coap_model.specs.Cached.{kept_for}
+use Rattle.coap_model.proofs.Changing.{told-stays}
 use Rattle.coap_forward.specs.Messages.{token_of}
 use Rattle.coap_forward.specs.Answers.{own_answer, gateway_timeout}
 use Rattle.coap_model.specs.declared.due.DueItem.TheVariants.{OfExchange}
@@ -37,7 +38,7 @@ use Rattle.coap_model.proofs.Acting.{due_of, timer-due, acting}
 use Rattle.coap_model.proofs.Frames.{same_act-self, sends-quiet, sent_frame, sends-grow, schedules_with, schedules_frame}
 use Rattle.coap_model.proofs.Giving.{ids-kept}
 use Rattle.coap_model.proofs.Lists.{Has, Has-all}
-use Rattle.coap_model.proofs.Moving.{keeps_moving}
+use Rattle.coap_model.proofs.Moving.{others-quiet, keeps_moving}
 use Rattle.coap_model.proofs.Places.{here, doing, opened-later}
 use Rattle.coap_model.proofs.Quiet.{remembered-still, room-still}
 use Rattle.coap_model.proofs.Rules as rules
@@ -141,17 +142,19 @@ keeps_resending w history c now draw at number x onward turn sent early fire =
     let queued_same = count-kept is_queued number (fired_exchange now) w.exchanges (λ y. refl) in
     let within = c.within.ids in
     let id : form_id (fired_option now x.sending) ≡ form_id x.sending = ap (λ (o : Option Sending). form_id (fired_option now o)) flight.sending_is ∙ sym (ap form_id flight.sending_is) in
-    keeps_moving w history c e number x (fired_exchange now) w.ids w.store w.con_records w.non_records
+    keeps_moving w history c e w.exchanges number x (fired_exchange now) w.ids w.store w.con_records w.non_records
     (record { act = refl; opens = refl; admits = refl; stands = λ standing. refl })
-    turn.found onward
+    (others-quiet w history c e number refl refl) turn.found onward
     (record {
       opened = opened-later e f.opened;
       admitted = f.admitted;
       verdict = f.verdict;
-      form_is = f.form_is ∙ ap (λ (n : ℕ). spelling (forwarded (token_of w.setting.salt number) x.key.target (sent_on f.opened.request) n)) (sym id);
+      method = f.method;
+      former = f.former;
+      was_cache = f.was_cache;
+      form_is = f.form_is ∙ ap (λ (n : ℕ). spelling (forwarded (token_of w.setting.salt number) x.key.target (tag_for w.setting.limits.datagram x.key.target f.opened.request (kept_for x.key f.former)) f.opened.request n)) (sym id);
       form_short = f.form_short;
-      is_get = f.is_get;
-      untainted = f.untainted;
+      copy_is = f.copy_is;
       state = subst (IsState w.setting (e ∷ history) (number, fired_exchange now x)) (sym sent) (
           record {
             sending = fired_sending now s;
@@ -167,6 +170,11 @@ keeps_resending w history c now draw at number x onward turn sent early fire =
               timer = subst (IsTimer (fired now s.timer)) (sym grown) g.timer;
               bytes = subst (AreOfBytes x.key.target.at x.form) (sym grown) ((refl, refl), a.bytes);
             };
+            method = flight.method;
+            former = flight.former;
+            was_cache = flight.was_cache;
+            copy_is = flight.copy_is;
+            told = told-stays x.tainted w.setting x.key.target a.asking history e refl flight.told;
             unended = ((λ h. let k = h.outcome in cc), flight.unended);
           }
           );
@@ -176,7 +184,7 @@ keeps_resending w history c now draw at number x onward turn sent early fire =
     (schedules_with history e (subst IsSchedule (sym grown) g.schedule) c.schedules)
     (λ to. let same = count-kept (is_sent_to to) number (fired_exchange now) w.exchanges (λ y. refl) in let pace = c.within.pace to in omega arith)
     (λ n later. let room = room-still w history c now onward n later in omega arith)
-    (store-otherwise w.setting history w.store e refl c.store)
+    (store-otherwise w.setting history w.store e refl refl c.store)
     (remembered-still w history c e onward (λ k. refl)) (
       record {
         acting = acting w history c now (OfExchange at number) turn.due e refl refl refl;
@@ -197,22 +205,22 @@ pub ended-seen : (n : ℕ) (a : Answer) (xs : List (Numbered Exchange)) → map 
 ended-seen n a xs = staged-seen n (answered a) done xs (All-weaken (λ y. Has y xs) (λ y. y.0 ≡ n → done ≡ done) xs (λ y there same. refl) (Has-all xs))
 
 -- one that has its answer is neither queued nor sent
-pub ended-room : (w : World) (history : List Deed) (c : Bears history w) (now n : ℕ) (a : Answer) → w.last ≤ now → (later : ℕ) → now ≤ later → given_in later w.ids + (count is_waiting w.waiters + count is_queued (changed_at n (answered a) w.exchanges)) ≤ 32768
-ended-room w history c now n a onward later after =
+pub ended-room : (w : World) (history : List Deed) (c : Bears history w) (now n : ℕ) (a : Answer) (xs : List (Numbered Exchange)) → IsRising 0 xs → count is_queued xs ≡ count is_queued w.exchanges → w.last ≤ now → (later : ℕ) → now ≤ later → given_in later w.ids + (count is_waiting w.waiters + count is_queued (changed_at n (answered a) xs)) ≤ 32768
+ended-room w history c now n a xs rising many onward later after =
     let room = room-still w history c now onward later after in
-    let moved = count-moved is_queued n 0 (answered a) w.exchanges c.whole.rising in
-    let none = no-more is_queued (item_at n w.exchanges) in
+    let moved = count-moved is_queued n 0 (answered a) xs rising in
+    let none = no-more is_queued (item_at n xs) in
     omega arith
   where
     no-more : (t : Exchange → Bool) (o : Option Exchange) → one_if (passes (λ b. is_queued (answered a b)) o) ≡ 0
     no-more t None = refl
     no-more t (Some b) = refl
 
-pub ended-pace : (w : World) (history : List Deed) (c : Bears history w) (n : ℕ) (a : Answer) (to : Endpoint) → count (is_sent_to to) (changed_at n (answered a) w.exchanges) ≤ w.setting.limits.nstart
-ended-pace w history c n a to =
+pub ended-pace : (w : World) (history : List Deed) (c : Bears history w) (n : ℕ) (a : Answer) (xs : List (Numbered Exchange)) → IsRising 0 xs → (to : Endpoint) → count (is_sent_to to) xs ≡ count (is_sent_to to) w.exchanges → count (is_sent_to to) (changed_at n (answered a) xs) ≤ w.setting.limits.nstart
+ended-pace w history c n a xs rising to many =
     let pace = c.within.pace to in
-    let moved = count-moved (is_sent_to to) n 0 (answered a) w.exchanges c.whole.rising in
-    let none = no-more (item_at n w.exchanges) in
+    let moved = count-moved (is_sent_to to) n 0 (answered a) xs rising in
+    let none = no-more (item_at n xs) in
     omega arith
   where
     no-more : (o : Option Exchange) → one_if (passes (λ b. is_sent_to to (answered a b)) o) ≡ 0
@@ -234,25 +242,27 @@ keeps_giving_up w history c now draw at number x onward turn over =
     let a = own_answer now gateway_timeout in
     let f = turn-exchange w history c now at number x turn in
     let unended = unended-yet w.setting history number x x.state f.state (λ b is. not-due b is (turn-due w history c now at number x turn).0) in
-    keeps_moving w history c e number x (answered a) w.ids w.store w.con_records w.non_records
+    keeps_moving w history c e w.exchanges number x (answered a) w.ids w.store w.con_records w.non_records
     (record { act = refl; opens = refl; admits = refl; stands = λ standing. refl })
-    turn.found onward
+    (others-quiet w history c e number refl refl) turn.found onward
     (record {
       opened = opened-later e f.opened;
       admitted = f.admitted;
       verdict = f.verdict;
+      method = f.method;
+      former = f.former;
+      was_cache = f.was_cache;
       form_is = f.form_is;
       form_short = f.form_short;
-      is_get = f.is_get;
-      untainted = f.untainted;
+      copy_is = f.copy_is;
       state = record { ending = here history e; was_ended = inl refl; ends = record { act = refl; outcome = refl }; with = given_up (record { act = refl; outcome = refl }) refl; got = refl; was_sent = sent_frame w.setting history number x.key x.form x.sending e (sends-quiet (moves number) history e refl) (was-sent w.setting history (number, x) x.state f.state) };
     })
     (ended-seen number a w.exchanges)
     (ids-kept history w _ e c.clock c.ids onward refl refl refl)
     (schedules_frame history e refl c.schedules)
-    (ended-pace w history c number a)
-    (λ later after. ended-room w history c now number a onward later after)
-    (store-otherwise w.setting history w.store e refl c.store)
+    (λ to. ended-pace w history c number a w.exchanges c.whole.rising to refl)
+    (λ later after. ended-room w history c now number a w.exchanges c.whole.rising refl onward later after)
+    (store-otherwise w.setting history w.store e refl refl c.store)
     (remembered-still w history c e onward (λ k. refl))
     (gives unended over, c.past)
   where

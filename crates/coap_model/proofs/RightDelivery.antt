@@ -13,7 +13,7 @@ use Rattle.coap_option.specs.Selection.{tags_of}
 use Rattle.coap_routes.specs.Routes.{mapped_target}
 use Rattle.coap_routes.specs.Request.{request_target}
 use Rattle.coap_forward.specs.Forms.{target_options}
-use Rattle.coap_forward.specs.Messages.{token_of}
+use Rattle.coap_forward.specs.Messages.{token_of, is_get}
 use Rattle.coap_forward.specs.Answers.{answer_of, shown_as}
 use Rattle.coap_model.specs.declared.report.Outcome.TheVariants.{Opened}
 use Rattle.coap_model.specs.Events.{Event}
@@ -25,6 +25,7 @@ use Rattle.coap_model.specs.Verdicts.{may_ask, verdict_of}
 use Rattle.coap_model.specs.Standing.{Stage, Open, queued, sent, done, Standing, waits, told, stage_of, service_of}
 use Rattle.coap_model.specs.Due.{to_send, to_repeat, to_end, IsToServe, to_serve, to_serve_again, IsDueAt, IsSooner}
 use Rattle.coap_model.specs.History.{Act, no_item, admits, moves, serves, Deed, IsRequestOf, Sends, Asks, in_acknowledgement}
+use Rattle.coap_model.specs.Cached.{empty}
 use Rattle.coap_model.specs.Justified.{got, IsDelivery, verdict_on}
 use Rattle.coap_model.specs.Forged.{setting, asked, answered, past, past_con, delivery, right, in_con}
 use Rattle.coap_model.proofs.Places.{here, admitted-number}
@@ -76,7 +77,7 @@ first_due o send bytes (serves v) m (to_serve_again t) sooner = one_service o se
 -- ---- what is right
 
 -- what the client is shown of the answer, in a message of the type of its request, is a delivery
-right-is : (event : Event) (send : Option Endpoint) (bytes reply : List ℕ) (request : Message) → IsRequestOf setting (client 1) request event → verdict_on setting request ≡ may_ask key_of_temp → Spells reply (shown_as request.kind 2500 (answer_of 1500 0 (content_for 1 1)) 2 request.token (tags_of request)) → IsDelivery setting (past_of (opening event send bytes)) (delivery (client 1) reply (serves 1))
+right-is : (event : Event) (send : Option Endpoint) (bytes reply : List ℕ) (request : Message) → IsRequestOf setting (client 1) request event → verdict_on setting request ≡ may_ask key_of_temp → Spells reply (shown_as request.kind (is_get request.code) 2500 (answer_of 1500 true None 0 (content_for 1 1)) 2 request.token (tags_of request)) → IsDelivery setting (past_of (opening event send bytes)) (delivery (client 1) reply (serves 1))
 unfolding token_of target_options target_sent key_sent
 right-is event send bytes reply request asked_so verdict spells =
     let o = opening event send bytes in
@@ -96,7 +97,7 @@ right-is event send bytes reply request asked_so verdict spells =
       later = inr (inl refl);
       key = key_of_temp;
       verdict = verdict;
-      answer = answer_of 1500 0 (content_for 1 1);
+      answer = answer_of 1500 true None 0 (content_for 1 1);
       ended = got (record {
         act = refl;
         outcome = refl;
@@ -109,7 +110,7 @@ right-is event send bytes reply request asked_so verdict spells =
           matches = in_acknowledgement refl refl refl refl;
         };
         bytes = are-bytes content refl;
-      }) refl refl;
+      }) [] (record { opening = here [] o; was_opened = inl refl; opens = (refl, refl); is_cache = empty }) refl refl;
       id = 2;
       tells = record { sent = refl; spells = spells };
     }

@@ -1,6 +1,6 @@
 -- The cases of a step, each with what is known there.
 use Rattle.std.proofs.Common.{◌≡◌, ℕ, Bool, true, false, cond, List, Option, Some, None, refl, sym, ap, ◌∙◌, subst, arith}
-use Rattle.std.specs.Prelude.{◌&&◌, ◌||◌, ◌/◌, ◌==◌, ◌≤◌, ◌<◌, ◌+◌, [], ◌∷◌, ◌++◌, nat_le, not}
+use Rattle.std.specs.Prelude.{◌&&◌, ◌||◌, ◌/◌, ◌==◌, ◌≤◌, ◌<◌, ◌+◌, [], ◌∷◌, ◌++◌, nat_le, not, option_map, if◌then◌else◌}
 use Rattle.std.proofs.lemmas.Bool.{eqb-true, leb-true, leb-false, and_parts, and_from}
 use Rattle.std.proofs.lemmas.Option.{same_Some}
 use Rattle.coap_message.specs.declared.kind.Kind.{Kind}
@@ -22,7 +22,9 @@ use Rattle.coap_model.specs.declared.report.Outcome.{Outcome}
 use Rattle.coap_model.specs.declared.report.Outcome.TheVariants.{Joined, Opened, Answered}
 use Rattle.coap_model.specs.declared.report.Storing.{Storing}
 use Rattle.coap_model.specs.declared.report.Storing.TheVariants.{Kept, TooLarge, NoMemory, NotStored}
-use Rattle.coap_forward.specs.Answers.{answer_of, is_storable}
+use Rattle.coap_forward.specs.Changes.{changed_by}
+use Rattle.coap_forward.specs.Forms.{form_fits}
+use Rattle.coap_cache.specs.declared.stored.Stored.{Stored}
 use Rattle.coap_cache.specs.declared.answer.Answer.{Answer}
 use Rattle.coap_exchange.specs.declared.exchange.Exchange.{Exchange}
 use Rattle.coap_exchange.specs.declared.waiter.Waiter.{Waiter}
@@ -31,12 +33,12 @@ use Rattle.coap_exchange.specs.Timers.{started, fire_of}
 use Rattle.coap_exchange.specs.Waiters as waiters
 use Rattle.coap_model.specs.Events.{Event, arrival, tick, IsEvent}
 use Rattle.coap_message.specs.Codes.{is_request, is_response}
-use Rattle.coap_forward.specs.Messages.{is_con, brings_requests, brings_responses, is_ack, is_rst, is_bare, is_empty, is_recorded, acknowledgement}
-use Rattle.coap_model.specs.Verdicts.{Verdict, refused_with, may_ask, verdict_of, form_fits}
+use Rattle.coap_forward.specs.Messages.{is_con, is_get, brings_requests, brings_responses, is_ack, is_rst, is_bare, is_empty, is_recorded, acknowledgement}
+use Rattle.coap_model.specs.Verdicts.{Verdict, refused_with, may_ask, verdict_of}
 use Rattle.coap_dedup.specs.declared.record.Record.{Record}
 use Rattle.coap_model.specs.World.{World, Step, has_record_room, has_room_to_join, has_room_to_open, can_reply, known_of, remembers, repeats, drops, ignores, rejects, unprocessed, silent, says, later}
-use Rattle.coap_model.specs.Requests.{lacks_id, refuses, overloads, new_exchange, new_waiter, joins, opens, turns_down, turns_away, hits, on_wanted, on_joinable, on_miss, on_entry, on_verdict, on_new, on_known, on_request}
-use Rattle.coap_model.specs.Answers.{Arrived, entry_made, answers_so, keeps_if, stores, answers_with, answers}
+use Rattle.coap_model.specs.Requests.{lacks_id, refuses, overloads, new_exchange, new_waiter, joins, opens, turns_down, turns_away, hits, on_wanted, on_joinable, on_miss, on_entry, on_key, on_verdict, on_new, on_known, on_request}
+use Rattle.coap_model.specs.Answers.{Arrived, with_changed, may_store, answer_for, entry_made, answers_so, keeps_if, stores, answers_with, answers}
 use Rattle.coap_model.specs.Responses.{awaiting, on_awaited, on_separate, on_unknown, on_response_in, on_response}
 use Rattle.coap_model.specs.Empties.{acknowledges, closes, on_told, on_client, settles, on_sent, on_empty}
 use Rattle.coap_model.specs.Empties as empties
@@ -48,10 +50,10 @@ use Rattle.coap_exchange.specs.declared.timer.Fire.TheVariants.{Again, GiveUp}
 use Rattle.coap_exchange.specs.declared.waiter.WaiterState.{WaiterState}
 use Rattle.coap_exchange.specs.declared.waiter.WaiterState.TheVariants.{Waiting, Delivering}
 use Rattle.coap_exchange.specs.Exchanges as exchanges
-use Rattle.coap_exchange.specs.Exchanges.{deadline, answer_in, fire_of_sending, is_sent, is_joinable, was_sent_as}
+use Rattle.coap_exchange.specs.Exchanges.{deadline, answer_at, answer_in, fire_of_sending, is_sent, is_joinable, was_sent_as}
 use Rattle.coap_model.specs.declared.due.DueItem.{DueItem}
 use Rattle.coap_model.specs.declared.due.DueItem.TheVariants.{OfExchange, OfWaiter}
-use Rattle.coap_model.specs.Ticks.{item_due, if_due, sends, resends, gives_up, on_fire, in_time, on_exchange, given_to, tells, redelivers, abandons, on_unheard, on_answer, on_waiting, on_waiter, idles, on_item}
+use Rattle.coap_model.specs.Ticks.{item_due, if_due, sends, resends, gives_up, on_fire, in_time, on_exchange, given_to, tells, redelivers, abandons, on_unheard, on_answer, on_awaited as on_exchange_of, on_waiting, on_waiter, idles, on_item}
 use Rattle.coap_model.specs.Step.{on_no_response, on_no_request, on_message, message_in, on_read, step_of}
 use Rattle.coap_model.proofs.Spelled.{message_in-is}
 
@@ -111,33 +113,41 @@ verdict_in w m = verdict_of w.setting.routes m
 
 -- what would be sent on for a key fits a datagram of this world
 abbrev pub fits_in : World → CacheKey → Message → Bool
-fits_in w key m = form_fits w.setting.limits.datagram key.target m
+fits_in w key m = form_fits w.setting.limits.datagram key.target None m
 
 -- the store has no entry of the key that may answer at this moment
 abbrev pub IsMissed : World → ℕ → CacheKey → Type 0
 IsMissed w now key = (entry : Entry) → of_key entry_key key w.store ≡ Some entry → is_usable now entry.1 ≡ false
 
--- nothing answers a request of the key: it is missed, and no exchange may be joined
-pub record IsUnanswered (w : World) (now : ℕ) (key : CacheKey) : Type 0 where
-  pub missed : IsMissed w now key
-  pub alone : first_that (is_joinable key) w.exchanges ≡ None
+-- nothing answers the request: it is no GET, or its key is missed, and no exchange may be joined
+pub record IsUnanswered (w : World) (now : ℕ) (key : CacheKey) (m : Message) : Type 0 where
+  pub missed : is_get m.code ≡ true → IsMissed w now key
+  pub alone : is_get m.code ≡ true → first_that (is_joinable key) w.exchanges ≡ None
+
+-- what is stored for the key of a request: nothing counts where it is no GET
+abbrev pub held_for : World → CacheKey → Message → Option Stored
+held_for w key m = if is_get m.code then option_map (λ (e : Entry). e.1) (of_key entry_key key w.store) else None
 
 -- a request deserves a code in this world
 pub data IsDenied (w : World) (now : ℕ) (m : Message) (code : Code) : Type 0 where
   by_verdict : verdict_in w m ≡ refused_with code → IsDenied w now m code
-  by_length : (key : CacheKey) → verdict_in w m ≡ may_ask key → IsUnanswered w now key → fits_in w key m ≡ false → code ≡ REQUEST_ENTITY_TOO_LARGE → IsDenied w now m code
+  by_length : (key : CacheKey) → verdict_in w m ≡ may_ask key → IsUnanswered w now key m → fits_in w key m ≡ false → code ≡ REQUEST_ENTITY_TOO_LARGE → IsDenied w now m code
 
 -- there is no room for what is wanted: to join the exchange that is found, or to open one
 pub data IsFull (w : World) (now : ℕ) (key : CacheKey) (m : Message) : Type 0 where
-  to_join : (exchange : ℕ) → IsMissed w now key → first_that (is_joinable key) w.exchanges ≡ Some exchange → has_room_to_join w now ≡ false → IsFull w now key m
-  to_open : IsUnanswered w now key → fits_in w key m ≡ true → has_room_to_open w now ≡ false → IsFull w now key m
+  to_join : (exchange : ℕ) → is_get m.code ≡ true → IsMissed w now key → first_that (is_joinable key) w.exchanges ≡ Some exchange → has_room_to_join w now ≡ false → IsFull w now key m
+  to_open : IsUnanswered w now key m → fits_in w key m ≡ true → has_room_to_open w now ≡ false → IsFull w now key m
 
 -- what is done with an answer towards the store, and the store then
 pub data IsStoring (w : World) (now : ℕ) (grown : Bool) (x : Numbered Exchange) (a : Answer) : Storing → List Entry → Type 0 where
-  kept : is_storable a ≡ true → entry_size (entry_made w now x a) ≤ w.setting.limits.cache_bytes → IsStoring w now grown x a Kept (put entry_key entry_size w.setting.limits.cache_bytes w.setting.limits.cache_entries (entry_made w now x a) w.store)
-  too_large : is_storable a ≡ true → w.setting.limits.cache_bytes < entry_size (entry_made w now x a) → IsStoring w now grown x a TooLarge (others entry_key x.1.key w.store)
-  no_memory : is_storable a ≡ true → entry_size (entry_made w now x a) ≤ w.setting.limits.cache_bytes → of_key entry_key x.1.key w.store ≡ None → grown ≡ false → IsStoring w now grown x a NoMemory w.store
-  not_stored : is_storable a ≡ false → IsStoring w now grown x a NotStored w.store
+  kept : may_store x.1 a ≡ true → entry_size (entry_made w now x a) ≤ w.setting.limits.cache_bytes → IsStoring w now grown x a Kept (put entry_key entry_size w.setting.limits.cache_bytes w.setting.limits.cache_entries (entry_made w now x a) w.store)
+  too_large : may_store x.1 a ≡ true → w.setting.limits.cache_bytes < entry_size (entry_made w now x a) → IsStoring w now grown x a TooLarge (others entry_key x.1.key w.store)
+  no_memory : may_store x.1 a ≡ true → entry_size (entry_made w now x a) ≤ w.setting.limits.cache_bytes → of_key entry_key x.1.key w.store ≡ None → grown ≡ false → IsStoring w now grown x a NoMemory w.store
+  not_stored : may_store x.1 a ≡ false → IsStoring w now grown x a NotStored w.store
+
+-- the tables after what a message changes that answers an exchange
+abbrev pub changed_world : World → Message → Numbered Exchange → World
+changed_world w m x = with_changed (changed_by x.1.key.target m) w
 
 -- an exchange is due first, and is there
 pub record IsTurnOf (w : World) (now at number : ℕ) (x : Exchange) : Type 0 where
@@ -172,9 +182,9 @@ joined_world w now client m exchange =
     record (later w now) { waiters = w.waiters ++ new_waiter w client m exchange ∷ []; admitted = w.admitted + 1 }
 
 -- and for one that is opened
-abbrev pub opened_world : World → ℕ → Endpoint → Message → CacheKey → World
-opened_world w now client m key =
-    record (later w now) { exchanges = w.exchanges ++ new_exchange w now m key ∷ []; waiters = w.waiters ++ new_waiter w client m (w.opened + 1) ∷ []; opened = w.opened + 1; admitted = w.admitted + 1 }
+abbrev pub opened_world : World → ℕ → Endpoint → Message → CacheKey → Option Stored → World
+opened_world w now client m key stored =
+    record (later w now) { exchanges = w.exchanges ++ new_exchange w now m key stored ∷ []; waiters = w.waiters ++ new_waiter w client m (w.opened + 1) ∷ []; opened = w.opened + 1; admitted = w.admitted + 1 }
 
 -- the clients that are left after one was given this message: without it, or with it to acknowledge that
 pub data IsTold (w : World) (now draw number : ℕ) (m : Message) : List (Numbered Waiter) → Type 0 where
@@ -196,14 +206,14 @@ pub data Rule (w : World) (now draw : ℕ) (grown : Bool) : Event → Step → T
   refusing : (client : Endpoint) (bytes : List ℕ) (m : Message) (code : Code) → IsFirst w now client bytes m → IsDenied w now m code → can_reply w now m.kind ≡ true → Rule w now draw grown (arrival client bytes) (remembers now client m (refuses w now client m code))
   lacking : (client : Endpoint) (bytes : List ℕ) (m : Message) → IsFirst w now client bytes m → can_reply w now m.kind ≡ false → Rule w now draw grown (arrival client bytes) (remembers now client m (lacks_id w now))
   overloading : (client : Endpoint) (bytes : List ℕ) (m : Message) (key : CacheKey) → IsFirst w now client bytes m → verdict_in w m ≡ may_ask key → IsFull w now key m → can_reply w now m.kind ≡ true → Rule w now draw grown (arrival client bytes) (remembers now client m (overloads w now client m))
-  joining : (client : Endpoint) (bytes : List ℕ) (m : Message) (key : CacheKey) (exchange : ℕ) (send : Option Endpoint) (told : List ℕ) → IsFirst w now client bytes m → verdict_in w m ≡ may_ask key → IsMissed w now key → first_that (is_joinable key) w.exchanges ≡ Some exchange → has_room_to_join w now ≡ true → IsTakenUp client m send told → Rule w now draw grown (arrival client bytes) (remembers now client m (sending Joined send told (joined_world w now client m exchange)))
-  opening : (client : Endpoint) (bytes : List ℕ) (m : Message) (key : CacheKey) (send : Option Endpoint) (told : List ℕ) → IsFirst w now client bytes m → verdict_in w m ≡ may_ask key → IsUnanswered w now key → fits_in w key m ≡ true → has_room_to_open w now ≡ true → IsTakenUp client m send told → Rule w now draw grown (arrival client bytes) (remembers now client m (sending Opened send told (opened_world w now client m key)))
-  hitting : (client : Endpoint) (bytes : List ℕ) (m : Message) (key : CacheKey) (entry : Entry) → IsFirst w now client bytes m → verdict_in w m ≡ may_ask key → of_key entry_key key w.store ≡ Some entry → is_usable now entry.1 ≡ true → can_reply w now m.kind ≡ true → Rule w now draw grown (arrival client bytes) (remembers now client m (hits w now client m key entry.1))
+  joining : (client : Endpoint) (bytes : List ℕ) (m : Message) (key : CacheKey) (exchange : ℕ) (send : Option Endpoint) (told : List ℕ) → IsFirst w now client bytes m → is_get m.code ≡ true → verdict_in w m ≡ may_ask key → IsMissed w now key → first_that (is_joinable key) w.exchanges ≡ Some exchange → has_room_to_join w now ≡ true → IsTakenUp client m send told → Rule w now draw grown (arrival client bytes) (remembers now client m (sending Joined send told (joined_world w now client m exchange)))
+  opening : (client : Endpoint) (bytes : List ℕ) (m : Message) (key : CacheKey) (send : Option Endpoint) (told : List ℕ) → IsFirst w now client bytes m → verdict_in w m ≡ may_ask key → IsUnanswered w now key m → fits_in w key m ≡ true → has_room_to_open w now ≡ true → IsTakenUp client m send told → Rule w now draw grown (arrival client bytes) (remembers now client m (sending Opened send told (opened_world w now client m key (held_for w key m))))
+  hitting : (client : Endpoint) (bytes : List ℕ) (m : Message) (key : CacheKey) (entry : Entry) → IsFirst w now client bytes m → is_get m.code ≡ true → verdict_in w m ≡ may_ask key → of_key entry_key key w.store ≡ Some entry → is_usable now entry.1 ≡ true → can_reply w now m.kind ≡ true → Rule w now draw grown (arrival client bytes) (remembers now client m (hits w now client m key entry.1))
   repeating : (source : Endpoint) (bytes : List ℕ) (m : Message) (known : Record) → IsBytes bytes → Recorded w bytes m → known_of w now source m ≡ Some known → Rule w now draw grown (arrival source bytes) (repeats w now source known.reply)
   dropping : (source : Endpoint) (bytes : List ℕ) (m : Message) → IsBytes bytes → Recorded w bytes m → (is_response m.code ≡ true → (x : Numbered Exchange) × (awaiting w source m ≡ Some x)) → known_of w now source m ≡ None → has_record_room w now m.kind ≡ false → Rule w now draw grown (arrival source bytes) (drops w now)
-  answering : (source : Endpoint) (bytes : List ℕ) (m : Message) (x : Numbered Exchange) (storing : Storing) (store : List Entry) → IsBytes bytes → message_in w.setting.limits.datagram bytes ≡ Some m → IsAnswerFor w now source m x → is_con m.kind ≡ false → IsStoring w now grown x (answer_of w.setting.limits.datagram now m) storing store → Rule w now draw grown (arrival source bytes) (silent (Answered storing) (answered_world w now x.0 (answer_of w.setting.limits.datagram now m) store))
-  answering_con : (source : Endpoint) (bytes : List ℕ) (m : Message) (x : Numbered Exchange) (storing : Storing) (store : List Entry) → IsBytes bytes → Recorded w bytes m → IsAnswerFor w now source m x → is_con m.kind ≡ true → known_of w now source m ≡ None → has_record_room w now m.kind ≡ true → IsStoring w now grown x (answer_of w.setting.limits.datagram now m) storing store
-      → Rule w now draw grown (arrival source bytes) (remembers now source m (says (Answered storing) source (acknowledgement m.id) (answered_world w now x.0 (answer_of w.setting.limits.datagram now m) store)))
+  answering : (source : Endpoint) (bytes : List ℕ) (m : Message) (x : Numbered Exchange) (storing : Storing) (store : List Entry) → IsBytes bytes → message_in w.setting.limits.datagram bytes ≡ Some m → IsAnswerFor w now source m x → is_con m.kind ≡ false → IsStoring (changed_world w m x) now grown x (answer_for w now m x.1) storing store → Rule w now draw grown (arrival source bytes) (silent (Answered storing) (answered_world (changed_world w m x) now x.0 (answer_for w now m x.1) store))
+  answering_con : (source : Endpoint) (bytes : List ℕ) (m : Message) (x : Numbered Exchange) (storing : Storing) (store : List Entry) → IsBytes bytes → Recorded w bytes m → IsAnswerFor w now source m x → is_con m.kind ≡ true → known_of w now source m ≡ None → has_record_room w now m.kind ≡ true → IsStoring (changed_world w m x) now grown x (answer_for w now m x.1) storing store
+      → Rule w now draw grown (arrival source bytes) (remembers now source m (says (Answered storing) source (acknowledgement m.id) (answered_world (changed_world w m x) now x.0 (answer_for w now m x.1) store)))
   acknowledging : (source : Endpoint) (bytes : List ℕ) (m : Message) (x : Numbered Exchange) → IsBytes bytes → message_in w.setting.limits.datagram bytes ≡ Some m → IsAbout w now source m x → is_ack m.kind ≡ true → Rule w now draw grown (arrival source bytes) (acknowledges w now x.0)
   closing : (source : Endpoint) (bytes : List ℕ) (m : Message) (number : ℕ) → IsBytes bytes → message_in w.setting.limits.datagram bytes ≡ Some m → IsOfAnswer w now source m number → Rule w now draw grown (arrival source bytes) (closes w now number)
   rejecting : (source : Endpoint) (bytes : List ℕ) (head : Head) → head_at bytes ≡ Some head → is_con head.kind ≡ true → IsNothing w now source bytes → Rule w now draw grown (arrival source bytes) (rejects w now source head.id)
@@ -211,7 +221,7 @@ pub data Rule (w : World) (now draw : ℕ) (grown : Bool) : Event → Step → T
   forwarding : (at number : ℕ) (x : Exchange) → IsTurnOf w now at number x → x.state ≡ Queued → now < deadline w.setting.limits.exchange_ms x → Rule w now draw grown tick (sends w now draw number x)
   resending : (at number : ℕ) (x : Exchange) → IsTurnOf w now at number x → x.state ≡ Sent → now < deadline w.setting.limits.exchange_ms x → fire_of_sending now x.sending ≡ Again → Rule w now draw grown tick (resends w now number x)
   giving_up : (at number : ℕ) (x : Exchange) → IsTurnOf w now at number x → IsOver w now x → Rule w now draw grown tick (gives_up w now number)
-  delivering : (at number exchange : ℕ) (v : Waiter) (a : Answer) (left : List (Numbered Waiter)) → if_due now (item_due w) ≡ Some (OfWaiter at number) → item_at number w.waiters ≡ Some v → v.state ≡ Waiting exchange → answer_in exchange w.exchanges ≡ Some a → IsTold w now draw number (given_to w now v a) left → Rule w now draw grown tick (tells w now v exchange (given_to w now v a) left)
+  delivering : (at number exchange : ℕ) (v : Waiter) (x : Exchange) (a : Answer) (left : List (Numbered Waiter)) → if_due now (item_due w) ≡ Some (OfWaiter at number) → item_at number w.waiters ≡ Some v → v.state ≡ Waiting exchange → item_at exchange w.exchanges ≡ Some x → answer_at x ≡ Some a → IsTold w now draw number (given_to w now v x.is_get a) left → Rule w now draw grown tick (tells w now v exchange (given_to w now v x.is_get a) left)
   redelivering : (at number : ℕ) (v : Waiter) (bytes : List ℕ) (id : ℕ) (timer : Timer) → IsTurnOfTold w now at number v bytes id timer → fire_of now timer ≡ Again → Rule w now draw grown tick (redelivers w now number v bytes)
   abandoning : (at number : ℕ) (v : Waiter) (bytes : List ℕ) (id : ℕ) (timer : Timer) → IsTurnOfTold w now at number v bytes id timer → fire_of now timer ≡ GiveUp → Rule w now draw grown tick (abandons w now number)
   idling : if_due now (item_due w) ≡ None → Rule w now draw grown tick (idles w now)
@@ -320,54 +330,71 @@ rule_full w now draw grown client bytes m key first e full = go (can_reply w now
     go false free = lacking client bytes m first free
 
 -- a request that nothing answers is a case by its length and by room
-rule_wanted : (w : World) (now draw : ℕ) (grown : Bool) (client : Endpoint) (bytes : List ℕ) (m : Message) (key : CacheKey) → IsFirst w now client bytes m → verdict_in w m ≡ may_ask key → IsUnanswered w now key → Rule w now draw grown (arrival client bytes) (remembers now client m (on_wanted w now client m key))
-rule_wanted w now draw grown client bytes m key first e none = by_fit (fits_in w key m) refl
+rule_wanted : (w : World) (now draw : ℕ) (grown : Bool) (client : Endpoint) (bytes : List ℕ) (m : Message) (key : CacheKey) (stored : Option Stored) → IsFirst w now client bytes m → verdict_in w m ≡ may_ask key → IsUnanswered w now key m → held_for w key m ≡ stored → Rule w now draw grown (arrival client bytes) (remembers now client m (on_wanted w now client m key stored))
+rule_wanted w now draw grown client bytes m key stored first e none held = by_fit (fits_in w key m) refl
   where
-    up : fits_in w key m ≡ true → has_room_to_open w now ≡ true → (b : Bool) → is_con m.kind ≡ b → Rule w now draw grown (arrival client bytes) (remembers now client m (cond b (says Opened client (acknowledgement m.id) (opened_world w now client m key)) (silent Opened (opened_world w now client m key))))
-    up short there true con = opening client bytes m key (Some client) (spelling (acknowledgement m.id)) first e none short there (with_acknowledgement con)
-    up short there false other = opening client bytes m key None [] first e none short there (silently other)
+    up : fits_in w key m ≡ true → has_room_to_open w now ≡ true → (b : Bool) → is_con m.kind ≡ b → Rule w now draw grown (arrival client bytes) (remembers now client m (cond b (says Opened client (acknowledgement m.id) (opened_world w now client m key stored)) (silent Opened (opened_world w now client m key stored))))
+    up short there true con = subst (λ (s : Option Stored). Rule w now draw grown (arrival client bytes) (remembers now client m (says Opened client (acknowledgement m.id) (opened_world w now client m key s)))) held (opening client bytes m key (Some client) (spelling (acknowledgement m.id)) first e none short there (with_acknowledgement con))
+    up short there false other = subst (λ (s : Option Stored). Rule w now draw grown (arrival client bytes) (remembers now client m (silent Opened (opened_world w now client m key s)))) held (opening client bytes m key None [] first e none short there (silently other))
 
-    room : fits_in w key m ≡ true → (b : Bool) → has_room_to_open w now ≡ b → Rule w now draw grown (arrival client bytes) (remembers now client m (cond b (opens w now client m key) (turns_away w now client m)))
+    room : fits_in w key m ≡ true → (b : Bool) → has_room_to_open w now ≡ b → Rule w now draw grown (arrival client bytes) (remembers now client m (cond b (opens w now client m key stored) (turns_away w now client m)))
     room short true there = up short there (is_con m.kind) refl
     room short false full = rule_full w now draw grown client bytes m key first e (to_open none short full)
 
-    by_fit : (b : Bool) → fits_in w key m ≡ b → Rule w now draw grown (arrival client bytes) (remembers now client m (cond b (cond (has_room_to_open w now) (opens w now client m key) (turns_away w now client m)) (turns_down w now client m REQUEST_ENTITY_TOO_LARGE)))
+    by_fit : (b : Bool) → fits_in w key m ≡ b → Rule w now draw grown (arrival client bytes) (remembers now client m (cond b (cond (has_room_to_open w now) (opens w now client m key stored) (turns_away w now client m)) (turns_down w now client m REQUEST_ENTITY_TOO_LARGE)))
     by_fit true short = room short (has_room_to_open w now) refl
     by_fit false long = rule_refusal w now draw grown client bytes m REQUEST_ENTITY_TOO_LARGE first (by_length key e none long refl)
 
--- a request for a key that is missed is a case by the exchange that may be joined, and by room
-rule_miss : (w : World) (now draw : ℕ) (grown : Bool) (client : Endpoint) (bytes : List ℕ) (m : Message) (key : CacheKey) → IsFirst w now client bytes m → verdict_in w m ≡ may_ask key → IsMissed w now key → Rule w now draw grown (arrival client bytes) (remembers now client m (on_miss w now client m key))
-rule_miss w now draw grown client bytes m key first e missed = by_search (first_that (is_joinable key) w.exchanges) refl
+-- a GET of a key that is missed is a case by the exchange that may be joined, and by room
+rule_miss : (w : World) (now draw : ℕ) (grown : Bool) (client : Endpoint) (bytes : List ℕ) (m : Message) (key : CacheKey) (stored : Option Stored) → IsFirst w now client bytes m → is_get m.code ≡ true → verdict_in w m ≡ may_ask key → IsMissed w now key → held_for w key m ≡ stored → Rule w now draw grown (arrival client bytes) (remembers now client m (on_miss w now client m key stored))
+rule_miss w now draw grown client bytes m key stored first get e missed held = by_search (first_that (is_joinable key) w.exchanges) refl
   where
     up : (exchange : ℕ) → first_that (is_joinable key) w.exchanges ≡ Some exchange → has_room_to_join w now ≡ true → (b : Bool) → is_con m.kind ≡ b → Rule w now draw grown (arrival client bytes) (remembers now client m (cond b (says Joined client (acknowledgement m.id) (joined_world w now client m exchange)) (silent Joined (joined_world w now client m exchange))))
-    up exchange found there true con = joining client bytes m key exchange (Some client) (spelling (acknowledgement m.id)) first e missed found there (with_acknowledgement con)
-    up exchange found there false other = joining client bytes m key exchange None [] first e missed found there (silently other)
+    up exchange found there true con = joining client bytes m key exchange (Some client) (spelling (acknowledgement m.id)) first get e missed found there (with_acknowledgement con)
+    up exchange found there false other = joining client bytes m key exchange None [] first get e missed found there (silently other)
 
     room : (exchange : ℕ) → first_that (is_joinable key) w.exchanges ≡ Some exchange → (b : Bool) → has_room_to_join w now ≡ b → Rule w now draw grown (arrival client bytes) (remembers now client m (cond b (joins w now client m exchange) (turns_away w now client m)))
     room exchange found true there = up exchange found there (is_con m.kind) refl
-    room exchange found false full = rule_full w now draw grown client bytes m key first e (to_join exchange missed found full)
+    room exchange found false full = rule_full w now draw grown client bytes m key first e (to_join exchange get missed found full)
 
-    by_search : (o : Option ℕ) → first_that (is_joinable key) w.exchanges ≡ o → Rule w now draw grown (arrival client bytes) (remembers now client m (on_joinable w now client m key o))
-    by_search None none = rule_wanted w now draw grown client bytes m key first e (record { missed = missed; alone = none })
+    by_search : (o : Option ℕ) → first_that (is_joinable key) w.exchanges ≡ o → Rule w now draw grown (arrival client bytes) (remembers now client m (on_joinable w now client m key stored o))
+    by_search None none = rule_wanted w now draw grown client bytes m key stored first e (record { missed = λ _. missed; alone = λ _. none }) held
     by_search (Some exchange) found = room exchange found (has_room_to_join w now) refl
 
--- a request for a key is a case by the entry of the key
-rule_entry : (w : World) (now draw : ℕ) (grown : Bool) (client : Endpoint) (bytes : List ℕ) (m : Message) (key : CacheKey) → IsFirst w now client bytes m → verdict_in w m ≡ may_ask key → (o : Option Entry) → of_key entry_key key w.store ≡ o → Rule w now draw grown (arrival client bytes) (remembers now client m (on_entry w now client m key o))
-rule_entry w now draw grown client bytes m key first e None none = rule_miss w now draw grown client bytes m key first e (λ entry found. absurd (let f = sym none ∙ found in cc))
-rule_entry w now draw grown client bytes m key first e (Some entry) found = go (is_usable now entry.1) refl
+-- a GET of a key is a case by the entry of the key
+rule_entry : (w : World) (now draw : ℕ) (grown : Bool) (client : Endpoint) (bytes : List ℕ) (m : Message) (key : CacheKey) → IsFirst w now client bytes m → is_get m.code ≡ true → verdict_in w m ≡ may_ask key → (o : Option Entry) → of_key entry_key key w.store ≡ o → Rule w now draw grown (arrival client bytes) (remembers now client m (on_entry w now client m key o))
+rule_entry w now draw grown client bytes m key first get e o found = go o found
   where
-    ids : is_usable now entry.1 ≡ true → (b : Bool) → can_reply w now m.kind ≡ b → Rule w now draw grown (arrival client bytes) (remembers now client m (cond b (hits w now client m key entry.1) (lacks_id w now)))
-    ids usable true free = hitting client bytes m key entry first e found usable free
-    ids usable false free = lacking client bytes m first free
+    held : (p : Option Entry) → of_key entry_key key w.store ≡ p → held_for w key m ≡ option_map (λ (s : Entry). s.1) p
+    held p is = ap (λ (b : Bool). if b then option_map (λ (s : Entry). s.1) (of_key entry_key key w.store) else None) get ∙ ap (option_map (λ (s : Entry). s.1)) is
 
-    go : (b : Bool) → is_usable now entry.1 ≡ b → Rule w now draw grown (arrival client bytes) (remembers now client m (cond b (cond (can_reply w now m.kind) (hits w now client m key entry.1) (lacks_id w now)) (on_miss w now client m key)))
-    go true usable = ids usable (can_reply w now m.kind) refl
-    go false stale = rule_miss w now draw grown client bytes m key first e (λ other also. subst (λ (o : Entry). is_usable now o.1 ≡ false) (same_Some entry other (sym found ∙ also)) stale)
+    ids : (entry : Entry) → of_key entry_key key w.store ≡ Some entry → is_usable now entry.1 ≡ true → (b : Bool) → can_reply w now m.kind ≡ b → Rule w now draw grown (arrival client bytes) (remembers now client m (cond b (hits w now client m key entry.1) (lacks_id w now)))
+    ids entry is usable true free = hitting client bytes m key entry first get e is usable free
+    ids entry is usable false free = lacking client bytes m first free
+
+    by_use : (entry : Entry) → of_key entry_key key w.store ≡ Some entry → (b : Bool) → is_usable now entry.1 ≡ b → Rule w now draw grown (arrival client bytes) (remembers now client m (cond b (cond (can_reply w now m.kind) (hits w now client m key entry.1) (lacks_id w now)) (on_miss w now client m key (Some entry.1))))
+    by_use entry is true usable = ids entry is usable (can_reply w now m.kind) refl
+    by_use entry is false stale = rule_miss w now draw grown client bytes m key (Some entry.1) first get e (λ other also. subst (λ (s : Entry). is_usable now s.1 ≡ false) (same_Some entry other (sym is ∙ also)) stale) (held (Some entry) is)
+
+    go : (p : Option Entry) → of_key entry_key key w.store ≡ p → Rule w now draw grown (arrival client bytes) (remembers now client m (on_entry w now client m key p))
+    go None none = rule_miss w now draw grown client bytes m key None first get e (λ entry also. absurd (let f = sym none ∙ also in cc)) (held None none)
+    go (Some entry) is = by_use entry is (is_usable now entry.1) refl
+
+-- a request for a key is a case by its method
+rule_key : (w : World) (now draw : ℕ) (grown : Bool) (client : Endpoint) (bytes : List ℕ) (m : Message) (key : CacheKey) → IsFirst w now client bytes m → verdict_in w m ≡ may_ask key → Rule w now draw grown (arrival client bytes) (remembers now client m (on_key w now client m key))
+rule_key w now draw grown client bytes m key first e = go (is_get m.code) refl
+  where
+    go : (b : Bool) → is_get m.code ≡ b → Rule w now draw grown (arrival client bytes) (remembers now client m (cond b (on_entry w now client m key (of_key entry_key key w.store)) (on_wanted w now client m key None)))
+    go true get = rule_entry w now draw grown client bytes m key first get e (of_key entry_key key w.store) refl
+    go false other =
+        rule_wanted w now draw grown client bytes m key None first e
+        (record { missed = λ get. absurd (let f = sym other ∙ get in cc); alone = λ get. absurd (let f = sym other ∙ get in cc) })
+        (ap (λ (b : Bool). if b then option_map (λ (s : Entry). s.1) (of_key entry_key key w.store) else None) other)
 
 -- a request is a case by its verdict
 rule_verdict : (w : World) (now draw : ℕ) (grown : Bool) (client : Endpoint) (bytes : List ℕ) (m : Message) → IsFirst w now client bytes m → (v : Verdict) → verdict_in w m ≡ v → Rule w now draw grown (arrival client bytes) (remembers now client m (on_verdict w now client m v))
 rule_verdict w now draw grown client bytes m first (refused_with code) e = rule_refusal w now draw grown client bytes m code first (by_verdict e)
-rule_verdict w now draw grown client bytes m first (may_ask key) e = rule_entry w now draw grown client bytes m key first e (of_key entry_key key w.store) refl
+rule_verdict w now draw grown client bytes m first (may_ask key) e = rule_key w now draw grown client bytes m key first e
 
 -- a request that is processed is remembered
 request_recorded : (w : World) (bytes : List ℕ) (m : Message) → Asked w bytes m → Recorded w bytes m
@@ -413,47 +440,47 @@ head_of_read w bytes m fits read = head_read bytes m (message_in-is w.setting.li
 -- ---- answers
 
 -- an answer is a case by what is done with it towards the store
-rule_storing : (w : World) (now draw : ℕ) (grown : Bool) (event : Event) (f : Step → Step) (a : Arrived) → ((storing : Storing) (store : List Entry) → IsStoring w now grown a.exchange a.answer storing store → Rule w now draw grown event (f (answers_so w now a storing store))) → Rule w now draw grown event (f (answers_with w now grown a))
-rule_storing w now draw grown event f a case = storable (is_storable a.answer) refl
+rule_storing : (w v : World) (now draw : ℕ) (grown : Bool) (event : Event) (f : Step → Step) (a : Arrived) → ((storing : Storing) (store : List Entry) → IsStoring v now grown a.exchange a.answer storing store → Rule w now draw grown event (f (answers_so v now a storing store))) → Rule w now draw grown event (f (answers_with v now grown a))
+rule_storing w v now draw grown event f a case = storable (may_store a.exchange.1 a.answer) refl
   where
     size : ℕ
-    size = entry_size (entry_made w now a.exchange a.answer)
+    size = entry_size (entry_made v now a.exchange a.answer)
 
-    fitting : is_storable a.answer ≡ true → size ≤ w.setting.limits.cache_bytes → (o : Option Entry) → of_key entry_key a.exchange.1.key w.store ≡ o → (g : Bool) → grown ≡ g → Rule w now draw grown event (f (keeps_if w now g a o))
+    fitting : may_store a.exchange.1 a.answer ≡ true → size ≤ v.setting.limits.cache_bytes → (o : Option Entry) → of_key entry_key a.exchange.1.key v.store ≡ o → (g : Bool) → grown ≡ g → Rule w now draw grown event (f (keeps_if v now g a o))
     fitting can small None new true g = case Kept _ (kept can small)
     fitting can small None new false g = case NoMemory _ (no_memory can small new g)
     fitting can small (Some old) there g e = case Kept _ (kept can small)
 
-    sized : is_storable a.answer ≡ true → (b : Bool) → nat_le size w.setting.limits.cache_bytes ≡ b → Rule w now draw grown event (f (cond b (keeps_if w now grown a (of_key entry_key a.exchange.1.key w.store)) (answers_so w now a TooLarge (others entry_key a.exchange.1.key w.store))))
-    sized can true small = fitting can (leb-true _ _ small) (of_key entry_key a.exchange.1.key w.store) refl grown refl
+    sized : may_store a.exchange.1 a.answer ≡ true → (b : Bool) → nat_le size v.setting.limits.cache_bytes ≡ b → Rule w now draw grown event (f (cond b (keeps_if v now grown a (of_key entry_key a.exchange.1.key v.store)) (answers_so v now a TooLarge (others entry_key a.exchange.1.key v.store))))
+    sized can true small = fitting can (leb-true _ _ small) (of_key entry_key a.exchange.1.key v.store) refl grown refl
     sized can false large = case TooLarge _ (too_large can (leb-false _ _ large))
 
-    storable : (b : Bool) → is_storable a.answer ≡ b → Rule w now draw grown event (f (cond b (stores w now grown a) (answers_so w now a NotStored w.store)))
-    storable true can = sized can (nat_le size w.setting.limits.cache_bytes) refl
+    storable : (b : Bool) → may_store a.exchange.1 a.answer ≡ b → Rule w now draw grown event (f (cond b (stores v now grown a) (answers_so v now a NotStored v.store)))
+    storable true can = sized can (nat_le size v.setting.limits.cache_bytes) refl
     storable false not = case NotStored _ (not_stored not)
 
 module _ (w : World) (now draw : ℕ) (grown : Bool) (source : Endpoint) (bytes : List ℕ) (m : Message) (fits : IsBytes bytes) (read : message_in w.setting.limits.datagram bytes ≡ Some m) where
   abbrev arrived : Numbered Exchange → Arrived
-  arrived x = record { source = source; message = m; exchange = x; answer = answer_of w.setting.limits.datagram now m }
+  arrived x = record { source = source; message = m; exchange = x; answer = answer_for w now m x.1 }
 
   abbrev own_head : Head
   own_head = record { kind = m.kind; code = m.code; id = m.id }
 
   -- an answer that isn't Confirmable
   rule_answer : (x : Numbered Exchange) → IsAnswerFor w now source m x → is_con m.kind ≡ false → Rule w now draw grown (arrival source bytes) (answers w now grown source m x)
-  rule_answer x for other = rule_storing w now draw grown (arrival source bytes) (λ s. s) (arrived x) (λ storing store s. go storing store s (is_con m.kind) other)
+  rule_answer x for other = rule_storing w (changed_world w m x) now draw grown (arrival source bytes) (λ s. s) (arrived x) (λ storing store s. go storing store s (is_con m.kind) other)
     where
-      go : (storing : Storing) (store : List Entry) → IsStoring w now grown x (answer_of w.setting.limits.datagram now m) storing store → (b : Bool) → b ≡ false
-          → Rule w now draw grown (arrival source bytes) (cond b (says (Answered storing) source (acknowledgement m.id) (answered_world w now x.0 (answer_of w.setting.limits.datagram now m) store)) (silent (Answered storing) (answered_world w now x.0 (answer_of w.setting.limits.datagram now m) store)))
+      go : (storing : Storing) (store : List Entry) → IsStoring (changed_world w m x) now grown x (answer_for w now m x.1) storing store → (b : Bool) → b ≡ false
+          → Rule w now draw grown (arrival source bytes) (cond b (says (Answered storing) source (acknowledgement m.id) (answered_world (changed_world w m x) now x.0 (answer_for w now m x.1) store)) (silent (Answered storing) (answered_world (changed_world w m x) now x.0 (answer_for w now m x.1) store)))
       go storing store s true e = absurd cc
       go storing store s false e = answering source bytes m x storing store fits read for other s
 
   -- one that is, and is new
   rule_answer_con : (x : Numbered Exchange) → is_recorded m ≡ true → IsAnswerFor w now source m x → is_con m.kind ≡ true → known_of w now source m ≡ None → has_record_room w now m.kind ≡ true → Rule w now draw grown (arrival source bytes) (remembers now source m (answers w now grown source m x))
-  rule_answer_con x recorded for con unknown room = rule_storing w now draw grown (arrival source bytes) (remembers now source m) (arrived x) (λ storing store s. go storing store s (is_con m.kind) con)
+  rule_answer_con x recorded for con unknown room = rule_storing w (changed_world w m x) now draw grown (arrival source bytes) (remembers now source m) (arrived x) (λ storing store s. go storing store s (is_con m.kind) con)
     where
-      go : (storing : Storing) (store : List Entry) → IsStoring w now grown x (answer_of w.setting.limits.datagram now m) storing store → (b : Bool) → b ≡ true
-          → Rule w now draw grown (arrival source bytes) (remembers now source m (cond b (says (Answered storing) source (acknowledgement m.id) (answered_world w now x.0 (answer_of w.setting.limits.datagram now m) store)) (silent (Answered storing) (answered_world w now x.0 (answer_of w.setting.limits.datagram now m) store))))
+      go : (storing : Storing) (store : List Entry) → IsStoring (changed_world w m x) now grown x (answer_for w now m x.1) storing store → (b : Bool) → b ≡ true
+          → Rule w now draw grown (arrival source bytes) (remembers now source m (cond b (says (Answered storing) source (acknowledgement m.id) (answered_world (changed_world w m x) now x.0 (answer_for w now m x.1) store)) (silent (Answered storing) (answered_world (changed_world w m x) now x.0 (answer_for w now m x.1) store))))
       go storing store s false e = absurd cc
       go storing store s true e = answering_con source bytes m x storing store fits (record { read = read; recorded = recorded }) for con unknown room s
 
@@ -622,21 +649,25 @@ rule_waiter : (w : World) (now draw : ℕ) (grown : Bool) (at number : ℕ) → 
 rule_waiter w now draw grown at number due None e = stuck (no_waiter at number due e)
 rule_waiter w now draw grown at number due (Some v) e = by_state v.state refl
   where
-    by_kind : (exchange : ℕ) (a : Answer) → v.state ≡ Waiting exchange → answer_in exchange w.exchanges ≡ Some a → (b : Bool) → is_con v.kind ≡ b
-        → Rule w now draw grown tick (tells w now v exchange (given_to w now v a) (cond b (changed_at number (waiters.delivered (spelling (given_to w now v a)) (given_to w now v a).id (started now draw)) w.waiters) (without number w.waiters)))
-    by_kind exchange a is f true con = delivering at number exchange v a _ due e is f (to_acknowledge con)
-    by_kind exchange a is f false other = delivering at number exchange v a _ due e is f (done_with other)
+    by_kind : (exchange : ℕ) (x : Exchange) (a : Answer) → v.state ≡ Waiting exchange → item_at exchange w.exchanges ≡ Some x → answer_at x ≡ Some a → (b : Bool) → is_con v.kind ≡ b
+        → Rule w now draw grown tick (tells w now v exchange (given_to w now v x.is_get a) (cond b (changed_at number (waiters.delivered (spelling (given_to w now v x.is_get a)) (given_to w now v x.is_get a).id (started now draw)) w.waiters) (without number w.waiters)))
+    by_kind exchange x a is there f true con = delivering at number exchange v x a _ due e is there f (to_acknowledge con)
+    by_kind exchange x a is there f false other = delivering at number exchange v x a _ due e is there f (done_with other)
 
-    by_answer : (exchange : ℕ) → v.state ≡ Waiting exchange → (o : Option Answer) → answer_in exchange w.exchanges ≡ o → Rule w now draw grown tick (on_answer w now draw number v exchange o)
-    by_answer exchange is None f = stuck (unanswered at number exchange v due e is f)
-    by_answer exchange is (Some a) f = by_kind exchange a is f (is_con v.kind) refl
+    by_answer : (exchange : ℕ) (x : Exchange) → v.state ≡ Waiting exchange → item_at exchange w.exchanges ≡ Some x → (o : Option Answer) → answer_at x ≡ o → Rule w now draw grown tick (on_answer w now draw number v exchange x.is_get o)
+    by_answer exchange x is there None f = stuck (unanswered at number exchange v due e is (ap exchanges.answer_of there ∙ f))
+    by_answer exchange x is there (Some a) f = by_kind exchange x a is there f (is_con v.kind) refl
+
+    by_exchange : (exchange : ℕ) → v.state ≡ Waiting exchange → (o : Option Exchange) → item_at exchange w.exchanges ≡ o → Rule w now draw grown tick (on_exchange_of w now draw number v exchange o)
+    by_exchange exchange is None f = stuck (unanswered at number exchange v due e is (ap exchanges.answer_of f))
+    by_exchange exchange is (Some x) there = by_answer exchange x is there (answer_at x) refl
 
     by_fire : (bytes : List ℕ) (id : ℕ) (timer : Timer) → v.state ≡ Delivering bytes id timer → (f : Fire) → fire_of now timer ≡ f → Rule w now draw grown tick (on_unheard w now number v bytes f)
     by_fire bytes id timer is Again f = redelivering at number v bytes id timer (record { due = due; found = e; state = is }) f
     by_fire bytes id timer is GiveUp f = abandoning at number v bytes id timer (record { due = due; found = e; state = is }) f
 
     by_state : (s : WaiterState) → v.state ≡ s → Rule w now draw grown tick (on_waiting w now draw number v s)
-    by_state (Waiting exchange) is = by_answer exchange is (answer_in exchange w.exchanges) refl
+    by_state (Waiting exchange) is = by_exchange exchange is (item_at exchange w.exchanges) refl
     by_state (Delivering bytes id timer) is = by_fire bytes id timer is (fire_of now timer) refl
 
 -- a tick is a case by what is due

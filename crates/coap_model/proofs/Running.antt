@@ -17,8 +17,8 @@ rule_setting : {w : World} {now draw : ℕ} {grown : Bool} {event : Event} {s : 
 rule_setting (refusing client bytes m code first denied free) = refl
 rule_setting (lacking client bytes m first free) = refl
 rule_setting (overloading client bytes m key first verdict lacks free) = refl
-rule_setting (hitting client bytes m key entry first verdict found usable free) = refl
-rule_setting (joining client bytes m key exchange send told first verdict none found room up) = refl
+rule_setting (hitting client bytes m key entry first get verdict found usable free) = refl
+rule_setting (joining client bytes m key exchange send told first get verdict none found room up) = refl
 rule_setting (opening client bytes m key send told first verdict none short room up) = refl
 rule_setting {w = w} {now = now} (repeating client bytes m known fits asked found) = repeated known.reply
   where
@@ -35,7 +35,7 @@ rule_setting (ignoring source bytes quiet none) = refl
 rule_setting (forwarding at number x turn is early) = refl
 rule_setting (resending at number x turn is early fire) = refl
 rule_setting (giving_up at number x turn over) = refl
-rule_setting (delivering at number exchange v a left due found waits answer told) = refl
+rule_setting (delivering at number exchange v x a left due found waits there answer told) = refl
 rule_setting (redelivering at number v bytes id timer turn fire) = refl
 rule_setting (abandoning at number v bytes id timer turn fire) = refl
 rule_setting (idling nothing) = refl
@@ -54,8 +54,8 @@ rule_clock : {w : World} {now draw : ℕ} {grown : Bool} {event : Event} {s : St
 rule_clock (refusing client bytes m code first denied free) = (refl, refl)
 rule_clock (lacking client bytes m first free) = (refl, refl)
 rule_clock (overloading client bytes m key first verdict lacks free) = (refl, refl)
-rule_clock (hitting client bytes m key entry first verdict found usable free) = (refl, refl)
-rule_clock (joining client bytes m key exchange send told first verdict none found room up) = (refl, refl)
+rule_clock (hitting client bytes m key entry first get verdict found usable free) = (refl, refl)
+rule_clock (joining client bytes m key exchange send told first get verdict none found room up) = (refl, refl)
 rule_clock (opening client bytes m key send told first verdict none short room up) = (refl, refl)
 rule_clock {w = w} {now = now} (repeating client bytes m known fits asked found) = repeated known.reply
   where
@@ -72,7 +72,7 @@ rule_clock (ignoring source bytes quiet none) = (refl, refl)
 rule_clock (forwarding at number x turn is early) = (refl, refl)
 rule_clock (resending at number x turn is early fire) = (refl, refl)
 rule_clock (giving_up at number x turn over) = (refl, refl)
-rule_clock (delivering at number exchange v a left due found waits answer told) = (refl, refl)
+rule_clock (delivering at number exchange v x a left due found waits there answer told) = (refl, refl)
 rule_clock (redelivering at number v bytes id timer turn fire) = (refl, refl)
 rule_clock (abandoning at number v bytes id timer turn fire) = (refl, refl)
 rule_clock (idling nothing) = (refl, refl)

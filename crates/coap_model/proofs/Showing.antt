@@ -1,6 +1,6 @@
 -- What clients are shown of responses: it is a message, and no longer than the widest form.
-use Rattle.std.proofs.Common.{◌≡◌, ◌≢◌, ℕ, ◌+◌, ◌*◌, ◌^◌, ◌<◌, ◌≤◌, Bool, true, false, cond, eqb, leb, ltb, List, [], ◌∷◌, ◌++◌, length, filter, find, Option, Some, None, refl, sym, ap, subst, ◌∙◌, arith}
-use Rattle.std.specs.Prelude.{◌&&◌, ◌==◌, not, is_some, option_map, IfSome}
+use Rattle.std.proofs.Common.{◌≡◌, ◌≢◌, ℕ, zero, suc, ◌+◌, ◌*◌, ◌^◌, ◌<◌, ◌≤◌, Bool, true, false, cond, eqb, leb, ltb, List, [], ◌∷◌, ◌++◌, length, filter, find, Option, Some, None, refl, sym, ap, subst, ◌∙◌, arith}
+use Rattle.std.specs.Prelude.{◌&&◌, ◌||◌, ◌==◌, not, is_some, option_map, IfSome}
 use Rattle.std.specs.List.{AllByRecursion, list_any}
 use Rattle.std.specs.Option.{option_map_or}
 use Rattle.std.proofs.Math.Nat.{pow-le-pow_right}
@@ -8,13 +8,13 @@ use Rattle.std.proofs.lemmas.Bool.{eqb-true, eqb-false, eq-eqb, ne_eqb, leb-true
 use Rattle.std.proofs.lemmas.List.Sums.{sum_by_push}
 use Rattle.coap_message.specs.declared.code.Code.{Code}
 use Rattle.coap_message.specs.declared.kind.Kind.TheVariants.{Non}
-use Rattle.coap_message.specs.declared.code.TheConstants.Code.{VALID}
+use Rattle.coap_message.specs.declared.code.TheConstants.Code.{CONTENT, BAD_GATEWAY, GATEWAY_TIMEOUT}
 use Rattle.coap_message.specs.declared.options.Opt.{Opt}
 use Rattle.coap_message.specs.Codes.{is_code, is_response}
 use Rattle.coap_message.specs.Message.{Message}
 use Rattle.coap_message.specs.Options.{AreOptions, option_of, last_number}
-use Rattle.coap_message.specs.Spelling.{IsMessage, SpellsOption, SpellsOptions, Spells, header, spelling, more_length, options_length}
-use Rattle.coap_message.specs.Uint.{IsBytes, uint_of, uint_spelling}
+use Rattle.coap_message.specs.Spelling.{IsMessage, SpellsOption, SpellsOptions, Spells, header, spelling, more_length, options_length, payload_length}
+use Rattle.coap_message.specs.Uint.{IsBytes, uint_of, without_zeros, uint_spelling}
 use Rattle.coap_message.proofs.Extensions.{IsBytes-left, IsBytes-right}
 use Rattle.coap_message.proofs.Spellings.{spelling-length}
 use Rattle.coap_message.proofs.Uints.{uint_bound, uint_spelling-four}
@@ -24,14 +24,18 @@ use Rattle.coap_option.specs.Recognition.{is_recognised}
 use Rattle.coap_option.specs.Screening.{is_refused, first_refused}
 use Rattle.coap_option.specs.Selection.{is_of, max_age_of}
 use Rattle.coap_option.proofs.MaxAges.{length-first_max_age}
-use Rattle.coap_cache.specs.Renewing.{tag_of, of_number, below, above, with_max_age}
+use Rattle.coap_cache.specs.Renewing.{tag_of, of_number, has_number, below, above, updated, with_max_age, safe_options, news_of, is_validated, renewed}
 use Rattle.coap_cache.specs.Showing as showing
 use Rattle.coap_cache.specs.Showing.{is_content, tells_age, among, held_tag, valid, aged, told}
+use Rattle.coap_cache.proofs.Updates.{of_number-updated, AreOptions-updated}
+use Rattle.coap_option.specs.Classes.{is_unsafe}
+use Rattle.std.specs.Int.{w64, to_be_bytes}
+use Rattle.coap_message.specs.declared.kind.Kind.{Kind}
 use Rattle.coap_cache.proofs.Picked.{AreOptions-above, AreOptions-filter, above-all, below-none, last-below}
 use Rattle.coap_cache.proofs.Tags.{first_tag, tag_of-first, tag-short}
 use Rattle.coap_target.specs.Equality.{same_bytes}
 use Rattle.coap_cache.specs.declared.answer.Answer.{Answer}
-use Rattle.coap_forward.specs.Answers.{is_screened, without_observe, greatest_max_age, widest, fits, is_passed_on, bad_gateway, answer_of, left_of, left_told, shown}
+use Rattle.coap_forward.specs.Answers.{is_screened, without_observe, greatest_max_age, widest, fits, validates, taken_of, is_passed_on, bad_gateway, gateway_timeout, own_answer, origin_answer, answer_if_fits, validated, answer_taken, answer_of, left_of, left_told, shown_as}
 use Rattle.coap_forward.specs.Messages.{is_rst}
 use Rattle.coap_model.specs.History.{Matches, in_acknowledgement, separate, by_reset}
 use Rattle.coap_model.proofs.OptionLengths.{lower-length}
@@ -136,28 +140,6 @@ matches-response (in_acknowledgement kind code same_token same_id) not = code
 matches-response (separate kind code same_token) not = code
 matches-response (by_reset kind code same_id) not = absurd (let f = sym (ap is_rst kind) ∙ not in cc)
 
--- what a client is shown of an answer to a response, or to a Reset
-pub shown-is : (most now got : ℕ) (m : Message) (id : ℕ) (token : List ℕ) (tags : List (List ℕ)) → IsMessage m → (is_rst m.kind ≡ false → is_response m.code ≡ true) → length token ≤ 8 → IsMessage (shown now (answer_of most got m) id token tags)
-unfolding answer_of
-shown-is most now got m id token tags is response short = answered (is_rst m.kind) refl (is_passed_on most m)
-  where
-    of : (a : Answer) → IsSound a.message → IsMessage (shown now a id token tags)
-    of a sound =
-        let s = case-sound a.message sound (shown-as a.message (left_told now a) tags) in
-        record {
-          token = short;
-          options = s.options;
-          bare = record { token = λ e. absurd (s.code e); options = λ e. absurd (s.code e); payload = λ e. absurd (s.code e) };
-        }
-
-    own : IsMessage (shown now (record { message = bad_gateway; got = got; own = true }) id token tags)
-    own = of (record { message = bad_gateway; got = got; own = true }) (record { code = λ e. absurd (omega arith); options = tt })
-
-    answered : (r : Bool) → is_rst m.kind ≡ r → (b : Bool) → IsMessage (shown now (cond (not r && b) (record { message = without_observe m; got = got; own = false }) (record { message = bad_gateway; got = got; own = true })) id token tags)
-    answered false no_reset true = of (record { message = without_observe m; got = got; own = false }) (record { code = response-code m.code (response no_reset); options = AreOptions-filter (λ o. not (o.number == 6)) 0 m.options is.options })
-    answered false no_reset false = own
-    answered true reset b = own
-
 -- ---- one Max-Age at most, of four bytes
 
 -- no Max-Age, or one of at most four bytes
@@ -208,8 +190,8 @@ no-second passed (o ∷ os) some none =
 
 -- so a response that isn't refused has at most one
 one-behind : (passed os : List Opt) → count_of 14 passed ≡ 0 → NoneRefused passed os → HasOneAge os
-one-behind passed [] zero none = no_age refl
-one-behind passed (o ∷ os) zero none =
+one-behind passed [] first none = no_age refl
+one-behind passed (o ∷ os) first none =
     let parts = none-refused (place passed o) (places_behind (passed ++ o ∷ []) os) none in
     go (eqb o.number 14) refl (sum_by_push (λ (p : Opt). cond (p.number == 14) 1 0) passed o) (λ still. one-behind (passed ++ o ∷ []) os still parts.1) (λ some. no-second (passed ++ o ∷ []) os some parts.1) parts.0
   where
@@ -371,34 +353,211 @@ age-small m all = go (find (is_of Response 14) (places m.options)) refl (found-b
         let powers : 256 ^ length p.option.value ≤ 256 ^ 4 = pow-le-pow_right {n = 256} (omega arith) {i = length p.option.value} {j = 4} short in
         omega (arith, bound, powers)
 
+-- ---- responses that clients can be shown
+
+-- A response that clients can be shown, in datagrams of at most so many bytes: its widest form fits, it takes no more itself, and its options are in order and of bytes.
+pub record IsSendable (most : ℕ) (m : Message) : Type 0 where
+  pub code : m.code.0 ≢ 0
+  pub options : AreOptions 0 m.options
+  pub bytes : AllByRecursion (λ o. IsBytes o.value) m.options
+  pub fits : length (spelling (widest m)) ≤ most
+  pub plain : options_length 0 m.options ≤ options_length 0 (widest m).options
+
+-- a response of the proxy's own: a code and no more
+abbrev bare : Code → Message
+bare code = record { kind = Non; code = code; id = 0; token = []; options = []; payload = [] }
+
+-- a response that an answer has: one that was received, or one of the proxy's own
+pub data IsHoldable (most : ℕ) : Message → Type 0 where
+  received : (m : Message) → IsSendable most m → IsHoldable most m
+  of_proxy : (code : Code) → code.0 ≢ 0 → is_code code CONTENT ≡ false → IsHoldable most (bare code)
+
+-- the proxy's own are such
+pub bad_gateway-is : (most : ℕ) → IsHoldable most bad_gateway
+bad_gateway-is most = of_proxy BAD_GATEWAY (λ e. absurd (omega arith)) refl
+
+pub timeout-is : (most : ℕ) → IsHoldable most gateway_timeout
+timeout-is most = of_proxy GATEWAY_TIMEOUT (λ e. absurd (omega arith)) refl
+
+-- what is taken of a response that is passed on can be shown
+taken-sendable : (most : ℕ) (to_get : Bool) (bytes : List ℕ) (m : Message) → IsBytes bytes → Spells bytes m → is_response m.code ≡ true → is_passed_on most to_get m ≡ true → IsSendable most (taken_of to_get m)
+taken-sendable most to_get bytes m fit s response e = go (validates to_get m) (leb-true _ _ parts.1)
+  where
+    parts : (is_screened m ≡ true) × (fits most (taken_of to_get m) ≡ true)
+    parts = and_parts (is_screened m) (fits most (taken_of to_get m)) e
+
+    all : AllByRecursion (λ o. IsBytes o.value) (without_observe m).options
+    all = kept-all (λ o. not (o.number == 6)) m.options (values-bytes 0 s.options m.options s.options_are (options-bytes bytes m s fit))
+
+    are : AreOptions 0 (without_observe m).options
+    are = AreOptions-filter (λ o. not (o.number == 6)) 0 m.options s.message.options
+
+    plain : options_length 0 (without_observe m).options ≤ options_length 0 (widest (without_observe m)).options
+    plain = within-widest m s.message.options parts.0
+
+    go : (b : Bool) → length (spelling (widest (cond b (record (without_observe m) { payload = [] }) (without_observe m)))) ≤ most → IsSendable most (cond b (record (without_observe m) { payload = [] }) (without_observe m))
+    go true le = record { code = response-code m.code response; options = are; bytes = all; fits = le; plain = plain }
+    go false le = record { code = response-code m.code response; options = are; bytes = all; fits = le; plain = plain }
+
+-- ---- renewal
+
+-- what holds of options after others
+All-joined : (P : Opt → Type 0) (xs ys : List Opt) → AllByRecursion P xs → AllByRecursion P ys → AllByRecursion P (xs ++ ys)
+All-joined P [] ys xs_are ys_are = ys_are
+All-joined P (x ∷ xs) ys xs_are ys_are = (xs_are.0, All-joined P xs ys xs_are.1 ys_are)
+
+-- so it does of newer options among older ones
+updated-bytes : (newer older : List Opt) → AllByRecursion (λ o. IsBytes o.value) newer → AllByRecursion (λ o. IsBytes o.value) older → AllByRecursion (λ o. IsBytes o.value) (updated newer older)
+updated-bytes [] older newer_are older_are = older_are
+updated-bytes (o ∷ newer) older newer_are older_are =
+    All-joined (λ o. IsBytes o.value) (below o.number older) (o ∷ updated newer (above o.number older)) (kept-all (λ p. ltb p.number o.number) older older_are)
+    (newer_are.0, updated-bytes newer (above o.number older) newer_are.1 (kept-all (λ p. ltb o.number p.number) older older_are))
+
+-- where one is of a kind, the kind is there
+has-kind : (n : ℕ) (o : Opt) (os : List Opt) → of_number n os ≡ o ∷ [] → has_number n os ≡ true
+has-kind n o [] e = absurd cc
+has-kind n o (p ∷ ps) e = go (p.number == n) (has-kind n o ps) e
+  where
+    go : (b : Bool) → (of_number n ps ≡ o ∷ [] → has_number n ps ≡ true) → cond b (p ∷ of_number n ps) (of_number n ps) ≡ o ∷ [] → (b || has_number n ps) ≡ true
+    go true rest f = refl
+    go false rest f = rest f
+
+-- what a 2.03 renews has one Max-Age
+news-age : (v : Message) → of_number 14 (news_of v) ≡ option_of 14 (uint_spelling (max_age_of v)) ∷ []
+news-age v = of_number-updated 14 0 (option_of 14 (uint_spelling (max_age_of v)) ∷ []) (safe_options v.options) (omega arith, omega arith, omega (arith, length-uint_spelling (max_age_of v)), tt)
+
+-- and its options are in order
+news-options : (v : Message) → AreOptions 0 v.options → AreOptions 0 (news_of v)
+news-options v are = with_max_age-options (max_age_of v) (safe_options v.options) (AreOptions-filter (λ o. not (is_unsafe o.number)) 0 v.options are)
+
+-- no leading zeros are bytes too
+zeros-bytes : (bs : List ℕ) → IsBytes bs → IsBytes (without_zeros bs)
+zeros-bytes [] fit = fit
+zeros-bytes (zero ∷ bs) fit = zeros-bytes bs (λ i. fit (suc i))
+zeros-bytes (suc b ∷ bs) fit = fit
+
+-- eight bytes are bytes
+eight-bytes : (n : ℕ) → IsBytes (to_be_bytes w64 n)
+eight-bytes n zero = omega arith
+eight-bytes n (suc zero) = omega arith
+eight-bytes n (suc (suc zero)) = omega arith
+eight-bytes n (suc (suc (suc zero))) = omega arith
+eight-bytes n (suc (suc (suc (suc zero)))) = omega arith
+eight-bytes n (suc (suc (suc (suc (suc zero))))) = omega arith
+eight-bytes n (suc (suc (suc (suc (suc (suc zero)))))) = omega arith
+eight-bytes n (suc (suc (suc (suc (suc (suc (suc zero))))))) = omega arith
+eight-bytes n (suc (suc (suc (suc (suc (suc (suc (suc i)))))))) = omega arith
+
+-- so a number is spelled in bytes
+uint_spelling-bytes : (n : ℕ) → IsBytes (uint_spelling n)
+unfolding uint_spelling
+uint_spelling-bytes n = zeros-bytes (to_be_bytes w64 n) (eight-bytes n)
+
+-- a response that is renewed can be shown, if it fits
+renewed-sendable : (most : ℕ) (r v : Message) → IsSendable most r → IsSendable most v → fits most (renewed r v) ≡ true → IsSendable most (renewed r v)
+renewed-sendable most r v is by e =
+    let news = news_of v in
+    let in_order = AreOptions-updated 0 news r.options (news-options v by.options) is.options in
+    let age = news-age v in
+    let there = has-kind 14 _ news age in
+    let one : of_number 14 (updated news r.options) ≡ option_of 14 (uint_spelling (max_age_of v)) ∷ [] = of_number-updated 14 0 news r.options (news-options v by.options) ∙ ap (λ (b : Bool). cond b (of_number 14 news) (of_number 14 r.options)) there ∙ age in
+    let small = age-small v by.bytes in
+    record {
+      code = is.code;
+      options = in_order;
+      bytes = updated-bytes news r.options (updated-bytes (option_of 14 (uint_spelling (max_age_of v)) ∷ []) (safe_options v.options) (uint_spelling-bytes (max_age_of v), tt) (kept-all (λ o. not (is_unsafe o.number)) v.options by.bytes)) is.bytes;
+      fits = leb-true _ _ e;
+      plain = no-longer (uint_spelling greatest_max_age) 0 (updated news r.options) four-bytes (omega arith) in_order (one_age _ one (uint_spelling-four (max_age_of v) small));
+    }
+
+-- ---- answers
+
+-- an answer has such a response, if what it may renew is one
+pub answer-holdable : (most got : ℕ) (to_get : Bool) (copy : Option Message) (bytes : List ℕ) (m : Message) → IsBytes bytes → Spells bytes m → (is_rst m.kind ≡ false → is_response m.code ≡ true) → IfSome copy (IsHoldable most) → IsHoldable most (answer_of most to_get copy got m).message
+unfolding answer_of
+answer-holdable most got to_get copy bytes m fit s response old = go (is_rst m.kind) refl (is_passed_on most to_get m) refl
+  where
+    fitting : (r : Message) (b : Bool) → fits most r ≡ b → (fits most r ≡ true → IsSendable most r) → IsHoldable most (cond b (origin_answer got r) (own_answer got bad_gateway)).message
+    fitting r true e is = received r (is e)
+    fitting r false e is = bad_gateway-is most
+
+    renews : (r v : Message) → IsHoldable most r → IsSendable most v → IsHoldable most (validated most got (Some r) v).message
+    renews r v (received _ sendable) is = both (is_validated r v)
+      where
+        both : (b : Bool) → IsHoldable most (cond b (answer_if_fits most got (renewed r v)) (own_answer got bad_gateway)).message
+        both true = fitting (renewed r v) (fits most (renewed r v)) refl (renewed-sendable most r v sendable is)
+        both false = bad_gateway-is most
+    renews r v (of_proxy code some other) is = rw other (bad_gateway-is most)
+
+    valid : (o : Option Message) (v : Message) → IfSome o (IsHoldable most) → IsSendable most v → IsHoldable most (validated most got o v).message
+    valid None v holdable is = bad_gateway-is most
+    valid (Some r) v holdable is = renews r v holdable is
+
+    taken : (v : Bool) (t : Message) → IsSendable most t → IsHoldable most (cond v (validated most got copy t) (origin_answer got t)).message
+    taken true t is = valid copy t old is
+    taken false t is = received t is
+
+    go : (r : Bool) → is_rst m.kind ≡ r → (b : Bool) → is_passed_on most to_get m ≡ b → IsHoldable most (cond (not r && b) (answer_taken most to_get copy got m) (own_answer got bad_gateway)).message
+    go false no_reset true passed = taken (validates to_get m) (taken_of to_get m) (taken-sendable most to_get bytes m fit s (response no_reset) passed)
+    go false no_reset false passed = bad_gateway-is most
+    go true reset b passed = bad_gateway-is most
+
+-- it is sound
+holdable-sound : (most : ℕ) (m : Message) → IsHoldable most m → IsSound m
+holdable-sound most _ (received m is) = record { code = is.code; options = is.options }
+holdable-sound most _ (of_proxy code some other) = record { code = some; options = tt }
+
+-- a payload is no longer than with its marker
+payload-least : (payload : List ℕ) → length payload ≤ payload_length payload
+payload-least [] = omega arith
+payload-least (p ∷ ps) = omega arith
+
+-- and no longer than a datagram: its options as they are spelled, and its payload
+pub holdable-short : (most : ℕ) (m : Message) → IsHoldable most m → options_length 0 m.options + length m.payload ≤ most
+holdable-short most _ (received m is) = let fit = is.fits in let plain = is.plain in omega (arith, fit, plain, spelling-length (widest m), payload-least m.payload)
+holdable-short most _ (of_proxy code some other) = omega arith
+
+-- what is shown of it is a message
+pub shown-is : (most : ℕ) (kind : Kind) (to_get : Bool) (now : ℕ) (a : Answer) (id : ℕ) (token : List ℕ) (tags : List (List ℕ)) → IsHoldable most a.message → length token ≤ 8 → IsMessage (shown_as kind to_get now a id token tags)
+shown-is most kind to_get now a id token tags holdable short =
+    let s = case-sound a.message (holdable-sound most a.message holdable) (shown-as a.message (left_told to_get now a) tags) in
+    record { token = short; options = s.options; bare = record { token = λ e. absurd (s.code e); options = λ e. absurd (s.code e); payload = λ e. absurd (s.code e) } }
+
 -- ---- what is shown fits a datagram
 
--- each case takes no more than the widest form
-case-short : {left : Option ℕ} {n : Message} (most id : ℕ) (m : Message) (token : List ℕ) → 128 ≤ most → length token ≤ 8 → length (spelling (widest m)) ≤ most → options_length 0 m.options ≤ options_length 0 (widest m).options → IfSome left (λ l. l < 2 ^ 32) → IsShownAs m left n → length (spelling (showing.addressed Non id token n)) ≤ most
-case-short most id m token wide short fit plain small (as_stored left) = omega (arith, spelling-length (showing.addressed Non id token m), spelling-length (widest m), short, fit, plain)
-case-short most id m token wide short fit plain small (as_valid left tag eight) =
-    omega (arith, spelling-length (showing.addressed Non id token (valid m left tag)), wide, short, eight, uint_spelling-four left small, more-none (length tag) (omega (arith, eight)), more-none (length (uint_spelling left)) (omega (arith, uint_spelling-four left small)))
-case-short most id m token wide short fit plain small (as_aged left) =
-    omega (arith, spelling-length (showing.addressed Non id token (aged m left)), spelling-length (widest m), short, fit, shorter-value (uint_spelling left) (uint_spelling greatest_max_age) m.options (uint_spelling-four left small) four-bytes)
+-- each case of a response that was received takes no more than the widest form
+case-short : {left : Option ℕ} {n : Message} (most id : ℕ) (kind : Kind) (m : Message) (token : List ℕ) → 128 ≤ most → length token ≤ 8 → length (spelling (widest m)) ≤ most → options_length 0 m.options ≤ options_length 0 (widest m).options → IfSome left (λ l. l < 2 ^ 32) → IsShownAs m left n → length (spelling (showing.addressed kind id token n)) ≤ most
+case-short most id kind m token wide short fit plain small (as_stored left) = omega (arith, spelling-length (showing.addressed kind id token m), spelling-length (widest m), short, fit, plain)
+case-short most id kind m token wide short fit plain small (as_valid left tag eight) =
+    omega (arith, spelling-length (showing.addressed kind id token (valid m left tag)), wide, short, eight, uint_spelling-four left small, more-none (length tag) (omega (arith, eight)), more-none (length (uint_spelling left)) (omega (arith, uint_spelling-four left small)))
+case-short most id kind m token wide short fit plain small (as_aged left) =
+    omega (arith, spelling-length (showing.addressed kind id token (aged m left)), spelling-length (widest m), short, fit, shorter-value (uint_spelling left) (uint_spelling greatest_max_age) m.options (uint_spelling-four left small) four-bytes)
+
+-- and each of one of the proxy's own is short
+bare-short : {left : Option ℕ} {n : Message} (most id : ℕ) (kind : Kind) (code : Code) (token : List ℕ) → 128 ≤ most → length token ≤ 8 → IfSome left (λ l. l < 2 ^ 32) → IsShownAs (bare code) left n → length (spelling (showing.addressed kind id token n)) ≤ most
+bare-short most id kind code token wide short small (as_stored left) = omega (arith, spelling-length (showing.addressed kind id token (bare code)), wide, short)
+bare-short most id kind code token wide short small (as_valid left tag eight) =
+    omega (arith, spelling-length (showing.addressed kind id token (valid (bare code) left tag)), wide, short, eight, uint_spelling-four left small, more-none (length tag) (omega (arith, eight)), more-none (length (uint_spelling left)) (omega (arith, uint_spelling-four left small)))
+bare-short most id kind code token wide short small (as_aged left) =
+    omega (arith, spelling-length (showing.addressed kind id token (aged (bare code) left)), wide, short, uint_spelling-four left small, more-none (length (uint_spelling left)) (omega (arith, uint_spelling-four left small)))
+
+-- what is left of it fits four bytes
+age-held : (most : ℕ) (m : Message) → IsHoldable most m → max_age_of m < 2 ^ 32
+age-held most _ (received m is) = age-small m is.bytes
+age-held most _ (of_proxy code some other) = omega arith
+
+left-small : (most now : ℕ) (to_get : Bool) (a : Answer) → IsHoldable most a.message → IfSome (left_told to_get now a) (λ l. l < 2 ^ 32)
+left-small most now to_get a holdable = go (to_get && not a.own)
+  where
+    go : (b : Bool) → IfSome (cond b (Some (left_of now a)) None) (λ l. l < 2 ^ 32)
+    go true = let age = age-held most a.message holdable in omega (arith, age)
+    go false = tt
 
 -- what is shown of an answer fits a datagram, and a longer one
-pub answer-fits : (most longest now got id : ℕ) (bytes : List ℕ) (m : Message) (token : List ℕ) (tags : List (List ℕ)) → 128 ≤ longest → most ≤ longest → IsBytes bytes → Spells bytes m → length token ≤ 8 → length (spelling (shown now (answer_of most got m) id token tags)) ≤ longest
-unfolding answer_of
-answer-fits most longest now got id bytes m token tags wide no_longer fit s short = go (is_rst m.kind) (is_passed_on most m) refl
+pub shown-fits : (most longest : ℕ) (kind : Kind) (to_get : Bool) (now : ℕ) (a : Answer) (id : ℕ) (token : List ℕ) (tags : List (List ℕ)) → 128 ≤ longest → most ≤ longest → IsHoldable most a.message → length token ≤ 8 → length (spelling (shown_as kind to_get now a id token tags)) ≤ longest
+shown-fits most longest kind to_get now a id token tags wide no_shorter holdable short =
+    go a.message (left_told to_get now a) holdable (left-small most now to_get a holdable) (shown-as a.message (left_told to_get now a) tags)
   where
-    passed : is_passed_on most m ≡ true → length (spelling (shown now (record { message = without_observe m; got = got; own = false }) id token tags)) ≤ longest
-    passed e =
-        let a : Answer = record { message = without_observe m; got = got; own = false } in
-        let parts = and_parts (is_screened m) (not (is_code m.code VALID) && fits most (without_observe m)) e in
-        let more = and_parts (not (is_code m.code VALID)) (fits most (without_observe m)) parts.1 in
-        let all = kept-all (λ o. not (o.number == 6)) m.options (values-bytes 0 s.options m.options s.options_are (options-bytes bytes m s fit)) in
-        let small : left_of now a < 2 ^ 32 = let age = age-small (without_observe m) all in omega (arith, age) in
-        case-short longest id (without_observe m) token wide short (let fits_most = leb-true _ _ more.1 in omega (arith, no_longer, fits_most)) (within-widest m s.message.options parts.0) small (shown-as (without_observe m) (left_told now a) tags)
-
-    own : length (spelling (shown now (record { message = bad_gateway; got = got; own = true }) id token tags)) ≤ longest
-    own = omega (arith, wide, short, spelling-length (shown now (record { message = bad_gateway; got = got; own = true }) id token tags))
-
-    go : (r b : Bool) → is_passed_on most m ≡ b → length (spelling (shown now (cond {A = Answer} (not r && b) (record { message = without_observe m; got = got; own = false }) (record { message = bad_gateway; got = got; own = true })) id token tags)) ≤ longest
-    go false true e = passed e
-    go false false e = own
-    go true b e = own
+    go : {n : Message} (m : Message) (left : Option ℕ) → IsHoldable most m → IfSome left (λ l. l < 2 ^ 32) → IsShownAs m left n → length (spelling (showing.addressed kind id token n)) ≤ longest
+    go _ left (received m is) small shown = case-short longest id kind m token wide short (let fit = is.fits in omega (arith, no_shorter, fit)) is.plain small shown
+    go _ left (of_proxy code some other) small shown = bare-short longest id kind code token wide short small shown

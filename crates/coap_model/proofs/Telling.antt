@@ -14,7 +14,7 @@ use Rattle.coap_model.specs.declared.report.Outcome.{Outcome}
 use Rattle.coap_model.specs.declared.report.Outcome.TheVariants.{Answered}
 use Rattle.coap_model.specs.declared.report.Storing.{Storing}
 use Rattle.coap_model.specs.declared.report.Storing.TheVariants.{Kept, TooLarge, NoMemory, NotStored}
-use Rattle.coap_forward.specs.Answers.{answer_of, is_storable}
+use Rattle.coap_forward.specs.Changes.{changed_by}
 use Rattle.coap_model.specs.Events.{Event, arrival, tick}
 use Rattle.coap_model.specs.History.{grown_of}
 use Rattle.coap_message.specs.declared.kind.Kind.{Kind}
@@ -22,7 +22,7 @@ use Rattle.coap_message.specs.declared.kind.Kind.TheVariants.{Con, Non, Ack, Rst
 use Rattle.coap_dedup.specs.declared.record.Record.{Record}
 use Rattle.coap_exchange.specs.Exchanges.{is_sent, was_sent_as}
 use Rattle.coap_forward.specs.Messages.{brings_requests, brings_responses, is_con, is_ack, is_bare, acknowledgement}
-use Rattle.coap_model.specs.Answers.{Arrived, entry_made, answers_so, keeps_if, answers}
+use Rattle.coap_model.specs.Answers.{Arrived, with_changed, entry_made, answers_so, keeps_if, may_store, answer_for, answers}
 use Rattle.coap_model.specs.Empties.{on_client, acknowledges, settles, on_exchange, on_sent, on_empty}
 use Rattle.coap_model.specs.Requests.{on_request}
 use Rattle.coap_model.specs.Responses.{awaiting, on_awaited, on_separate, on_unknown, on_response_in, on_response}
@@ -59,10 +59,11 @@ kept-told w now a (Some entry) grown = refl
 
 answers-told : (w : World) (now : ℕ) (source : Endpoint) (m : Message) (x : Numbered Exchange) → IsTold (λ grown. answers w now grown source m x)
 answers-told w now source m x =
-    let a : Arrived = record { source = source; message = m; exchange = x; answer = answer_of w.setting.limits.datagram now m } in
-    let small = nat_le (entry_size (entry_made w now x a.answer)) w.setting.limits.cache_bytes in
-    either (is_storable a.answer) (λ grown. if small then keeps_if w now grown a (of_key entry_key x.1.key w.store) else answers_so w now a TooLarge (others entry_key x.1.key w.store)) (λ grown. answers_so w now a NotStored w.store)
-    (either small (λ grown. keeps_if w now grown a (of_key entry_key x.1.key w.store)) (λ grown. answers_so w now a TooLarge (others entry_key x.1.key w.store)) (kept-told w now a (of_key entry_key x.1.key w.store)) (λ grown. refl))
+    let a : Arrived = record { source = source; message = m; exchange = x; answer = answer_for w now m x.1 } in
+    let changed = with_changed (changed_by x.1.key.target m) w in
+    let small = nat_le (entry_size (entry_made changed now x a.answer)) changed.setting.limits.cache_bytes in
+    either (may_store x.1 a.answer) (λ grown. if small then keeps_if changed now grown a (of_key entry_key x.1.key changed.store) else answers_so changed now a TooLarge (others entry_key x.1.key changed.store)) (λ grown. answers_so changed now a NotStored changed.store)
+    (either small (λ grown. keeps_if changed now grown a (of_key entry_key x.1.key changed.store)) (λ grown. answers_so changed now a TooLarge (others entry_key x.1.key changed.store)) (kept-told changed now a (of_key entry_key x.1.key changed.store)) (λ grown. refl))
     (λ grown. refl)
 
 -- ---- responses

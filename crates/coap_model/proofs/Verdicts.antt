@@ -1,16 +1,13 @@
 -- What becomes of a request: the codes of refusals, and what may be asked for.
 use Rattle.std.proofs.Common.{◌≡◌, ◌≢◌, ℕ, ◌+◌, ◌≤◌, Bool, true, false, cond, List, length, Option, Some, None, Result, Ok, Err, refl, sym, ◌∙◌, ap, subst, arith}
-use Rattle.std.proofs.lemmas.Bool.{leb-true, eqb-true}
+use Rattle.std.proofs.lemmas.Bool.{leb-true}
 use Rattle.coap_message.specs.declared.code.Code.{Code}
-use Rattle.coap_message.specs.declared.code.TheConstants.Code.{GET, METHOD_NOT_ALLOWED, REQUEST_ENTITY_TOO_LARGE}
-use Rattle.coap_message.specs.declared.options.Opt.{Opt}
-use Rattle.coap_message.specs.Codes.{is_code}
+use Rattle.coap_message.specs.declared.code.TheConstants.Code.{METHOD_NOT_ALLOWED, REQUEST_ENTITY_TOO_LARGE}
 use Rattle.coap_message.specs.Message.{Message}
 use Rattle.coap_message.specs.Spelling.{spelling}
 use Rattle.coap_message.proofs.Spellings.{spelling-length}
 use Rattle.coap_option.specs.declared.side.Side.TheVariants.{Request}
 use Rattle.coap_option.specs.Screening.{first_refused}
-use Rattle.coap_option.specs.Selection.{sent_on}
 use Rattle.coap_target.specs.declared.target.Target.{Target}
 use Rattle.coap_target.specs.Target.{IsTarget}
 use Rattle.coap_cache.specs.declared.key.CacheKey.{CacheKey}
@@ -20,30 +17,30 @@ use Rattle.coap_routes.specs.declared.routes.Routes.{Routes}
 use Rattle.coap_routes.specs.Request.{request_target}
 use Rattle.coap_routes.specs.Routes.{AreRoutes}
 use Rattle.coap_routes.proofs.Requests.{request_target-is}
-use Rattle.coap_forward.specs.Messages.{eight_zeros}
-use Rattle.coap_forward.specs.Forms.{forwarded}
+use Rattle.coap_forward.specs.Messages.{eight_zeros, is_method}
+use Rattle.coap_forward.specs.Forms.{forwarded, form_fits}
 use Rattle.coap_model.specs.Keys.{request_key}
-use Rattle.coap_model.specs.Verdicts.{Verdict, refused_with, may_ask, refusal_of, verdict_of_target, verdict_of_options, verdict_of, form_fits}
+use Rattle.coap_model.specs.Verdicts.{Verdict, refused_with, may_ask, refusal_of, verdict_of_target, verdict_of_options, verdict_of}
 use Rattle.coap_model.specs.Setting.{Setting}
 use Rattle.coap_model.specs.History.{Deed}
 use Rattle.coap_model.specs.Justified.{Deserves, by_verdict, by_length}
 
--- what may be asked for: a GET that passes the screening, with its target and the key of that
+-- what may be asked for: a request of a known method that passes the screening, with its target and the key of that
 pub record IsAskable (routes : Routes) (m : Message) (key : CacheKey) : Type 0 where
-  pub get : m.code ≡ GET
+  pub method : is_method m.code ≡ true
   pub screened : first_refused Request m.options ≡ None
   pub target_is : request_target routes m ≡ Ok key.target
   pub key_is : key ≡ request_key key.target m
   pub sound : IsTarget key.target
 
 -- a request that is sent on is as long as with eight zeros, but for its token
-pub form-length : (token : List ℕ) (t : Target) (others : List Opt) → length (spelling (forwarded token t others 0)) + 8 ≡ length (spelling (forwarded eight_zeros t others 0)) + length token
-form-length token t others = omega (arith, spelling-length (forwarded token t others 0), spelling-length (forwarded eight_zeros t others 0))
+pub form-length : (token : List ℕ) (t : Target) (tag : Option (List ℕ)) (m : Message) → length (spelling (forwarded token t tag m 0)) + 8 ≡ length (spelling (forwarded eight_zeros t tag m 0)) + length token
+form-length token t tag m = omega (arith, spelling-length (forwarded token t tag m 0), spelling-length (forwarded eight_zeros t tag m 0))
 
 -- what fits a datagram fits it with any token of eight bytes
-pub form-short : (most : ℕ) (t : Target) (m : Message) → form_fits most t m ≡ true → (token : List ℕ) → length token ≡ 8 → length (spelling (forwarded token t (sent_on m) 0)) ≤ most
+pub form-short : (most : ℕ) (t : Target) (tag : Option (List ℕ)) (m : Message) → form_fits most t tag m ≡ true → (token : List ℕ) → length token ≡ 8 → length (spelling (forwarded token t tag m 0)) ≤ most
 unfolding form_fits
-form-short most t m fits token eight = omega (arith, form-length token t (sent_on m), eight, leb-true _ _ fits)
+form-short most t tag m fits token eight = omega (arith, form-length token t tag m, eight, leb-true _ _ fits)
 
 -- codes of one number are one
 pub code-same : (a b : Code) → a.0 ≡ b.0 → a ≡ b
@@ -63,25 +60,22 @@ Right routes m (may_ask key) = IsAskable routes m key
 
 module _ (routes : Routes) (m : Message) (are : AreRoutes routes) where
   -- the verdict on a target is
-  target-right : m.code ≡ GET → first_refused Request m.options ≡ None → (r : Result Target TargetError) → request_target routes m ≡ r → Right routes m (verdict_of_target m r)
-  target-right get screened (Err e) is = refusal-coded e
-  target-right get screened (Ok t) is = record { get = get; screened = screened; target_is = is; key_is = refl; sound = request_target-is routes m t are screened is }
+  target-right : is_method m.code ≡ true → first_refused Request m.options ≡ None → (r : Result Target TargetError) → request_target routes m ≡ r → Right routes m (verdict_of_target m r)
+  target-right method screened (Err e) is = refusal-coded e
+  target-right method screened (Ok t) is = record { method = method; screened = screened; target_is = is; key_is = refl; sound = request_target-is routes m t are screened is }
 
   -- so is that on its options
-  options-right : m.code ≡ GET → (o : Option ℕ) → first_refused Request m.options ≡ o → Right routes m (verdict_of_options routes m o)
-  options-right get (Some number) refused = λ z. absurd (omega arith)
-  options-right get None screened = target-right get screened (request_target routes m) refl
+  options-right : is_method m.code ≡ true → (o : Option ℕ) → first_refused Request m.options ≡ o → Right routes m (verdict_of_options routes m o)
+  options-right method (Some number) refused = λ z. absurd (omega arith)
+  options-right method None screened = target-right method screened (request_target routes m) refl
 
   -- and that on a request
   verdict-right : Right routes m (verdict_of routes m)
   unfolding verdict_of
-  verdict-right = go (is_code m.code GET) refl
+  verdict-right = go (is_method m.code) refl
     where
-      of : is_code m.code GET ≡ true → m.code ≡ GET
-      of e = code-same m.code GET (eqb-true m.code.0 1 e)
-
-      go : (b : Bool) → is_code m.code GET ≡ b → Right routes m (cond b (verdict_of_options routes m (first_refused Request m.options)) (refused_with METHOD_NOT_ALLOWED))
-      go true e = options-right (of e) (first_refused Request m.options) refl
+      go : (b : Bool) → is_method m.code ≡ b → Right routes m (cond b (verdict_of_options routes m (first_refused Request m.options)) (refused_with METHOD_NOT_ALLOWED))
+      go true e = options-right e (first_refused Request m.options) refl
       go false e = λ z. absurd (omega arith)
 
   -- what may be asked for is askable

@@ -1,19 +1,41 @@
--- What becomes of an answer: whether it is stored, and that the exchange has it (RFC 7252, 5.6).
-use Rattle.std.specs.Prelude.{ℕ, Bool, false, nat_le, if◌then◌else◌, List, Option, Some, None}
+-- What becomes of an answer: what it changes, whether it is stored, and that the exchange has it
+-- (RFC 7252, 5.6 and 5.9.1).
+use Rattle.std.specs.Prelude.{ℕ, ◌&&◌, Bool, false, not, nat_le, if◌then◌else◌, List, [], ◌∷◌, map, Option, Some, None, option_map}
 use Rattle.coap_message.specs.Message.{Message}
 use Rattle.coap_target.specs.declared.endpoint.Endpoint.{Endpoint}
-use Rattle.coap_cache.specs.Entries.{Entry, entry_key, entry_size}
+use Rattle.coap_target.specs.declared.target.Target.{Target}
+use Rattle.coap_cache.specs.Entries.{Entry, entry_key, entry_size, marked}
 use Rattle.coap_cache.specs.Lists.{of_key, others, put}
 use Rattle.coap_cache.specs.declared.answer.Answer.{Answer}
 use Rattle.coap_exchange.specs.declared.exchange.Exchange.{Exchange}
 use Rattle.coap_exchange.specs.declared.exchange.Sending.{Sending}
-use Rattle.coap_exchange.specs.Exchanges.{answered}
-use Rattle.coap_exchange.specs.Table.{Numbered, changed_at}
+use Rattle.coap_exchange.specs.Exchanges.{answered, tainted_by}
+use Rattle.coap_exchange.specs.Table.{Numbered, all_changed, changed_at}
 use Rattle.coap_model.specs.declared.report.Outcome.TheVariants.{Answered}
 use Rattle.coap_model.specs.declared.report.Storing.{Storing}
 use Rattle.coap_model.specs.declared.report.Storing.TheVariants.{Kept, TooLarge, NoMemory, NotStored}
 use Rattle.coap_forward.specs.Answers.{answer_of, is_storable}
+use Rattle.coap_forward.specs.Changes.{changed_by}
 use Rattle.coap_model.specs.World.{World, Step, later, takes_up}
+
+-- ---- changes
+
+-- the entries of these targets are marked
+abbrev pub marked_all : List Target → List Entry → List Entry
+marked_all [] store = store
+marked_all (t ∷ changed) store = marked_all changed (map (marked t) store)
+
+-- what an exchange brings whose request was sent before its target was changed is out of date
+abbrev pub tainted_all : List Target → List (Numbered Exchange) → List (Numbered Exchange)
+tainted_all [] xs = xs
+tainted_all (t ∷ changed) xs = tainted_all changed (all_changed (tainted_by t) xs)
+
+-- these targets were changed
+abbrev pub with_changed : List Target → World → World
+with_changed changed w = record w {
+  exchanges = tainted_all changed w.exchanges;
+  store = marked_all changed w.store;
+}
 
 -- ---- what is stored
 
@@ -71,21 +93,30 @@ stores w now grown a =
     then keeps_if w now grown a (of_key entry_key a.exchange.1.key w.store)
     else answers_so w now a TooLarge (others entry_key a.exchange.1.key w.store)
 
+-- the answer to a GET whose target wasn't changed meanwhile
+abbrev pub may_store : Exchange → Answer → Bool
+may_store x a = x.is_get && (not x.tainted && is_storable a)
+
 abbrev pub answers_with : World → ℕ → Bool → Arrived → Step
 answers_with w now grown a =
-    if is_storable a.answer
+    if may_store a.exchange.1 a.answer
     then stores w now grown a
     else answers_so w now a NotStored w.store
 
 -- ---- the answer
 
--- The exchange has its answer, which a response gives, or a Reset. `grown` says whether there is
--- memory for one entry more.
+-- what the message gives for the exchange
+abbrev pub answer_for : World → ℕ → Message → Exchange → Answer
+answer_for w now m x =
+    answer_of w.setting.limits.datagram x.is_get (option_map (λ s. s.response) x.copy) now m
+
+-- The exchange has its answer, which a response gives, or a Reset: first what that changes is marked
+-- and tainted. `grown` says whether there is memory for one entry more.
 abbrev pub answers : World → ℕ → Bool → Endpoint → Message → Numbered Exchange → Step
 answers w now grown source m x =
-    answers_with w now grown (record {
+    answers_with (with_changed (changed_by x.1.key.target m) w) now grown (record {
       source = source;
       message = m;
       exchange = x;
-      answer = answer_of w.setting.limits.datagram now m;
+      answer = answer_for w now m x.1;
     })

@@ -1,7 +1,7 @@
 -- Words about the cache of a history, computed: what may be kept of a response, what is kept of a
 -- small cache, and histories with their caches. The bytes are those of RFC 7252 (3, 3.1, 5.10),
 -- written out.
-use Rattle.std.specs.Prelude.{ℕ, Bool, false, List, [], ◌∷◌, codes, Option, Some, None, option_map}
+use Rattle.std.specs.Prelude.{ℕ, Bool, true, false, List, [], ◌∷◌, codes, Option, Some, None, option_map}
 use Rattle.std.specs.Result.{result_ok}
 use Rattle.coap_message.specs.declared.kind.Kind.TheVariants.{Ack}
 use Rattle.coap_message.specs.declared.code.TheConstants.Code.{CONTENT}
@@ -18,10 +18,10 @@ use Rattle.coap_model.specs.Events.{arrival}
 use Rattle.coap_forward.specs.Messages.{token_of}
 use Rattle.coap_forward.specs.Forms.{forwarded}
 use Rattle.coap_forward.specs.Answers.{answer_of}
-use Rattle.coap_model.specs.Examples.{origin, client, get_t, answer}
+use Rattle.coap_model.specs.Examples.{origin, client, get_t, answer, bare_get}
 use Rattle.coap_model.specs.LimitExamples as limited
 use Rattle.coap_model.specs.OptionExamples.{key_of_temp}
-use Rattle.coap_model.specs.History.{no_item, moves, Deed}
+use Rattle.coap_model.specs.History.{no_item, admits, moves, Deed}
 use Rattle.coap_model.specs.Forged as forged
 use Rattle.coap_model.specs.Forged.{setting, opened, asked}
 use Rattle.coap_forward.specs.Answers.{is_storable}
@@ -32,7 +32,7 @@ use Rattle.coap_model.specs.Cached.{Cached, cached_with}
 -- whether what a response of this code with these options gives may be kept
 abbrev pub storable_in : ℕ → List ℕ → Option Bool
 storable_in code options =
-    option_map (λ m. is_storable (answer_of 1500 0 m))
+    option_map (λ m. is_storable (answer_of 1500 true None 0 m))
     (result_ok (read_message (answer 0x68 code 1 1 options)))
 
 -- a Max-Age in one byte, and one of 0 in none
@@ -57,7 +57,8 @@ content_for id exchange =
     }
 
 abbrev pub get_for : ℕ → ℕ → Message
-get_for id exchange = forwarded (token_of 0 exchange) key_of_temp.target [] id
+get_for id exchange =
+    forwarded (token_of 0 exchange) key_of_temp.target None bare_get id
 
 -- an entry for a path of one segment, which came as so many-th
 abbrev pub entry_for : ℕ → ℕ → Cached
@@ -121,13 +122,24 @@ hits =
 abbrev pub hit_past : List Deed
 hit_past = hits ∷ kept_past
 
--- the origin is asked for it anew
+-- an exchange is opened for it anew
+abbrev pub opens_again : Deed
+opens_again =
+    record {
+      entry = record opened.entry { now = 12; event = arrival (client 3) (get_t []) };
+      act = admits 2 2;
+    }
+
+abbrev pub opened_past : List Deed
+opened_past = opens_again ∷ hit_past
+
+-- and the origin is asked
 abbrev pub asks_again : Deed
 asks_again =
     record { entry = record asked.entry { now = 15; bytes = limited.asked 3 2 }; act = moves 2 }
 
 abbrev pub asked_past : List Deed
-asked_past = asks_again ∷ hit_past
+asked_past = asks_again ∷ opened_past
 
 -- the entry of the first answer, and of the second
 abbrev pub first_entry : Cached
@@ -145,7 +157,7 @@ second_entry =
     record {
       key = key_of_temp;
       response = content_for 3 2;
-      asking = record { before = hit_past; deed = asks_again };
+      asking = record { before = opened_past; deed = asks_again };
       getting = record { before = asked_past; deed = answered 20 3 2 (Answered Kept) };
     }
 

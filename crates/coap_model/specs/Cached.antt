@@ -1,63 +1,68 @@
 -- The cache of a history: which responses it has brought that may be kept, and in which order (RFC
--- 7252, 5.6). This file names no table. Nothing is a change yet (RFC 7252, 5.9.1), and no response
--- is validated (RFC 7252, 5.9.1.3).
-use Rattle.std.specs.Prelude.{◌≡◌, ℕ, ◌<◌, Bool, true, false, List, [], ◌∷◌, Some, Ok}
+-- 7252, 5.6 and 5.9.1). This file names no table.
+use Rattle.std.specs.Prelude.{◌≡◌, ℕ, ◌<◌, Bool, true, false, List, [], ◌∷◌, Option, Some, None, Ok, option_map}
 use Rattle.coap_message.specs.Message.{Message}
-use Rattle.coap_message.specs.Spelling.{Spells}
 use Rattle.coap_target.specs.declared.endpoint.Endpoint.{Endpoint}
 use Rattle.coap_target.specs.declared.target.Target.{Target}
-use Rattle.coap_option.specs.Selection.{max_age_of}
+use Rattle.coap_option.specs.Selection.{max_age_of, tags_of}
 use Rattle.coap_routes.specs.Request.{request_target}
+use Rattle.coap_cache.specs.declared.answer.Answer.{Answer}
 use Rattle.coap_cache.specs.declared.key.CacheKey.{CacheKey}
 use Rattle.coap_cache.specs.Entries as entries
 use Rattle.coap_cache.specs.Entries.{entry_key, entry_size}
 use Rattle.coap_cache.specs.Lists.{of_key, others, put, used}
+use Rattle.coap_cache.specs.Renewing.{tag_of, is_validated, renewed}
 use Rattle.coap_cache.specs.Showing.{tells_age}
 use Rattle.coap_model.specs.declared.report.Outcome.{Outcome}
 use Rattle.coap_model.specs.declared.report.Outcome.TheVariants.{Ignored, Rejected, Again, NoRecordRoom, Refused, Hit, Joined, Opened, Overloaded, NoId, Answered, Acked, SentRequest, Resent, GaveUp, Delivered, Idle}
 use Rattle.coap_model.specs.declared.report.Storing.{Storing}
 use Rattle.coap_model.specs.declared.report.Storing.TheVariants.{Kept, TooLarge, NoMemory, NotStored}
 use Rattle.coap_model.specs.Setting.{Setting}
-use Rattle.coap_model.specs.Keys.{key_sent, request_key}
-use Rattle.coap_forward.specs.Answers.{answer_of, is_storable, without_observe, is_passed_on}
-use Rattle.coap_model.specs.History.{Deed, Place, index, IsPlaceOf, Brings, Gets, Matches}
+use Rattle.coap_model.specs.Keys.{request_key}
+use Rattle.coap_forward.specs.Answers.{answer_of, fits, is_passed_on, taken_of}
+use Rattle.coap_model.specs.History.{Deed, Place, index, IsPlaceOf, Brings, Opens, Gets}
+use Rattle.coap_model.specs.Changed.{asked_of, key_asked, to_get, Unchanged, IsTold}
 use Rattle.coap_model.specs.Pairs.{Pairs}
 
 -- ---- what may be kept
 
--- The response was obtained for this key: a request of the key was sent at one place, and at the
--- other came what may be kept of its answer. Every request that is sent on is a GET so far.
-pub record IsObtained
-    (setting : Setting) (key : CacheKey) (response : Message) (asking getting : Place)
-    : Type 0 where
+-- a GET of this key was sent at one place, and at the other its response came; no change of the
+-- target stands between them
+pub record IsFetched (setting : Setting) (key : CacheKey) (asking getting : Place) : Type 0 where
   pub exchange : ℕ
   pub gets : Gets setting exchange getting
   pub asking_is : gets.meets.asking ≡ asking
-  pub asked_key : key_sent gets.meets.asks.sends.to gets.meets.asks.sends.message ≡ key
-  pub storable :
-      is_storable (answer_of setting.limits.datagram getting.deed.entry.now gets.meets.message)
-      ≡ true
-  pub response_is :
-      response
-      ≡ (answer_of setting.limits.datagram getting.deed.entry.now gets.meets.message).message
+  pub method : to_get gets ≡ true
+  pub asked_key : key_asked gets ≡ key
+  pub passed : is_passed_on setting.limits.datagram true gets.meets.message ≡ true
+  pub unchanged : Unchanged setting key.target asking getting.before
 
--- The same in other words: a request with this key was sent to an endpoint, which answered it; the
--- response is what it sent, without Observe; it was passed on, and stays fresh for some time.
-pub record IsOfOrigin
-    (setting : Setting) (key : CacheKey) (response : Message) (asking getting : Place)
-    : Type 0 where
-  pub origin : Endpoint
-  pub request : Message
-  pub sent : asking.deed.entry.report.send ≡ Some origin
-  pub spells : Spells asking.deed.entry.bytes request
-  pub key_is : key_sent origin request ≡ key
-  pub came : Message
-  pub brings : Brings setting.limits.datagram origin came getting.deed.entry.event
-  pub matches : Matches request.token request.id came
-  pub passed : is_passed_on setting.limits.datagram came ≡ true
-  pub response_is : response ≡ without_observe came
+-- it may be kept: a 2.05 or an error of class 4 or 5, with a Max-Age above 0
+pub record IsLasting (response : Message) : Type 0 where
   pub code : tells_age response.code ≡ true
   pub age : 0 < max_age_of response
+
+-- The response was obtained for this key: it came for a GET of the key, or it was obtained for the
+-- key before, and a 2.03 came for a GET that carried its tag, which renews it. Each renewal was
+-- asked for after what it renews had come.
+pub data IsObtained (setting : Setting) (key : CacheKey) : Message → Place → Place → Type 0 where
+  first_hand : {response : Message} {asking getting : Place}
+      (fetched : IsFetched setting key asking getting)
+      → response ≡ taken_of true fetched.gets.meets.message
+      → IsLasting response
+      → IsObtained setting key response asking getting
+  validated : {response old : Message} {asking getting old_asking old_getting : Place}
+      (fetched : IsFetched setting key asking getting)
+      (tag : List ℕ)
+      → IsObtained setting key old old_asking old_getting
+      → IsPlaceOf asking.before old_getting
+      → tag_of old.options ≡ Some tag
+      → tags_of (asked_of fetched.gets) ≡ tag ∷ []
+      → is_validated old (taken_of true fetched.gets.meets.message) ≡ true
+      → response ≡ renewed old (taken_of true fetched.gets.meets.message)
+      → fits setting.limits.datagram response ≡ true
+      → IsLasting response
+      → IsObtained setting key response asking getting
 
 -- ---- the cache
 
@@ -68,18 +73,21 @@ pub record Cached : Type 0 where
   pub asking : Place
   pub getting : Place
 
--- what a store keeps of it
-abbrev pub entry_of_cached : Cached → entries.Entry
-entry_of_cached c = (
+-- what a store keeps of it, with a mark or without
+abbrev pub entry_marked : Bool → Cached → entries.Entry
+entry_marked marked c = (
   c.key,
   record {
     response = c.response;
     asked = index c.asking;
     got_no = index c.getting;
     got = c.getting.deed.entry.now;
-    marked = false;
+    marked = marked;
   },
 )
+
+abbrev pub entry_of_cached : Cached → entries.Entry
+entry_of_cached c = entry_marked false c
 
 -- its key, and the bytes that it counts
 abbrev pub cached_key : Cached → CacheKey
@@ -135,25 +143,55 @@ leaves GaveUp = true
 leaves Delivered = true
 leaves Idle = true
 
+-- ---- answers
+
+-- the response that is kept for a key
+abbrev pub kept_for : CacheKey → List Cached → Option Message
+kept_for key cached = option_map (λ c. c.response) (of_key cached_key key cached)
+
+-- the response that a request with these tags may renew: what was kept for its key when its
+-- exchange was opened. A GET that is sent on has a tag only where it is the tag of that.
+abbrev pub copied : List (List ℕ) → CacheKey → List Cached → Option Message
+copied [] key former = None
+copied (tag ∷ tags) key former = kept_for key former
+
+-- the answer that was got there, where this was the cache when the exchange was opened
+abbrev pub answer_got :
+    {setting : Setting} {x : ℕ} {p : Place} → List Cached → Gets setting x p → Answer
+answer_got {setting = setting} {p = p} former gets =
+    answer_of setting.limits.datagram (to_get gets)
+    (copied (tags_of (asked_of gets)) (key_asked gets) former) p.deed.entry.now
+    gets.meets.message
+
+-- the entry that it makes, if it is kept
+abbrev pub entry_got :
+    {setting : Setting} {x : ℕ} {past : List Deed} {d : Deed} → List Cached
+    → Gets setting x (record { before = past; deed = d }) → Cached
+entry_got {past = past} {d = d} former gets =
+    cached_here (key_asked gets) (answer_got former gets).message gets.meets.asking past d
+
+-- ---- the cache of a history
+
 -- The cache of a history, the most recently used first. There is a case for each way in which an
 -- entry moves.
 pub data IsCacheOf (setting : Setting) : List Deed → List Cached → Type 0 where
   empty : IsCacheOf setting [] []
-  -- an answer is kept: it stands first
-  kept : {past : List Deed} {cached : List Cached} (d : Deed) (key : CacheKey) (response : Message)
-      (asking : Place)
+  -- an answer is kept: it stands first. What it renews stood in the cache when its exchange was
+  -- opened, and may be gone by now.
+  kept : {past : List Deed} {cached former : List Cached} (d : Deed) (x : ℕ)
+      (gets : Gets setting x (record { before = past; deed = d })) (opening : Place)
       → d.entry.report.outcome ≡ Answered Kept
-      → IsObtained setting key response asking (record { before = past; deed = d })
+      → IsPlaceOf gets.meets.asking.before opening
+      → Opens x opening
+      → IsCacheOf setting opening.before former
       → IsCacheOf setting past cached
-      → IsCacheOf setting (d ∷ past)
-      (cached_with setting (cached_here key response asking past d) cached)
+      → IsCacheOf setting (d ∷ past) (cached_with setting (entry_got former gets) cached)
   -- an answer alone counts more than may be kept: the entry of its key is given up
-  too_large : {past : List Deed} {cached : List Cached} (d : Deed) (key : CacheKey)
-      (response : Message) (asking : Place)
+  too_large : {past : List Deed} {cached : List Cached} (d : Deed) (x : ℕ)
+      (gets : Gets setting x (record { before = past; deed = d }))
       → d.entry.report.outcome ≡ Answered TooLarge
-      → IsObtained setting key response asking (record { before = past; deed = d })
       → IsCacheOf setting past cached
-      → IsCacheOf setting (d ∷ past) (others cached_key key cached)
+      → IsCacheOf setting (d ∷ past) (others cached_key (key_asked gets) cached)
   -- a request is answered from the cache: the entry of its key moves to the front
   hit : {past : List Deed} {cached : List Cached} (d : Deed) (client : Endpoint)
       (request : Message) (target : Target) (entry : Cached)
@@ -169,6 +207,14 @@ pub data IsCacheOf (setting : Setting) : List Deed → List Cached → Type 0 wh
       → IsCacheOf setting past cached
       → IsCacheOf setting (d ∷ past) cached
 
+-- the cache that there was when the exchange of this number was opened
+pub record WasCacheAt (setting : Setting) (past : List Deed) (x : ℕ) (former : List Cached)
+    : Type 0 where
+  pub opening : Place
+  pub was_opened : IsPlaceOf past opening
+  pub opens : Opens x opening
+  pub is_cache : IsCacheOf setting opening.before former
+
 -- the element is the first of the list
 abbrev pub StandsFirst : {X : Type 0} → X → List X → Type 0
 StandsFirst x [] = ⊥
@@ -176,16 +222,20 @@ StandsFirst x (y ∷ ys) = y ≡ x
 
 -- ---- a store
 
--- what a store has is what it keeps of the entry of the cache
-abbrev pub IsStored : entries.Entry → Cached → Type 0
-IsStored stored c = stored ≡ entry_of_cached c
+-- what a store has is what it keeps of the entry of the cache, marked exactly where its target was
+-- changed since it was asked for
+pub record IsStored (setting : Setting) (history : List Deed) (stored : entries.Entry) (c : Cached)
+    : Type 0 where
+  pub same : stored ≡ entry_marked stored.1.marked c
+  pub was_asked : IsPlaceOf history c.asking
+  pub told : IsTold stored.1.marked setting c.key.target c.asking history
 
 -- a store has the cache of the history, entry by entry
 pub record IsStoreOf (setting : Setting) (history : List Deed) (store : List entries.Entry)
     : Type 0 where
   pub cached : List Cached
   pub is_cache : IsCacheOf setting history cached
-  pub each : Pairs IsStored store cached
+  pub each : Pairs (IsStored setting history) store cached
 
 -- an entry that was obtained in the history
 pub record WasObtained (setting : Setting) (history : List Deed) (c : Cached) : Type 0 where
@@ -193,7 +243,7 @@ pub record WasObtained (setting : Setting) (history : List Deed) (c : Cached) : 
   pub was_got : IsPlaceOf history c.getting
   pub obtained : IsObtained setting c.key c.response c.asking c.getting
 
--- what is stored for a key is what is kept of the cache's entry of the key, which was obtained
+-- what is stored for a key is what is kept of the cache's entry of the key
 pub record IsEntryOf
     (setting : Setting) (history : List Deed) (cached : List Cached) (key : CacheKey)
     (stored : entries.Entry)
@@ -201,5 +251,4 @@ pub record IsEntryOf
   pub entry : Cached
   pub is_there : of_key cached_key key cached ≡ Some entry
   pub key_is : entry.key ≡ key
-  pub stored_is : IsStored stored entry
-  pub was_obtained : WasObtained setting history entry
+  pub stored_is : IsStored setting history stored entry

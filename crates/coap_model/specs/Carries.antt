@@ -1,9 +1,10 @@
 -- A proxy carries a history: each part of its tables is what the history says.
-use Rattle.std.specs.Prelude.{◌≡◌, ◌⊎◌, ℕ, ◌+◌, ◌*◌, ◌^◌, ◌/◌, ◌%◌, ◌<◌, ◌≤◌, true, false, List, [], ◌∷◌, length, map, Option, Some, None}
+use Rattle.std.specs.Prelude.{◌≡◌, ◌⊎◌, ℕ, ◌+◌, ◌*◌, ◌^◌, ◌/◌, ◌%◌, ◌<◌, ◌≤◌, true, false, is_some, if◌then◌else◌, List, [], ◌∷◌, length, map, Option, Some, None, option_map}
 use Rattle.std.specs.List.{AllByRecursion}
 use Rattle.coap_message.specs.Message.{Message}
 use Rattle.coap_message.specs.Spelling.{spelling, Spells}
-use Rattle.coap_option.specs.Selection.{sent_on, tags_of}
+use Rattle.coap_option.specs.Selection.{tags_of}
+use Rattle.coap_target.specs.declared.target.Target.{Target}
 use Rattle.coap_routes.specs.Routes.{AreRoutes}
 use Rattle.coap_target.specs.declared.endpoint.Endpoint.{Endpoint}
 use Rattle.coap_cache.specs.declared.key.CacheKey.{CacheKey}
@@ -25,15 +26,16 @@ use Rattle.coap_message.specs.declared.kind.Kind.TheVariants.{Con, Non}
 use Rattle.coap_dedup.specs.Lists.{AreUpTo, reply_bytes}
 use Rattle.coap_dedup.specs.Records.{Records, AreRecords, living_at}
 use Rattle.coap_model.specs.Setting.{Setting}
-use Rattle.coap_forward.specs.Messages.{token_of}
-use Rattle.coap_forward.specs.Forms.{forwarded}
+use Rattle.coap_forward.specs.Messages.{is_get, token_of}
+use Rattle.coap_forward.specs.Forms.{forwarded, tag_for}
 use Rattle.coap_model.specs.Keys.{key_sent}
 use Rattle.coap_model.specs.Verdicts.{may_ask}
 use Rattle.coap_model.specs.World.{World, reserved}
 use Rattle.coap_model.specs.Standing.{Stage, Service, Standing, Open, queued, sent, acked, done, waits, told, open_in, standing_in, window_ids}
 use Rattle.coap_model.specs.Schedules.{IsSchedule, oldest, sends_by}
 use Rattle.coap_model.specs.History.{Entry, Act, moves, serves, Deed, told_by, Place, index, IsPlaceOf, Never, Somewhere, opened_in, admitted_in, ids_in, Opens, Admits, Sends, Serves, Asks, Ends, WasOpened, WasAdmitted, last_of, IsInOrder, AreIds}
-use Rattle.coap_model.specs.Cached.{IsStoreOf}
+use Rattle.coap_model.specs.Changed.{IsTold}
+use Rattle.coap_model.specs.Cached.{Cached, kept_for, copied, IsCacheOf, WasCacheAt, IsStoreOf}
 use Rattle.coap_model.specs.Remembered.{most_remembered, remembered_at, remembered_for}
 use Rattle.coap_model.specs.Justified.{verdict_on, EndsWith, AllJustified}
 
@@ -144,16 +146,27 @@ WasSent setting history x key form (Some s) = WasAsked setting history x key for
 
 pub record IsQueued (setting : Setting) (history : List Deed) (x : Numbered Exchange) : Type 0 where
   pub unsent : x.1.sending ≡ None
+  pub untainted : x.1.tainted ≡ false
   pub never_sent : Never (Sends setting.salt x.0) history
   pub no_sends : sends_by (moves x.0) history ≡ []
   pub unended : Never (Ends x.0) history
 
--- an exchange whose request is on its way
+-- An exchange whose request is on its way. What a GET may renew is what was kept for its key when it
+-- was opened, if it carries a tag; and a taint tells whether its target was changed since it
+-- was asked.
 pub record IsInFlight
     (setting : Setting) (history : List Deed) (x : Numbered Exchange) : Type 0 where
   pub sending : Sending
   pub sending_is : x.1.sending ≡ Some sending
   pub asked : WasAsked setting history x.0 x.1.key x.1.form sending
+  pub method : is_get asked.asks.sends.message.code ≡ x.1.is_get
+  pub former : List Cached
+  pub was_cache : WasCacheAt setting asked.asking.before x.0 former
+  pub copy_is :
+      x.1.is_get ≡ true
+      → option_map (λ s. s.response) x.1.copy
+      ≡ copied (tags_of asked.asks.sends.message) x.1.key former
+  pub told : IsTold x.1.tainted setting x.1.key.target asked.asking history
   pub unended : Never (Ends x.0) history
 
 -- it ended in the history, with this answer
@@ -175,6 +188,10 @@ IsState setting history x Sent = IsInFlight setting history x
 IsState setting history x Acked = IsInFlight setting history x
 IsState setting history x (Done a) = IsDone setting history x a
 
+-- the response that a request may renew: the one that is kept, where the request carries its tag
+abbrev pub copy_for : ℕ → Target → Message → Option Message → Option Message
+copy_for most t m kept = if is_some (tag_for most t m kept) then kept else None
+
 -- the id of the form: none until it is sent
 abbrev pub form_id : Option Sending → ℕ
 form_id None = 0
@@ -186,15 +203,21 @@ pub record IsExchangeOf
   pub opened : WasOpened setting history x.0
   pub admitted : x.1.admitted ≡ opened.opening.deed.entry.now
   pub verdict : verdict_on setting opened.request ≡ may_ask x.1.key
+  pub method : x.1.is_get ≡ is_get opened.request.code
+  pub former : List Cached
+  pub was_cache : IsCacheOf setting opened.opening.before former
+  -- what was kept for its key then: the request carries its tag, and the exchange has a copy of it
+  -- exactly where it does
   pub form_is :
       x.1.form
       ≡ spelling
-      (forwarded (token_of setting.salt x.0) x.1.key.target (sent_on opened.request)
-      (form_id x.1.sending))
+      (forwarded (token_of setting.salt x.0) x.1.key.target
+      (tag_for setting.limits.datagram x.1.key.target opened.request
+      (kept_for x.1.key former)) opened.request (form_id x.1.sending))
   pub form_short : length x.1.form ≤ setting.limits.datagram
-  -- it may be joined until it ends: no resource is changed yet
-  pub is_get : x.1.is_get ≡ true
-  pub untainted : x.1.tainted ≡ false
+  pub copy_is :
+      option_map (λ s. s.response) x.1.copy
+      ≡ copy_for setting.limits.datagram x.1.key.target opened.request (kept_for x.1.key former)
   pub state : IsState setting history x x.1.state
 
 -- ---- waiters
@@ -212,8 +235,10 @@ pub record IsWaiting
   pub unended : Never (Ends exchange) admitted.admission.before
   pub unserved : Never (Serves v.0) history
   pub no_sends : sends_by (serves v.0) history ≡ []
-  -- the exchange was opened for a request of the same verdict
+  -- the exchange was opened for a request of the same verdict, and for a GET exactly where this is
+  -- one
   pub opened : WasOpened setting history exchange
+  pub method : is_get opened.request.code ≡ is_get admitted.request.code
   pub verdict : verdict_on setting opened.request ≡ verdict_on setting admitted.request
 
 -- A client was given its answer in a Confirmable message, once: in these bytes, with this id, by

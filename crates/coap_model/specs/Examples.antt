@@ -1,6 +1,8 @@
 -- Runs of the step, computed on the definitions.
 use Rattle.std.specs.Prelude.{ℕ, ◌+◌, ◌-◌, List, [], ◌∷◌, true, replicate, Some, None}
-use Rattle.coap_message.specs.declared.code.TheConstants.Code.{BAD_OPTION, NOT_FOUND, METHOD_NOT_ALLOWED, REQUEST_ENTITY_TOO_LARGE}
+use Rattle.coap_message.specs.declared.code.TheConstants.Code.{GET, BAD_OPTION, NOT_FOUND, METHOD_NOT_ALLOWED, REQUEST_ENTITY_TOO_LARGE}
+use Rattle.coap_message.specs.declared.kind.Kind.TheVariants.{Non}
+use Rattle.coap_message.specs.Message.{Message}
 use Rattle.coap_target.specs.declared.endpoint.Endpoint.{Endpoint}
 use Rattle.coap_routes.specs.Examples.{loopback}
 use Rattle.coap_routes.specs.Routes.{fixed_routes}
@@ -79,6 +81,10 @@ get_t_as id more = 0x50 ∷ 1 ∷ 0 ∷ id ∷ 0xB1 ∷ 0x74 ∷ more
 -- with the id 7
 abbrev pub get_t : List ℕ → List ℕ
 get_t more = get_t_as 7 more
+
+-- a GET without more
+abbrev pub bare_get : Message
+bare_get = record { kind = Non; code = GET; id = 0; token = []; options = []; payload = [] }
 
 -- the request that the origin is sent, with the id 1 and the token of the first exchange
 abbrev pub get_temp : List ℕ → List ℕ
@@ -184,10 +190,10 @@ impostor_sent =
     ∷ to Rejected origin (0x70 ∷ 0 ∷ 0 ∷ 9 ∷ []) ∷ nothing Ignored ∷ nothing Idle
     ∷ nothing (Answered Kept) ∷ to Delivered (client 1) (content_for_client 10) ∷ []
 
--- refusals: a method other than GET, an option that isn't understood, a path without a map
+-- refusals: a method that isn't known, an option that isn't understood, a path without a map
 abbrev pub refusals : List Turn
 refusals =
-    from 0 (client 1) (0x50 ∷ 2 ∷ 0 ∷ 7 ∷ 0xB1 ∷ 0x74 ∷ [])
+    from 0 (client 1) (0x50 ∷ 5 ∷ 0 ∷ 7 ∷ 0xB1 ∷ 0x74 ∷ [])
     ∷ from 0 (client 1) (0x50 ∷ 1 ∷ 0 ∷ 8 ∷ 0xB1 ∷ 0x74 ∷ 0xC1 ∷ 6 ∷ [])
     ∷ from 0 (client 1) (0x50 ∷ 1 ∷ 0 ∷ 9 ∷ 0xB1 ∷ 0x75 ∷ []) ∷ []
 

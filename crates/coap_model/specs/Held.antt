@@ -2,11 +2,13 @@
 -- many bytes as the values of the program keep of it; what is stored counts as the store counts it.
 use Rattle.std.specs.Prelude.{ℕ, ◌+◌, ◌*◌, List, length, Option, Some, None}
 use Rattle.std.specs.List.{sum_by}
+use Rattle.std.specs.Option.{option_map_or}
 use Rattle.coap_message.specs.Message.{Message}
 use Rattle.coap_message.specs.Pieces.{pieces_spelling}
 use Rattle.coap_message.specs.Spelling.{options_spelling}
 use Rattle.coap_target.specs.declared.target.Target.{Target}
 use Rattle.coap_cache.specs.declared.key.CacheKey.{CacheKey}
+use Rattle.coap_cache.specs.declared.stored.Stored.{Stored}
 use Rattle.coap_cache.specs.Entries.{entry_size}
 use Rattle.coap_cache.specs.Lists.{total}
 use Rattle.coap_dedup.specs.Lists.{bytes_of}
@@ -44,9 +46,14 @@ state_bytes (Done a) = response_bytes a.message
 abbrev pub key_bytes : CacheKey → ℕ
 key_bytes key = target_bytes key.target + length (options_spelling 0 key.options)
 
--- the form that is sent on, the key and the answer
+-- the copy of a stored response that is validated
+abbrev pub copy_bytes : Option Stored → ℕ
+copy_bytes copy = option_map_or (λ s. response_bytes s.response) copy 0
+
+-- the form that is sent on, the key, the copy and the answer
 abbrev pub exchange_bytes : Numbered Exchange → ℕ
-exchange_bytes x = length x.1.form + key_bytes x.1.key + state_bytes x.1.state
+exchange_bytes x =
+    length x.1.form + key_bytes x.1.key + copy_bytes x.1.copy + state_bytes x.1.state
 
 -- the answer that a client has still to acknowledge
 abbrev pub answer_bytes : WaiterState → ℕ

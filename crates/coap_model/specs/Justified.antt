@@ -14,21 +14,21 @@ use Rattle.coap_cache.specs.Freshness.{is_fresh}
 use Rattle.coap_dedup.specs.declared.record.Record.{Record}
 use Rattle.coap_dedup.specs.Lists.{record_of}
 use Rattle.coap_cache.specs.Lists.{of_key}
-use Rattle.coap_option.specs.Selection.{sent_on, tags_of}
+use Rattle.coap_option.specs.Selection.{tags_of}
 use Rattle.coap_model.specs.declared.report.Outcome.{Outcome}
 use Rattle.coap_model.specs.declared.report.Outcome.TheVariants.{Ignored, Rejected, Again, NoRecordRoom, Refused, Hit, Joined, Opened, Overloaded, NoId, Answered, Acked, SentRequest, Resent, GaveUp, Delivered, Idle}
 use Rattle.coap_model.specs.declared.report.Storing.TheVariants.{Kept, TooLarge, NoMemory, NotStored}
 use Rattle.coap_model.specs.Setting.{Setting}
 use Rattle.coap_model.specs.Events.{Event, arrival, tick}
 use Rattle.coap_message.specs.Codes.{is_response}
-use Rattle.coap_forward.specs.Messages.{is_recorded, acknowledgement, reset, own_reply, busy_reply, at_once, token_of}
+use Rattle.coap_forward.specs.Messages.{is_recorded, acknowledgement, reset, own_reply, busy_reply, at_once, token_of, is_get}
 use Rattle.coap_model.specs.Remembered.{most_remembered, remembered_at}
-use Rattle.coap_forward.specs.Forms.{forwarded}
-use Rattle.coap_model.specs.Keys.{key_sent}
-use Rattle.coap_model.specs.Verdicts.{Verdict, refused_with, may_ask, verdict_of, form_fits}
-use Rattle.coap_forward.specs.Answers.{answer_of, own_answer, gateway_timeout, stored_answer, shown, shown_as}
+use Rattle.coap_forward.specs.Forms.{forwarded, form_fits, tag_for}
+use Rattle.coap_model.specs.Changed.{key_asked, to_get, Unchanged}
+use Rattle.coap_model.specs.Verdicts.{Verdict, refused_with, may_ask, verdict_of}
+use Rattle.coap_forward.specs.Answers.{own_answer, gateway_timeout, is_storable, stored_answer, shown, shown_as}
 use Rattle.coap_cache.specs.declared.answer.Answer.{Answer}
-use Rattle.coap_model.specs.Cached.{IsObtained, Cached, cached_key, cached_size, cached_here, entry_of_cached, IsCacheOf}
+use Rattle.coap_model.specs.Cached.{Cached, cached_key, cached_size, entry_of_cached, kept_for, answer_got, entry_got, IsCacheOf, WasCacheAt}
 use Rattle.coap_model.specs.Standing.{sent, stage_of, told, service_of, HasIds, HasRoomToJoin, HasRoomToOpen}
 use Rattle.coap_model.specs.Schedules.{sends_by, MayGoOn, SaysAsBefore}
 use Rattle.coap_model.specs.Due.{IsToSend, IsToRepeat, IsToEnd, IsToServe, IsToServeAgain, IsDueAt, IsSooner}
@@ -88,34 +88,50 @@ HasIdFor request now past = request.kind ≡ Non → HasIds 1 now past
 abbrev pub verdict_on : Setting → Message → Verdict
 verdict_on setting request = verdict_of setting.routes request
 
--- what would be sent on for a key fits a datagram
+-- what would be sent on for a key, without a tag of the proxy's, fits a datagram
 abbrev pub fits_on : Setting → CacheKey → Message → Bool
-fits_on setting key request = form_fits setting.limits.datagram key.target request
+fits_on setting key request = form_fits setting.limits.datagram key.target None request
 
--- an entry of the cache is fresh (RFC 7252, 5.6.1)
-abbrev pub is_fresh_at : ℕ → Cached → Bool
-is_fresh_at now entry = is_fresh now (entry_of_cached entry).1
+abbrev pub IsGet : Message → Type 0
+IsGet request = is_get request.code ≡ true
 
--- the cache of what was done before has no fresh entry of the key
+-- an entry of the cache may answer: it is fresh, and its target wasn't changed since it was asked
+-- for (RFC 7252, 5.6.1 and 5.9.1)
+pub record IsUsable (setting : Setting) (past : List Deed) (now : ℕ) (entry : Cached)
+    : Type 0 where
+  pub fresh : is_fresh now (entry_of_cached entry).1 ≡ true
+  pub unchanged : Unchanged setting entry.key.target entry.asking past
+
+-- the cache of what was done before has no entry of the key that may answer
 pub record IsMiss (setting : Setting) (past : List Deed) (key : CacheKey) (now : ℕ) : Type 0 where
   pub cached : List Cached
   pub is_cache : IsCacheOf setting past cached
-  pub stale :
-      (entry : Cached) → of_key cached_key key cached ≡ Some entry → is_fresh_at now entry ≡ false
+  pub unusable :
+      (entry : Cached)
+      → of_key cached_key key cached ≡ Some entry
+      → ¬ IsUsable setting past now entry
 
--- An exchange may be joined: it was opened for a request of the key, and was neither got nor given
--- up.
+-- An exchange may be joined: it was opened for a GET of the key, was neither got nor given up, and
+-- if it was asked, its target wasn't changed since.
 pub record IsJoinable (setting : Setting) (past : List Deed) (key : CacheKey) (x : ℕ)
     : Type 0 where
   pub opened : WasOpened setting past x
+  pub method : IsGet opened.request
   pub verdict : verdict_on setting opened.request ≡ may_ask key
   pub unended : Never (Ends x) past
+  pub unchanged :
+      (asking : Place)
+      → IsPlaceOf past asking
+      → Asks setting.salt x asking
+      → Unchanged setting key.target asking past
 
--- nothing answers a request of the key: the cache has nothing for it, and no exchange may be joined
-pub record IsUnanswered (setting : Setting) (past : List Deed) (now : ℕ) (key : CacheKey)
+-- nothing answers the request: it is no GET, or the cache has nothing for it, and no exchange may be
+-- joined
+pub record IsUnanswered
+    (setting : Setting) (past : List Deed) (now : ℕ) (key : CacheKey) (request : Message)
     : Type 0 where
-  pub miss : IsMiss setting past key now
-  pub alone : (x : ℕ) → ¬ IsJoinable setting past key x
+  pub miss : IsGet request → IsMiss setting past key now
+  pub alone : IsGet request → (x : ℕ) → ¬ IsJoinable setting past key x
 
 -- A request deserves a code: by its verdict, or since what would be sent on, where nothing answers
 -- it, is too long for a datagram.
@@ -127,7 +143,7 @@ pub data Deserves
   by_length :
       (key : CacheKey)
       → verdict_on setting request ≡ may_ask key
-      → IsUnanswered setting past now key
+      → IsUnanswered setting past now key request
       → fits_on setting key request ≡ false
       → code ≡ REQUEST_ENTITY_TOO_LARGE
       → Deserves setting past now request code
@@ -145,7 +161,7 @@ pub record IsRefusal (setting : Setting) (past : List Deed) (d : Deed) (code : C
   pub tells : Tells client (at_once request (own_reply code [] id request.token)) d.entry
 
 -- A reply from the cache: the client is shown the entry of its key in the cache of what was done
--- before, which is fresh, with what is left of its Max-Age, or as a 2.03 where one of its tags is
+-- before, which may answer, with what is left of its Max-Age, or as a 2.03 where one of its tags is
 -- the entry's. That it was received for this key follows.
 pub record IsHit (setting : Setting) (past : List Deed) (d : Deed) : Type 0 where
   pub act : d.act ≡ no_item
@@ -156,10 +172,11 @@ pub record IsHit (setting : Setting) (past : List Deed) (d : Deed) : Type 0 wher
   pub entry : Cached
   pub id : ℕ
   pub asked : IsRequestOf setting client request d.entry.event
+  pub method : IsGet request
   pub verdict : verdict_on setting request ≡ may_ask key
   pub is_cache : IsCacheOf setting past cached
   pub found : of_key cached_key key cached ≡ Some entry
-  pub fresh : is_fresh_at d.entry.now entry ≡ true
+  pub usable : IsUsable setting past d.entry.now entry
   pub new : IsNew setting past d.entry.now client request
   pub ids : HasIdFor request d.entry.now past
   pub tells :
@@ -174,12 +191,13 @@ pub data LacksRoom
     : Type 0 where
   to_join :
       (exchange : ℕ)
+      → IsGet request
       → IsMiss setting past key now
       → IsJoinable setting past key exchange
       → ¬ HasRoomToJoin setting.limits now past
       → LacksRoom setting past now key request
   to_open :
-      IsUnanswered setting past now key
+      IsUnanswered setting past now key request
       → fits_on setting key request ≡ true
       → ¬ HasRoomToOpen setting.limits now past
       → LacksRoom setting past now key request
@@ -218,6 +236,7 @@ pub record IsJoining (setting : Setting) (past : List Deed) (d : Deed) : Type 0 
   pub request : Message
   pub key : CacheKey
   pub asked : IsRequestOf setting client request d.entry.event
+  pub method : IsGet request
   pub verdict : verdict_on setting request ≡ may_ask key
   pub miss : IsMiss setting past key d.entry.now
   pub joinable : IsJoinable setting past key exchange
@@ -233,7 +252,7 @@ pub record IsOpening (setting : Setting) (past : List Deed) (d : Deed) : Type 0 
   pub key : CacheKey
   pub asked : IsRequestOf setting client request d.entry.event
   pub verdict : verdict_on setting request ≡ may_ask key
-  pub unanswered : IsUnanswered setting past d.entry.now key
+  pub unanswered : IsUnanswered setting past d.entry.now key request
   pub fits : fits_on setting key request ≡ true
   pub new : IsNew setting past d.entry.now client request
   pub room : HasRoomToOpen setting.limits d.entry.now past
@@ -382,20 +401,24 @@ pub record IsActing (setting : Setting) (past : List Deed) (d : Deed) : Type 0 w
 abbrev pub InTime : Setting → List Deed → ℕ → ℕ → Type 0
 InTime setting past x now = (at : ℕ) → IsToEnd setting past x at → now < at
 
--- the request that is sent on: for an exchange that waits for its turn, the request for the target
--- of the client's request, with what is sent on of its options and with the exchange's token, to the
--- target's endpoint
+-- The request that is sent on: for an exchange that waits for its turn, the request for the target
+-- of the client's request, with what goes on of its options, with the exchange's token, and with the
+-- tag of what the cache had for its key when it was opened, to the target's endpoint.
 pub record IsForwarding (setting : Setting) (past : List Deed) (d : Deed) : Type 0 where
   pub exchange : ℕ
   pub act : d.act ≡ moves exchange
   pub acting : IsActing setting past d
   pub to_send : IsToSend setting past exchange acting.at
   pub in_time : InTime setting past exchange d.entry.now
+  pub former : List Cached
+  pub is_cache : IsCacheOf setting to_send.opened.opening.before former
   pub id : ℕ
   pub tells :
       Tells to_send.key.target.at
       (forwarded (token_of setting.salt exchange) to_send.key.target
-      (sent_on to_send.opened.request) id) d.entry
+      (tag_for setting.limits.datagram to_send.key.target to_send.opened.request
+      (kept_for to_send.key former))
+      to_send.opened.request id) d.entry
 
 -- what is sent again at a moment: a request, before its exchange ends, or an answer that wasn't
 -- acknowledged
@@ -466,17 +489,25 @@ pub record IsAnswer (setting : Setting) (past : List Deed) (d : Deed) : Type 0 w
 
 -- ---- what is stored
 
--- what is got may be stored
+-- What is got may be stored: it answers a GET whose target wasn't changed since it was asked, and
+-- its answer may be kept. That it is obtained follows.
 pub record IsObtainedHere (setting : Setting) (past : List Deed) (d : Deed) : Type 0 where
-  pub key : CacheKey
-  pub response : Message
-  pub asking : Place
-  pub obtained : IsObtained setting key response asking (record { before = past; deed = d })
+  pub exchange : ℕ
+  pub gets : Gets setting exchange (record { before = past; deed = d })
+  pub method : to_get gets ≡ true
+  pub unchanged : Unchanged setting (key_asked gets).target gets.meets.asking past
+  pub former : List Cached
+  pub was_cache : WasCacheAt setting gets.meets.asking.before exchange former
+  pub storable : is_storable (answer_got former gets) ≡ true
+
+abbrev pub entry_here :
+    {setting : Setting} {past : List Deed} {d : Deed} → IsObtainedHere setting past d → Cached
+entry_here o = entry_got o.former o.gets
 
 -- the bytes that it counts
 abbrev pub size_here :
     {setting : Setting} {past : List Deed} {d : Deed} → IsObtainedHere setting past d → ℕ
-size_here {past = past} {d = d} o = cached_size (cached_here o.key o.response o.asking past d)
+size_here o = cached_size (entry_here o)
 
 -- an answer is stored: it was obtained, and counts no more than the store keeps
 pub record IsKept (setting : Setting) (past : List Deed) (d : Deed) : Type 0 where
@@ -497,7 +528,7 @@ pub record IsWithoutMemory (setting : Setting) (past : List Deed) (d : Deed) : T
   pub small : size_here here ≤ setting.limits.cache_bytes
   pub cached : List Cached
   pub is_cache : IsCacheOf setting past cached
-  pub new : of_key cached_key here.key cached ≡ None
+  pub new : of_key cached_key (key_asked here.gets) cached ≡ None
 
 -- it isn't, since nothing was obtained
 pub record IsNotStored (setting : Setting) (past : List Deed) (d : Deed) : Type 0 where
@@ -511,9 +542,10 @@ pub record IsNotStored (setting : Setting) (past : List Deed) (d : Deed) : Type 
 pub data EndsWith (setting : Setting) (x : ℕ) (key : CacheKey) (p : Place) (answer : Answer)
     : Type 0 where
   got :
-      (gets : Gets setting x p)
-      → key_sent gets.meets.asks.sends.to gets.meets.asks.sends.message ≡ key
-      → answer ≡ answer_of setting.limits.datagram p.deed.entry.now gets.meets.message
+      (gets : Gets setting x p) (former : List Cached)
+      → WasCacheAt setting gets.meets.asking.before x former
+      → key_asked gets ≡ key
+      → answer ≡ answer_got former gets
       → EndsWith setting x key p answer
   given_up :
       GivesUp x p
@@ -521,8 +553,8 @@ pub data EndsWith (setting : Setting) (x : ℕ) (key : CacheKey) (p : Place) (an
       → EndsWith setting x key p answer
 
 -- A delivery: the exchange that the client waits for ended after the client had come, and the
--- datagram is what this client is shown of that, in a message of the type of its request: with what
--- is left of its Max-Age, or as a 2.03 where one of its tags is the answer's.
+-- datagram is what this client is shown of that, in a message of the type of its request: to a GET
+-- with what is left of its Max-Age, or as a 2.03 where one of its tags is the answer's.
 pub record IsDelivery (setting : Setting) (past : List Deed) (d : Deed) : Type 0 where
   pub waiter : ℕ
   pub act : d.act ≡ serves waiter
@@ -536,8 +568,8 @@ pub record IsDelivery (setting : Setting) (past : List Deed) (d : Deed) : Type 0
   pub id : ℕ
   pub tells :
       Tells to_serve.admitted.client
-      (shown_as to_serve.admitted.request.kind d.entry.now answer id
-      to_serve.admitted.request.token
+      (shown_as to_serve.admitted.request.kind (is_get to_serve.admitted.request.code)
+      d.entry.now answer id to_serve.admitted.request.token
       (tags_of to_serve.admitted.request)) d.entry
 
 -- ---- what isn't processed
@@ -650,10 +682,11 @@ pub record IsOwed (setting : Setting) (past : List Deed) (d : Deed) : Type 0 whe
       (entry : Cached)
       → IsRequestOf setting client request d.entry.event
       → IsNew setting past d.entry.now client request
+      → IsGet request
       → verdict_on setting request ≡ may_ask key
       → IsCacheOf setting past cached
       → of_key cached_key key cached ≡ Some entry
-      → is_fresh_at d.entry.now entry ≡ true
+      → IsUsable setting past d.entry.now entry
       → HasIdFor request d.entry.now past
       → d.entry.report.outcome ≡ Hit
   pub small :

@@ -22,6 +22,7 @@ pub mod Memory
 pub mod Promised
 pub mod Runs
 pub mod Pairs
+pub mod Changed
 pub mod Cached
 pub mod Examples
 pub mod FormExamples
@@ -33,6 +34,7 @@ pub mod ReliableExamples
 pub mod ResponseExamples
 pub mod JoiningExamples
 pub mod ConfirmableExamples
+pub mod ChangeExamples
 pub mod Forged
 pub mod CacheExamples
 pub mod HitExamples

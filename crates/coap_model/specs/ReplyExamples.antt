@@ -34,13 +34,13 @@ tokens_sent =
 
 -- ---- two faults in one request
 
--- a POST with an option that isn't understood, and a GET with one of a path without a map: the
--- method comes first, then the options
+-- a request of a method that isn't known with an option that isn't understood, and a GET with one
+-- of a path without a map: the method comes first, then the options
 abbrev pub two_faults : List Turn
 two_faults =
-    from 0 (client 1) (0x50 ∷ 2 ∷ 0 ∷ 7 ∷ 0xB1 ∷ 0x74 ∷ 0xC1 ∷ 6 ∷ [])
+    from 0 (client 1) (0x50 ∷ 5 ∷ 0 ∷ 7 ∷ 0xB1 ∷ 0x74 ∷ 0xC1 ∷ 6 ∷ [])
     ∷ from 0 (client 1) (0x50 ∷ 1 ∷ 0 ∷ 8 ∷ 0xB1 ∷ 0x75 ∷ 0xC1 ∷ 6 ∷ [])
-    ∷ from 0 (client 1) (0x50 ∷ 2 ∷ 0 ∷ 9 ∷ 0xB1 ∷ 0x75 ∷ []) ∷ []
+    ∷ from 0 (client 1) (0x50 ∷ 5 ∷ 0 ∷ 9 ∷ 0xB1 ∷ 0x75 ∷ []) ∷ []
 
 abbrev pub two_faults_sent : List Sent
 two_faults_sent =

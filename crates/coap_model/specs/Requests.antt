@@ -1,11 +1,12 @@
 -- The step of a request (RFC 7252, 5.7.3).
-use Rattle.std.specs.Prelude.{ℕ, ◌+◌, true, false, if◌then◌else◌, List, [], ◌∷◌, ◌++◌, Option, Some, None}
+use Rattle.std.specs.Prelude.{ℕ, ◌+◌, false, is_some, if◌then◌else◌, List, [], ◌∷◌, ◌++◌, Option, Some, None, option_map}
 use Rattle.coap_message.specs.declared.code.Code.{Code}
 use Rattle.coap_message.specs.declared.code.TheConstants.Code.{REQUEST_ENTITY_TOO_LARGE}
 use Rattle.coap_message.specs.Message.{Message}
 use Rattle.coap_message.specs.Spelling.{spelling}
-use Rattle.coap_option.specs.Selection.{sent_on, tags_of}
+use Rattle.coap_option.specs.Selection.{tags_of}
 use Rattle.coap_target.specs.declared.endpoint.Endpoint.{Endpoint}
+use Rattle.coap_target.specs.declared.target.Target.{Target}
 use Rattle.coap_cache.specs.declared.key.CacheKey.{CacheKey}
 use Rattle.coap_cache.specs.declared.stored.Stored.{Stored}
 use Rattle.coap_cache.specs.Entries.{Entry, entry_key}
@@ -21,9 +22,9 @@ use Rattle.coap_exchange.specs.Exchanges.{is_joinable}
 use Rattle.coap_exchange.specs.Ids.{called}
 use Rattle.coap_exchange.specs.Table.{Numbered, first_that}
 use Rattle.coap_model.specs.declared.report.Outcome.TheVariants.{Refused, Hit, Joined, Overloaded, NoId, Opened}
-use Rattle.coap_forward.specs.Messages.{is_con, own_reply, busy_reply, at_once, token_of}
-use Rattle.coap_forward.specs.Forms.{forwarded}
-use Rattle.coap_model.specs.Verdicts.{Verdict, refused_with, may_ask, verdict_of, form_fits}
+use Rattle.coap_forward.specs.Messages.{is_con, is_get, own_reply, busy_reply, at_once, token_of}
+use Rattle.coap_forward.specs.Forms.{forwarded, form_fits, tag_to_send, tag_for}
+use Rattle.coap_model.specs.Verdicts.{Verdict, refused_with, may_ask, verdict_of}
 use Rattle.coap_model.specs.World.{World, Step, later, silent, says, takes_up, known_of, has_record_room, remembers, repeats, drops, next_id, can_reply, has_room_to_join, has_room_to_open}
 
 -- the clock, one event on, in which a request was replied to at once
@@ -51,14 +52,28 @@ overloads w now client m =
 abbrev pub next_token : World → List ℕ
 next_token w = token_of w.setting.salt (w.opened + 1)
 
-abbrev pub new_exchange : World → ℕ → Message → CacheKey → Numbered Exchange
-new_exchange w now m key = (
+-- what is kept of a stored response: all of it, if the request carries its tag
+abbrev pub copy_of : ℕ → Target → Message → Option Stored → Option Stored
+copy_of most t m None = None
+copy_of most t m (Some stored) =
+    if is_some (tag_to_send most t m stored.response) then Some stored else None
+
+-- the tag that the request carries
+abbrev pub tag_carried : ℕ → Target → Message → Option Stored → Option (List ℕ)
+tag_carried most t m stored = tag_for most t m (option_map (λ s. s.response) stored)
+
+-- the exchange of a request for a key, where this is stored for it
+abbrev pub new_exchange : World → ℕ → Message → CacheKey → Option Stored → Numbered Exchange
+new_exchange w now m key stored = (
   w.opened + 1,
   record {
     key = key;
-    is_get = true;
-    form = spelling (forwarded (next_token w) key.target (sent_on m) 0);
-    copy = None;
+    is_get = is_get m.code;
+    form =
+        spelling
+        (forwarded (next_token w) key.target
+        (tag_carried w.setting.limits.datagram key.target m stored) m 0);
+    copy = copy_of w.setting.limits.datagram key.target m stored;
     admitted = now;
     sending = None;
     tainted = false;
@@ -87,10 +102,10 @@ joins w now client m exchange =
     })
 
 -- an exchange is opened, and the client waits for it
-abbrev pub opens : World → ℕ → Endpoint → Message → CacheKey → Step
-opens w now client m key =
+abbrev pub opens : World → ℕ → Endpoint → Message → CacheKey → Option Stored → Step
+opens w now client m key stored =
     takes_up Opened client m (record (later w now) {
-      exchanges = w.exchanges ++ new_exchange w now m key ∷ [];
+      exchanges = w.exchanges ++ new_exchange w now m key stored ∷ [];
       waiters = w.waiters ++ new_waiter w client m (w.opened + 1) ∷ [];
       opened = w.opened + 1;
       admitted = w.admitted + 1;
@@ -119,33 +134,41 @@ hits w now client m key stored =
     shows (record w { store = used entry_key key w.store }) now client m stored
 
 -- an exchange is wanted for the key
-abbrev pub on_wanted : World → ℕ → Endpoint → Message → CacheKey → Step
-on_wanted w now client m key =
-    if form_fits w.setting.limits.datagram key.target m
-    then (if has_room_to_open w now then opens w now client m key else turns_away w now client m)
+abbrev pub on_wanted : World → ℕ → Endpoint → Message → CacheKey → Option Stored → Step
+on_wanted w now client m key stored =
+    if form_fits w.setting.limits.datagram key.target None m
+    then
+    (if has_room_to_open w now
+    then opens w now client m key stored
+    else turns_away w now client m)
     else turns_down w now client m REQUEST_ENTITY_TOO_LARGE
 
 -- an exchange of the key that is under way, by its number, is joined (RFC 7252, 5.7.1)
-abbrev pub on_joinable : World → ℕ → Endpoint → Message → CacheKey → Option ℕ → Step
-on_joinable w now client m key None = on_wanted w now client m key
-on_joinable w now client m key (Some exchange) =
+abbrev pub on_joinable :
+    World → ℕ → Endpoint → Message → CacheKey → Option Stored → Option ℕ → Step
+on_joinable w now client m key stored None = on_wanted w now client m key stored
+on_joinable w now client m key stored (Some exchange) =
     if has_room_to_join w now then joins w now client m exchange else turns_away w now client m
 
 -- what is stored for the key, if something is, doesn't answer
-abbrev pub on_miss : World → ℕ → Endpoint → Message → CacheKey → Step
-on_miss w now client m key =
-    on_joinable w now client m key (first_that (is_joinable key) w.exchanges)
+abbrev pub on_miss : World → ℕ → Endpoint → Message → CacheKey → Option Stored → Step
+on_miss w now client m key stored =
+    on_joinable w now client m key stored (first_that (is_joinable key) w.exchanges)
 
 -- an entry of the key that is usable answers
 abbrev pub on_entry : World → ℕ → Endpoint → Message → CacheKey → Option Entry → Step
-on_entry w now client m key None = on_miss w now client m key
+on_entry w now client m key None = on_miss w now client m key None
 on_entry w now client m key (Some entry) =
     if is_usable now entry.1
     then (if can_reply w now m.kind then hits w now client m key entry.1 else lacks_id w now)
-    else on_miss w now client m key
+    else on_miss w now client m key (Some entry.1)
 
+-- only a GET is answered from the store, or joins an exchange (RFC 7252, 5.6 and 5.7.1)
 abbrev pub on_key : World → ℕ → Endpoint → Message → CacheKey → Step
-on_key w now client m key = on_entry w now client m key (of_key entry_key key w.store)
+on_key w now client m key =
+    if is_get m.code
+    then on_entry w now client m key (of_key entry_key key w.store)
+    else on_wanted w now client m key None
 
 abbrev pub on_verdict : World → ℕ → Endpoint → Message → Verdict → Step
 on_verdict w now client m (refused_with code) = turns_down w now client m code

@@ -1,5 +1,5 @@
 -- The step of a tick: what is due is done, one thing at a time (RFC 7252, 4.2 and 4.7).
-use Rattle.std.specs.Prelude.{ℕ, ◌==◌, nat_le, if◌then◌else◌, List, Option, Some, None, option_map}
+use Rattle.std.specs.Prelude.{ℕ, ◌==◌, Bool, nat_le, if◌then◌else◌, List, Option, Some, None, option_map}
 use Rattle.coap_cache.specs.declared.answer.Answer.{Answer}
 use Rattle.coap_exchange.specs.declared.exchange.ExchangeState.{ExchangeState}
 use Rattle.coap_exchange.specs.declared.exchange.ExchangeState.TheVariants.{Queued, Sent, Acked, Done}
@@ -10,7 +10,7 @@ use Rattle.coap_exchange.specs.declared.waiter.Waiter.{Waiter}
 use Rattle.coap_exchange.specs.declared.waiter.WaiterState.{WaiterState}
 use Rattle.coap_exchange.specs.declared.waiter.WaiterState.TheVariants.{Waiting, Delivering}
 use Rattle.coap_exchange.specs.Due.{first_due}
-use Rattle.coap_exchange.specs.Exchanges.{deadline, due_among, answer_in, sent, fired_exchange, answered, fire_of_sending}
+use Rattle.coap_exchange.specs.Exchanges.{deadline, due_among, answer_at, sent, fired_exchange, answered, fire_of_sending}
 use Rattle.coap_exchange.specs.Ids.{called}
 use Rattle.coap_exchange.specs.Table.{Numbered, item_at, changed_at, without, count}
 use Rattle.coap_exchange.specs.Timers.{started, fire_of}
@@ -125,10 +125,10 @@ abbrev pub without_idle :
 without_idle number waiters exchanges =
     if count (waits_for number) waiters == 0 then without number exchanges else exchanges
 
--- what a client is given for the answer of its exchange: a message of the type of its request, with
--- a new id
-abbrev pub given_to : World → ℕ → Waiter → Answer → Message
-given_to w now v a = shown_as v.kind now a (next_id w) v.token v.tags
+-- what a client is given for the answer of its exchange, which may be to a GET: a message of the type
+-- of its request, with a new id
+abbrev pub given_to : World → ℕ → Waiter → Bool → Answer → Message
+given_to w now v to_get a = shown_as v.kind to_get now a (next_id w) v.token v.tags
 
 -- the clients, after one was given this message: in a Confirmable one it is to be acknowledged, and
 -- to be sent again until it is
@@ -148,14 +148,21 @@ tells w now v exchange m waiters =
     })
 
 -- the client is given the answer of its exchange
-abbrev pub delivers : World → ℕ → ℕ → ℕ → Waiter → ℕ → Answer → Step
-delivers w now draw number v exchange a =
-    tells w now v exchange (given_to w now v a) (told w now draw number (given_to w now v a))
+abbrev pub delivers : World → ℕ → ℕ → ℕ → Waiter → ℕ → Bool → Answer → Step
+delivers w now draw number v exchange to_get a =
+    tells w now v exchange (given_to w now v to_get a)
+    (told w now draw number (given_to w now v to_get a))
 
--- a client is due when its exchange has its answer, so that the first case never comes
-abbrev pub on_answer : World → ℕ → ℕ → ℕ → Waiter → ℕ → Option Answer → Step
-on_answer w now draw number v exchange None = idles w now
-on_answer w now draw number v exchange (Some a) = delivers w now draw number v exchange a
+-- a client is due when its exchange has its answer, so that the first cases never come
+abbrev pub on_answer : World → ℕ → ℕ → ℕ → Waiter → ℕ → Bool → Option Answer → Step
+on_answer w now draw number v exchange to_get None = idles w now
+on_answer w now draw number v exchange to_get (Some a) =
+    delivers w now draw number v exchange to_get a
+
+abbrev pub on_awaited : World → ℕ → ℕ → ℕ → Waiter → ℕ → Option Exchange → Step
+on_awaited w now draw number v exchange None = idles w now
+on_awaited w now draw number v exchange (Some x) =
+    on_answer w now draw number v exchange x.is_get (answer_at x)
 
 -- the answer is sent again, the same bytes
 abbrev pub redelivers : World → ℕ → ℕ → Waiter → List ℕ → Step
@@ -180,7 +187,7 @@ on_unheard w now number v bytes GiveUp = abandons w now number
 -- a client that waits is given its answer; one that was given it is given it again, or given up
 abbrev pub on_waiting : World → ℕ → ℕ → ℕ → Waiter → WaiterState → Step
 on_waiting w now draw number v (Waiting exchange) =
-    on_answer w now draw number v exchange (answer_in exchange w.exchanges)
+    on_awaited w now draw number v exchange (item_at exchange w.exchanges)
 on_waiting w now draw number v (Delivering bytes id timer) =
     on_unheard w now number v bytes (fire_of now timer)
 

@@ -1,5 +1,5 @@
 //! Laws of the cache of a history: public functions that do nothing, whose contracts are the laws.
-ghost use Rattle.std.specs.Prelude.{◌≡◌, ℕ, ◌<◌, ◌≤◌, true, false, List, [], ◌∷◌, length, map, Some, None, Ok};
+ghost use Rattle.std.specs.Prelude.{◌≡◌, ℕ, ◌<◌, ◌≤◌, Bool, true, false, List, [], ◌∷◌, length, map, Some, None, Ok};
 ghost use Rattle.std.specs.List.{AllByRecursion};
 ghost use Rattle.coap_message.specs.Message.{Message};
 ghost use Rattle.coap_target.specs.declared.endpoint.Endpoint.{Endpoint};
@@ -14,11 +14,18 @@ ghost use Rattle.coap_model.specs.declared.report.Storing.TheVariants.{Kept, Too
 ghost use Rattle.coap_model.specs.Setting.{Setting};
 ghost use Rattle.coap_model.specs.Keys.{request_key};
 ghost use Rattle.coap_model.specs.History as told;
-ghost use Rattle.coap_model.specs.History.{Deed, Place, IsPlaceOf, Brings, takes, Gets};
-ghost use Rattle.coap_model.specs.Cached.{IsObtained, IsOfOrigin, Cached, cached_key, cached_size, cached_here, entry_of_cached, store_limits, leaves, IsCacheOf, StandsFirst, IsStored, IsStoreOf, WasObtained, IsEntryOf};
+ghost use Rattle.coap_model.specs.History.{Deed, Place, IsPlaceOf, Brings, moves, takes, Gets};
+ghost use Rattle.coap_model.specs.Answers.{marked_all};
+ghost use Rattle.coap_model.specs.Changed.{asked_of, key_asked, to_get, Unchanged, IsTold};
+ghost use Rattle.coap_forward.specs.Answers.{fits, taken_of, is_passed_on};
+ghost use Rattle.coap_forward.specs.Changes.{changed_by};
+ghost use Rattle.coap_cache.specs.Renewing.{is_validated, renewed};
+ghost use Rattle.coap_option.specs.Selection.{tags_of};
+ghost use Rattle.coap_routes.specs.Routes.{AreRoutes};
+ghost use Rattle.coap_model.specs.Cached.{IsFetched, IsLasting, IsObtained, Cached, cached_key, cached_size, entry_marked, entry_of_cached, store_limits, leaves, copied, entry_got, IsCacheOf, WasCacheAt, StandsFirst, IsStored, IsStoreOf, WasObtained, IsEntryOf};
 ghost use Rattle.coap_limits.specs.Limits.{AreLimits};
 ghost use Rattle.coap_model.specs.World.{World, counts};
-ghost use Rattle.coap_model.specs.Justified.{IsHit, IsObtainedHere, size_here, JustifiedBy};
+ghost use Rattle.coap_model.specs.Justified.{IsHit, IsObtainedHere, entry_here, size_here, JustifiedBy, AllJustified};
 ghost use Rattle.coap_model.specs.Carries.{Carries};
 ghost use Rattle.coap_model.specs.Examples.{play, proxy, tick_at};
 ghost use Rattle.coap_model.specs.StoringExamples.{answer_with, answer_in_place, still_delivered};
@@ -120,9 +127,12 @@ pub fn examples_of_caches()
         (second_entry ∷ []) }
     ensures too_large { IsCacheOf setting (answered 20 3 2 (Answered TooLarge) ∷ asked_past) [] }
     ensures not_got_yet { ¬ WasObtained setting (asked ∷ opened ∷ []) first_entry }
-    ensures not_its_answer { ¬ IsOfOrigin setting key_of_temp (content_for 1 2)
+    ensures not_its_answer { ¬ IsObtained setting key_of_temp (content_for 1 2)
         (record { before = opened ∷ []; deed = asked })
-        (record { before = asked ∷ opened ∷ []; deed = answered 5 1 2 (Answered Kept) }) }
+        (record {
+          before = asked ∷ opened ∷ [];
+          deed = record (answered 5 1 2 (Answered Kept)) { act = moves 1 };
+        }) }
 {}
 
 /// Answers for which there is memory, or not: only a key without an entry wants it, and the client
@@ -134,22 +144,49 @@ pub fn examples_of_memory()
     ensures in_place { (answer_in_place false).report.outcome ≡ Answered Kept }
 {}
 
-/// What is obtained for a key came from the endpoint that was asked with that key: it is what that
-/// endpoint sent, without Observe, and it stays fresh for some time.
-pub fn what_is_obtained_came_from_its_origin()
-    ensures { (setting : Setting) (key : CacheKey) (response : Message) (asking getting : Place)
+/// What may be stored was obtained, in a justified history: it came for a GET of its key, or it was
+/// obtained for the key before, and a 2.03 that came for a GET with its tag renews it. The target
+/// wasn't changed since, and it stays fresh for some time.
+pub fn what_is_stored_was_obtained()
+    ensures obtained { (setting : Setting) (past : List Deed) (d : Deed)
+        (here : IsObtainedHere setting past d)
+        → AreRoutes setting.routes
+        → AllJustified setting past
+        → IsObtained setting (key_asked here.gets) (entry_here here).response
+        here.gets.meets.asking (record { before = past; deed = d }) }
+    ensures fetched { (setting : Setting) (key : CacheKey) (response : Message)
+        (asking getting : Place)
         → IsObtained setting key response asking getting
-        → IsOfOrigin setting key response asking getting }
+        → IsFetched setting key asking getting }
+    ensures lasting { (setting : Setting) (key : CacheKey) (response : Message)
+        (asking getting : Place)
+        → IsObtained setting key response asking getting
+        → IsLasting response }
 {}
 
-/// The same the other way: what came so from the endpoint that was asked for an exchange, at the
-/// place where the exchange was got, is obtained.
-pub fn what_came_from_its_origin_is_obtained()
-    ensures { (setting : Setting) (key : CacheKey) (response : Message) (asking getting : Place)
-        (x : ℕ) (g : Gets setting x getting)
-        → g.meets.asking ≡ asking
-        → IsOfOrigin setting key response asking getting
-        → IsObtained setting key response asking getting }
+/// The same the other way: what came to a GET whose target wasn't changed since, and is passed on, may
+/// be stored if it may be kept; and so may what a 2.03 renews of what the GET carried the tag of.
+pub fn what_came_so_may_be_stored()
+    ensures as_it_came { (setting : Setting) (past : List Deed) (d : Deed) (exchange : ℕ)
+        (gets : Gets setting exchange (record { before = past; deed = d })) (former : List Cached)
+        → to_get gets ≡ true
+        → Unchanged setting (key_asked gets).target gets.meets.asking past
+        → WasCacheAt setting gets.meets.asking.before exchange former
+        → is_passed_on setting.limits.datagram true gets.meets.message ≡ true
+        → IsLasting (taken_of true gets.meets.message)
+        → IsObtainedHere setting past d }
+    ensures renewed { (setting : Setting) (past : List Deed) (d : Deed) (exchange : ℕ)
+        (gets : Gets setting exchange (record { before = past; deed = d })) (former : List Cached)
+        (old : Message)
+        → to_get gets ≡ true
+        → Unchanged setting (key_asked gets).target gets.meets.asking past
+        → WasCacheAt setting gets.meets.asking.before exchange former
+        → is_passed_on setting.limits.datagram true gets.meets.message ≡ true
+        → copied (tags_of (asked_of gets)) (key_asked gets) former ≡ Some old
+        → is_validated old (taken_of true gets.meets.message) ≡ true
+        → fits setting.limits.datagram (renewed old (taken_of true gets.meets.message)) ≡ true
+        → IsLasting (renewed old (taken_of true gets.meets.message))
+        → IsObtainedHere setting past d }
 {}
 
 /// What was obtained and counts no more than may be kept is kept where its key has an entry: only a
@@ -161,32 +198,39 @@ pub fn what_takes_a_place_is_kept()
         → takes d.entry.report.outcome ≡ true
         → size_here here ≤ setting.limits.cache_bytes
         → IsCacheOf setting past cached
-        → of_key cached_key here.key cached ≡ Some entry
+        → of_key cached_key (key_asked here.gets) cached ≡ Some entry
         → d.entry.report.outcome ≡ Answered Kept }
 {}
 
 /// What is shown from the cache was received: for a key that is equal to the request's, at a place
-/// before, of a request that was sent on before that. So it is what its origin sent
-/// (`what_is_obtained_came_from_its_origin`).
+/// before, of a request that was sent on before that, in a justified history.
 pub fn what_is_shown_was_received()
     ensures asked { (setting : Setting) (past : List Deed) (d : Deed) (hit : IsHit setting past d)
+        → AreRoutes setting.routes
+        → AllJustified setting past
         → IsPlaceOf past hit.entry.asking }
     ensures received { (setting : Setting) (past : List Deed) (d : Deed)
         (hit : IsHit setting past d)
+        → AreRoutes setting.routes
+        → AllJustified setting past
         → IsPlaceOf past hit.entry.getting }
     ensures equal_key { (setting : Setting) (past : List Deed) (d : Deed)
         (hit : IsHit setting past d)
+        → AreRoutes setting.routes
+        → AllJustified setting past
         → IsObtained setting hit.key hit.entry.response hit.entry.asking hit.entry.getting }
 {}
 
-/// A history has at most one cache. Each entry of it was obtained in the history. It keeps within
-/// the limits, and has one entry for a key.
+/// A history has at most one cache. Each entry of it was obtained in the history, if that is
+/// justified. It keeps within the limits, and has one entry for a key.
 pub fn caches_are_one()
     ensures one { (setting : Setting) (history : List Deed) (a b : List Cached)
         → IsCacheOf setting history a
         → IsCacheOf setting history b
         → a ≡ b }
     ensures obtained { (setting : Setting) (history : List Deed) (cached : List Cached)
+        → AreRoutes setting.routes
+        → AllJustified setting history
         → IsCacheOf setting history cached
         → AllByRecursion (WasObtained setting history) cached }
     ensures within { (setting : Setting) (history : List Deed) (cached : List Cached)
@@ -196,24 +240,33 @@ pub fn caches_are_one()
 
 /// A store has the cache of the history, and what is done to the one is done to the other: at
 /// first both are empty, an answer that is kept stands first, one that is too large gives up the
-/// entry of its key, a request that is answered moves it to the front, and all else leaves both.
+/// entry of its key, a request that is answered moves it to the front, and all else leaves both. What
+/// an answer changes is marked besides.
 pub fn stores_follow_caches()
     ensures new { (setting : Setting) → IsStoreOf setting [] [] }
-    ensures kept { (setting : Setting) (past : List Deed) (store : List Entry) (d : Deed)
-        (key : CacheKey) (response : Message) (asking : Place) (new : Entry)
+    ensures kept { (setting : Setting) (past : List Deed) (d : Deed) (exchange : ℕ)
+        (gets : Gets setting exchange (record { before = past; deed = d }))
+        (store : List Entry) (former : List Cached) (new : Entry)
         → d.entry.report.outcome ≡ Answered Kept
-        → IsObtained setting key response asking (record { before = past; deed = d })
-        → IsStored new (cached_here key response asking past d)
+        → WasCacheAt setting gets.meets.asking.before exchange former
+        → IsStored setting (d ∷ past) new (entry_got former gets)
         → IsStoreOf setting past store
         → IsStoreOf setting (d ∷ past)
         (put entry_key entry_size setting.limits.cache_bytes setting.limits.cache_entries
-        new store) }
-    ensures too_large { (setting : Setting) (past : List Deed) (store : List Entry) (d : Deed)
-        (key : CacheKey) (response : Message) (asking : Place)
+        new (marked_all (changed_by (key_asked gets).target gets.meets.message) store)) }
+    ensures too_large { (setting : Setting) (past : List Deed) (d : Deed) (exchange : ℕ)
+        (gets : Gets setting exchange (record { before = past; deed = d })) (store : List Entry)
         → d.entry.report.outcome ≡ Answered TooLarge
-        → IsObtained setting key response asking (record { before = past; deed = d })
         → IsStoreOf setting past store
-        → IsStoreOf setting (d ∷ past) (others entry_key key store) }
+        → IsStoreOf setting (d ∷ past)
+        (others entry_key (key_asked gets)
+        (marked_all (changed_by (key_asked gets).target gets.meets.message) store)) }
+    ensures marked { (setting : Setting) (past : List Deed) (d : Deed) (exchange : ℕ)
+        (gets : Gets setting exchange (record { before = past; deed = d })) (store : List Entry)
+        → leaves d.entry.report.outcome ≡ true
+        → IsStoreOf setting past store
+        → IsStoreOf setting (d ∷ past)
+        (marked_all (changed_by (key_asked gets).target gets.meets.message) store) }
     ensures hit { (setting : Setting) (past : List Deed) (store : List Entry) (d : Deed)
         (client : Endpoint) (request : Message) (target : Target) (stored : Entry)
         → d.entry.report.outcome ≡ Hit
@@ -224,11 +277,13 @@ pub fn stores_follow_caches()
         → IsStoreOf setting (d ∷ past) (used entry_key (request_key target request) store) }
     ensures otherwise { (setting : Setting) (past : List Deed) (store : List Entry) (d : Deed)
         → leaves d.entry.report.outcome ≡ true
+        → takes d.entry.report.outcome ≡ false
         → IsStoreOf setting past store
         → IsStoreOf setting (d ∷ past) store }
 {}
 
-/// A store that has the cache of the history has for each key what the cache has, and nothing else.
+/// A store that has the cache of the history has for each key what the cache has, marked where its
+/// target was changed since it was asked for, and nothing else.
 /// It counts as much, keeps within the limits, and has one entry for a key.
 pub fn stores_have_what_caches_have()
     ensures found { (setting : Setting) (history : List Deed) (store : List Entry)
@@ -238,7 +293,8 @@ pub fn stores_have_what_caches_have()
     ensures there { (setting : Setting) (history : List Deed) (store : List Entry)
         (s : IsStoreOf setting history store) (key : CacheKey) (entry : Cached)
         → of_key cached_key key s.cached ≡ Some entry
-        → of_key entry_key key store ≡ Some (entry_of_cached entry) }
+        → (marked : Bool) × (of_key entry_key key store ≡ Some (entry_marked marked entry))
+        × IsTold marked setting entry.key.target entry.asking history }
     ensures nothing { (setting : Setting) (history : List Deed) (store : List Entry)
         (s : IsStoreOf setting history store) (key : CacheKey)
         → of_key entry_key key store ≡ None
@@ -255,22 +311,22 @@ pub fn stores_have_what_caches_have()
 {}
 
 /// An answer that is kept stands first: in the cache of the history, and in the store of a proxy,
-/// with the response that came, the numbers of the events in which it was asked for and got, and
-/// the moment of the latter.
+/// with the response that came or was renewed, the numbers of the events in which it was asked for
+/// and got, and the moment of the latter, and without a mark.
 pub fn what_is_kept_stands_first()
-    ensures in_the_cache { (setting : Setting) (past : List Deed) (d : Deed) (key : CacheKey)
-        (response : Message) (asking : Place) (cached : List Cached)
+    ensures in_the_cache { (setting : Setting) (past : List Deed) (d : Deed)
+        (cached : List Cached)
         → 1 ≤ setting.limits.cache_entries
         → JustifiedBy d.entry.report.outcome setting past d
         → d.entry.report.outcome ≡ Answered Kept
-        → IsObtained setting key response asking (record { before = past; deed = d })
+        → (here : IsObtainedHere setting past d)
         → IsCacheOf setting (d ∷ past) cached
-        → StandsFirst (cached_here key response asking past d) cached }
+        → StandsFirst (entry_here here) cached }
     ensures in_the_store { (w : World) (history : List told.Entry) (c : Carries history w)
-        (past : List Deed) (d : Deed) (key : CacheKey) (response : Message) (asking : Place)
+        (past : List Deed) (d : Deed)
         → AreLimits w.setting.limits
         → c.deeds ≡ d ∷ past
         → d.entry.report.outcome ≡ Answered Kept
-        → IsObtained w.setting key response asking (record { before = past; deed = d })
-        → StandsFirst (entry_of_cached (cached_here key response asking past d)) w.store }
+        → (here : IsObtainedHere w.setting past d)
+        → StandsFirst (entry_of_cached (entry_here here)) w.store }
 {}

@@ -20,9 +20,9 @@ ghost use Rattle.coap_model.specs.Memory.{takes_memory};
 ghost use Rattle.coap_model.specs.Ticks.{next_due};
 ghost use Rattle.coap_model.specs.History.{comes_con, moves, Act, no_item, serves, takes, opened_in, Deed, Place, IsPlaceOf, Somewhere, Sends, Ends, Serves, LetsGo, Never, last_of, IsInOrder, IsRequestOf, Entry, grown_of, gives_id, ids_in, Gives, is_con_datagram};
 ghost use Rattle.coap_forward.specs.Messages.{eight_zeros, own_reply, reply_kind, told_again, brings_requests, is_bare, is_recorded, acknowledgement, reset};
-ghost use Rattle.coap_model.specs.Justified.{HaveOneMemory, Comes, known_of, HasRecordRoom, Acknowledges, Closes, IsNew, IsUnprocessable, verdict_on, fits_on, IsMiss, IsJoinable, IsUnanswered, IsAwaited, IsActing, IsForwarding, IsDelivery, JustifiedBy, AllJustified, IsOwed, MayFollow, AreOfOneTurn, is_fresh_at, HasIdFor, IsObtainedHere, size_here};
+ghost use Rattle.coap_model.specs.Justified.{HaveOneMemory, Comes, known_of, HasRecordRoom, Acknowledges, Closes, IsNew, IsUnprocessable, verdict_on, fits_on, IsMiss, IsJoinable, IsUnanswered, IsAwaited, IsActing, IsForwarding, IsDelivery, JustifiedBy, AllJustified, IsOwed, MayFollow, AreOfOneTurn, IsGet, IsUsable, HasIdFor, IsObtainedHere, size_here};
 ghost use Rattle.coap_model.specs.Runs.{turns_of, AreTurns, Taken, new_run, run_of, entry_of, answer_at};
-ghost use Rattle.coap_model.specs.Examples.{nothing, to, get_t, origin, from, tick_at, client, play, proxy, small_proxy, narrow_proxy, first_answer, first_answer_sent, late_answer, late_answer_sent, error, error_sent, fault, fault_sent, changed, changed_sent, valid, replaced_sent, block_in_response, long_max_age, impostor, impostor_sent, refusals, refusals_sent, long_paths, long_paths_sent, long_segments, long_segments_sent, payload_in_get, payload_in_get_sent, full, full_sent, unprocessed_messages, unprocessed_messages_sent, too_long, too_long_sent, payload_of, payload_of_109_sent, spent_proxy, last_id, last_id_sent, wrapping_proxy, wrapping, wrapping_sent, content_for_client};
+ghost use Rattle.coap_model.specs.Examples.{nothing, to, get_t, bare_get, origin, from, tick_at, client, play, proxy, small_proxy, narrow_proxy, first_answer, first_answer_sent, late_answer, late_answer_sent, error, error_sent, fault, fault_sent, changed, changed_sent, valid, replaced_sent, block_in_response, long_max_age, impostor, impostor_sent, refusals, refusals_sent, long_paths, long_paths_sent, long_segments, long_segments_sent, payload_in_get, payload_in_get_sent, full, full_sent, unprocessed_messages, unprocessed_messages_sent, too_long, too_long_sent, payload_of, payload_of_109_sent, spent_proxy, last_id, last_id_sent, wrapping_proxy, wrapping, wrapping_sent, content_for_client};
 ghost use Rattle.coap_model.specs.ReplyExamples.{asks_at, with_token, tokens, tokens_sent, two_faults, two_faults_sent, of_class_3, of_class_3_sent, changed_with_age, changed_with_age_sent, two_ages, beside_an_age, beside_an_age_sent, path_in_response, greatest_age, greatest_age_sent, shorter_age, shorter_age_sent, ten_seconds_after, one_left, none_left, of_one_moment, of_one_moment_sent, request_first, request_first_sent, client_first, client_first_sent};
 ghost use Rattle.coap_model.specs.FormExamples.{after, named, named_form, target_in};
 ghost use Rattle.coap_model.specs.OptionExamples.{others, form_with_others, key_in, key_of_others, odd_form, odd_key, form_with_tag, key_of_temp, get_with_others, get_with_tags, with_tag, held_sent, other_tag_sent, accepted, accepted_sent, observed, observed_sent, long_observed, odd_observe, with_unknown, safe_sent, beside_a_tag, beside_a_tag_sent, forward_proxy, refused_targets, refused_targets_sent, long_without_map, long_without_map_sent, to_sensor, to_sensor_sent};
@@ -32,6 +32,7 @@ ghost use Rattle.coap_model.specs.ResponseExamples as responses;
 ghost use Rattle.coap_model.specs.ResponseExamples.{empty_ack, empty_reset, con_got, non_got, acked_as, comes, becomes, taken, ignored, acknowledged_until, silence_after, of_others, of_others_sent, reset_by_origin, reset_by_origin_sent, reset_after, reset_after_sent, con_response, con_response_sent, non_response, non_response_sent, before_acknowledgement, before_acknowledgement_sent, block_in_separate, block_in_separate_sent, of_impostors, of_impostors_sent, after_giving_up, after_giving_up_sent, no_room, no_room_sent, no_room_needed, no_room_needed_sent, lets_go, lets_go_sent, response, request, is_awaited, queued_turns, sent_turns, acked_turns, answered_turns, opened_acting, sent_acting, acked_acting, reset_acting, got_acting, served_acting, non_acting, record_of_response};
 ghost use Rattle.coap_model.specs.JoiningExamples as joining;
 ghost use Rattle.coap_model.specs.ConfirmableExamples as confirmable;
+ghost use Rattle.coap_model.specs.ChangeExamples as changes;
 ghost use Rattle.coap_model.specs.Standing.{waits, queued, sent, acked, done, stage_of, outstanding_to, queued_in, window_ids, HasRoomToJoin, HasRoomToOpen, open_in, standing_in, service_of, waiting_in, told};
 ghost use Rattle.coap_model.specs.Schedules.{sends_by, next_send, IsSchedule};
 ghost use Rattle.coap_model.specs.Held.{target_bytes, held, most_held};
@@ -121,7 +122,7 @@ pub fn examples_of_replies()
 /// proxy's own, and ids that are put in; what is held, counted and due after some turns; which
 /// outcomes need no memory and which may; and what a proxy is made with.
 pub fn examples_of_forms_and_tables()
-    ensures form { spelling (forwarded eight_zeros named [] 7) ≡ named_form }
+    ensures form { spelling (forwarded eight_zeros named None bare_get 7) ≡ named_form }
     ensures own { spelling (own_reply NOT_FOUND [] 7 (0xAA ∷ []))
         ≡ 0x51 ∷ 0x84 ∷ 0 ∷ 7 ∷ 0xAA ∷ [] }
     ensures to_no_request { reply_kind Ack ≡ Non }
@@ -172,7 +173,7 @@ pub fn examples_of_forms_and_tables()
 /// off a client's request, clients with tags, Observe, options that aren't recognised, what fits
 /// beside a tag, and targets by a Proxy-Scheme.
 pub fn examples_of_options()
-    ensures form { spelling (forwarded eight_zeros named others 7) ≡ form_with_others }
+    ensures form { spelling (forwarded eight_zeros named None get_with_others 7) ≡ form_with_others }
     ensures read_back { key_in origin form_with_others ≡ Some key_of_others }
     ensures own_tag { key_in origin form_with_tag ≡ Some key_of_temp }
     ensures odd_form { key_in origin odd_form ≡ Some odd_key }
@@ -359,7 +360,7 @@ pub fn examples_of_responses()
     ensures remembers_no_ack { is_remembered (Answered Kept) Ack ≡ false }
     ensures remembers_no_acked { is_remembered Acked Con ≡ false }
     ensures no_memory_to_acknowledge { takes_memory Acked [] ≡ false }
-    ensures answer_of_reset { answer_of 1500 9 (reset 7)
+    ensures answer_of_reset { answer_of 1500 true None 9 (reset 7)
         ≡ record { message = bad_gateway; got = 9; own = true } }
     ensures waits { stage_of 1 (history_of opened_acting) ≡ Some queued }
     ensures is_sent { stage_of 1 (history_of sent_acting) ≡ Some (sent origin) }
@@ -476,6 +477,31 @@ pub fn examples_of_confirmable_clients()
     ensures con_datagram { is_con_datagram (0x40 ∷ 0 ∷ 0 ∷ 9 ∷ []) ≡ true }
     ensures other_datagram { is_con_datagram (0x60 ∷ 0 ∷ 0 ∷ 9 ∷ []) ≡ false }
     ensures short_datagram { is_con_datagram (0x40 ∷ 0 ∷ 0 ∷ []) ≡ false }
+{}
+
+/// Requests of other methods and their responses: what these change of what is stored and of what is
+/// on its way, what a 2.01 names, and stored responses that are validated, and renewed or not.
+pub fn examples_of_changes()
+    ensures changed { play proxy changes.changed ≡ changes.changed_sent }
+    ensures not_deleted { play proxy changes.not_deleted ≡ changes.not_deleted_sent }
+    ensures overtaken { play proxy changes.overtaken ≡ changes.overtaken_sent }
+    ensures changed_by_get { play proxy changes.changed_by_get ≡ changes.changed_by_get_sent }
+    ensures not_joined { play proxy changes.not_joined ≡ changes.not_joined_sent }
+    ensures posted_once { play proxy changes.posted_once ≡ changes.posted_once_sent }
+    ensures tag_of_a_post { play proxy changes.tag_of_a_post ≡ changes.tag_of_a_post_sent }
+    ensures created { play proxy changes.created ≡ changes.created_sent }
+    ensures changed_elsewhere { play proxy changes.changed_elsewhere
+        ≡ changes.changed_elsewhere_sent }
+    ensures located_by_query { play proxy changes.located_by_query ≡ changes.located_by_query_sent }
+    ensures validated { play proxy changes.validated ≡ changes.validated_sent }
+    ensures changed_and_validated { play proxy changes.changed_and_validated
+        ≡ changes.changed_and_validated_sent }
+    ensures evicted { play changes.one_entry changes.evicted ≡ changes.evicted_sent }
+    ensures other_tag { play changes.one_entry changes.other_tag ≡ changes.other_tag_sent }
+    ensures valid_for_none { play proxy changes.valid_for_none ≡ changes.valid_for_none_sent }
+    ensures own_tag_first { play proxy changes.own_tag_first ≡ changes.own_tag_first_sent }
+    ensures renewed_too_long { play narrow changes.renewed_too_long
+        ≡ changes.renewed_too_long_sent }
 {}
 
 /// Each request that is sent on has the cache key of the client's request for which it is sent,
@@ -673,9 +699,9 @@ pub fn what_is_promised_holds_at_each_place()
 
 /// What is promised gives what is owed, place by place: a message that repeats a place before it is
 /// told again; a request that isn't known, or an answer in a Confirmable message, meets silence
-/// where there is no room to remember it; a new request whose key has a fresh entry is answered
-/// from the cache; and an answer is stored by its size where it was obtained, memory aside, and not
-/// stored where it wasn't.
+/// where there is no room to remember it; a new GET whose key has an entry that is fresh, and whose
+/// target wasn't changed since, is answered from the cache; and an answer is stored by its size where
+/// it was obtained, memory aside, and not stored where it wasn't.
 pub fn what_is_owed_is_given_at_each_place()
     ensures again { (history : List Entry) (w : World) (p : Promised history w)
         (place former : Place) (source : Endpoint) (message : Message)
@@ -707,10 +733,11 @@ pub fn what_is_owed_is_given_at_each_place()
         → IsPlaceOf p.deeds place
         → IsRequestOf w.setting client request place.deed.entry.event
         → IsNew w.setting place.before place.deed.entry.now client request
+        → IsGet request
         → verdict_on w.setting request ≡ may_ask key
         → IsCacheOf w.setting place.before cached
         → of_key cached_key key cached ≡ Some entry
-        → is_fresh_at place.deed.entry.now entry ≡ true
+        → IsUsable w.setting place.before place.deed.entry.now entry
         → HasIdFor request place.deed.entry.now place.before
         → place.deed.entry.report.outcome ≡ Hit }
     ensures kept { (history : List Entry) (w : World) (p : Promised history w) (place : Place)
@@ -767,9 +794,10 @@ pub fn nothing_is_done_twice()
 
 /// What is owed is given, where an entry is justified by what was done before it: a message that is
 /// remembered is told again what it was told, and a request for which there is no room to remember
-/// it meets silence; of the other requests one whose key has a fresh entry is answered from the
-/// cache, one whose key has none, but an exchange that may be joined, joins it, with room, and one
-/// that may be asked for and that nothing answers, with room, is opened. A message that answers an
+/// it meets silence; of the other requests a GET whose key has an entry that is fresh, and whose
+/// target wasn't changed since, is answered from the cache, one whose key has none, but an exchange
+/// that may be joined, joins it, with room, and a request that may be asked for and that nothing
+/// answers, with room, is opened. A message that answers an
 /// exchange is its answer, which is kept by its size where it was obtained; in a Confirmable
 /// message it is taken where it is new, and meets silence where it isn't known and there is no room
 /// to remember it. An acknowledgement of a request that waits for one settles it, and an
@@ -786,7 +814,7 @@ pub fn what_is_owed_is_given()
         → IsRequestOf setting client request d.entry.event
         → IsNew setting past d.entry.now client request
         → verdict_on setting request ≡ may_ask key
-        → IsUnanswered setting past d.entry.now key
+        → IsUnanswered setting past d.entry.now key request
         → fits_on setting key request ≡ true
         → HasRoomToOpen setting.limits d.entry.now past
         → d.entry.report.outcome ≡ Opened }
@@ -796,6 +824,7 @@ pub fn what_is_owed_is_given()
         → JustifiedBy d.entry.report.outcome setting past d
         → IsRequestOf setting client request d.entry.event
         → IsNew setting past d.entry.now client request
+        → IsGet request
         → verdict_on setting request ≡ may_ask key
         → IsMiss setting past key d.entry.now
         → IsJoinable setting past key exchange

@@ -6,13 +6,14 @@ use Rattle.coap_routes.specs.Request.{request_target}
 use Rattle.coap_routes.specs.Routes.{mapped_target}
 use Rattle.coap_forward.specs.Messages.{token_of}
 use Rattle.coap_model.specs.Keys.{target_sent}
-use Rattle.coap_forward.specs.Forms.{target_options}
-use Rattle.coap_model.specs.Verdicts.{verdict_of, form_fits}
+use Rattle.coap_forward.specs.Forms.{target_options, form_fits}
+use Rattle.coap_model.specs.Verdicts.{verdict_of}
 use Rattle.coap_forward.specs.Answers.{answer_of}
+use Rattle.coap_forward.specs.Changes.{changed_by}
 use Rattle.coap_message.specs.Spelling.{with_id}
 use Rattle.coap_model.specs.Step.{message_in}
 use Rattle.coap_model.proofs.cache_laws.examples_of_memory.Goals as goal
 
 pub returns : goal.returns
-unfolding target_sent read_message body_at options_within option_at extended spelling option_spelling uint_spelling mapped_target request_target token_of target_options verdict_of form_fits answer_of with_id message_in
+unfolding target_sent read_message body_at options_within option_at extended spelling option_spelling uint_spelling mapped_target request_target token_of target_options verdict_of form_fits answer_of changed_by with_id message_in
 returns c = record { memory = refl; no_memory = refl; still_delivered = refl; in_place = refl }

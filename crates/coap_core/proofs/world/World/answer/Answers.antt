@@ -1,19 +1,27 @@
-use Rattle.std.proofs.Common.{◌∙◌, arith}
-use Rattle.coap_limits.specs.declared.limits.Limit.TheVariants.{Datagram}
+use Rattle.std.proofs.Common.{◌∙◌, ◌<◌, sym, arith}
 use Rattle.coap_model.specs.declared.report.Outcome.TheVariants.{Answered}
-use Rattle.coap_core.proofs.Puts.{answer-does}
+use Rattle.coap_core.specs.Storing.{targets_in}
+use Rattle.coap_core.proofs.Puts.{left-open, left-events, answer-does}
 use Rattle.coap_core.proofs.Records.{held-same}
 use Rattle.coap_core.proofs.world.World.answer.Goals as goal
 
-pub take_up-requires-clause-room : goal.take_up-requires-clause-room
-take_up-requires-clause-room g c =
-    let room = rw (← c.self.view_is) at c.requires.room in
-    let range = (c.values.ensures.in_range Datagram).0 in
-    omega (arith, room, range, c.in_ok-answer.ensures.kept)
+pub answered-requires : goal.answered-requires
+answered-requires g c =
+    let kept = rw (c.change_all.ensures, c.in_ok-send.ensures.done) at c.keep-storing.ensures in
+    let still = left-open c.args.self.now c.keep-storing.new.self c.args.now c.args.number c.args.source c.args.response.now (targets_in c.in_ok-changed.changed) c.in_ok-entry.entry c.keep-storing.result kept c.requires.open in
+    record { «open» = rw (← c.self.view_is) at still }
+
+pub pass-requires : goal.pass-requires
+pass-requires g c =
+    let kept = rw (c.change_all.ensures, c.in_ok-send.ensures.done) at c.keep-storing.ensures in
+    let same = left-events c.args.self.now c.keep-storing.new.self c.args.now c.args.number c.args.source c.args.response.now (targets_in c.in_ok-changed.changed) c.in_ok-entry.entry c.keep-storing.result kept in
+    let few = c.requires.can.events in
+    let low : c.keep-storing.new.self.events < 9223372036854775808 = omega (arith, same, few) in
+    rw (← c.self.view_is) at low
 
 pub returns-clause-exact : goal.returns-clause-exact
 returns-clause-exact g c =
-    answer-does c.args.self.now c.keep-storing.new.self c.args.now c.args.number c.args.source c.args.response.now c.in_ok-entry.entry c.keep-storing.result (record { send = c.in_ok-send.send; outcome = Answered c.keep-storing.result }) c.args.out.now c.take_up.new.out c.pass.new.self c.in_ok-answer.answer
-    (rw (← c.self.view_is, ← c.values.ensures.exact) c.in_ok-answer.ensures.exact) c.in_ok-entry.ensures (rw c.in_ok-send.ensures.done at c.keep-storing.ensures) (λ i. record { send = c.in_ok-send.ensures.send i; outcome = Answered c.keep-storing.result })
-    (c.in_ok-send.ensures.said ∙ held-same c.answer_of.new.out c.args.out.now _ c.in_ok-answer.ensures.kept)
-    (rw (← c.self-2.view_is) (rw c.answered.ensures.answered at c.pass.ensures))
+    answer-does c.args.self.now c.keep-storing.new.self c.args.now c.args.number c.args.source c.args.response.now c.in_ok-entry.entry (targets_in c.in_ok-changed.changed) c.keep-storing.result (record { send = c.in_ok-send.send; outcome = Answered c.keep-storing.result }) c.args.out.now c.take_up.new.out c.pass.new.self c.in-Some.answer
+    (sym c.in-Some.is ∙ c.in_ok-answer.ensures.exact) c.in_ok-entry.ensures c.in_ok-changed.ensures (rw (c.change_all.ensures, c.in_ok-send.ensures.done) at c.keep-storing.ensures) (λ i. record { send = c.in_ok-send.ensures.send i; outcome = Answered c.keep-storing.result })
+    (c.in_ok-send.ensures.said ∙ held-same c.answer_made.new.out c.args.out.now _ c.in_ok-answer.ensures.kept)
+    (rw (← c.self.view_is) (rw c.answered.ensures.answered at c.pass.ensures))

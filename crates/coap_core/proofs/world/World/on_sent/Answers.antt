@@ -5,7 +5,7 @@ use Rattle.coap_forward.specs.Messages.{is_ack}
 use Rattle.coap_model.specs.History.{grown_of}
 use Rattle.coap_model.specs.World.{Step}
 use Rattle.coap_core.specs.Steps.{Does}
-use Rattle.coap_core.proofs.Puts.{no-ack, rst-of_bare, reset-step}
+use Rattle.coap_core.proofs.Puts.{no-ack, reset-step}
 use Rattle.coap_core.proofs.world.World.on_sent.Goals as goal
 
 pub returns-in-Con : goal.returns-in-Con
@@ -17,5 +17,5 @@ returns-in-Con g c =
     let sent : is_sent x ≡ true = sym c.if-not-is_sent.ensures.exact in
     let other : is_ack m.kind ≡ false = rw (← c.message.view_is) (no-ack c.message.inside.kind c.in-Con.is) in
     subst (λ (s : Step). Does s c.reset.result c.args.out.now c.reset.new.out c.reset.new.self)
-    (sym (reset-step w c.args.now (grown_of c.reset.result.outcome) c.args.source m c.args.number x found sent other (rst-of_bare m c.requires.bare other)))
+    (sym (reset-step w c.args.now (grown_of c.reset.result.outcome) c.args.source m c.args.number x found sent c.requires.bare other))
     c.reset.ensures
