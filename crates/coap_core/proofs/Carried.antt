@@ -15,9 +15,11 @@ use Rattle.coap_model.specs.Carries.{Carries}
 use Rattle.coap_model.proofs.Carrying.{keeps_step}
 use Rattle.coap_model.proofs.Frames.{opened-few, admitted-few}
 use Rattle.coap_model.specs.Promised.{Promised}
+use Rattle.coap_model.specs.Word.{KeepsItsWord}
+use Rattle.coap_model.proofs.Word.{keeps-word}
 use Rattle.coap_model.proofs.Promising.{promises}
 use Rattle.coap_model.proofs.Running.{setting_stays}
-use Rattle.coap_core.specs.Steps.{Does, CanGoOn, PromisesOn, entry_told}
+use Rattle.coap_core.specs.Steps.{Does, CanGoOn, KeepsWordOn, PromisesOn, entry_told}
 
 -- what is remembered came at the last moment, or before
 until : (w : World) (deeds : List Deed) → w.last ≡ last_of deeds → (rs : List Record) → AreUpTo (last_of deeds) rs → AreUpTo w.last rs
@@ -70,12 +72,21 @@ pub is-short : (r : Result Report OutOfMemory) (s : Bool → Step) (old new : Da
 is-short (Ok report) s old new v most short does none = omega (arith, short (grown_of report.outcome), ap (λ (d : Datagram). length d.bytes) does.1)
 is-short (Err e) s old new v most short does none = omega (arith, ap (λ (d : Datagram). length d.bytes) none)
 
--- what a step leaves promises of its entry what was promised of those before
-pub promises-on : (w : World) (now draw : ℕ) (event : Event) → w.last ≤ now → IsEvent event → (r : Result Report OutOfMemory) (old new : Datagram) (v : World) → IfOk r (λ report. Does (step_of w now draw (grown_of report.outcome) event) report old new v) → IfOk r (λ report. PromisesOn w (entry_told now draw event report new.bytes) v)
-promises-on w now draw event onward fits (Ok report) old new v does = λ history c.
+-- what holds of whatever is carried holds with the entry of a step in front
+holds-on : (P : List Entry → World → Type 0) → ((history : List Entry) (w : World) → Carries history w → P history w) → (w : World) (now draw : ℕ) (event : Event) → w.last ≤ now → IsEvent event → (r : Result Report OutOfMemory) (old new : Datagram) (v : World) → IfOk r (λ report. Does (step_of w now draw (grown_of report.outcome) event) report old new v)
+    → IfOk r (λ report. (history : List Entry) → Carries history w → P (entry_told now draw event report new.bytes ∷ history) v)
+holds-on P holds w now draw event onward fits (Ok report) old new v does = λ history c.
     let s = step_of w now draw (grown_of report.outcome) event in
     let bytes : new.bytes ≡ s.bytes = ap (λ (d : Datagram). d.bytes) does.1 in
     let told : entry_told now draw event report new.bytes ≡ entry_of now draw event s = λ i. entry_told now draw event (does.0 i) (bytes i) in
     let on = keeps_step w history now draw (grown_of report.outcome) event c onward fits in
-    subst (λ (e : Entry). Promised (e ∷ history) v) (sym told) (subst (λ (x : World). Promised (entry_of now draw event s ∷ history) x) (sym does.2) (promises (entry_of now draw event s ∷ history) s.world on))
-promises-on w now draw event onward fits (Err e) old new v does = tt
+    subst (λ (e : Entry). P (e ∷ history) v) (sym told) (subst (λ (x : World). P (entry_of now draw event s ∷ history) x) (sym does.2) (holds (entry_of now draw event s ∷ history) s.world on))
+holds-on P holds w now draw event onward fits (Err e) old new v does = tt
+
+-- so what a step leaves promises of its entry what was promised of those before
+pub promises-on : (w : World) (now draw : ℕ) (event : Event) → w.last ≤ now → IsEvent event → (r : Result Report OutOfMemory) (old new : Datagram) (v : World) → IfOk r (λ report. Does (step_of w now draw (grown_of report.outcome) event) report old new v) → IfOk r (λ report. PromisesOn w (entry_told now draw event report new.bytes) v)
+promises-on = holds-on Promised promises
+
+-- and keeps its word
+pub word-on : (w : World) (now draw : ℕ) (event : Event) → w.last ≤ now → IsEvent event → (r : Result Report OutOfMemory) (old new : Datagram) (v : World) → IfOk r (λ report. Does (step_of w now draw (grown_of report.outcome) event) report old new v) → IfOk r (λ report. KeepsWordOn w (entry_told now draw event report new.bytes) v)
+word-on = holds-on KeepsItsWord keeps-word

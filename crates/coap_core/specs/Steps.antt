@@ -29,6 +29,7 @@ use Rattle.coap_model.specs.History.{Entry, is_con_datagram}
 use Rattle.coap_model.specs.Memory.{takes_memory}
 use Rattle.coap_model.specs.Carries.{Carries}
 use Rattle.coap_model.specs.Promised.{Promised}
+use Rattle.coap_model.specs.Word.{KeepsItsWord}
 use Rattle.coap_target.specs.declared.endpoint.Endpoint.{Endpoint}
 use Rattle.coap_dedup.specs.Lists.{AreUpTo}
 use Rattle.coap_dedup.specs.Records.{AreRecords}
@@ -64,6 +65,11 @@ CarriesOn before e after =
 abbrev pub PromisesOn : World → Entry → World → Type 0
 PromisesOn before e after =
     (history : List Entry) → Carries history before → Promised (e ∷ history) after
+
+-- and it keeps its word of that
+abbrev pub KeepsWordOn : World → Entry → World → Type 0
+KeepsWordOn before e after =
+    (history : List Entry) → Carries history before → KeepsItsWord (e ∷ history) after
 
 -- What a step needs of the tables before it: origins are targets, the tables are in order of
 -- number, there are numbers left to count with, an id is left for whoever it is kept for, and what
@@ -191,7 +197,8 @@ unheard w now number v (Delivering bytes id timer) =
 
 -- the client of this number
 abbrev pub unheard_at : World → ℕ → ℕ → Step
-unheard_at w now number = step_with w now (λ v. unheard w now number v v.state) (item_at number w.waiters)
+unheard_at w now number =
+    step_with w now (λ v. unheard w now number v v.state) (item_at number w.waiters)
 
 -- the bytes of the request of the exchange of this number
 abbrev pub form_of : Option Exchange → List ℕ

@@ -13,7 +13,7 @@ ghost use Rattle.coap_model.specs.History.{grown_of};
 ghost use Rattle.coap_model.specs.Step.{step_of};
 ghost use Rattle.coap_model.specs.Carries.{Carries};
 ghost use Rattle.coap_core.specs.Events.{IsUnread, seen};
-ghost use Rattle.coap_core.specs.Steps.{CarriesOn, Does, GivesConfirmable, PromisesOn, entry_told, wants_memory};
+ghost use Rattle.coap_core.specs.Steps.{CarriesOn, Does, GivesConfirmable, KeepsWordOn, PromisesOn, entry_told, wants_memory};
 
 use crate::event::Event;
 use crate::world::World;
@@ -125,6 +125,13 @@ impl<S: Store + Drop> Core<S> {
         // So it promises of this step what it promised of those before.
         ensures promised { IfOk result (λ report.
             PromisesOn self.old (entry_told now draw (seen event.entry) report out.new.bytes)
+            self.new) }
+
+        // And in short: at each event the limits hold, each reply from the cache was received for
+        // an equal key, is fresh, and its target is unchanged, and each duplicate gets its kept
+        // reply.
+        ensures word { IfOk result (λ report.
+            KeepsWordOn self.old (entry_told now draw (seen event.entry) report out.new.bytes)
             self.new) }
 
         // It is as it was made, within its limits, and within the bound on bytes.

@@ -17,7 +17,7 @@ pub data Order (a b : Due) : Type 0 where
 abbrev pair : ℕ → ℕ → Due
 pair p n = (p, n)
 
-same_due : (a b : Due) → a.0 ≡ b.0 → a.1 ≡ b.1 → a ≡ b
+pub same_due : (a b : Due) → a.0 ≡ b.0 → a.1 ≡ b.1 → a ≡ b
 same_due a b e f = go a.0 b.0 a.1 b.1 e f
   where
     go : (p q n m : ℕ) → p ≡ q → n ≡ m → pair p n ≡ pair q m

@@ -1,10 +1,11 @@
 //! What is due: a moment, in milliseconds, from which on something is due, and its number in its
 //! table.
-ghost use Rattle.std.specs.Prelude.{◌≡◌};
+ghost use Rattle.std.specs.Prelude.{◌≡◌, ◌≤◌, ◌^◌, IfSome};
 ghost use Rattle.coap_exchange.specs.Due.{as_due, is_before, sooner};
+ghost use Rattle.coap_exchange.specs.Index.{later};
 
 /// Whether the first is due before the other: earlier, or at one moment under a lower number.
-fn is_before(a: (u64, u64), b: (u64, u64)) -> bool
+pub(crate) fn is_before(a: (u64, u64), b: (u64, u64)) -> bool
     ensures exact { result ≡ is_before a b }
 {
     a.0 < b.0 || (a.0 == b.0 && a.1 < b.1)
@@ -27,4 +28,14 @@ pub(crate) fn sooner(a: Option<(u64, u64)>, b: Option<(u64, u64)>) -> Option<(u6
         (Some(_), None) => a,
         (None, _) => b,
     }
+}
+
+/// What is due so many milliseconds later.
+pub(crate) fn later(due: Option<(u64, u64)>, ms: u64) -> Option<(u64, u64)>
+    requires early { IfSome due (λ d. d.0 ≤ 2 ^ 62) }
+    requires short { ms ≤ 600000 }
+    ensures exact { result ≡ later ms due }
+{
+    let due = due?;
+    Some((due.0 + ms, due.1))
 }

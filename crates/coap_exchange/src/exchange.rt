@@ -1,7 +1,7 @@
 //! Exchanges: requests on their way to an origin.
 ghost use Rattle.std.specs.Prelude.{◌≡◌, ◌≤◌, ◌^◌};
 ghost use Rattle.std.specs.Option.{option_copied};
-ghost use Rattle.coap_exchange.specs.Exchanges.{answer_at, changed_by, due_of, fire_of_sending, fired_exchange, is_as, is_acked, is_changed_with, is_joinable, is_queued, is_sent, tainted_by, was_sent_as, CanChange, CanFire};
+ghost use Rattle.coap_exchange.specs.Exchanges.{answer_at, changed_by, fire_of_sending, fired_exchange, is_as, is_acked, is_changed_with, is_joinable, is_queued, is_sent, tainted_by, was_sent_as, CanChange, CanFire};
 ghost use Rattle.coap_exchange.specs.Lines.{sends};
 
 use crate::timer::{Fire, Timer};
@@ -181,25 +181,6 @@ impl Exchange {
         ensures exact { result ≡ is_changed_with target.now self.now }
     {
         (self.is_sent() || self.is_acked()) && self.key.target.is(target)
-    }
-
-    /// When it is due, if it is: where it waits for its turn at once, unless it is blocked; where
-    /// it was sent as its timer says; at last at its deadline, unless its answer has come.
-    pub(crate) fn due(&self, blocked: bool, exchange_ms: u64) -> Option<u64>
-        requires admitted { self.now.admitted ≤ 2 ^ 62 }
-        requires short { exchange_ms ≤ 600000 }
-        ensures exact { result ≡ due_of blocked exchange_ms self.now }
-    {
-        let deadline = self.admitted + exchange_ms;
-        match &self.state {
-            ExchangeState::Queued => Some(if blocked { deadline } else { self.admitted }),
-            ExchangeState::Sent => match &self.sending {
-                Some(sending) => Some(sending.timer.due.min(deadline)),
-                None => Some(deadline),
-            },
-            ExchangeState::Acked => Some(deadline),
-            ExchangeState::Done(_) => None,
-        }
     }
 
     /// What its timer says, now that it is due.

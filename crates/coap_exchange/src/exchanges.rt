@@ -1,25 +1,28 @@
 //! Tables of exchanges: what is admitted, sent, answered and closed, and what is due.
-ghost use Rattle.std.specs.Prelude.{◌≡◌, ◌+◌, ◌-◌, ◌<◌, ◌≤◌, ◌^◌, ◌↔◌, ◌&&◌, length, nat_eq, slice_get, if◌then◌else◌, true, false, None, OnOk, OnErr, IfOk, IfErr, IfSome, IfNone};
+ghost use Rattle.std.specs.Prelude.{◌≡◌, ◌+◌, ◌-◌, ◌<◌, ◌≤◌, ◌^◌, ◌↔◌, ◌&&◌, length, if◌then◌else◌, true, false, None, OnOk, OnErr, IfOk, IfErr, IfSome, IfNone};
 ghost use Rattle.std.specs.Map.{set_value};
 ghost use Rattle.std.specs.Option.{option_copied};
-ghost use Rattle.indexmap.specs.IndexMap.{get, index_map_len, set_value_at, values};
+ghost use Rattle.std.specs.BTreeMap.{get, is_at};
+ghost use Rattle.std.specs.Ordering.{nat_cmp};
 ghost use Rattle.coap_target.specs.declared.endpoint.Endpoint.{Endpoint};
+ghost use Rattle.coap_exchange.specs.Answered.{IsFirstGot, IsNextGot};
 ghost use Rattle.coap_exchange.specs.declared.exchange.ExchangeState.TheVariants.{Queued};
 ghost use Rattle.coap_exchange.specs.declared.table.AdmitError.TheVariants.{Full};
 ghost use Rattle.coap_exchange.specs.Due.{due_row, first_due};
 ghost use Rattle.coap_exchange.specs.Exchanges.{acked, answer_in, answered, changed_by, due_among, fire_at, fired_exchange, is_acked, is_done, is_joinable, is_queued, is_sent, is_sent_to, is_timely, sent, tainted_by, was_sent_as, AreTimely, CanChange, IsDue, IsFireDue};
+ghost use Rattle.coap_exchange.specs.Index.{turn_among, AreIndexed};
 ghost use Rattle.coap_exchange.specs.Lines.{is_with, open_in, sent_in, AreLined};
 ghost use Rattle.coap_exchange.specs.Table.{empty_table, item_at, admitted_to, without, withdrawn, changed_at, all_changed, count, first_that, passes, IsTable};
 
-use crate::due::{due_under, sooner};
+use crate::due::{later, sooner};
 use crate::exchange::{Change, Exchange, ExchangeState, Sending};
+use crate::index::{Index, Sought, digest_of_key, digest_of_target, first_sought, owners_at};
 use crate::lines::{Line, close_one, line_to, move_one, open_one};
 use crate::table::{AdmitError, Table};
 use crate::timer::Fire;
 use coap_cache::{Answer, CacheKey, Stored};
 use coap_message::{OutOfMemory, Seq};
 use coap_target::{Endpoint, Target};
-use indexmap::IndexMap;
 use std::alloc::Global;
 use std::collections::BTreeMap;
 use std::marker::Model;
@@ -31,6 +34,8 @@ pub struct Exchanges {
     queued: usize,
     /// How many there are with each endpoint.
     lines: BTreeMap<Endpoint, Line>,
+    /// What they are found by.
+    index: Index,
 }
 
 impl Drop for Exchanges {
@@ -39,6 +44,7 @@ impl Drop for Exchanges {
             table: _,
             queued: _,
             lines: _,
+            index: _,
         } = self;
     }
 }
@@ -46,6 +52,7 @@ impl Drop for Exchanges {
 impl Model for Exchanges {
     ghost use Rattle.coap_exchange.specs.declared.exchange.Exchange.{Exchange};
     ghost use Rattle.coap_exchange.specs.Exchanges.{AreExchanges};
+    ghost use Rattle.coap_exchange.specs.Index.{AreIndexed};
     ghost use Rattle.coap_exchange.specs.Lines.{AreLined};
     ghost use Rattle.coap_exchange.specs.Table.{Table};
 
@@ -54,7 +61,9 @@ impl Model for Exchanges {
     ghost view = { λ e. e.table };
 
     ghost invariant = { λ e.
-        AreExchanges e.table.items e.queued × AreLined e.table.items e.lines };
+        AreExchanges e.table.items e.queued
+        × AreLined e.table.items e.lines
+        × AreIndexed e.table.items e.table.limit e.index };
 }
 
 impl Exchanges {
@@ -63,10 +72,12 @@ impl Exchanges {
         ensures empty { IfOk result (λ exchanges. exchanges ≡ empty_table limit) }
     {
         let table = Table::new(alloc, limit)?;
+        let index = Index::new(alloc, limit)?;
         Ok(Exchanges {
             table,
             queued: 0,
             lines: BTreeMap::new(alloc),
+            index,
         })
     }
 
@@ -109,13 +120,33 @@ impl Exchanges {
         }
     }
 
+    /// The moment of the first of the answers that have come, in milliseconds.
+    pub(crate) fn first_got(&self) -> Option<u64>
+        ensures exact { IsFirstGot self.now.items result }
+        ensures sound { IsTable self.now }
+    {
+        let _sound = self.table.is_full();
+        match self.index.dones.first() {
+            Some(pair) => Some(pair.0),
+            None => None,
+        }
+    }
+
+    /// The least number greater than another of an exchange whose answer came at this moment.
+    pub(crate) fn next_got(&self, moment: u64, after: u64) -> Option<u64>
+        ensures exact { IsNextGot moment after self.now.items result }
+    {
+        self.index.dones.next_of(moment, after)
+    }
+
     /// The number of the exchange whose answer a GET of this key may wait for: a GET of an equal
     /// key, whose target wasn't changed since it was sent, and whose answer hasn't come. Of several
     /// the first.
     pub fn joinable(&self, key: &CacheKey) -> Option<u64>
         ensures exact { result ≡ first_that (is_joinable key.now) self.now.items }
     {
-        self.table.joinable(key)
+        let sought = Sought::Joinable(key);
+        first_sought(&self.table, &self.index.keys, digest_of_key(key), &sought)
     }
 
     /// The number of the exchange whose request was sent to this endpoint with this message id,
@@ -123,7 +154,8 @@ impl Exchanges {
     pub fn sent_as(&self, at: Endpoint, id: u16, now: u64) -> Option<u64>
         ensures exact { result ≡ first_that (was_sent_as at id now) self.now.items }
     {
-        self.table.sent_as(at, id, now)
+        let sought = Sought::SentAs(at, id, now);
+        first_sought(&self.table, &self.index.ids, u64::from(id), &sought)
     }
 
     /// What is due first, as its moment, in milliseconds, and its number; of what is due at one
@@ -141,7 +173,10 @@ impl Exchanges {
         ensures exact { result
             ≡ first_due (due_among nstart exchange_ms self.now.items) self.now.items }
     {
-        self.table.first_due(&self.lines, nstart, exchange_ms)
+        let deadline = later(self.index.openings.first(), exchange_ms);
+        let end = self.index.ends.first();
+        let turn = first_turn(&self.table, &self.lines, self.queued, nstart);
+        sooner(deadline, sooner(end, turn))
     }
 
     /// Opens an exchange after the others: its request waits for its turn. Answers its number. The
@@ -198,9 +233,11 @@ impl Exchanges {
             tainted: false,
             state: ExchangeState::Queued,
         };
+        let was = owners_at(&self.table, self.table.admitted() + 1);
         match self.table.admit(exchange) {
             Ok(number) => {
                 self.queued += 1;
+                self.index.pass(number, was, owners_at(&self.table, number));
                 Ok(number)
             }
             Err(error) => {
@@ -222,7 +259,9 @@ impl Exchanges {
         let number = self.table.admitted();
         self.queued = queued_without(self.queued, &self.table, number);
         leave(&mut self.lines, &self.table, number);
+        let was = owners_at(&self.table, number);
         self.table.withdraw();
+        self.index.pass(number, was, owners_at(&self.table, number));
     }
 
     /// Takes the exchange of this number out, if there is one.
@@ -231,7 +270,9 @@ impl Exchanges {
     {
         self.queued = queued_without(self.queued, &self.table, number);
         leave(&mut self.lines, &self.table, number);
+        let was = owners_at(&self.table, number);
         self.table.close(number);
+        self.index.pass(number, was, owners_at(&self.table, number));
     }
 
     /// The request of the exchange of this number, which waited for its turn, is sent: its form has
@@ -288,7 +329,7 @@ impl Exchanges {
         ensures tainted { self.new
             ≡ record self.old { items = all_changed (tainted_by target.now) self.old.items } }
     {
-        self.table.taint(target);
+        taint_all(&mut self.table, &mut self.index, target);
     }
 
     fn change(&mut self, number: u64, change: Change)
@@ -301,7 +342,9 @@ impl Exchanges {
     {
         self.queued = queued_without(self.queued, &self.table, number);
         recount(&mut self.lines, &self.table, number, &change);
+        let was = owners_at(&self.table, number);
         self.table.change(number, change);
+        self.index.pass(number, was, owners_at(&self.table, number));
     }
 }
 
@@ -314,81 +357,73 @@ impl Table<Exchange> {
         change_under(&mut self.items, number, change);
     }
 
-    fn taint(&mut self, target: &Target)
+    fn taint(&mut self, number: u64, target: &Target)
         ensures { self.new
-            ≡ record self.old { items = all_changed (tainted_by target.now) self.old.items } }
+            ≡ record self.old {
+              items = changed_at number (tainted_by target.now) self.old.items;
+            } }
     {
-        taint_all(&mut self.items, target);
+        taint_under(&mut self.items, number, target);
     }
+}
 
-    fn joinable(&self, key: &CacheKey) -> Option<u64>
-        ensures exact { result ≡ first_that (is_joinable key.now) self.now.items }
-    {
-        for (number, exchange) in self.items.iter() {
-            if exchange.is_joinable(key) {
-                return Some(*number);
-            }
-        }
-        None
+/// What of the exchanges that wait for their turn is to be sent first. So many of them wait.
+fn first_turn(
+    exchanges: &Table<Exchange>,
+    lines: &BTreeMap<Endpoint, Line>,
+    queued: usize,
+    nstart: usize,
+) -> Option<(u64, u64)>
+    requires queued { queued ≡ count is_queued exchanges.now.items }
+    requires lined { AreLined exchanges.now.items lines.now }
+    ensures exact { result
+        ≡ first_due (turn_among nstart exchanges.now.items) exchanges.now.items }
+{
+    if queued == 0 {
+        return None;
     }
+    exchanges.first_turn(lines, nstart)
+}
 
-    fn sent_as(&self, at: Endpoint, id: u16, now: u64) -> Option<u64>
-        ensures exact { result ≡ first_that (was_sent_as at id now) self.now.items }
-    {
-        for (number, exchange) in self.items.iter() {
-            if exchange.was_sent_as(at, id, now) {
-                return Some(*number);
-            }
-        }
-        None
-    }
-
-    fn first_due(
-        &self,
-        lines: &BTreeMap<Endpoint, Line>,
-        nstart: usize,
-        exchange_ms: u64,
-    ) -> Option<(u64, u64)>
+impl Table<Exchange> {
+    fn first_turn(&self, lines: &BTreeMap<Endpoint, Line>, nstart: usize) -> Option<(u64, u64)>
         requires lined { AreLined self.now.items lines.now }
-        requires short { exchange_ms ≤ 600000 }
-        requires timely { AreTimely self.now.items }
-        ensures exact { result
-            ≡ first_due (due_among nstart exchange_ms self.now.items) self.now.items }
+        ensures exact { result ≡ first_due (turn_among nstart self.now.items) self.now.items }
     {
         let mut first = None;
         for (number, exchange) in self.items.iter() {
-            let due = self.due_at(lines, *number, exchange, nstart, exchange_ms);
-            first = sooner(first, due);
+            let turn = self.turn_at(lines, *number, exchange, nstart);
+            first = sooner(first, turn);
         }
         first
     }
 
-    /// When an exchange of the table is due, under its number.
-    fn due_at(
+    /// When it is the turn of an exchange of the table, under its number.
+    fn turn_at(
         &self,
         lines: &BTreeMap<Endpoint, Line>,
         number: u64,
         exchange: &Exchange,
         nstart: usize,
-        exchange_ms: u64,
     ) -> Option<(u64, u64)>
         requires lined { AreLined self.now.items lines.now }
-        requires short { exchange_ms ≤ 600000 }
-        requires timely { exchange.now.admitted ≤ 2 ^ 62 }
         ensures exact { result
-            ≡ due_row (due_among nstart exchange_ms self.now.items) (number, exchange.now) }
+            ≡ due_row (turn_among nstart self.now.items) (number, exchange.now) }
     {
-        let blocked = exchange.is_queued() && nstart <= line_to(lines, exchange.key.target.at).sent;
-        due_under(number, exchange.due(blocked, exchange_ms))
+        if exchange.is_queued() && line_to(lines, exchange.key.target.at).sent < nstart {
+            Some((exchange.admitted, number))
+        } else {
+            None
+        }
     }
 }
 
-fn change_under(exchanges: &mut IndexMap<u64, Exchange>, number: u64, change: Change)
-    requires { IfSome (get nat_eq exchanges.old number) (CanChange change) }
-    ensures found { IfSome (get nat_eq exchanges.old number) (λ x.
+fn change_under(exchanges: &mut BTreeMap<u64, Exchange>, number: u64, change: Change)
+    requires { IfSome (get nat_cmp exchanges.old number) (CanChange change) }
+    ensures found { IfSome (get nat_cmp exchanges.old number) (λ x.
         exchanges.new.entries
-        ≡ set_value (nat_eq number) exchanges.old.entries (changed_by change x)) }
-    ensures missing { IfNone (get nat_eq exchanges.old number)
+        ≡ set_value (is_at (nat_cmp number)) exchanges.old.entries (changed_by change x)) }
+    ensures missing { IfNone (get nat_cmp exchanges.old number)
         (exchanges.new.entries ≡ exchanges.old.entries) }
 {
     if let Some(exchange) = exchanges.get_mut(&number) {
@@ -396,22 +431,47 @@ fn change_under(exchanges: &mut IndexMap<u64, Exchange>, number: u64, change: Ch
     }
 }
 
-fn taint_all(exchanges: &mut IndexMap<u64, Exchange>, target: &Target)
-    ensures { exchanges.new.entries ≡ all_changed (tainted_by target.now) exchanges.old.entries }
+fn taint_under(exchanges: &mut BTreeMap<u64, Exchange>, number: u64, target: &Target)
+    ensures found { IfSome (get nat_cmp exchanges.old number) (λ x.
+        exchanges.new.entries
+        ≡ set_value (is_at (nat_cmp number)) exchanges.old.entries (tainted_by target.now x)) }
+    ensures missing { IfNone (get nat_cmp exchanges.old number)
+        (exchanges.new.entries ≡ exchanges.old.entries) }
 {
-    for place in 0..exchanges.len() {
-        taint_at(exchanges, place, target);
+    if let Some(exchange) = exchanges.get_mut(&number) {
+        exchange.taint(target);
     }
 }
 
-fn taint_at(exchanges: &mut IndexMap<u64, Exchange>, place: usize, target: &Target)
-    requires { place < index_map_len exchanges.old }
-    ensures { IfSome (slice_get (values exchanges.old) place) (λ x.
-        exchanges.new.entries
-        ≡ set_value_at exchanges.old.entries place (tainted_by target.now x)) }
+/// Taints those that a change of this target reaches: their digests are alike.
+fn taint_all(exchanges: &mut Table<Exchange>, index: &mut Index, target: &Target)
+    requires { AreIndexed exchanges.old.items exchanges.old.limit index.old }
+    ensures tainted { exchanges.new
+        ≡ record exchanges.old {
+          items = all_changed (tainted_by target.now) exchanges.old.items;
+        } }
+    ensures indexed { AreIndexed exchanges.new.items exchanges.new.limit index.new }
 {
-    let exchange = exchanges.get_index_mut(place).unwrap();
-    exchange.taint(target);
+    let digest = digest_of_target(target);
+    let mut after = 0;
+    while let Some(number) = index.targets.next_of(digest, after) {
+        taint_one(exchanges, index, number, target);
+        after = number;
+    }
+}
+
+/// Taints the exchange of this number, if a change of this target reaches it.
+fn taint_one(exchanges: &mut Table<Exchange>, index: &mut Index, number: u64, target: &Target)
+    requires { AreIndexed exchanges.old.items exchanges.old.limit index.old }
+    ensures tainted { exchanges.new
+        ≡ record exchanges.old {
+          items = changed_at number (tainted_by target.now) exchanges.old.items;
+        } }
+    ensures indexed { AreIndexed exchanges.new.items exchanges.new.limit index.new }
+{
+    let was = owners_at(exchanges, number);
+    exchanges.taint(number, target);
+    index.pass(number, was, owners_at(exchanges, number));
 }
 
 /// How many are still to be sent, once the exchange of this number no longer is.

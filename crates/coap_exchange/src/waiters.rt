@@ -1,24 +1,28 @@
 //! Tables of waiters: who waits for which exchange, what is delivered, and what is due.
-ghost use Rattle.std.specs.Prelude.{◌≡◌, ◌+◌, ◌-◌, ◌<◌, ◌≤◌, ◌^◌, ◌↔◌, ℕ, length, nat_eq, if◌then◌else◌, true, false, OnOk, OnErr, IfOk, IfErr, IfSome, IfNone};
+ghost use Rattle.std.specs.Prelude.{◌≡◌, ◌+◌, ◌-◌, ◌<◌, ◌≤◌, ◌^◌, ◌↔◌, ℕ, length, if◌then◌else◌, true, false, OnOk, OnErr, IfOk, IfErr, IfSome, IfNone};
 ghost use Rattle.std.specs.Map.{set_value};
 ghost use Rattle.std.specs.Option.{option_copied};
-ghost use Rattle.indexmap.specs.IndexMap.{get};
+ghost use Rattle.std.specs.BTreeMap.{get, is_at};
+ghost use Rattle.std.specs.Ordering.{nat_cmp};
 ghost use Rattle.coap_exchange.specs.declared.table.AdmitError.TheVariants.{Full};
 ghost use Rattle.coap_exchange.specs.declared.waiter.WaiterState.TheVariants.{Waiting};
+ghost use Rattle.coap_exchange.specs.Answered.{due_at};
 ghost use Rattle.coap_exchange.specs.Due.{due_row, first_due};
+ghost use Rattle.coap_exchange.specs.Marks.{answered_of};
 ghost use Rattle.coap_exchange.specs.Table.{empty_table, item_at, admitted_to, without, withdrawn, changed_at, count, first_that, passes, IsTable};
 ghost use Rattle.coap_exchange.specs.Tally.{tally, AreTallied};
 ghost use Rattle.coap_exchange.specs.Waiters.{awaited_by, changed_by, delivered, due_after, fire_at, fired_waiter, is_waiting, waits_for, was_sent_as, CanChange, IsDue};
 
 use crate::due::{due_under, sooner};
 use crate::exchanges::Exchanges;
+use crate::marks::marks_at;
+use crate::roll::Roll;
 use crate::table::{AdmitError, Table};
 use crate::tally::{count_one, counted, discount_one};
 use crate::timer::{Fire, Timer};
 use crate::waiter::{Waiter, WaiterChange, WaiterState};
 use coap_message::{Kind, OutOfMemory, Pieces, Seq, Token};
 use coap_target::Endpoint;
-use indexmap::IndexMap;
 use std::alloc::Global;
 use std::collections::BTreeMap;
 use std::marker::Model;
@@ -30,6 +34,12 @@ pub struct Waiters {
     waiting: usize,
     /// How many wait for the exchange of each number.
     by_exchange: BTreeMap<u64, usize>,
+    /// Those that wait, by the exchange for which they do.
+    by_awaited: Roll,
+    /// Those that were sent their response, by its message id.
+    by_id: Roll,
+    /// The same, by the end of the timeout that runs.
+    by_end: Roll,
     alloc: Global,
 }
 
@@ -39,6 +49,9 @@ impl Drop for Waiters {
             table: _,
             waiting: _,
             by_exchange: _,
+            by_awaited: _,
+            by_id: _,
+            by_end: _,
             alloc: _,
         } = self;
     }
@@ -46,14 +59,22 @@ impl Drop for Waiters {
 
 impl Model for Waiters {
     ghost use Rattle.coap_exchange.specs.declared.waiter.Waiter.{Waiter};
-    ghost use Rattle.coap_exchange.specs.Table.{Table};
+    ghost use Rattle.coap_exchange.specs.Answered.{awaited_of};
+    ghost use Rattle.coap_exchange.specs.Marks.{end_of, id_of};
+    ghost use Rattle.coap_exchange.specs.Index.{IsRollOf};
+    ghost use Rattle.coap_exchange.specs.Table.{Table, IsTable};
     ghost use Rattle.coap_exchange.specs.Tally.{AreWaiters};
 
     ghost Value = { Table Waiter };
 
     ghost view = { λ w. w.table };
 
-    ghost invariant = { λ w. AreWaiters w.table.items w.waiting w.by_exchange };
+    ghost invariant = { λ w.
+        AreWaiters w.table.items w.waiting w.by_exchange
+        × IsRollOf id_of w.table.items w.table.limit w.by_id
+        × IsRollOf end_of w.table.items w.table.limit w.by_end
+        × IsTable w.table
+        × IsRollOf awaited_of w.table.items w.table.limit w.by_awaited };
 }
 
 impl Waiters {
@@ -66,6 +87,9 @@ impl Waiters {
             table,
             waiting: 0,
             by_exchange: BTreeMap::new(alloc),
+            by_awaited: Roll::new(alloc, limit)?,
+            by_id: Roll::new(alloc, limit)?,
+            by_end: Roll::new(alloc, limit)?,
             alloc,
         })
     }
@@ -111,7 +135,23 @@ impl Waiters {
     pub fn sent_as(&self, at: Endpoint, id: u16, now: u64) -> Option<u64>
         ensures exact { result ≡ first_that (was_sent_as at id now) self.now.items }
     {
-        self.table.sent_as(at, id, now)
+        let mut after = 0;
+        while let Some(number) = self.by_id.next_of(u64::from(id), after) {
+            if self.was_sent_as(number, at, id, now) {
+                return Some(number);
+            }
+            after = number;
+        }
+        None
+    }
+
+    fn was_sent_as(&self, number: u64, at: Endpoint, id: u16, now: u64) -> bool
+        ensures exact { result ≡ passes (was_sent_as at id now) (item_at number self.now.items) }
+    {
+        match self.get(number) {
+            Some(waiter) => waiter.was_sent_as(at, id, now),
+            None => false,
+        }
     }
 
     /// What is due first, as its moment, in milliseconds, and its number; of what is due at one
@@ -120,7 +160,28 @@ impl Waiters {
     pub fn due(&self, exchanges: &Exchanges) -> Option<(u64, u64)>
         ensures exact { result ≡ first_due (due_after exchanges.now.items) self.now.items }
     {
-        self.table.first_due(exchanges)
+        sooner(self.by_end.first(), self.first_answered(exchanges))
+    }
+
+    /// What is due first because an answer has come. Those whose answer came first are found
+    /// without a search. Only where none waits for an answer that came first are all looked at.
+    fn first_answered(&self, exchanges: &Exchanges) -> Option<(u64, u64)>
+        ensures exact { result ≡ first_due (answered_of exchanges.now.items) self.now.items }
+    {
+        let Some(moment) = exchanges.first_got() else {
+            return None;
+        };
+        let mut first = None;
+        let mut after = 0;
+        while let Some(exchange) = exchanges.next_got(moment, after) {
+            let number = self.by_awaited.next_of(exchange, 0);
+            first = sooner(first, due_at(moment, number));
+            after = exchange;
+        }
+        match first {
+            Some(due) => Some(due),
+            None => self.table.first_answered(exchanges),
+        }
     }
 
     /// Takes a waiter in after the others, which waits for the exchange of this number. Answers its
@@ -172,6 +233,7 @@ impl Waiters {
         match self.table.admit(waiter) {
             Ok(number) => {
                 self.waiting += 1;
+                self.by_awaited.pass(number, None, Some(exchange));
                 Ok(number)
             }
             Err(error) => {
@@ -193,7 +255,12 @@ impl Waiters {
         let number = self.table.admitted();
         self.waiting = waiting_without(self.waiting, &self.table, number);
         stop_waiting(&mut self.by_exchange, &self.table, number);
+        let was = marks_at(&self.table, number);
         self.table.withdraw();
+        let is = marks_at(&self.table, number);
+        self.by_id.pass(number, was.id, is.id);
+        self.by_end.pass(number, was.end, is.end);
+        self.by_awaited.pass(number, was.awaited, is.awaited);
     }
 
     /// Takes the waiter of this number out, if there is one.
@@ -202,7 +269,12 @@ impl Waiters {
     {
         self.waiting = waiting_without(self.waiting, &self.table, number);
         stop_waiting(&mut self.by_exchange, &self.table, number);
+        let was = marks_at(&self.table, number);
         self.table.close(number);
+        let is = marks_at(&self.table, number);
+        self.by_id.pass(number, was.id, is.id);
+        self.by_end.pass(number, was.end, is.end);
+        self.by_awaited.pass(number, was.awaited, is.awaited);
     }
 
     /// The waiter of this number, which waited for an exchange, is sent its response: these bytes,
@@ -219,8 +291,13 @@ impl Waiters {
     {
         self.waiting = waiting_without(self.waiting, &self.table, number);
         stop_waiting(&mut self.by_exchange, &self.table, number);
+        let was = marks_at(&self.table, number);
         let change = WaiterChange::Deliver { bytes, id, timer };
         self.table.change(number, change, self.alloc);
+        let is = marks_at(&self.table, number);
+        self.by_id.pass(number, was.id, is.id);
+        self.by_end.pass(number, was.end, is.end);
+        self.by_awaited.pass(number, was.awaited, is.awaited);
     }
 
     /// The timer of the waiter of this number, which was sent its response, is due: what is to be
@@ -237,8 +314,13 @@ impl Waiters {
             Some(waiter) => waiter.fire_of(now),
             None => Fire::GiveUp,
         };
+        let was = marks_at(&self.table, number);
         self.table
             .change(number, WaiterChange::Fire(now), self.alloc);
+        let is = marks_at(&self.table, number);
+        self.by_id.pass(number, was.id, is.id);
+        self.by_end.pass(number, was.end, is.end);
+        self.by_awaited.pass(number, was.awaited, is.awaited);
         fire
     }
 }
@@ -252,52 +334,46 @@ impl Table<Waiter> {
         change_under(&mut self.items, number, change, alloc);
     }
 
-    fn sent_as(&self, at: Endpoint, id: u16, now: u64) -> Option<u64>
-        ensures exact { result ≡ first_that (was_sent_as at id now) self.now.items }
-    {
-        for (number, waiter) in self.items.iter() {
-            if waiter.was_sent_as(at, id, now) {
-                return Some(*number);
-            }
-        }
-        None
-    }
-
-    fn first_due(&self, exchanges: &Exchanges) -> Option<(u64, u64)>
-        ensures exact { result ≡ first_due (due_after exchanges.now.items) self.now.items }
+    fn first_answered(&self, exchanges: &Exchanges) -> Option<(u64, u64)>
+        ensures exact { result ≡ first_due (answered_of exchanges.now.items) self.now.items }
     {
         let mut first = None;
         for (number, waiter) in self.items.iter() {
-            let due = due_at(*number, waiter, exchanges);
+            let due = answered_at(*number, waiter, exchanges);
             first = sooner(first, due);
         }
         first
     }
 }
 
-/// When a waiter is due, under its number.
-fn due_at(number: u64, waiter: &Waiter, exchanges: &Exchanges) -> Option<(u64, u64)>
-    ensures exact { result ≡ due_row (due_after exchanges.now.items) (number, waiter.now) }
+/// What is due at a moment, if there is a number.
+fn due_at(moment: u64, number: Option<u64>) -> Option<(u64, u64)>
+    ensures exact { result ≡ due_at moment number }
 {
-    match &waiter.state {
-        WaiterState::Waiting(exchange) => match exchanges.answer_of(*exchange) {
-            Some(answer) => due_under(number, Some(answer.got)),
-            None => None,
-        },
-        WaiterState::Delivering { timer, .. } => due_under(number, Some(timer.due)),
-    }
+    let number = number?;
+    Some((moment, number))
+}
+
+/// When the answer came for which a waiter waits, under its number.
+fn answered_at(number: u64, waiter: &Waiter, exchanges: &Exchanges) -> Option<(u64, u64)>
+    ensures exact { result ≡ due_row (answered_of exchanges.now.items) (number, waiter.now) }
+{
+    let exchange = waiter.exchange()?;
+    let answer = exchanges.answer_of(exchange)?;
+    due_under(number, Some(answer.got))
 }
 
 fn change_under(
-    waiters: &mut IndexMap<u64, Waiter>,
+    waiters: &mut BTreeMap<u64, Waiter>,
     number: u64,
     change: WaiterChange,
     alloc: Global,
 )
-    requires { IfSome (get nat_eq waiters.old number) (CanChange change) }
-    ensures found { IfSome (get nat_eq waiters.old number) (λ w.
-        waiters.new.entries ≡ set_value (nat_eq number) waiters.old.entries (changed_by change w)) }
-    ensures missing { IfNone (get nat_eq waiters.old number)
+    requires { IfSome (get nat_cmp waiters.old number) (CanChange change) }
+    ensures found { IfSome (get nat_cmp waiters.old number) (λ w.
+        waiters.new.entries
+        ≡ set_value (is_at (nat_cmp number)) waiters.old.entries (changed_by change w)) }
+    ensures missing { IfNone (get nat_cmp waiters.old number)
         (waiters.new.entries ≡ waiters.old.entries) }
 {
     if let Some(waiter) = waiters.get_mut(&number) {

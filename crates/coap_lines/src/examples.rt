@@ -1,9 +1,9 @@
 //! Examples, computed on the definitions.
-ghost use Rattle.std.specs.Prelude.{◌≡◌, ◌∷◌, [], None, Some, codes};
+ghost use Rattle.std.specs.Prelude.{◌≡◌, ◌∷◌, [], false, true, None, Some, codes};
 ghost use Rattle.coap_model.specs.Events.Event.{arrival, tick};
 ghost use Rattle.coap_lines.specs.Endpoints.{endpoint_of};
 ghost use Rattle.coap_lines.specs.Examples.{eight, get, home, sixth};
-ghost use Rattle.coap_lines.specs.Lines.{line_of, lines_of};
+ghost use Rattle.coap_lines.specs.Lines.{is_skipped, line_of, lines_of};
 ghost use Rattle.coap_lines.specs.Scripts.{script_of};
 ghost use Rattle.coap_lines.specs.Turns.{turn_at, turn_of};
 
@@ -74,6 +74,16 @@ pub fn lines()
     ensures four { line_of 2000 home get ≡ codes "2000 127.0.0.1:40001 50010007B174\n" }
     ensures groups { line_of 0 sixth (0xAB ∷ []) ≡ codes "0 [2001:db8:0:0:0:0:abcd:ef]:0 AB\n" }
     ensures empty { line_of 1 eight [] ≡ codes "1 [1:2:3:4:5:6:7:8]:5683 -\n" }
+{}
+
+/// Which lines are skipped: the empty one, and those that begin with `#`.
+pub fn skipped()
+    ensures empty { is_skipped [] ≡ true }
+    ensures comment { is_skipped (codes "# a tick") ≡ true }
+    ensures sign { is_skipped (codes "#") ≡ true }
+    ensures semicolon { is_skipped (codes "; a tick") ≡ false }
+    ensures space { is_skipped (codes " # a tick") ≡ false }
+    ensures event { is_skipped (codes "0 0 tick") ≡ false }
 {}
 
 /// Lines of an input, and what they ask for.

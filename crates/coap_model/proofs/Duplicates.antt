@@ -67,7 +67,7 @@ all-left kind (d ∷ past) =
     (left-by kind past d)
 
 -- types that go together are one
-goes-same : (k l : Kind) → goes_with k l ≡ true → l ≡ k
+pub goes-same : (k l : Kind) → goes_with k l ≡ true → l ≡ k
 goes-same Con Con e = refl
 goes-same Con Non e = absurd cc
 goes-same Con Ack e = absurd cc

@@ -7,6 +7,7 @@ use Rattle.coap_target.proofs.Lists.{All-weaken}
 use Rattle.coap_exchange.specs.Table.{Numbered}
 use Rattle.coap_exchange.specs.Due.{is_before, sooner, as_due, due_row, first_due}
 
+-- a moment and a number
 abbrev pub Due : Type 0
 Due = ℕ × ℕ
 
@@ -39,18 +40,23 @@ pub record NotBefore (d other : Due) : Type 0 where
   pub moment : d.0 ≤ other.0
   pub number : d.0 ≡ other.0 → d.1 ≤ other.1
 
+-- nothing is before itself
 self : (d : Due) → NotBefore d d
 self d = record { moment = omega arith; number = λ e. omega arith }
 
+-- what is not before a second that is not before a third is not before that
 chain : (a b c : Due) → NotBefore a b → NotBefore b c → NotBefore a c
 chain a b c p q = let m = p.moment in let n = q.moment in let k = p.number in let l = q.number in record { moment = omega arith; number = λ e. omega arith }
 
+-- what the test says
 tested-true : (a b : Due) → is_before b a ≡ true → NotBefore b a
 tested-true a b e = record { moment = grind (arith, nat_tests); number = λ same. grind (arith, nat_tests) }
 
+-- and what it denies
 tested-false : (a b : Due) → is_before b a ≡ false → NotBefore a b
 tested-false a b e = record { moment = grind (arith, nat_tests); number = λ same. grind (arith, nat_tests) }
 
+-- equal ones are not before one another
 same-first : (d y : Due) → d ≡ y → NotBefore d y
 same-first d y same = subst (λ (z : Due). NotBefore d z) same (self d)
 
@@ -76,6 +82,7 @@ sooner-none None b e = (refl, e)
 sooner-none (Some a) None e = absurd cc
 sooner-none (Some a) (Some b) e = absurd cc
 
+-- what has no moment is not due
 as_due-none : (number : ℕ) (o : Option ℕ) → as_due number o ≡ None → o ≡ None
 as_due-none number None e = refl
 as_due-none number (Some at) e = absurd cc

@@ -73,9 +73,11 @@ same_act-true (serves v) (moves y) e = absurd cc
 same_act-true no_item b e = absurd cc
 same_act-true (admits v x) b e = absurd cc
 
+-- an act on an exchange is itself
 pub same_act-self : (x : ℕ) → same_act (moves x) (moves x) ≡ true
 same_act-self x = eq-eqb x x refl
 
+-- and one on a client
 pub same_act-client : (v : ℕ) → same_act (serves v) (serves v) ≡ true
 same_act-client v = eq-eqb v v refl
 
@@ -302,6 +304,7 @@ waiter_frame setting history e v other f = go v.1.state f
           tags_gone = g.tags_gone;
         }
 
+-- clients stay what they are where an entry serves none
 pub waiters_frame : (setting : Setting) (history : List Deed) (e : Deed) (vs : List (Numbered Waiter)) → ((v : ℕ) → e.act ≢ serves v) → AllByRecursion (IsWaiterOf setting history) vs → AllByRecursion (IsWaiterOf setting (e ∷ history)) vs
 waiters_frame setting history e vs other all =
     All-weaken (IsWaiterOf setting history) (IsWaiterOf setting (e ∷ history)) vs (λ v f. waiter_frame setting history e v (other v.0) f) all
@@ -346,6 +349,7 @@ opened-before history e x none s =
     (λ there. record { place = s.place; is_there = there; holds = s.holds })
     s.is_there
 
+-- who was admitted was admitted before an entry that admits nobody
 pub admitted-before : (history : List Deed) (e : Deed) (v x : ℕ) → admits_one e.entry.report.outcome ≡ 0 → Somewhere (Admits v x) (e ∷ history) → Somewhere (Admits v x) history
 admitted-before history e v x none s =
     ⊎_elim

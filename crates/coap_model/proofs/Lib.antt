@@ -68,3 +68,5 @@ pub mod Telling
 pub mod Fitting
 pub mod OneStep
 pub mod Ticking
+pub mod Word
+pub mod ForgingHits

@@ -144,6 +144,7 @@ nth-unique counts (e ∷ past) p q n at_p at_q is_p is_q =
 pub Opens-number : (history : List Deed) (p : Place) (x : ℕ) → IsPlaceOf history p → Opens x p → (0 < x) × (x ≤ opened_in history)
 Opens-number history p x h o = nth-number opens_one history p x h (ap opens_one o.0, o.1)
 
+-- an exchange is opened at one place
 pub Opens-unique : (history : List Deed) (p q : Place) (x : ℕ) → IsPlaceOf history p → IsPlaceOf history q → Opens x p → Opens x q → p ≡ q
 Opens-unique history p q x at_p at_q o k = nth-unique opens_one history p q x at_p at_q (ap opens_one o.0, o.1) (ap opens_one k.0, k.1)
 
@@ -151,6 +152,7 @@ Opens-unique history p q x at_p at_q o k = nth-unique opens_one history p q x at
 pub Admits-number : (history : List Deed) (p : Place) (v x : ℕ) → IsPlaceOf history p → Admits v x p → (0 < v) × (v ≤ admitted_in history)
 Admits-number history p v x h a = nth-number admits_one history p v h (a.outcome, a.number)
 
+-- and a client is admitted at one
 pub Admits-unique : (history : List Deed) (p q : Place) (v x y : ℕ) → IsPlaceOf history p → IsPlaceOf history q → Admits v x p → Admits v y q → p ≡ q
 Admits-unique history p q v x y at_p at_q a b = nth-unique admits_one history p q v at_p at_q (a.outcome, a.number) (b.outcome, b.number)
 
@@ -205,9 +207,11 @@ one-opened {setting = setting} {history = history} {y = y} number a b =
 
 -- ---- what admitted a client
 
+-- a client that was admitted has one of the numbers that were given
 pub admitted-number : {setting : Setting} {history : List Deed} {v : ℕ} → WasAdmitted setting history v → (0 < v) × (v ≤ admitted_in history)
 admitted-number {history = history} {v = v} a = Admits-number history a.admission v a.exchange a.was_admitted a.admits
 
+-- and was admitted in a longer history
 abbrev pub admitted-later : {setting : Setting} {history : List Deed} {v : ℕ} (e : Deed) → WasAdmitted setting history v → WasAdmitted setting (e ∷ history) v
 admitted-later e a = record { exchange = a.exchange; admission = a.admission; client = a.client; request = a.request; was_admitted = inr a.was_admitted; admits = a.admits; asked = a.asked }
 

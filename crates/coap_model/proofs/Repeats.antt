@@ -19,7 +19,7 @@ use Rattle.coap_forward.specs.Messages.{is_con, brings_requests, told_again}
 use Rattle.coap_model.specs.History.{Deed, Place, IsPlaceOf, last_of, IsInOrder, Brings}
 use Rattle.coap_model.specs.Remembered.{is_remembered, remembered_at}
 use Rattle.coap_model.specs.Duplicates.{Repeats}
-use Rattle.coap_model.specs.Justified.{known_of, IsAnswer, TakesUp, JustifiedBy, AllJustified}
+use Rattle.coap_model.specs.Justified.{known_of, HasRecordRoom, IsAnswer, TakesUp, JustifiedBy, AllJustified}
 use Rattle.coap_model.proofs.Arrivals.{head_kind}
 use Rattle.coap_model.proofs.Owing.{taken-so}
 use Rattle.coap_model.proofs.Sorts.{con-so}
@@ -28,12 +28,13 @@ use Rattle.coap_model.proofs.Places.{arrival-same, in-order, justified-at}
 use Rattle.coap_model.proofs.Moments.{not-later}
 
 -- something was done with a message that was new, and a Confirmable one was replied to at once
-record IsNewHere (setting : Setting) (past : List Deed) (d : Deed) : Type 0 where
+pub record IsNewHere (setting : Setting) (past : List Deed) (d : Deed) : Type 0 where
   pub source : Endpoint
   pub message : Message
   pub brings : Brings setting.limits.datagram source message d.entry.event
   pub kind : brings_requests message.kind ≡ true
   pub unknown : known_of past d.entry.now source message ≡ None
+  pub room : HasRecordRoom setting past d.entry.now message
   pub sent : message.kind ≡ Con → d.entry.report.send ≡ Some source
 
 -- no message is of both types
@@ -49,17 +50,18 @@ answer-new setting past d a con =
       brings = a.gets.meets.brings;
       kind = ap brings_requests con;
       unknown = (a.new con).unknown;
+      room = (a.new con).room;
       sent = λ _. (subst (λ (k : Kind). TakesUp k a.gets.meets.asks.sends.to a.gets.meets.message.id d.entry) con a.takes_up).sent;
     }
 
 -- what is remembered was new
-new-here : (o : Outcome) (setting : Setting) (past : List Deed) (d : Deed) (source : Endpoint) (bytes : List ℕ) (former : Head) → JustifiedBy o setting past d → d.entry.event ≡ arrival source bytes → head_at bytes ≡ Some former → is_remembered o former.kind ≡ true → IsNewHere setting past d
-new-here (Refused code) setting past d source bytes former j came head kept = record { source = j.client; message = j.request; brings = j.asked.brings; kind = j.asked.kind; unknown = j.new.unknown; sent = λ con. j.tells.sent }
-new-here Hit setting past d source bytes former j came head kept = record { source = j.client; message = j.request; brings = j.asked.brings; kind = j.asked.kind; unknown = j.new.unknown; sent = λ con. j.tells.sent }
-new-here Overloaded setting past d source bytes former j came head kept = record { source = j.client; message = j.request; brings = j.asked.brings; kind = j.asked.kind; unknown = j.new.unknown; sent = λ con. j.tells.sent }
-new-here Joined setting past d source bytes former j came head kept = record { source = j.client; message = j.request; brings = j.asked.brings; kind = j.asked.kind; unknown = j.new.unknown; sent = λ con. (subst (λ (k : Kind). TakesUp k j.client j.request.id d.entry) con j.takes_up).sent }
-new-here Opened setting past d source bytes former j came head kept = record { source = j.client; message = j.request; brings = j.asked.brings; kind = j.asked.kind; unknown = j.new.unknown; sent = λ con. (subst (λ (k : Kind). TakesUp k j.client j.request.id d.entry) con j.takes_up).sent }
-new-here NoId setting past d source bytes former j came head kept = record { source = j.client; message = j.request; brings = j.asked.brings; kind = j.asked.kind; unknown = j.new.unknown; sent = λ con. not-both j.kind con }
+pub new-here : (o : Outcome) (setting : Setting) (past : List Deed) (d : Deed) (source : Endpoint) (bytes : List ℕ) (former : Head) → JustifiedBy o setting past d → d.entry.event ≡ arrival source bytes → head_at bytes ≡ Some former → is_remembered o former.kind ≡ true → IsNewHere setting past d
+new-here (Refused code) setting past d source bytes former j came head kept = record { source = j.client; message = j.request; brings = j.asked.brings; kind = j.asked.kind; unknown = j.new.unknown; room = j.new.room; sent = λ con. j.tells.sent }
+new-here Hit setting past d source bytes former j came head kept = record { source = j.client; message = j.request; brings = j.asked.brings; kind = j.asked.kind; unknown = j.new.unknown; room = j.new.room; sent = λ con. j.tells.sent }
+new-here Overloaded setting past d source bytes former j came head kept = record { source = j.client; message = j.request; brings = j.asked.brings; kind = j.asked.kind; unknown = j.new.unknown; room = j.new.room; sent = λ con. j.tells.sent }
+new-here Joined setting past d source bytes former j came head kept = record { source = j.client; message = j.request; brings = j.asked.brings; kind = j.asked.kind; unknown = j.new.unknown; room = j.new.room; sent = λ con. (subst (λ (k : Kind). TakesUp k j.client j.request.id d.entry) con j.takes_up).sent }
+new-here Opened setting past d source bytes former j came head kept = record { source = j.client; message = j.request; brings = j.asked.brings; kind = j.asked.kind; unknown = j.new.unknown; room = j.new.room; sent = λ con. (subst (λ (k : Kind). TakesUp k j.client j.request.id d.entry) con j.takes_up).sent }
+new-here NoId setting past d source bytes former j came head kept = record { source = j.client; message = j.request; brings = j.asked.brings; kind = j.asked.kind; unknown = j.new.unknown; room = j.new.room; sent = λ con. not-both j.kind con }
 new-here (Answered s) setting past d source bytes former j came head kept = let a = taken-so s setting past d j in answer-new setting past d a (head_kind a.gets.meets.brings came head ∙ con-so former.kind kept)
 new-here Ignored setting past d source bytes former j came head kept = absurd cc
 new-here Rejected setting past d source bytes former j came head kept = absurd cc

@@ -230,10 +230,12 @@ pub data Rule (w : World) (now draw : ℕ) (grown : Bool) : Event → Step → T
 
 -- ---- types and codes
 
+-- one of two holds
 or_first : (a b : Bool) → a ≡ true → (a || b) ≡ true
 or_first true b e = refl
 or_first false b e = absurd cc
 
+-- or the other
 or_second : (a b : Bool) → b ≡ true → (a || b) ≡ true
 or_second true b e = refl
 or_second false b e = e
@@ -253,6 +255,7 @@ empty_no_response m bare response =
     let two = leb-true 2 (m.code.0 / 32) (and_parts (nat_le 2 (m.code.0 / 32)) (nat_le (m.code.0 / 32) 5) response).0 in
     omega (arith, class, two)
 
+-- an acknowledgement or a Reset brings no request
 bare_kind : (k : Kind) → (is_ack k || is_rst k) ≡ true → (brings_requests k ≡ false) × (is_con k ≡ false)
 bare_kind Con e = absurd cc
 bare_kind Non e = absurd cc
@@ -263,6 +266,7 @@ bare_kind Rst e = (refl, refl)
 pub bare_no_request : (m : Message) → is_bare m ≡ true → (brings_requests m.kind && is_request m.code) ≡ false
 bare_no_request m bare = ap (λ (b : Bool). b && is_request m.code) (bare_kind m.kind (and_parts (is_empty m.code) (is_ack m.kind || is_rst m.kind) bare).1).0
 
+-- so an Empty one is not Confirmable
 pub bare_not_con : (m : Message) → is_bare m ≡ true → is_con m.kind ≡ false
 bare_not_con m bare = (bare_kind m.kind (and_parts (is_empty m.code) (is_ack m.kind || is_rst m.kind) bare).1).1
 
@@ -273,6 +277,7 @@ unrecorded m request con recorded =
     let both : false ≡ true = sym none ∙ recorded in
     absurd cc
 
+-- a Confirmable message may bring a response
 con_brings : (k : Kind) → is_con k ≡ true → brings_responses k ≡ true
 con_brings Con e = refl
 con_brings Non e = absurd cc
@@ -287,12 +292,14 @@ neither m request response recorded =
     let both : false ≡ true = sym response ∙ and_from (brings_responses m.kind) (is_response m.code) (con_brings m.kind parts.0) parts.1 in
     absurd cc
 
+-- so may one of a type that brings requests
 pub request-brings : (k : Kind) → brings_requests k ≡ true → brings_responses k ≡ true
 request-brings Con e = refl
 request-brings Non e = refl
 request-brings Ack e = absurd cc
 request-brings Rst e = absurd cc
 
+-- and a Confirmable one may bring a request
 con_requests : (k : Kind) → is_con k ≡ true → brings_requests k ≡ true
 con_requests Con e = refl
 con_requests Non e = absurd cc

@@ -57,6 +57,7 @@ kept-told w now a None true = ap (λ (o : Outcome). keeps_if w now (grown_of o) 
 kept-told w now a None false = ap (λ (o : Outcome). keeps_if w now (grown_of o) a None) (so-outcome w now a NoMemory w.store)
 kept-told w now a (Some entry) grown = refl
 
+-- what an answer stores
 answers-told : (w : World) (now : ℕ) (source : Endpoint) (m : Message) (x : Numbered Exchange) → IsTold (λ grown. answers w now grown source m x)
 answers-told w now source m x =
     let a : Arrived = record { source = source; message = m; exchange = x; answer = answer_for w now m x.1 } in
@@ -68,20 +69,24 @@ answers-told w now source m x =
 
 -- ---- responses
 
+-- with an exchange that awaits it
 awaited-told : (w : World) (now : ℕ) (source : Endpoint) (m : Message) (o : Option (Numbered Exchange)) → IsTold (λ grown. on_awaited w now grown source m o)
 awaited-told w now source m None = λ grown. refl
 awaited-told w now source m (Some x) = answers-told w now source m x
 
+-- in a message of its own
 separate-told : (w : World) (now : ℕ) (source : Endpoint) (m : Message) (o : Option (Numbered Exchange)) → IsTold (λ grown. on_separate w now grown source m o)
 separate-told w now source m None = λ grown. refl
 separate-told w now source m (Some x) =
     either (has_record_room w now m.kind) (λ grown. remembers now source m (answers w now grown source m x)) (λ grown. drops w now)
     (remembered-told now source m (λ grown. answers w now grown source m x) (answers-told w now source m x)) (λ grown. refl)
 
+-- that is not known
 unknown-told : (w : World) (now : ℕ) (source : Endpoint) (m : Message) (o : Option Record) → IsTold (λ grown. on_unknown w now grown source m o)
 unknown-told w now source m None = separate-told w now source m (awaiting w source m)
 unknown-told w now source m (Some known) = λ grown. refl
 
+-- of each type
 response-told : (w : World) (now : ℕ) (source : Endpoint) (m : Message) (k : Kind) → IsTold (λ grown. on_response_in k w now grown source m)
 response-told w now source m Con = unknown-told w now source m (known_of w now source m)
 response-told w now source m Non = awaited-told w now source m (awaiting w source m)
@@ -90,6 +95,7 @@ response-told w now source m Rst = awaited-told w now source m (awaiting w sourc
 
 -- ---- Empty messages
 
+-- for an exchange that is found
 found-told : (w : World) (now : ℕ) (source : Endpoint) (m : Message) (n : ℕ) (o : Option Exchange) → IsTold (λ grown. on_exchange w now grown source m n o)
 found-told w now source m n None = λ grown. refl
 found-told w now source m n (Some x) =
@@ -97,6 +103,7 @@ found-told w now source m n (Some x) =
     (either (is_ack m.kind) (λ grown. acknowledges w now n) (λ grown. answers w now grown source m (n, x)) (λ grown. refl) (answers-told w now source m (n, x)))
     (λ grown. refl)
 
+-- for what was sent
 sent-told : (w : World) (now : ℕ) (source : Endpoint) (m : Message) (o : Option ℕ) → IsTold (λ grown. on_sent w now grown source m o)
 sent-told w now source m None = λ grown. refl
 sent-told w now source m (Some n) = found-told w now source m n (item_at n w.exchanges)

@@ -20,7 +20,8 @@ asks code id more = 0x50 ∷ code ∷ 0 ∷ id ∷ 0xB1 ∷ 0x74 ∷ more
 -- what is sent on for it, with its own id and the last byte of its token
 abbrev pub goes_as : ℕ → ℕ → ℕ → List ℕ → List ℕ
 goes_as code id token more =
-    0x48 ∷ code ∷ 0 ∷ id ∷ 0 ∷ 0 ∷ 0 ∷ 0 ∷ 0 ∷ 0 ∷ 0 ∷ token ∷ 0xB4 ∷ 0x74 ∷ 0x65 ∷ 0x6D ∷ 0x70 ∷ more
+    0x48 ∷ code ∷ 0 ∷ id ∷ 0 ∷ 0 ∷ 0 ∷ 0 ∷ 0 ∷ 0 ∷ 0 ∷ token
+    ∷ 0xB4 ∷ 0x74 ∷ 0x65 ∷ 0x6D ∷ 0x70 ∷ more
 
 -- the same for a GET with these options and the path
 abbrev pub with_options : ℕ → ℕ → List ℕ → List ℕ

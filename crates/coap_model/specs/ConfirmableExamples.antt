@@ -148,7 +148,8 @@ given_up_sent =
 
 abbrev pub separate_answer : List Turn
 separate_answer =
-    from 0 (client 1) con_get ∷ tick_at 0 ∷ from 1 origin (empty_ack 1) ∷ from 20 origin (con_got 9 1)
+    from 0 (client 1) con_get ∷ tick_at 0 ∷ from 1 origin (empty_ack 1)
+    ∷ from 20 origin (con_got 9 1)
     ∷ tick_at 20 ∷ from 21 (client 1) (empty_ack 2) ∷ []
 
 abbrev pub separate_answer_sent : List Sent
@@ -213,7 +214,8 @@ last_ids_sent =
 -- a Confirmable client waits, is told, is told again, and has acknowledged that
 abbrev pub waits_acting : List Acting
 waits_acting =
-    record { turn = from 0 (client 1) con_get; act = admits 1 1 } ∷ record { turn = tick_at 0; act = moves 1 }
+    record { turn = from 0 (client 1) con_get; act = admits 1 1 }
+    ∷ record { turn = tick_at 0; act = moves 1 }
     ∷ record { turn = from 20 origin content; act = moves 1 } ∷ []
 
 abbrev pub told_acting : List Acting

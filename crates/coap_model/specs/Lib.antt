@@ -24,6 +24,7 @@ pub mod Runs
 pub mod Pairs
 pub mod Changed
 pub mod Cached
+pub mod Word
 pub mod Examples
 pub mod FormExamples
 pub mod LimitExamples
@@ -37,5 +38,6 @@ pub mod ConfirmableExamples
 pub mod ChangeExamples
 pub mod Forged
 pub mod CacheExamples
+pub mod ForgedHits
 pub mod HitExamples
 pub mod StoringExamples

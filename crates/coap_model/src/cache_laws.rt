@@ -16,7 +16,7 @@ ghost use Rattle.coap_model.specs.Keys.{request_key};
 ghost use Rattle.coap_model.specs.History as told;
 ghost use Rattle.coap_model.specs.History.{Deed, Place, IsPlaceOf, Brings, moves, takes, Gets};
 ghost use Rattle.coap_model.specs.Answers.{marked_all};
-ghost use Rattle.coap_model.specs.Changed.{asked_of, key_asked, to_get, Unchanged, IsTold};
+ghost use Rattle.coap_model.specs.Changed.{asked_of, key_asked, to_get, Unchanged, WasChanged, IsTold};
 ghost use Rattle.coap_forward.specs.Answers.{fits, taken_of, is_passed_on};
 ghost use Rattle.coap_forward.specs.Changes.{changed_by};
 ghost use Rattle.coap_cache.specs.Renewing.{is_validated, renewed};
@@ -25,8 +25,9 @@ ghost use Rattle.coap_routes.specs.Routes.{AreRoutes};
 ghost use Rattle.coap_model.specs.Cached.{IsFetched, IsLasting, IsObtained, Cached, cached_key, cached_size, entry_marked, entry_of_cached, store_limits, leaves, copied, entry_got, IsCacheOf, WasCacheAt, StandsFirst, IsStored, IsStoreOf, WasObtained, IsEntryOf};
 ghost use Rattle.coap_limits.specs.Limits.{AreLimits};
 ghost use Rattle.coap_model.specs.World.{World, counts};
-ghost use Rattle.coap_model.specs.Justified.{IsHit, IsObtainedHere, entry_here, size_here, JustifiedBy, AllJustified};
+ghost use Rattle.coap_model.specs.Justified.{IsHit, IsKept, IsObtainedHere, entry_here, size_here, JustifiedBy, AllJustified};
 ghost use Rattle.coap_model.specs.Carries.{Carries};
+ghost use Rattle.coap_model.specs.Word.{KeepsItsWord};
 ghost use Rattle.coap_model.specs.Examples.{play, proxy, tick_at};
 ghost use Rattle.coap_model.specs.StoringExamples.{answer_with, answer_in_place, still_delivered};
 ghost use Rattle.coap_model.specs.LimitExamples.{after_ids};
@@ -35,6 +36,7 @@ ghost use Rattle.coap_model.specs.HitExamples.{seconds, no_second, aged, aged_se
 ghost use Rattle.coap_model.specs.OptionExamples.{key_of_temp};
 ghost use Rattle.coap_model.specs.Forged as forged;
 ghost use Rattle.coap_model.specs.Forged.{setting, opened, asked};
+ghost use Rattle.coap_model.specs.ForgedHits.{reply, changed_past, overtaken_past, keeps_overtaken, opens_two};
 ghost use Rattle.coap_model.specs.CacheExamples.{storable_in, content_for, max_age, empty_max_age, entry_for, two, kept_within, answered, kept_past, hit_past, asked_past, first_entry, second_entry, first_stored};
 
 /// What may be kept of a response, by its code and its Max-Age: a 2.05 and the errors of an origin,
@@ -133,6 +135,22 @@ pub fn examples_of_caches()
           before = asked ∷ opened ∷ [];
           deed = record (answered 5 1 2 (Answered Kept)) { act = moves 1 };
         }) }
+{}
+
+/// A reply from the cache that is as it is to be; replies that are right but for one thing, and an
+/// answer that is kept though a change overtook it, are not justified. Nor does a proxy keep its word
+/// that opened two exchanges where there is room for one.
+pub fn forged_hits_are_refused()
+    ensures as_it_is { IsHit setting asked_past (reply 25 9) }
+    ensures changed { WasChanged setting key_of_temp.target first_entry.asking changed_past }
+    ensures unchanged { Unchanged setting key_of_temp.target first_entry.asking asked_past }
+    ensures after_a_change { ¬ IsHit setting changed_past (reply 25 9) }
+    ensures too_late { ¬ IsHit setting asked_past (reply 10006 0) }
+    ensures as_received { ¬ IsHit setting asked_past (reply 25 10) }
+    ensures overtaken { ¬ IsKept setting overtaken_past keeps_overtaken }
+    ensures two_exchanges { (w : World)
+        → w.setting.limits.exchanges ≡ 1
+        → ¬ KeepsItsWord opens_two w }
 {}
 
 /// Answers for which there is memory, or not: only a key without an entry wants it, and the client

@@ -4,6 +4,7 @@
 
 pub mod cache_laws;
 mod due;
+pub mod examples;
 pub mod laws;
 mod report;
 

@@ -34,8 +34,7 @@ pub enum Outcome {
     Joined,
     /// An exchange was opened, and the client waits for it.
     Opened,
-    /// There was no room for an exchange or a client, or too few message ids were free, or the
-    /// request is Confirmable, which isn't asked for yet: 5.03.
+    /// There was no room for an exchange or a client, or too few message ids were free: 5.03.
     Overloaded,
     /// No message id was free for the reply.
     NoId,

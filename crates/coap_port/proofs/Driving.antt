@@ -1,6 +1,7 @@
 -- A proxy that is driven turn by turn.
 use Rattle.std.proofs.Common.{◌≡◌, ℕ, Bool, true, false, cond, List, [], ◌∷◌, refl, ap, ◌∙◌, subst}
 use Rattle.coap_model.specs.Carries.{Carries}
+use Rattle.coap_model.proofs.Word.{keeps-word}
 use Rattle.coap_model.specs.History.{Entry}
 use Rattle.coap_model.specs.Runs.{Run, Turn, one_turn, step_taken}
 use Rattle.coap_model.specs.Ticks.{next_due}
@@ -41,6 +42,7 @@ module _ {P : Type 0} (gives : P → ℕ → Turn → P → Type 0) (takes : P �
       lost = tt;
       world = refl;
       carries = λ history c. c;
+      word = λ history c. keeps-word history w c;
       counted = refl;
     };
     told = refl;
@@ -98,6 +100,7 @@ module _ {P : Type 0} (gives : P → ℕ → Turn → P → Type 0) (takes : P �
         lost = (lost, at.driven.lost);
         world = world;
         carries = carries;
+        word = λ history c. keeps-word (run_by (run_at w history) (g ∷ givens)).history v' (carries history c);
         counted = counted;
       };
       told = did.told;

@@ -8,6 +8,7 @@ use Rattle.coap_model.specs.History.{Entry}
 use Rattle.coap_model.specs.Runs.{Turn, Taken, Run, one_turn, step_taken}
 use Rattle.coap_model.specs.Step.{step_of}
 use Rattle.coap_model.specs.Ticks.{next_due}
+use Rattle.coap_model.specs.Word.{KeepsItsWord}
 use Rattle.coap_model.specs.World.{Step, World}
 use Rattle.coap_core.specs.Steps.{wants_memory}
 use Rattle.coap_port.specs.Stats.{no_stats, with_turn}
@@ -120,7 +121,7 @@ module _ {P : Type 0} (gives : P → ℕ → Turn → P → Type 0)
 
   -- A proxy was driven over a port from one moment on, which gave turns, here the newest first: it
   -- did them and nothing else, so that it carries their history in front of any that it carried
-  -- before.
+  -- before, and keeps its word of that.
   pub record IsDriven (first : ℕ) (w : World) (p : P) (v : World) (q : P) (s : Stats) : Type 0 where
     pub givens : List Given
     pub leads : LeadsTo w p givens q
@@ -129,6 +130,8 @@ module _ {P : Type 0} (gives : P → ℕ → Turn → P → Type 0)
     pub world : v ≡ world_by w givens
     pub carries : (history : List Entry) → Carries history w
         → Carries (run_by (run_at w history) givens).history v
+    pub word : (history : List Entry) → Carries history w
+        → KeepsItsWord (run_by (run_at w history) givens).history v
     pub counted : s ≡ stats_of w givens
 
   -- How it ends.

@@ -2,3 +2,4 @@ pub mod Faults
 pub mod Words
 pub mod Planning
 pub mod Serving
+pub mod Examples

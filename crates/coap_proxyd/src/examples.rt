@@ -1,7 +1,13 @@
 //! Examples, computed on the definitions.
-ghost use Rattle.std.specs.Prelude.{◌≡◌, codes};
+ghost use Rattle.std.specs.Prelude.{◌≡◌, ◌∷◌, [], None, Some, Ok, codes};
+ghost use Rattle.coap_target.specs.declared.endpoint.Ip.TheVariants.{V4};
+ghost use Rattle.coap_proxyd.specs.Examples.{named, no_settings};
 ghost use Rattle.coap_proxyd.specs.Faults.{fault_text, status_of};
+ghost use Rattle.coap_proxyd.specs.Planning.{with_names};
+ghost use Rattle.coap_proxyd.specs.Serving.{turns_of};
+ghost use Rattle.coap_proxyd.specs.Words.{local_of};
 ghost use Rattle.coap_proxyd.specs.declared.fault.Fault.TheVariants as faults;
+ghost use Rattle.coap_proxyd.specs.declared.planning.Plan.{Plan};
 ghost use Rattle.coap_words.specs.declared.config_error.ConfigError.TheVariants as config_errors;
 
 /// The exit status of each fault: 2 for what the program was told, 1 for what it met.
@@ -25,4 +31,32 @@ pub fn texts()
     ensures socket { fault_text faults.Socket ≡ codes "coap-proxyd: socket" }
     ensures memory { fault_text faults.OutOfMemory ≡ codes "coap-proxyd: out of memory" }
     ensures memory_at { fault_text (faults.OutOfMemoryAt 12) ≡ codes "line 12: out of memory" }
+{}
+
+/// Where the program listens: at all addresses of IPv4 and the port of `coap`, where nothing else
+/// is said (RFC 7252, 6.1).
+pub fn listens()
+    ensures nothing_said { local_of no_settings
+        ≡ Ok (record { ip = V4 (0 ∷ 0 ∷ 0 ∷ 0 ∷ []); port = 5683 }) }
+    ensures port { local_of (record no_settings { port = Some 61616 })
+        ≡ Ok (record { ip = V4 (0 ∷ 0 ∷ 0 ∷ 0 ∷ []); port = 61616 }) }
+{}
+
+/// Own names that are given stand in place of those of the configuration, also where none is.
+pub fn names()
+    ensures given { with_names (named (codes "a" ∷ [])) (Some (codes "b" ∷ []))
+        ≡ named (codes "b" ∷ []) }
+    ensures no_name { with_names (named (codes "a" ∷ [])) (Some []) ≡ named [] }
+    ensures not_given { with_names (named (codes "a" ∷ [])) None ≡ named (codes "a" ∷ []) }
+{}
+
+/// How many turns are done: 2^63 - 1 where nothing is said, and no more than that.
+pub fn turns()
+    ensures nothing_said { (plan : Plan)
+        → turns_of (record plan { turns = None }) ≡ 9223372036854775807 }
+    ensures one { (plan : Plan) → turns_of (record plan { turns = Some 1 }) ≡ 1 }
+    ensures more_than_a_million { (plan : Plan)
+        → turns_of (record plan { turns = Some 1000001 }) ≡ 1000001 }
+    ensures greatest { (plan : Plan)
+        → turns_of (record plan { turns = Some 9223372036854775808 }) ≡ 9223372036854775807 }
 {}

@@ -1,7 +1,8 @@
 -- What the next line of an input asks for, whether or not the input is known.
-use Rattle.std.proofs.Common.{◌≡◌, ℕ, ◌^◌, ◌<◌, ◌≤◌, true, false, List, ◌∷◌, Option, Some, None, Ok, Err, refl, sym, ap, ◌∙◌, subst}
+use Rattle.std.proofs.Common.{◌≡◌, ◌≢◌, ℕ, ◌^◌, ◌<◌, ◌≤◌, true, false, List, ◌∷◌, Option, Some, None, Ok, Err, refl, sym, ap, ◌∙◌, subst}
 use Rattle.std.specs.Prelude.{IfSome, IsSome}
 use Rattle.std.proofs.lemmas.Bool.{false≢true}
+use Rattle.coap_model.specs.Events.Event.{tick}
 use Rattle.coap_model.specs.Runs.{Turn}
 use Rattle.coap_replay.specs.declared.error.ReplayError.TheVariants.{BadEvent, OutOfMemory, Read}
 use Rattle.coap_lines.specs.declared.reading.input.Next.{Next}
@@ -67,12 +68,12 @@ module _ (number last events : ℕ) (old left : Option (List ℕ)) (line : List 
   asks-turn turn comes within other is few = known next.Line (λ input l. AsksNext number last events input l (Ok (Do turn))) comes (λ input rest n. (line, n, asks-for (turn_seen turn) input rest n within other is few))
 
   -- a line that says a turn for which there is no memory
-  pub asks-memory : Comes next.Line → number ≤ greatest → is_skipped line ≡ false → IsSome (turn_of last line) → events < 2 ^ 63 → IfSome old (λ input. AsksNext number last events input left (Err (OutOfMemory number)))
-  asks-memory comes within other some few = known next.Line (λ input l. AsksNext number last events input l (Err (OutOfMemory number))) comes (λ input rest n. (refl, by (turn_of last line) refl some input rest n))
+  pub asks-memory : Comes next.Line → number ≤ greatest → is_skipped line ≡ false → IsSome (turn_of last line) → IfSome (turn_of last line) (λ t. t.event ≡ tick → false ≡ true) → events < 2 ^ 63 → IfSome old (λ input. AsksNext number last events input left (Err (OutOfMemory number)))
+  asks-memory comes within other some ticks few = known next.Line (λ input l. AsksNext number last events input l (Err (OutOfMemory number))) comes (λ input rest n. (refl, by (turn_of last line) refl some ticks input rest n))
     where
-      by : (turn : Option Turn) → turn_of last line ≡ turn → IsSome turn → (input rest : List ℕ) → IsNext input (Some rest) line next.Line → (t : Turn) × AsksFor number last events (lines_of input) t
-      by None is some input rest n = absurd (false≢true some)
-      by (Some turn) is some input rest n = (turn, subst (λ (ls : List (List ℕ)). AsksFor number last events ls turn) (sym n.0) (asks-for turn input rest n within other is few))
+      by : (turn : Option Turn) → turn_of last line ≡ turn → IsSome turn → IfSome turn (λ t. t.event ≡ tick → false ≡ true) → (input rest : List ℕ) → IsNext input (Some rest) line next.Line → (t : Turn) × (t.event ≢ tick) × AsksFor number last events (lines_of input) t
+      by None is some ticks input rest n = absurd (false≢true some)
+      by (Some turn) is some ticks input rest n = (turn, (λ same. false≢true (ticks same)), subst (λ (ls : List (List ℕ)). AsksFor number last events ls turn) (sym n.0) (asks-for turn input rest n within other is few))
 
   -- a line that was not read
   pub asks-unread : IsBegun old left → IfSome old (λ input. AsksNext number last events input left (Err Read))

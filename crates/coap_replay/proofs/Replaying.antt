@@ -4,11 +4,13 @@ use Rattle.std.specs.Prelude.{IfSome}
 use Rattle.std.specs.Io.KnownBytes.{Appends}
 use Rattle.std.proofs.KnownBytes.{Appends-trans}
 use Rattle.std.proofs.lemmas.List.{append-nil, length-append}
+use Rattle.coap_model.specs.History.{Entry}
 use Rattle.coap_model.specs.World.{World}
 use Rattle.coap_model.specs.Events.{IsEvent}
 use Rattle.coap_model.specs.Carries.{Carries}
 use Rattle.coap_model.specs.Runs.{Turn, Taken, turns_of, AreTurns, Run, one_turn, run_of, step_taken}
 use Rattle.coap_model.proofs.Running.{clock_after, runs_carry}
+use Rattle.coap_model.proofs.Word.{keeps-word}
 use Rattle.coap_lines.specs.declared.reading.turn.Turn.{Turn as TurnRead}
 use Rattle.coap_lines.specs.Turns.{turn_seen}
 use Rattle.coap_lines.specs.Lines.{IsBegun, IsLine, lines_of}
@@ -18,7 +20,7 @@ use Rattle.coap_replay.specs.declared.error.ReplayError.{ReplayError}
 use Rattle.coap_replay.specs.declared.error.ReplayError.TheVariants.{BadEvent, OutOfMemory, Read, Write}
 use Rattle.coap_replay.specs.declared.replays.Asked.{Asked}
 use Rattle.coap_replay.specs.declared.replays.Asked.TheVariants.{End, Skip, Do}
-use Rattle.coap_replay.specs.Replays.{AsksNext, DoesTurn, HasDone, IfDo, IsAtEvent, IsBroken, IsReadTo, IsReplayed, IsThrough, IsUpTo, MayBeDone, line_sent, output_of, run_at, script_for, taken, with_turns, world_after}
+use Rattle.coap_replay.specs.Replays.{AsksNext, DoesTurn, HasDone, IfDo, IsAtEvent, IsBroken, IsReadTo, IsReplayed, IsThrough, IsUpTo, MayBeDone, MayLack, line_sent, output_of, run_at, script_for, taken, with_turns, world_after}
 
 -- ---- one turn more
 
@@ -53,7 +55,7 @@ turns_of-more (u ∷ ts) t = ap (λ (l : List Turn). u.turn ∷ l) (turns_of-mor
 
 -- nothing was done
 done-nothing : (w : World) → HasDone w [] w
-done-nothing w = record { are = tt; world = refl; carries = λ history c. c }
+done-nothing w = record { are = tt; world = refl; carries = λ history c. c; word = λ history c. keeps-word history w c }
 
 -- one turn more was done
 done-more : (w v : World) (ts : List Taken) (t : Taken) → HasDone w ts v → MayBeDone v.last v.events t.turn → HasDone w (ts ++ t ∷ []) (step_taken v t).world
@@ -64,8 +66,12 @@ done-more w v ts t d may =
     record {
       are = are;
       world = world;
-      carries = λ history c. subst (λ (u : World). Carries (run_of (run_at w history) (ts ++ t ∷ [])).history u) (run-apart (run_at w history) (run_at w []) (ts ++ t ∷ []) refl ∙ sym world) (runs_carry (run_at w history) (ts ++ t ∷ []) c are);
+      carries = carries are world;
+      word = λ history c. keeps-word (run_of (run_at w history) (ts ++ t ∷ [])).history (step_taken v t).world (carries are world history c);
     }
+  where
+    carries : AreTurns w.last (turns_of (ts ++ t ∷ [])) → (step_taken v t).world ≡ world_after w (ts ++ t ∷ []) → (history : List Entry) → Carries history w → Carries (run_of (run_at w history) (ts ++ t ∷ [])).history (step_taken v t).world
+    carries are world history c = subst (λ (u : World). Carries (run_of (run_at w history) (ts ++ t ∷ [])).history u) (run-apart (run_at w history) (run_at w []) (ts ++ t ∷ []) refl ∙ sym world) (runs_carry (run_at w history) (ts ++ t ∷ []) c are)
 
 -- ---- where a replay is
 
@@ -158,9 +164,9 @@ module _ (w v : World) (input left left' old new : Option (List ℕ)) (lines cou
   up-to i rest s = up-to-next w v i rest at.turns lines at.done.world s
 
   -- a line asks for a turn, and its number is the next
-  at-event : (i rest : List ℕ) (line : ℕ) (turn : Turn) → StillAsks w i (Some rest) at.turns lines v → line ≡ lines + 1 → AsksFor (lines + 1) v.last v.events (lines_of rest) turn → IsAtEvent w i at.turns line
-  at-event i rest line turn s is asks =
-      rw is (lines_of rest, turn, up-to i rest s, subst (λ (u : World). AsksFor (lines + 1) u.last u.events (lines_of rest) turn) at.done.world asks)
+  at-event : (i rest : List ℕ) (line : ℕ) (turn : Turn) → StillAsks w i (Some rest) at.turns lines v → line ≡ lines + 1 → AsksFor (lines + 1) v.last v.events (lines_of rest) turn → MayLack v turn → IsAtEvent w i at.turns line
+  at-event i rest line turn s is asks lacks =
+      rw is (lines_of rest, turn, up-to i rest s, subst (λ (u : World). AsksFor (lines + 1) u.last u.events (lines_of rest) turn) at.done.world asks, subst (λ (u : World). MayLack u turn) at.done.world lacks)
 
   -- no line was begun
   pub ends-unread : IsReplayed w v most input left old new (Err Read)
@@ -197,7 +203,7 @@ module _ (w v : World) (input left left' old new : Option (List ℕ)) (lines cou
     where
       missing : (i rest : List ℕ) → StillAsks w i (Some rest) at.turns lines v → (l' : Option (List ℕ)) → AsksNext (lines + 1) v.last v.events rest l' (Err (OutOfMemory line)) → IsAtEvent w i at.turns line
       missing i rest s None a = absurd a
-      missing i rest s (Some rest') (is, (turn, asks)) = at-event i rest line turn s is asks
+      missing i rest s (Some rest') (is, (turn, other, asks)) = at-event i rest line turn s is asks (inl other)
   ends-refused Read asks may =
       record {
         turns = at.turns;
@@ -323,7 +329,7 @@ module _ (w v : World) (input left left' old new : Option (List ℕ)) (lines cou
     pub ends-turn : (v' : World) (new' : Option (List ℕ)) (e : ReplayError) → DoesTurn v v' (turn_seen turn) new new' (lines + 1) (Err e) → IsReplayed w v' most input left' old new' (Err e)
     ends-turn v' new' (BadEvent line) does = absurd does
     ends-turn v' new' Read does = absurd does
-    ends-turn v' new' (OutOfMemory line) (is, nothing, same) = rw same (record { turns = at.turns; done = at.done; ends = (wrote, inr (fewer, go input left at.asked left' asks)) })
+    ends-turn v' new' (OutOfMemory line) (is, nothing, same, lacks) = rw same (record { turns = at.turns; done = at.done; ends = (wrote, inr (fewer, go input left at.asked left' asks)) })
       where
         wrote : Appends old new' (output_of w at.turns)
         wrote = subst (λ (l : List ℕ). Appends old new' l) (append-nil (output_of w at.turns)) (Appends-trans old new new' (output_of w at.turns) [] at.written nothing)
@@ -333,12 +339,12 @@ module _ (w v : World) (input left left' old new : Option (List ℕ)) (lines cou
         go (Some i) None s l' a = absurd s
         go (Some i) (Some rest) s None a = absurd a
         go (Some i) (Some rest) s (Some more) (text, read, asks) =
-            at-event i rest line (turn_seen turn) s is (subst (λ (ls : List (List ℕ)). AsksFor (lines + 1) v.last v.events ls (turn_seen turn)) (sym read.0) asks)
-    ends-turn v' new' Write (grown, is, (front, back, split, wrote)) =
+            at-event i rest line (turn_seen turn) s is (subst (λ (ls : List (List ℕ)). AsksFor (lines + 1) v.last v.events ls (turn_seen turn)) (sym read.0) asks) (inr lacks)
+    ends-turn v' new' Write (grown, is, (front, back, split, some, wrote)) =
         rw is (record {
           turns = turns grown;
           done = done grown;
-          ends = (no-more grown, (at.turns, t grown, front, back, refl, line grown ∙ split, Appends-trans old new new' (output_of w at.turns) front at.written wrote), go input left' (asked grown));
+          ends = (no-more grown, (at.turns, t grown, front, back, refl, line grown ∙ split, some, Appends-trans old new new' (output_of w at.turns) front at.written wrote), go input left' (asked grown));
         })
       where
         go : (o l : Option (List ℕ)) → IfSome o (λ i. StillAsks w i l (turns grown) (lines + 1) (step_taken v (t grown)).world) → IfSome o (λ i. (line : ℕ) × (left : List (List ℕ)) × IsUpTo w i (turns grown) line left)

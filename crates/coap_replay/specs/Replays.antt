@@ -1,12 +1,16 @@
 -- What a replay does: the turns that were done, what they left, and what was written for them.
-use Rattle.std.specs.Prelude.{◌≡◌, ◌⊎◌, ℕ, ◌+◌, ◌≤◌, ◌<◌, ◌^◌, false, List, [], ◌∷◌, ◌++◌, length, Option, Some, None, Result, Ok, Err, IfSome, Bool}
+use Rattle.std.specs.Prelude.{◌≡◌, ◌≢◌, ◌⊎◌, ℕ, ◌+◌, ◌≤◌, ◌<◌, ◌^◌, false, true, List, [], ◌∷◌, ◌++◌, length, Option, Some, None, Result, Ok, Err, IfSome, Bool}
 use Rattle.std.specs.Io.KnownBytes.{Appends}
 use Rattle.coap_target.specs.declared.endpoint.Endpoint.{Endpoint}
 use Rattle.coap_model.specs.World.{World}
 use Rattle.coap_model.specs.History.{Entry}
 use Rattle.coap_model.specs.Events.{IsEvent}
+use Rattle.coap_model.specs.Events.Event.{tick}
 use Rattle.coap_model.specs.Carries.{Carries}
+use Rattle.coap_model.specs.Word.{KeepsItsWord}
+use Rattle.coap_model.specs.Step.{step_of}
 use Rattle.coap_model.specs.Runs.{Taken, turns_of, step_taken, Turn, AreTurns, Run, run_of}
+use Rattle.coap_core.specs.Steps.{wants_memory}
 use Rattle.coap_replay.specs.declared.error.ReplayError.{ReplayError}
 use Rattle.coap_replay.specs.declared.error.ReplayError.TheVariants.{BadEvent, OutOfMemory, Read, Write}
 use Rattle.coap_replay.specs.declared.replays.Asked.{Asked}
@@ -41,12 +45,14 @@ abbrev pub world_after : World → List Taken → World
 world_after w turns = (run_of (run_at w []) turns).world
 
 -- A proxy did these turns, whose moments don't go back, and nothing else. It carries the history of
--- them in front of any that it carried before.
+-- them in front of any that it carried before, and keeps its word of that.
 pub record HasDone (w : World) (turns : List Taken) (v : World) : Type 0 where
   pub are : AreTurns w.last (turns_of turns)
   pub world : v ≡ world_after w turns
   pub carries : (history : List Entry) → Carries history w
       → Carries (run_of (run_at w history) turns).history v
+  pub word : (history : List Entry) → Carries history w
+      → KeepsItsWord (run_of (run_at w history) turns).history v
 
 -- ---- what was asked for
 
@@ -72,11 +78,22 @@ pub record IsUpTo (w : World) (input : List ℕ) (turns : List Taken) (line : �
   pub number : line ≡ length front + 1
   pub asked : script_for w input ≡ with_turns turns (script_after w turns line left)
 
--- the line of this number exists, and says an event that may follow these turns
+-- a turn whose step may want memory
+abbrev pub takes_some : World → Turn → Bool
+takes_some w t = wants_memory (step_of w t.now t.draw true t.event)
+
+-- Memory may lack for a turn: for the bytes of its datagram, or for its step. So at a tick it lacks
+-- only where a client is given its answer in a Confirmable message.
+abbrev pub MayLack : World → Turn → Type 0
+MayLack w t = (t.event ≢ tick) ⊎ (takes_some w t ≡ true)
+
+-- the line of this number exists, and says an event that may follow these turns, for which memory
+-- may lack
 abbrev pub IsAtEvent : World → List ℕ → List Taken → ℕ → Type 0
 IsAtEvent w input turns line = (left : List (List ℕ)) × (turn : Turn)
     × IsUpTo w input turns line left
     × AsksFor line (world_after w turns).last (world_after w turns).events left turn
+    × MayLack (world_after w turns) turn
 
 -- nothing was read and done yet, and the line is the first
 abbrev pub IsAtStart : Option (List ℕ) → Option (List ℕ) → List Taken → ℕ → Type 0
@@ -90,11 +107,11 @@ IsBroken w input (Some rest) turns = (done part : List ℕ)
     × (input ≡ done ++ part ++ rest) × (has line_feed part ≡ false)
     × IsUpTo w input turns (length (lines_of done) + 1) (lines_of (part ++ rest))
 
--- what is written is all lines of these turns but the last, and a beginning of that
+-- what is written is all lines of these turns but the last, and a beginning of that, not the whole
 abbrev pub IsWrittenInPart : World → Option (List ℕ) → Option (List ℕ) → List Taken → Type 0
 IsWrittenInPart w old new turns = (before : List Taken) × (turn : Taken) × (front back : List ℕ)
     × (turns ≡ before ++ turn ∷ []) × (line_sent (world_after w before) turn ≡ front ++ back)
-    × Appends old new (output_of w before ++ front)
+    × (back ≢ []) × Appends old new (output_of w before ++ front)
 
 -- Of an input nothing was read after the line of the last of these turns, and nothing at all
 -- without turns. `done` are the lines before that one, with which `text` begins, and `rest` is what
@@ -120,11 +137,11 @@ IsThrough w most input left turns = ((length turns < most)
 --   Ok: all lines were done, or as many turns as may be, and their lines written.
 --   A bad line: the lines before it were done, and their lines written.
 --   Want of memory at a line: the lines before it were done, and their lines written. Its event was
---   not done; or nothing was read at all, and the number is 1.
+--   not done, and is one for which memory may lack; or nothing was read at all, and the number is 1.
 --   `Read`: some lines were done, perhaps none, and their lines written. The next one was not read
 --   whole, but for its line feed. That the reader failed isn't said.
 --   `Write`: some lines were done, at least one, and their lines written but for an end of the
---   last. That the writer failed isn't said.
+--   last, which has at least one byte. That the writer failed isn't said.
 -- A line that is bad, that finds no memory or that can't be read comes before so many turns are
 -- done.
 abbrev pub Ends : World → ℕ → Option (List ℕ) → Option (List ℕ) → Option (List ℕ)
@@ -166,7 +183,7 @@ AsksNext number last events input left (Err (BadEvent line)) = (line ≡ number)
     × (script_from number last events (lines_of input) ≡ bad_at number)
 AsksNext number last events input None (Err (OutOfMemory line)) = ⊥
 AsksNext number last events input (Some rest) (Err (OutOfMemory line)) = (line ≡ number)
-    × ((turn : Turn) × AsksFor number last events (lines_of input) turn)
+    × ((turn : Turn) × (turn.event ≢ tick) × AsksFor number last events (lines_of input) turn)
 AsksNext number last events input left (Err Read) = IsBegun (Some input) left
 AsksNext number last events input left (Err Write) = ⊥
 
@@ -191,8 +208,8 @@ IfDo P (Err Write) = ⊥
 abbrev pub taken : Turn → Bool → Taken
 taken t grown = record { turn = t; grown = grown }
 
--- A turn was done, and its line written. Or memory was missing, and nothing was done or written; or
--- the writer failed at its line.
+-- A turn was done, and its line written. Or memory was missing that its step may want, and nothing
+-- was done or written; or the writer failed at its line.
 abbrev pub DoesTurn : World → World → Turn → Option (List ℕ) → Option (List ℕ) → ℕ
     → Result (Unit {0}) ReplayError → Type 0
 DoesTurn w v t old new number (Ok u) = (grown : Bool)
@@ -200,9 +217,9 @@ DoesTurn w v t old new number (Ok u) = (grown : Bool)
     × Appends old new (line_sent w (taken t grown))
 DoesTurn w v t old new number (Err (BadEvent line)) = ⊥
 DoesTurn w v t old new number (Err (OutOfMemory line)) =
-    (line ≡ number) × Appends old new [] × (v ≡ w)
+    (line ≡ number) × Appends old new [] × (v ≡ w) × (takes_some w t ≡ true)
 DoesTurn w v t old new number (Err Read) = ⊥
 DoesTurn w v t old new number (Err Write) = (grown : Bool)
     × (v ≡ (step_taken w (taken t grown)).world)
-    × ((front back : List ℕ) × (line_sent w (taken t grown) ≡ front ++ back)
+    × ((front back : List ℕ) × (line_sent w (taken t grown) ≡ front ++ back) × (back ≢ [])
     × Appends old new front)

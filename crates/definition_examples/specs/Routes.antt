@@ -5,6 +5,7 @@ use Rattle.coap_message.specs.declared.options.Opt.{Opt}
 use Rattle.coap_message.specs.Message.{Message, message_of}
 use Rattle.coap_target.specs.declared.endpoint.Ip.TheVariants.{V4}
 use Rattle.coap_routes.specs.Examples.{loopback}
+use Rattle.coap_routes.specs.declared.map.KnownHost.{KnownHost}
 use Rattle.coap_routes.specs.declared.map.Map.{Map}
 use Rattle.coap_routes.specs.declared.routes.Routes.{Routes}
 use Rattle.coap_target.specs.declared.target.Target.{Target}
@@ -87,3 +88,20 @@ at_known_address = record {
   path = [];
   query = codes "q" ∷ [];
 }
+
+-- that address as an origin
+abbrev pub numbered_target : Target
+numbered_target = record {
+  host = None;
+  at = record { ip = V4 (192 ∷ 0 ∷ 2 ∷ 7 ∷ []); port = 5690 };
+  path = codes "temp" ∷ [];
+  query = [];
+}
+
+-- the own name
+abbrev pub own : HostPart
+own = Name (codes "proxy.test")
+
+-- a host of a configuration
+abbrev pub known : List ℕ → KnownHost
+known name = record { name = name; ip = V4 (192 ∷ 0 ∷ 2 ∷ 7 ∷ []) }

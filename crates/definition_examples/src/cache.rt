@@ -1,5 +1,6 @@
 //! Keys, stored responses and stores, computed on the definitions of `coap_cache`.
-ghost use Rattle.std.specs.Prelude.{◌≡◌, ◌∷◌, [], true, false, None, Some, codes, map, replicate, count_by};
+ghost use Rattle.std.specs.Prelude.{◌≡◌, ◌∷◌, ◌++◌, [], true, false, None, Some, codes, filter, map, replicate, count_by};
+ghost use Rattle.std.specs.List.{range_with_len};
 ghost use Rattle.coap_message.specs.Options.{option_of};
 ghost use Rattle.coap_cache.specs.Entries.{entry_key, entry_size, is_for, marked};
 ghost use Rattle.definition_examples.specs.Cache.{accepting, at, elsewhere, format, kept, key_at, last_two, max_age, plain, put_within, response, sensor, sized, sized_key, sized_size, tag, tagged, tagged_again, temp, three, x, y, z};
@@ -7,7 +8,7 @@ ghost use Rattle.coap_cache.specs.Freshness.{is_fresh, is_usable, left_of};
 ghost use Rattle.coap_cache.specs.Keys.{same_key};
 ghost use Rattle.coap_cache.specs.Lists.{are_distinct, cut, of_key, others, total, used};
 ghost use Rattle.coap_cache.specs.Renewing.{is_validated, renewed, tag_of, with_max_age};
-ghost use Rattle.coap_cache.specs.Showing.{shown};
+ghost use Rattle.coap_cache.specs.Showing.{shown, tells_age};
 ghost use Rattle.coap_cache.specs.Sizes.{size_of};
 
 /// Which requests have one key: Accept takes part in it and Size1 doesn't (RFC 7252, 5.4.6 and
@@ -155,4 +156,13 @@ pub fn told()
         ≡ response 2 4 (max_age 9 ∷ []) [] }
     ensures in_its_place { with_max_age 300 (format 50 ∷ option_of 60 (7 ∷ []) ∷ [])
         ≡ format 50 ∷ option_of 14 (1 ∷ 44 ∷ []) ∷ option_of 60 (7 ∷ []) ∷ [] }
+{}
+
+/// Which codes, of all 256, are told with a Max-Age: 2.05, and those of the classes 4 and 5 (RFC
+/// 7252, 5.10.5). A 2.02 isn't.
+pub fn told_with_an_age()
+    ensures codes { filter (λ n. tells_age (record { 0 = n })) (range_with_len 0 256)
+        ≡ 0x45 ∷ (range_with_len 0x80 32 ++ range_with_len 0xA0 32) }
+    ensures deleted { shown (response 2 2 (max_age 9 ∷ []) []) (Some 8) []
+        ≡ response 2 2 (max_age 9 ∷ []) [] }
 {}

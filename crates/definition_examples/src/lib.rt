@@ -3,6 +3,7 @@
 #![tactic(auto)]
 
 pub mod cache;
+pub mod limits;
 pub mod messages;
 pub mod options;
 pub mod routes;

@@ -7,9 +7,9 @@ ghost use Rattle.coap_routes.specs.declared.error.TargetError.{TargetError};
 ghost use Rattle.coap_uri.specs.declared.error.UriError.TheVariants.{Bad, Scheme};
 ghost use Rattle.coap_uri.specs.declared.uri.HostPart.TheVariants.{Name};
 ghost use Rattle.coap_uri.specs.Address.{bracketed_uri, inner_of, ipv4_of, is_address_byte};
-ghost use Rattle.definition_examples.specs.Routes.{at, at_known_address, everything, get, named, numbered, other, plain_url, sensor, temperature, uri, with_maps, without_names};
-ghost use Rattle.coap_routes.specs.Request.{request_target};
-ghost use Rattle.coap_routes.specs.RouteTexts.{are_few, is_name, is_name_byte, prefix_of};
+ghost use Rattle.definition_examples.specs.Routes.{at, at_known_address, everything, get, known, named, numbered, numbered_target, other, own, plain_url, sensor, temperature, uri, with_maps, without_names};
+ghost use Rattle.coap_routes.specs.Request.{by_uri, of_uri, request_target, resolved};
+ghost use Rattle.coap_routes.specs.RouteTexts.{are_few, hosts_of, is_name, is_name_byte, origin_at, prefix_of, without_query};
 ghost use Rattle.coap_uri.specs.Uri.{are_short, is_short, name_or, path_parts, query_parts, uri_read};
 
 /// The targets of requests without proxy options: the longest prefix wins, then the earlier,
@@ -150,4 +150,55 @@ pub fn bracketed()
     ensures closed { inner_of (codes "::1]") ≡ None }
     ensures one_bracket { inner_of (codes "[") ≡ None }
     ensures in_a_uri { bracketed_uri (codes "::1") ≡ codes "coap://[::1]" }
+{}
+
+/// The targets of requests with a Proxy-Uri (RFC 7252, 5.7.2 and 5.10.2): an own name stands for
+/// the proxy itself whatever the port, and why a URI has no target.
+pub fn proxied_by_uri()
+    ensures own_port { resolved (with_maps (temperature ∷ [])) (uri own 5683 (codes "t" ∷ []) [])
+        ≡ Ok (at 5690 (codes "temp" ∷ []) []) }
+    ensures other_port { resolved (with_maps (temperature ∷ [])) (uri own 1 (codes "t" ∷ []) [])
+        ≡ Ok (at 5690 (codes "temp" ∷ []) []) }
+    ensures unmapped { resolved (with_maps []) (uri own 5683 (codes "t" ∷ []) [])
+        ≡ Err TargetError.NotFound }
+    ensures unknown { resolved (with_maps (temperature ∷ [])) (uri named 5683 (codes "t" ∷ []) [])
+        ≡ Err TargetError.NotProxied }
+    ensures good { of_uri (with_maps (temperature ∷ [])) (Ok (uri own 1 (codes "t" ∷ []) []))
+        ≡ Ok (at 5690 (codes "temp" ∷ []) []) }
+    ensures bad { of_uri (with_maps (temperature ∷ [])) (Err Bad) ≡ Err TargetError.BadUri }
+    ensures scheme { of_uri (with_maps (temperature ∷ [])) (Err Scheme)
+        ≡ Err TargetError.NotProxied }
+    ensures no_utf8 { by_uri (with_maps (temperature ∷ [])) (0xFF ∷ []) ≡ Err TargetError.BadUri }
+    ensures before_scheme { request_target (with_maps (temperature ∷ []))
+        (get
+        (option_of 11 (codes "t") ∷ option_of 35 (0xFF ∷ []) ∷ option_of 39 (codes "coap") ∷ []))
+        ≡ Err TargetError.BadUri }
+    ensures no_names { request_target (without_names (temperature ∷ []))
+        (get (option_of 11 (codes "t") ∷ option_of 35 (0xFF ∷ []) ∷ []))
+        ≡ Err TargetError.NotProxied }
+{}
+
+/// Which origins and hosts a configuration may have: no origin with a query, also an empty one, and
+/// no host that stands twice, in whatever case.
+pub fn origins_and_hosts()
+    ensures origin { origin_at [] (Ok (uri numbered 5690 (codes "temp" ∷ []) []))
+        ≡ Some numbered_target }
+    ensures query { origin_at [] (Ok (uri numbered 5690 (codes "temp" ∷ []) (codes "q" ∷ [])))
+        ≡ None }
+    ensures empty_query { origin_at [] (Ok (uri numbered 5690 (codes "temp" ∷ []) ([] ∷ [])))
+        ≡ None }
+    ensures without_query { without_query [] (uri numbered 5690 (codes "temp" ∷ []) [])
+        (codes "q" ∷ [])
+        ≡ None }
+    ensures no_uri { origin_at [] (Err Bad) ≡ None }
+    ensures unknown_host { origin_at [] (Ok (uri named 5690 [] [])) ≡ None }
+    ensures hosts { hosts_of
+        ((codes "A", codes "192.0.2.7") ∷ (codes "b", codes "192.0.2.7") ∷ [])
+        ≡ Some (known (codes "a") ∷ known (codes "b") ∷ []) }
+    ensures twice { hosts_of
+        ((codes "a", codes "192.0.2.7") ∷ (codes "b", codes "192.0.2.7")
+        ∷ (codes "A", codes "192.0.2.7") ∷ [])
+        ≡ None }
+    ensures no_address { hosts_of ((codes "a", codes "b") ∷ []) ≡ None }
+    ensures no_name { hosts_of ((codes "192.0.2.8", codes "192.0.2.7") ∷ []) ≡ None }
 {}

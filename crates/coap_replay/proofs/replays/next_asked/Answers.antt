@@ -1,5 +1,6 @@
 use Rattle.std.proofs.Common.{◌≡◌, true, false, Some, None, sym}
-use Rattle.std.specs.Prelude.{IsSome}
+use Rattle.std.specs.Prelude.{IfSome, IsSome}
+use Rattle.coap_model.specs.Events.Event.{tick}
 use Rattle.coap_lines.specs.Lines.{is_skipped}
 use Rattle.coap_lines.specs.Turns.{turn_of, turn_seen}
 use Rattle.coap_replay.proofs.Asking.{asks-end, asks-long, asks-many, asks-skip, asks-bad, asks-full, asks-memory, asks-turn, asks-unread, may-be-done}
@@ -43,7 +44,9 @@ returns-in-Err-OutOfMemory-clause-asked g c =
     let other : is_skipped c.next_line.new.line.items ≡ false = rw (← c.deref.ensures.value) (sym c.if-is_skipped.ensures) in
     let some = rw c.in-Err-OutOfMemory.field-0-is at c.in-Err-OutOfMemory.ensures.read in
     let says : IsSome (turn_of c.args.last c.next_line.new.line.items) = rw (← c.deref-2.ensures.value) some in
-    asks-memory c.args.number c.args.last c.args.events _ _ c.next_line.new.line.items comes c.if-number-gt-LAST_LINE.false other says c.if-events-ge-MOST_EVENTS.false
+    let ticks : IfSome (turn_of c.args.last c.deref-2.result.now) (λ t. t.event ≡ tick → false ≡ true) = c.in-Err-OutOfMemory.ensures.ticks in
+    let none : IfSome (turn_of c.args.last c.next_line.new.line.items) (λ t. t.event ≡ tick → false ≡ true) = rw (← c.deref-2.ensures.value) ticks in
+    asks-memory c.args.number c.args.last c.args.events _ _ c.next_line.new.line.items comes c.if-number-gt-LAST_LINE.false other says none c.if-events-ge-MOST_EVENTS.false
 
 pub returns-in-Err-clause-asked : goal.returns-in-Err-clause-asked
 returns-in-Err-clause-asked g c = asks-unread c.args.number c.args.last c.args.events _ _ c.next_line.new.line.items c.in-Err.ensures.begun

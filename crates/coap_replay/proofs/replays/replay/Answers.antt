@@ -1,7 +1,7 @@
 use Rattle.std.proofs.Common.{◌+◌, Ok, Err, arith}
 use Rattle.std.proofs.lemmas.Result.{err_from_is_err_and}
 use Rattle.coap_replay.specs.declared.replays.Asked.TheVariants.{Skip, Do}
-use Rattle.coap_replay.proofs.Replaying.{at-start, by-clock, may-by-clock, as-asked, as-may, ends-refused, ends-enough, ends-unread, ends-turn, goes-on, goes-further}
+use Rattle.coap_replay.proofs.Replaying.{at-start, ends-at-start, ends-none, by-clock, may-by-clock, as-asked, as-may, ends-refused, ends-enough, ends-unread, ends-turn, goes-on, goes-further}
 use Rattle.coap_replay.proofs.replays.replay.Goals.{in-Skip, in-Do+in_ok-do_turn-in-Do+else-count-turns}
 use Rattle.coap_replay.proofs.replays.replay.Goals as goal
 
@@ -59,3 +59,17 @@ loop-read-preserved g c =
 
 pub returns : goal.returns
 returns g c = record { replayed = ends-unread _ _ _ _ (g.R.Read.remaining c.loop-read.reader) _ _ _ _ _ c.loop-read.invariant.at c.loop-read.invariant.few }
+
+-- nothing is to be done
+pub returns-then-turns-eq0 : goal.returns-then-turns-eq0
+returns-then-turns-eq0 g c = record { replayed = rw c.if-turns-eq0.true (ends-none _ _ _) }
+
+-- memory is missing before the first line
+pub returns-in_default : goal.returns-in_default
+returns-in_default g c = record { replayed = ends-at-start _ _ _ _ }
+
+pub returns-in_default-line_buffer : goal.returns-in_default-line_buffer
+returns-in_default-line_buffer g c = record { replayed = ends-at-start _ _ _ _ }
+
+pub returns-in_default-new : goal.returns-in_default-new
+returns-in_default-new g c = record { replayed = ends-at-start _ _ _ _ }

@@ -3,7 +3,7 @@ use Rattle.coap_model.specs.Setting.{Setting}
 use Rattle.coap_limits.specs.Limits.{AreLimits}
 use Rattle.coap_model.specs.Step.{step_of}
 use Rattle.coap_core.specs.Events.{seen}
-use Rattle.coap_core.proofs.Carried.{IsLeft, can_go_on, is-left, is-short, promises-on}
+use Rattle.coap_core.proofs.Carried.{IsLeft, can_go_on, is-left, is-short, promises-on, word-on}
 use Rattle.coap_core.proofs.proxy.Core.step.Given.{Over}
 use Rattle.coap_core.proofs.proxy.Core.step.Goals.{After-step}
 use Rattle.coap_core.proofs.proxy.Core.step.Goals as goal
@@ -82,6 +82,11 @@ pub returns-clause-promised : goal.returns-clause-promised
 returns-clause-promised g c =
     rw (← c.self.view_is)
     (promises-on c.self.inside.world c.args.now c.args.draw (seen c.args.event) (rw (← c.self.view_is) at c.requires.onward) c.holds_bytes.ensures c.step.result c.args.out.now c.step.new.out c.step.new.self c.step.ensures.exact)
+
+pub returns-clause-word : goal.returns-clause-word
+returns-clause-word g c =
+    rw (← c.self.view_is)
+    (word-on c.self.inside.world c.args.now c.args.draw (seen c.args.event) (rw (← c.self.view_is) at c.requires.onward) c.holds_bytes.ensures c.step.result c.args.out.now c.step.new.out c.step.new.self c.step.ensures.exact)
 
 pub returns-clause-ticks : goal.returns-clause-ticks
 returns-clause-ticks g c = rw (← c.self.view_is) c.step.ensures.ticks

@@ -1,9 +1,10 @@
-use Rattle.std.proofs.Common.{◌∙◌, arith, refl, sym}
+use Rattle.std.proofs.Common.{◌∙◌, ◌+◌, arith, refl, sym}
 use Rattle.coap_exchange.specs.Exchanges.{is_queued}
 use Rattle.coap_exchange.specs.Lines.{is_with}
 use Rattle.coap_exchange.proofs.Counts.{count-length}
+use Rattle.coap_exchange.proofs.Indexing.{all-can-pass, all-have-passed, moves-admitted}
 use Rattle.coap_exchange.proofs.Lining.{lined-push, one-itself, sent-few, sent-less}
-use Rattle.coap_exchange.proofs.Tables.{room-there}
+use Rattle.coap_exchange.proofs.Tables.{admitted-is, room-there}
 use Rattle.coap_exchange.proofs.Timely.{exchanges-push}
 use Rattle.coap_exchange.proofs.exchanges.Exchanges.admit.Goals as goal
 
@@ -15,11 +16,22 @@ open_one-requires c =
 pub overflow_add-self : goal.overflow_add-self
 overflow_add-self c = omega (arith, count-length is_queued c.self.inside.table.items, c.self.invariant.0.queued, c.in-Ok-admit.ensures.room, c.in-Ok-admit.ensures.fits)
 
+pub pass-requires : goal.pass-requires
+pass-requires c =
+    let is = c.is_full.ensures.sound in
+    let room = room-there c.self.inside.table is (sym c.is_full.ensures.exact ∙ c.if-is_full.false) in
+    rw (c.owners_at-was.ensures.exact, c.owners_at.ensures.exact, c.in-Ok-admit.ensures.ok, c.in-Ok-admit.ensures.number, c.admitted.ensures.exact)
+    (all-can-pass (c.self.inside.table.admitted + 1) c.self.inside.table.limit c.self.inside.table.items _ c.self.inside.index (moves-admitted c.self.inside.table _ is) (admitted-is c.self.inside.table _ is room).within c.self.invariant.2)
+
 pub invariant_of-self-in-Ok-admit : goal.invariant_of-self-in-Ok-admit
 invariant_of-self-in-Ok-admit c =
+    let is = c.is_full.ensures.sound in
+    let room = room-there c.self.inside.table is (sym c.is_full.ensures.exact ∙ c.if-is_full.false) in
+    let passed = rw (c.owners_at-was.ensures.exact, c.owners_at.ensures.exact, c.in-Ok-admit.ensures.ok, c.in-Ok-admit.ensures.number, c.admitted.ensures.exact) at c.pass.ensures.exact in
     rw c.in-Ok-admit.ensures.ok (
       exchanges-push c.self.inside.table.items c.self.inside.queued _ refl c.requires.now refl c.self.invariant.0,
       lined-push c.self.inside.table.items c.self.inside.lines c.open_one.new.lines _ _ refl c.self.invariant.1 c.in-Ok.ensures.all c.in-Ok.ensures.sent,
+      all-have-passed (c.self.inside.table.admitted + 1) c.self.inside.table.limit c.self.inside.table.items _ c.self.inside.index c.pass.new.self (moves-admitted c.self.inside.table _ is) c.self.invariant.2 passed (admitted-is c.self.inside.table _ is room).rising,
     )
 
 pub close_one-requires-clause-all : goal.close_one-requires-clause-all

@@ -3,6 +3,8 @@ use Rattle.std.specs.Prelude.{IfSome}
 use Rattle.coap_exchange.specs.declared.exchange.Exchange.{Exchange}
 use Rattle.coap_exchange.specs.Exchanges.{changed_by, is_queued, IsFireDue}
 use Rattle.coap_exchange.specs.Table.{Table, item_at}
+use Rattle.coap_exchange.proofs.Changes.{changed_at-is}
+use Rattle.coap_exchange.proofs.Indexing.{all-can-pass, all-have-passed, moves-changed}
 use Rattle.coap_exchange.proofs.Lining.{lined-changed}
 use Rattle.coap_exchange.proofs.Timely.{changeable, exchanges-changed}
 use Rattle.coap_exchange.proofs.exchanges.Exchanges.change.Goals as goal
@@ -12,11 +14,20 @@ change-requires c =
     let due : IsFireDue c.args.change (item_at c.args.number c.self.inside.table.items) = subst (λ (t : Table Exchange). IsFireDue c.args.change (item_at c.args.number t.items)) (sym c.self.view_is) c.requires.due in
     changeable c.args.number c.args.change c.self.inside.table.items c.self.inside.queued c.self.invariant.0 c.requires.timely due
 
+pub pass-requires : goal.pass-requires
+pass-requires c =
+    let is = c.queued_without-self-inside.ensures.sound in
+    rw (c.owners_at-was.ensures.exact, c.owners_at.ensures.exact, c.change.ensures)
+    (all-can-pass c.args.number c.self.inside.table.limit c.self.inside.table.items _ c.self.inside.index (moves-changed c.args.number (changed_by c.args.change) c.self.inside.table is) (changed_at-is c.args.number (changed_by c.args.change) c.self.inside.table is).within c.self.invariant.2)
+
 pub invariant_of-self : goal.invariant_of-self
 invariant_of-self c =
     let off : IfSome (item_at c.args.number c.self.inside.table.items) (λ x. is_queued (changed_by c.args.change x) ≡ false) =
     subst (λ (t : Table Exchange). IfSome (item_at c.args.number t.items) (λ x. is_queued (changed_by c.args.change x) ≡ false)) (sym c.self.view_is) c.requires.queued in
+    let is = c.queued_without-self-inside.ensures.sound in
+    let passed = rw (c.owners_at-was.ensures.exact, c.owners_at.ensures.exact, c.change.ensures) at c.pass.ensures.exact in
     rw c.change.ensures (
       exchanges-changed c.args.number c.args.change c.self.inside.table.items c.self.inside.queued c.queued_without-self-inside.result c.self.inside.table refl c.queued_without-self-inside.ensures.sound c.self.invariant.0 c.requires.timely off c.queued_without-self-inside.ensures.fewer,
       lined-changed c.args.number c.args.change c.self.inside.table c.self.inside.lines c.recount.new.lines c.queued_without-self-inside.ensures.sound c.self.invariant.1 c.recount.ensures.all c.recount.ensures.sent,
+      all-have-passed c.args.number c.self.inside.table.limit c.self.inside.table.items _ c.self.inside.index c.pass.new.self (moves-changed c.args.number (changed_by c.args.change) c.self.inside.table is) c.self.invariant.2 passed (changed_at-is c.args.number (changed_by c.args.change) c.self.inside.table is).rising,
     )

@@ -1,0 +1,252 @@
+-- Pairs in rising order: where one stands, and what is there once it is put in or taken out.
+use Rattle.std.proofs.Common.{◌≡◌, ℕ, zero, suc, ◌-◌, ◌<◌, ◌≤◌, ◌&&◌, ◌||◌, List, [], ◌∷◌, length, take, drop, get_or, Bool, true, false, cond, Some, None, refl, sym, ap, ◌∙◌, subst, arith}
+use Rattle.std.specs.Prelude.{not}
+use Rattle.std.specs.List.{AllByRecursion, insert, remove, slice_get}
+use Rattle.std.proofs.lemmas.Bool.Decides.{nat_tests}
+use Rattle.coap_exchange.specs.Due.{is_before}
+use Rattle.coap_exchange.specs.Roll.{Pair, is_pair, is_in, AreRising, IsLeast, IsNextOf}
+use Rattle.coap_exchange.proofs.Sooner.{same_due}
+
+before_trans : (a b c : Pair) → is_before a b ≡ true → is_before b c ≡ true → is_before a c ≡ true
+before_trans a b c e f = grind (arith, nat_tests)
+
+not_back : (a b c : Pair) → is_before a b ≡ true → is_before c b ≡ false → is_before c a ≡ false
+not_back a b c e f = grind (arith, nat_tests)
+
+before_other : (a b : Pair) → is_before a b ≡ true → is_pair a b ≡ false
+before_other a b e = grind (arith, nat_tests)
+
+after_other : (a b : Pair) → is_before a b ≡ true → is_pair b a ≡ false
+after_other a b e = grind (arith, nat_tests)
+
+not_itself : (a : Pair) → is_before a a ≡ false
+not_itself a = grind (arith, nat_tests)
+
+back_if_other : (a b : Pair) → is_before a b ≡ false → is_pair a b ≡ false → is_before b a ≡ true
+back_if_other a b e f = grind (arith, nat_tests)
+
+pub pair_itself : (a : Pair) → is_pair a a ≡ true
+pair_itself a = grind (arith, nat_tests)
+
+pair_back : (a b : Pair) → is_pair a b ≡ true → is_pair b a ≡ true
+pair_back a b e = grind (arith, nat_tests)
+
+-- those that are one are equal
+pub pair_only : (a b : Pair) → is_pair a b ≡ true → a ≡ b
+pair_only a b e = same_due a b (grind (arith, nat_tests)) (grind (arith, nat_tests))
+
+-- ---- halves
+
+abbrev pub AllAfter : Pair → List Pair → Type 0
+AllAfter p xs = AllByRecursion (λ q. is_before p q ≡ true) xs
+
+abbrev pub NoneAfter : Pair → List Pair → Type 0
+NoneAfter p xs = AllByRecursion (λ q. is_before p q ≡ false) xs
+
+all-get : (P : Pair → Type 0) (i : ℕ) (xs : List Pair) (d : Pair) → AllByRecursion P xs → i < length xs → P (get_or xs i d)
+all-get P i [] d all lt = absurd (omega arith)
+all-get P zero (x ∷ xs) d all lt = all.0
+all-get P (suc i) (x ∷ xs) d all lt = all-get P i xs d all.1 (omega arith)
+
+after-after : (p x : Pair) (xs : List Pair) → is_before p x ≡ true → AllAfter x xs → AllAfter p xs
+after-after p x [] e all = tt
+after-after p x (y ∷ ys) e all = (before_trans p x y e all.0, after-after p x ys e all.1)
+
+-- from a place on that is after a pair, all are
+pub above-at : (p : Pair) (i : ℕ) (xs : List Pair) (d : Pair) → AreRising xs → i < length xs → is_before p (get_or xs i d) ≡ true → AllAfter p (drop i xs)
+above-at p i [] d r lt e = absurd (omega arith)
+above-at p zero (x ∷ xs) d r lt e = (e, after-after p x xs e r.0)
+above-at p (suc i) (x ∷ xs) d r lt e = above-at p i xs d r.1 (omega arith) e
+
+-- up to a place that isn't after a pair, none is
+pub below-at : (p : Pair) (i : ℕ) (xs : List Pair) (d : Pair) → AreRising xs → i < length xs → is_before p (get_or xs i d) ≡ false → NoneAfter p (take (suc i) xs)
+below-at p i [] d r lt e = absurd (omega arith)
+below-at p zero (x ∷ xs) d r lt e = (e, tt)
+below-at p (suc i) (x ∷ xs) d r lt e = (not_back x (get_or xs i d) p (all-get (λ q. is_before x q ≡ true) i xs d r.0 (omega arith)) e, below-at p i xs d r.1 (omega arith) e)
+
+-- ---- one is put in
+
+or_swap : (a b c : Bool) → (a || (b || c)) ≡ (b || (a || c))
+or_swap true true c = refl
+or_swap true false c = refl
+or_swap false b c = refl
+
+pub is_in-insert : (q p : Pair) (i : ℕ) (xs : List Pair) → is_in q (insert xs i p) ≡ (is_pair q p || is_in q xs)
+is_in-insert q p zero xs = refl
+is_in-insert q p (suc i) [] = refl
+is_in-insert q p (suc i) (x ∷ xs) = ap (λ (b : Bool). is_pair q x || b) (is_in-insert q p i xs) ∙ or_swap (is_pair q x) (is_pair q p) (is_in q xs)
+
+all-insert : (P : Pair → Type 0) (p : Pair) (i : ℕ) (xs : List Pair) → AllByRecursion P xs → P p → AllByRecursion P (insert xs i p)
+all-insert P p zero xs all one = (one, all)
+all-insert P p (suc i) [] all one = (one, tt)
+all-insert P p (suc i) (x ∷ xs) all one = (all.0, all-insert P p i xs all.1 one)
+
+or_left : (a b : Bool) → (a || b) ≡ false → a ≡ false
+or_left true b e = absurd cc
+or_left false b e = refl
+
+or_right : (a b : Bool) → (a || b) ≡ false → b ≡ false
+or_right true b e = absurd cc
+or_right false b e = e
+
+pub rising-insert : (p : Pair) (i : ℕ) (xs : List Pair) → AreRising xs → NoneAfter p (take i xs) → AllAfter p (drop i xs) → is_in p xs ≡ false → AreRising (insert xs i p)
+rising-insert p zero xs r below above free = (above, r)
+rising-insert p (suc i) [] r below above free = (tt, tt)
+rising-insert p (suc i) (x ∷ xs) r below above free =
+    (all-insert (λ q. is_before x q ≡ true) p i xs r.0 (back_if_other p x below.0 (or_left (is_pair p x) (is_in p xs) free)), rising-insert p i xs r.1 below.1 above (or_right (is_pair p x) (is_in p xs) free))
+
+-- there was room
+pub put-in : (ok : Bool) (xs ys : List Pair) (i : ℕ) (p : Pair) → ok ≡ true → ys ≡ cond ok (insert xs i p) xs → ys ≡ insert xs i p
+put-in true xs ys i p e f = f
+put-in false xs ys i p e f = absurd cc
+
+-- ---- one is taken out
+
+-- what is after it isn't it
+after-none : (p : Pair) (xs : List Pair) → AllAfter p xs → is_in p xs ≡ false
+after-none p [] all = refl
+after-none p (x ∷ xs) all = rw (before_other p x all.0) (after-none p xs all.1)
+
+-- what is there is as all are
+all-in : (P : Pair → Type 0) (q : Pair) (xs : List Pair) → AllByRecursion P xs → is_in q xs ≡ true → P q
+all-in P q [] all e = absurd cc
+all-in P q (x ∷ xs) all e = go (is_pair q x) refl e (λ f. all-in P q xs all.1 f)
+  where
+    go : (b : Bool) → is_pair q x ≡ b → (b || is_in q xs) ≡ true → (is_in q xs ≡ true → P q) → P q
+    go true f h rest = subst P (sym (pair_only q x f)) all.0
+    go false f h rest = rest h
+
+all-remove : (P : Pair → Type 0) (i : ℕ) (xs : List Pair) → AllByRecursion P xs → AllByRecursion P (remove xs i)
+all-remove P zero [] all = tt
+all-remove P zero (x ∷ xs) all = all.1
+all-remove P (suc i) [] all = tt
+all-remove P (suc i) (x ∷ xs) all = (all.0, all-remove P i xs all.1)
+
+pub rising-remove : (i : ℕ) (xs : List Pair) → AreRising xs → AreRising (remove xs i)
+rising-remove zero [] r = tt
+rising-remove zero (x ∷ xs) r = r.1
+rising-remove (suc i) [] r = tt
+rising-remove (suc i) (x ∷ xs) r = (all-remove (λ q. is_before x q ≡ true) i xs r.0, rising-remove i xs r.1)
+
+not_other : (a b c : Bool) → (b ≡ true → a ≡ false) → (a || (not b && c)) ≡ (not b && (a || c))
+not_other true true c h = absurd (let f = h refl in cc)
+not_other false true c h = refl
+not_other true false c h = refl
+not_other false false c h = refl
+
+pub is_in-remove : (q p : Pair) (i : ℕ) (xs : List Pair) (d : Pair) → AreRising xs → i < length xs → get_or xs i d ≡ p → is_in q (remove xs i) ≡ (not (is_pair q p) && is_in q xs)
+is_in-remove q p i [] d r lt e = absurd (omega arith)
+is_in-remove q p zero (x ∷ xs) d r lt e = subst (λ (z : Pair). is_in q xs ≡ (not (is_pair q z) && (is_pair q x || is_in q xs))) e (go (is_pair q x) refl)
+  where
+    go : (b : Bool) → is_pair q x ≡ b → is_in q xs ≡ (not (is_pair q x) && (is_pair q x || is_in q xs))
+    go true f = rw f (subst (λ (y : Pair). is_in y xs ≡ false) (sym (pair_only q x f)) (after-none x xs r.0))
+    go false f = rw f refl
+is_in-remove q p (suc i) (x ∷ xs) d r lt e =
+    ap (λ (b : Bool). is_pair q x || b) (is_in-remove q p i xs d r.1 (omega arith) e) ∙ not_other (is_pair q x) (is_pair q p) (is_in q xs) (λ f. subst (λ (y : Pair). is_pair y x ≡ false) (sym (pair_only q p f)) (after_other x p (subst (λ (y : Pair). is_before x y ≡ true) e (all-get (λ y. is_before x y ≡ true) i xs d r.0 (omega arith)))))
+
+-- what is there stands last of those that aren't after it
+stands-last : (p : Pair) (i : ℕ) (xs : List Pair) (d : Pair) → AreRising xs → i < length xs → NoneAfter p (take (suc i) xs) → AllAfter p (drop (suc i) xs) → is_in p xs ≡ true → get_or xs i d ≡ p
+stands-last p i [] d r lt below above there = absurd (omega arith)
+stands-last p zero (x ∷ xs) d r lt below above there = go (is_pair p x) refl there
+  where
+    go : (b : Bool) → is_pair p x ≡ b → (b || is_in p xs) ≡ true → x ≡ p
+    go true f h = sym (pair_only p x f)
+    go false f h = absurd (let none = after-none p xs above in cc)
+stands-last p (suc i) (x ∷ xs) d r lt below above there = stands-last p i xs d r.1 (omega arith) below.1 above (go xs (is_pair p x) refl there r.0 below.1 (omega arith))
+  where
+    go : (ys : List Pair) (b : Bool) → is_pair p x ≡ b → (b || is_in p ys) ≡ true → AllAfter x ys → NoneAfter p (take (suc i) ys) → i < length ys → is_in p ys ≡ true
+    go ys false f h all none le = h
+    go [] true f h all none le = absurd (omega arith)
+    go (y ∷ ys) true f h all none le = absurd (let e : is_before p y ≡ true = subst (λ (z : Pair). is_before z y ≡ true) (sym (pair_only p x f)) all.0 in let g = none.0 in cc)
+
+pub stands-before : (p : Pair) (i : ℕ) (xs : List Pair) (d : Pair) → AreRising xs → i ≤ length xs → NoneAfter p (take i xs) → AllAfter p (drop i xs) → is_in p xs ≡ true → (0 < i) × (get_or xs (i - 1) d ≡ p)
+stands-before p zero xs d r le below above there = absurd (let none = after-none p xs above in cc)
+stands-before p (suc i) xs d r le below above there =
+    let one : suc i - 1 ≡ i = omega arith in
+    (omega arith, rw one (stands-last p i xs d r (omega arith) below above there))
+
+-- ---- the first, and the next
+
+-- the first is the least
+pub first-least : (p : Pair) (ps : List Pair) → AreRising (p ∷ ps) → IsLeast (p ∷ ps) (Some p)
+first-least p ps r = (rw (pair_itself p) refl, λ q e. go q (is_pair q p) refl e)
+  where
+    go : (q : Pair) (b : Bool) → is_pair q p ≡ b → (b || is_in q ps) ≡ true → is_before q p ≡ false
+    go q true f h = subst (λ (y : Pair). is_before y p ≡ false) (sym (pair_only q p f)) (not_itself p)
+    go q false f h = let e : is_before p q ≡ true = all-in (λ y. is_before p y ≡ true) q ps r.0 h in grind (arith, nat_tests)
+
+pub first-is : (xs : List Pair) (p : Pair) → Some p ≡ slice_get xs 0 → AreRising xs → IsLeast xs (Some p)
+first-is [] p e r = absurd cc
+first-is (x ∷ xs) p e r = let same : x ≡ p = cc in subst (λ (y : Pair). IsLeast (x ∷ xs) (Some y)) same (first-least x xs r)
+
+-- none up to here is after it, so what is after it is from here on
+is_in-drop : (p q : Pair) (i : ℕ) (xs : List Pair) → NoneAfter p (take i xs) → is_before p q ≡ true → is_in q (drop i xs) ≡ is_in q xs
+is_in-drop p q zero xs none e = refl
+is_in-drop p q (suc i) [] none e = refl
+is_in-drop p q (suc i) (x ∷ xs) none e =
+    let other : is_pair q x ≡ false = (let f = none.0 in grind (arith, nat_tests)) in
+    rw other (is_in-drop p q i xs none.1 e)
+
+rising-drop : (i : ℕ) (xs : List Pair) → AreRising xs → AreRising (drop i xs)
+rising-drop zero xs r = r
+rising-drop (suc i) [] r = tt
+rising-drop (suc i) (x ∷ xs) r = rising-drop i xs r.1
+
+drop-at : (i : ℕ) (xs : List Pair) (d y : Pair) → i < length xs → get_or xs i d ≡ y → drop i xs ≡ y ∷ drop (suc i) xs
+drop-at i [] d y lt e = absurd (omega arith)
+drop-at zero (x ∷ xs) d y lt e = ap (λ (z : Pair). z ∷ xs) e
+drop-at (suc i) (x ∷ xs) d y lt e = drop-at i xs d y (omega arith) e
+
+drop-end : (i : ℕ) (xs : List Pair) → length xs ≤ i → drop i xs ≡ []
+drop-end zero [] le = refl
+drop-end zero (x ∷ xs) le = absurd (omega arith)
+drop-end (suc i) [] le = refl
+drop-end (suc i) (x ∷ xs) le = drop-end i xs (omega arith)
+
+owner_after : (owner after n : ℕ) → after < n → is_before (owner, after) (owner, n) ≡ true
+owner_after owner after n lt = grind (arith, nat_tests)
+
+-- what stands after (owner, after), where it begins at a place: the others are where they were
+module _ (owner after : ℕ) (xs : List Pair) where
+  abbrev Holds : List Pair → Type 0
+  Holds ys = (n : ℕ) → after < n → is_in (owner, n) ys ≡ is_in (owner, n) xs
+
+  next-none : Holds [] → IsNextOf owner after xs None
+  next-none holds = λ n lt. sym (holds n lt)
+
+  next-some : (y : Pair) (ys : List Pair) → AreRising (y ∷ ys) → AllAfter (owner, after) (y ∷ ys) → Holds (y ∷ ys) → y.0 ≡ owner → IsNextOf owner after xs (Some y.1)
+  next-some y ys r all holds e =
+      let first : is_before (owner, after) y ≡ true = all.0 in
+      let lt : after < y.1 = grind (arith, nat_tests) in
+      let same : is_pair (owner, y.1) y ≡ true = grind (arith, nat_tests) in
+      (lt, sym (holds y.1 lt) ∙ ap (λ (b : Bool). b || is_in (owner, y.1) ys) same, λ n above there. least n ((first-least y ys r).1 (owner, n) (holds n above ∙ there)))
+    where
+      least : (n : ℕ) → is_before (owner, n) y ≡ false → y.1 ≤ n
+      least n f = grind (arith, nat_tests)
+
+  next-other : (y : Pair) (ys : List Pair) → AreRising (y ∷ ys) → AllAfter (owner, after) (y ∷ ys) → Holds (y ∷ ys) → (y.0 ≡ owner → ⊥) → IsNextOf owner after xs None
+  next-other y ys r all holds other = λ n lt. sym (holds n lt) ∙ go n (is_in (owner, n) (y ∷ ys)) refl
+    where
+      go : (n : ℕ) (b : Bool) → is_in (owner, n) (y ∷ ys) ≡ b → b ≡ false
+      go n false e = refl
+      go n true e =
+          let least : is_before (owner, n) y ≡ false = (first-least y ys r).1 (owner, n) e in
+          let first : is_before (owner, after) y ≡ true = all.0 in
+          absurd (other (grind (arith, nat_tests)))
+
+  after-holds : (i : ℕ) → NoneAfter (owner, after) (take i xs) → Holds (drop i xs)
+  after-holds i none = λ n lt. is_in-drop (owner, after) (owner, n) i xs none (owner_after owner after n lt)
+
+  -- so the pair at the place is the next, where it is the owner's
+  pub next-here : (i : ℕ) (d y : Pair) → AreRising xs → NoneAfter (owner, after) (take i xs) → AllAfter (owner, after) (drop i xs) → i < length xs → get_or xs i d ≡ y → y.0 ≡ owner → IsNextOf owner after xs (Some y.1)
+  next-here i d y r none all lt e own =
+      let split : drop i xs ≡ y ∷ drop (suc i) xs = drop-at i xs d y lt e in
+      next-some y (drop (suc i) xs) (subst AreRising split (rising-drop i xs r)) (subst (AllAfter (owner, after)) split all) (subst Holds split (after-holds i none)) own
+
+  pub next-past : (i : ℕ) (d y : Pair) → AreRising xs → NoneAfter (owner, after) (take i xs) → AllAfter (owner, after) (drop i xs) → i < length xs → get_or xs i d ≡ y → (y.0 ≡ owner → ⊥) → IsNextOf owner after xs None
+  next-past i d y r none all lt e other =
+      let split : drop i xs ≡ y ∷ drop (suc i) xs = drop-at i xs d y lt e in
+      next-other y (drop (suc i) xs) (subst AreRising split (rising-drop i xs r)) (subst (AllAfter (owner, after)) split all) (subst Holds split (after-holds i none)) other
+
+  pub next-end : (i : ℕ) → NoneAfter (owner, after) (take i xs) → length xs ≤ i → IsNextOf owner after xs None
+  next-end i none le = next-none (subst Holds (drop-end i xs le) (after-holds i none))

@@ -1,0 +1,158 @@
+-- What exchanges are found by: rolls that keep step with a table.
+use Rattle.std.specs.Prelude.{◌≡◌, ℕ, ◌+◌, ◌≤◌, ◌&&◌, ◌||◌, Bool, true, not, if◌then◌else◌, nat_le, map, List, length, Option, Some, None}
+use Rattle.std.specs.Hash.{HashWrites}
+use Rattle.std.specs.Hash.DefaultHasher as sip
+use Rattle.std.specs.List.{fold}
+use Rattle.std.specs.Option.{is_some}
+use Rattle.coap_cache.specs.contracts.key.CacheKeyHash.TheImpl as keys
+use Rattle.coap_cache.specs.declared.key.CacheKey.{CacheKey}
+use Rattle.coap_target.specs.contracts.target.TargetHash.TheImpl as targets
+use Rattle.coap_target.specs.declared.target.Target.{Target}
+use Rattle.coap_exchange.specs.declared.exchange.Exchange.{Exchange}
+use Rattle.coap_exchange.specs.declared.exchange.Sending.{Sending}
+use Rattle.coap_exchange.specs.declared.index.Index.{Index}
+use Rattle.coap_exchange.specs.declared.index.Owners.{Owners}
+use Rattle.coap_exchange.specs.declared.index.Sought.{Sought}
+use Rattle.coap_exchange.specs.declared.index.Sought.TheVariants.{SentAs, Joinable}
+use Rattle.coap_exchange.specs.Exchanges.{answer_at, is_acked, is_blocked, is_done, is_joinable, is_missing, is_queued, is_sent, was_sent_as}
+use Rattle.coap_exchange.specs.Roll.{Pair, Roll, is_in, is_owner, one_of, IsOwnerIn, IsPassed}
+use Rattle.coap_exchange.specs.Table.{Numbered, IsRising, count, item_at, passes}
+use Rattle.coap_exchange.specs.Waiters.{moment_of}
+
+-- ---- a roll beside a table
+
+abbrev pub owner_at : {A : Type 0} → (A → Option ℕ) → Option A → Option ℕ
+owner_at owner_of None = None
+owner_at owner_of (Some a) = owner_of a
+
+-- each number that has an item stands with that item's owner, if it has one
+pub record IsRollOf {A : Type 0} (owner_of : A → Option ℕ) (items : List (Numbered A)) (most : ℕ)
+    (roll : Roll)
+    : Type 0 where
+  pub members :
+      (o n : ℕ) → is_in (o, n) roll.pairs ≡ is_owner o (owner_at owner_of (item_at n items))
+  pub length : length roll.pairs ≡ count (λ a. is_some (owner_of a)) items
+  pub limit : roll.limit ≡ most
+
+-- a number can pass to another owner, and has passed to it
+pub record CanPass (roll : Roll) (number : ℕ) (was is : Option ℕ) : Type 0 where
+  pub owner : IsOwnerIn roll.pairs number was
+  pub room : length roll.pairs + one_of is ≤ roll.limit + one_of was
+
+pub record HasPassed (old new : Roll) (number : ℕ) (was is : Option ℕ) : Type 0 where
+  pub limit : new.limit ≡ old.limit
+  pub length : length new.pairs + one_of was ≡ length old.pairs + one_of is
+  pub passed : IsPassed old.pairs new.pairs number is
+
+-- ---- what an exchange is found by
+
+abbrev pub id_in : Option Sending → Option ℕ
+id_in None = None
+id_in (Some s) = Some s.id
+
+-- the message id with which it was sent
+abbrev pub id_of : Exchange → Option ℕ
+id_of x = id_in x.sending
+
+-- the moment at which its answer came
+abbrev pub got_of : Exchange → Option ℕ
+got_of x = moment_of (answer_at x)
+
+-- the moment of its admission, until its answer has come
+abbrev pub opening_of : Exchange → Option ℕ
+opening_of x = if is_done x then None else Some x.admitted
+
+abbrev pub end_in : Option Sending → Option ℕ
+end_in None = None
+end_in (Some s) = Some s.timer.due
+
+-- the end of the timeout that runs
+abbrev pub end_of : Exchange → Option ℕ
+end_of x = if is_sent x then end_in x.sending else None
+
+-- the digest of a cache key
+abbrev pub digest_of : HashWrites → ℕ
+digest_of writes = sip.finish (fold sip.write sip.initial writes)
+
+abbrev pub digest_of_key : CacheKey → ℕ
+digest_of_key key = digest_of ((keys.ghosts).hash_input key)
+
+abbrev pub digest_of_target : Target → ℕ
+digest_of_target target = digest_of ((targets.ghosts).hash_input target)
+
+-- the digest of the cache key of a GET, until it is tainted or its answer has come
+abbrev pub key_of : Exchange → Option ℕ
+key_of x =
+    if x.is_get && (not x.tainted && is_missing (answer_at x)) then Some (digest_of_key x.key)
+    else None
+
+-- the digest of its target, from its sending on until it is tainted or its answer has come
+abbrev pub target_of : Exchange → Option ℕ
+target_of x =
+    if not x.tainted && (is_sent x || is_acked x) then Some (digest_of_target x.key.target) else None
+
+abbrev pub owners_at : Option Exchange → Owners
+owners_at found =
+    record {
+      id = owner_at id_of found;
+      got = owner_at got_of found;
+      opening = owner_at opening_of found;
+      end = owner_at end_of found;
+      key = owner_at key_of found;
+      target = owner_at target_of found;
+    }
+
+pub record AreIndexed (items : List (Numbered Exchange)) (limit : ℕ) (index : Index) : Type 0 where
+  pub rising : IsRising 0 items
+  pub ids : IsRollOf id_of items limit index.ids
+  pub dones : IsRollOf got_of items limit index.dones
+  pub openings : IsRollOf opening_of items limit index.openings
+  pub ends : IsRollOf end_of items limit index.ends
+  pub keys : IsRollOf key_of items limit index.keys
+  pub targets : IsRollOf target_of items limit index.targets
+
+pub record CanPassAll (index : Index) (number : ℕ) (was is : Owners) : Type 0 where
+  pub ids : CanPass index.ids number was.id is.id
+  pub dones : CanPass index.dones number was.got is.got
+  pub openings : CanPass index.openings number was.opening is.opening
+  pub ends : CanPass index.ends number was.end is.end
+  pub keys : CanPass index.keys number was.key is.key
+  pub targets : CanPass index.targets number was.target is.target
+
+pub record HavePassed (old new : Index) (number : ℕ) (was is : Owners) : Type 0 where
+  pub ids : HasPassed old.ids new.ids number was.id is.id
+  pub dones : HasPassed old.dones new.dones number was.got is.got
+  pub openings : HasPassed old.openings new.openings number was.opening is.opening
+  pub ends : HasPassed old.ends new.ends number was.end is.end
+  pub keys : HasPassed old.keys new.keys number was.key is.key
+  pub targets : HasPassed old.targets new.targets number was.target is.target
+
+-- ---- what is sought
+
+abbrev pub is_met : Sought → Exchange → Bool
+is_met (SentAs at id now) = was_sent_as at id now
+is_met (Joinable key) = is_joinable key.now
+
+-- the items that pass stand with this owner
+abbrev pub AreListed : {A : Type 0} → (A → Bool) → ℕ → List (Numbered A) → List Pair → Type 0
+AreListed test owner items pairs =
+    (n : ℕ) → passes test (item_at n items) ≡ true → is_in (owner, n) pairs ≡ true
+
+-- ---- what is due
+
+-- so many milliseconds later
+abbrev pub later : ℕ → Option Pair → Option Pair
+later ms None = None
+later ms (Some d) = Some (d.0 + ms, d.1)
+
+-- when it is the turn of an exchange that waits for it: at its admission, if it isn't blocked
+abbrev pub turn_among : ℕ → List (Numbered Exchange) → Exchange → Option ℕ
+turn_among nstart exchanges x =
+    if is_queued x && not (is_blocked nstart exchanges x) then Some x.admitted else None
+
+-- ---- what is changed one after the other
+
+-- the items up to this number have changed
+abbrev pub changed_to : {A : Type 0} → ℕ → (A → A) → List (Numbered A) → List (Numbered A)
+changed_to number change items =
+    map (λ x. if nat_le x.0 number then (x.0, change x.1) else x) items

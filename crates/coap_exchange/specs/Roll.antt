@@ -1,0 +1,61 @@
+-- Rolls: pairs of an owner and a number, each of them at most once.
+use Rattle.std.specs.Prelude.{◌≡◌, ℕ, ◌==◌, ◌<◌, ◌≤◌, ◌&&◌, ◌||◌, Bool, true, false, if◌then◌else◌, List, [], ◌∷◌, Option, Some, None}
+use Rattle.std.specs.List.{AllByRecursion}
+use Rattle.coap_exchange.specs.Due.{is_before}
+
+-- an owner, and a number that it has
+abbrev pub Pair : Type 0
+Pair = ℕ × ℕ
+
+abbrev pub is_pair : Pair → Pair → Bool
+is_pair a b = (a.0 == b.0) && (a.1 == b.1)
+
+abbrev pub is_in : Pair → List Pair → Bool
+is_in p [] = false
+is_in p (q ∷ qs) = is_pair p q || is_in p qs
+
+-- each is before those that follow
+abbrev pub AreRising : List Pair → Type 0
+AreRising [] = Unit {0}
+AreRising (p ∷ ps) = AllByRecursion (λ q. is_before p q ≡ true) ps × AreRising ps
+
+pub record Roll : Type 0 where
+  pub pairs : List Pair
+  -- the most pairs that it holds
+  pub limit : ℕ
+
+abbrev pub empty_roll : ℕ → Roll
+empty_roll limit = record { pairs = []; limit = limit }
+
+-- none is before it
+abbrev pub IsLeast : List Pair → Option Pair → Type 0
+IsLeast pairs None = pairs ≡ []
+IsLeast pairs (Some p) =
+    (is_in p pairs ≡ true) × ((q : Pair) → is_in q pairs ≡ true → is_before q p ≡ false)
+
+-- the least number of an owner above another
+abbrev pub IsNextOf : ℕ → ℕ → List Pair → Option ℕ → Type 0
+IsNextOf owner after pairs None = (n : ℕ) → after < n → is_in (owner, n) pairs ≡ false
+IsNextOf owner after pairs (Some m) =
+    (after < m)
+    × (is_in (owner, m) pairs ≡ true)
+    × ((n : ℕ) → after < n → is_in (owner, n) pairs ≡ true → m ≤ n)
+
+-- ---- what owner a number has, if it has one
+
+abbrev pub is_owner : ℕ → Option ℕ → Bool
+is_owner owner None = false
+is_owner owner (Some o) = owner == o
+
+abbrev pub one_of : Option ℕ → ℕ
+one_of None = 0
+one_of (Some o) = 1
+
+-- the pairs of a number are those with its owner
+abbrev pub IsOwnerIn : List Pair → ℕ → Option ℕ → Type 0
+IsOwnerIn pairs number owner = (o : ℕ) → is_in (o, number) pairs ≡ is_owner o owner
+
+-- a number comes to have this owner, and the others keep theirs
+abbrev pub IsPassed : List Pair → List Pair → ℕ → Option ℕ → Type 0
+IsPassed old new number owner =
+    (o n : ℕ) → is_in (o, n) new ≡ (if n == number then is_owner o owner else is_in (o, n) old)

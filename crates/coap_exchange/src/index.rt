@@ -1,0 +1,230 @@
+//! What exchanges are found by, so that none is searched for among all.
+ghost use Rattle.std.specs.Prelude.{◌≡◌, IfOk};
+ghost use Rattle.coap_exchange.specs.Index.{digest_of_key, digest_of_target, end_of, got_of, id_of, key_of, target_of, is_met, opening_of, owners_at, AreListed, CanPassAll, HavePassed};
+ghost use Rattle.coap_exchange.specs.Roll.{empty_roll};
+ghost use Rattle.coap_exchange.specs.Table.{first_that, item_at, passes, IsRising, IsTable};
+
+use crate::exchange::Exchange;
+use crate::roll::Roll;
+use crate::table::Table;
+use coap_cache::CacheKey;
+use coap_message::OutOfMemory;
+use coap_target::{Endpoint, Target};
+use std::alloc::Global;
+use std::hash::{DefaultHasher, Hash, Hasher};
+
+/// Numbers of exchanges, by what they are found by. Room for all is made at the start.
+#[derive(Drop)]
+pub(crate) struct Index {
+    /// By the message id with which they were sent.
+    pub(crate) ids: Roll,
+    /// By the moment at which their answer came.
+    pub(crate) dones: Roll,
+    /// By the moment of their admission, until their answer has come.
+    pub(crate) openings: Roll,
+    /// By the end of the timeout that runs.
+    pub(crate) ends: Roll,
+    /// GETs by the digest of their cache key, until they are tainted or their answer has come.
+    pub(crate) keys: Roll,
+    /// By the digest of their target, from their sending on until they are tainted or their answer
+    /// has come.
+    pub(crate) targets: Roll,
+}
+
+/// What one exchange is found by.
+#[derive(Clone, Copy)]
+pub(crate) struct Owners {
+    pub(crate) id: Option<u64>,
+    pub(crate) got: Option<u64>,
+    pub(crate) opening: Option<u64>,
+    pub(crate) end: Option<u64>,
+    pub(crate) key: Option<u64>,
+    pub(crate) target: Option<u64>,
+}
+
+/// Which exchange is sought.
+#[derive(Drop)]
+pub(crate) enum Sought<'a> {
+    /// One whose request was sent to this endpoint with this message id, less than 247,000
+    /// milliseconds before this moment.
+    SentAs(Endpoint, u16, u64),
+    /// One for whose answer a GET of this key may wait.
+    Joinable(&'a CacheKey),
+}
+
+impl Sought<'_> {
+    fn is_met(&self, exchange: &Exchange) -> bool
+        ensures exact { result ≡ is_met self.now exchange.now }
+    {
+        match self {
+            Sought::SentAs(at, id, now) => exchange.was_sent_as(*at, *id, *now),
+            Sought::Joinable(key) => exchange.is_joinable(key),
+        }
+    }
+}
+
+impl Index {
+    /// An empty index with room for so many exchanges.
+    pub(crate) fn new(alloc: Global, limit: usize) -> Result<Index, OutOfMemory>
+        ensures ids { IfOk result (λ index. index.ids ≡ empty_roll limit) }
+        ensures dones { IfOk result (λ index. index.dones ≡ empty_roll limit) }
+        ensures openings { IfOk result (λ index. index.openings ≡ empty_roll limit) }
+        ensures ends { IfOk result (λ index. index.ends ≡ empty_roll limit) }
+        ensures keys { IfOk result (λ index. index.keys ≡ empty_roll limit) }
+        ensures targets { IfOk result (λ index. index.targets ≡ empty_roll limit) }
+    {
+        Ok(Index {
+            ids: Roll::new(alloc, limit)?,
+            dones: Roll::new(alloc, limit)?,
+            openings: Roll::new(alloc, limit)?,
+            ends: Roll::new(alloc, limit)?,
+            keys: Roll::new(alloc, limit)?,
+            targets: Roll::new(alloc, limit)?,
+        })
+    }
+
+    /// The exchange of this number, which was found by the one, is found by the other from now on.
+    pub(crate) fn pass(&mut self, number: u64, was: Owners, is: Owners)
+        requires { CanPassAll self.old number was is }
+        ensures exact { HavePassed self.old self.new number was is }
+    {
+        self.ids.pass(number, was.id, is.id);
+        self.dones.pass(number, was.got, is.got);
+        self.openings.pass(number, was.opening, is.opening);
+        self.ends.pass(number, was.end, is.end);
+        self.keys.pass(number, was.key, is.key);
+        self.targets.pass(number, was.target, is.target);
+    }
+}
+
+/// What the exchange of this number is found by, if there is one.
+pub(crate) fn owners_at(exchanges: &Table<Exchange>, number: u64) -> Owners
+    ensures exact { result ≡ owners_at (item_at number exchanges.now.items) }
+    ensures sound { IsTable exchanges.now }
+{
+    match exchanges.get(number) {
+        Some(exchange) => Owners {
+            id: id_of(exchange),
+            got: got_of(exchange),
+            opening: opening_of(exchange),
+            end: end_of(exchange),
+            key: key_of(exchange),
+            target: target_of(exchange),
+        },
+        None => Owners {
+            id: None,
+            got: None,
+            opening: None,
+            end: None,
+            key: None,
+            target: None,
+        },
+    }
+}
+
+fn id_of(exchange: &Exchange) -> Option<u64>
+    ensures exact { result ≡ id_of exchange.now }
+{
+    match &exchange.sending {
+        Some(sending) => Some(u64::from(sending.id)),
+        None => None,
+    }
+}
+
+fn got_of(exchange: &Exchange) -> Option<u64>
+    ensures exact { result ≡ got_of exchange.now }
+{
+    match exchange.answer() {
+        Some(answer) => Some(answer.got),
+        None => None,
+    }
+}
+
+fn opening_of(exchange: &Exchange) -> Option<u64>
+    ensures exact { result ≡ opening_of exchange.now }
+{
+    if exchange.answer().is_some() {
+        None
+    } else {
+        Some(exchange.admitted)
+    }
+}
+
+fn end_of(exchange: &Exchange) -> Option<u64>
+    ensures exact { result ≡ end_of exchange.now }
+{
+    match &exchange.sending {
+        Some(sending) if exchange.is_sent() => Some(sending.timer.due),
+        _ => None,
+    }
+}
+
+/// The number of the first exchange that is sought. All of them stand in the roll, with this owner.
+pub(crate) fn first_sought(
+    exchanges: &Table<Exchange>,
+    roll: &Roll,
+    owner: u64,
+    sought: &Sought,
+) -> Option<u64>
+    requires rising { IsRising 0 exchanges.now.items }
+    requires listed { AreListed (is_met sought.now) owner exchanges.now.items roll.now.pairs }
+    ensures exact { result ≡ first_that (is_met sought.now) exchanges.now.items }
+{
+    let mut after = 0;
+    while let Some(number) = roll.next_of(owner, after) {
+        if is_sought_at(exchanges, number, sought) {
+            return Some(number);
+        }
+        after = number;
+    }
+    None
+}
+
+/// Whether the exchange of this number is sought.
+fn is_sought_at(exchanges: &Table<Exchange>, number: u64, sought: &Sought) -> bool
+    ensures exact { result
+        ≡ passes (is_met sought.now) (item_at number exchanges.now.items) }
+{
+    match exchanges.get(number) {
+        Some(exchange) => sought.is_met(exchange),
+        None => false,
+    }
+}
+
+fn key_of(exchange: &Exchange) -> Option<u64>
+    ensures exact { result ≡ key_of exchange.now }
+{
+    if exchange.is_get && !exchange.tainted && exchange.answer().is_none() {
+        Some(digest_of_key(&exchange.key))
+    } else {
+        None
+    }
+}
+
+/// The digest of a cache key. Equal keys have equal digests.
+pub(crate) fn digest_of_key(key: &CacheKey) -> u64
+    ensures exact { result ≡ digest_of_key key.now }
+{
+    let mut hasher = DefaultHasher::new();
+    key.hash(&mut hasher);
+    hasher.finish()
+}
+
+fn target_of(exchange: &Exchange) -> Option<u64>
+    ensures exact { result ≡ target_of exchange.now }
+{
+    if !exchange.tainted && (exchange.is_sent() || exchange.is_acked()) {
+        Some(digest_of_target(&exchange.key.target))
+    } else {
+        None
+    }
+}
+
+/// The digest of a target. Equal targets have equal digests.
+pub(crate) fn digest_of_target(target: &Target) -> u64
+    ensures exact { result ≡ digest_of_target target.now }
+{
+    let mut hasher = DefaultHasher::new();
+    target.hash(&mut hasher);
+    hasher.finish()
+}

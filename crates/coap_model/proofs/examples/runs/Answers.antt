@@ -1,0 +1,18 @@
+use Rattle.std.proofs.Common.{refl}
+use Rattle.coap_message.specs.Reading.{read_message, body_at, options_within, option_at, extended}
+use Rattle.coap_message.specs.Spelling.{spelling, option_spelling}
+use Rattle.coap_message.specs.Uint.{uint_spelling}
+use Rattle.coap_routes.specs.Request.{request_target}
+use Rattle.coap_routes.specs.Routes.{mapped_target}
+use Rattle.coap_forward.specs.Messages.{token_of}
+use Rattle.coap_forward.specs.Forms.{target_options, form_fits}
+use Rattle.coap_model.specs.Verdicts.{verdict_of}
+use Rattle.coap_forward.specs.Answers.{answer_of}
+use Rattle.coap_forward.specs.Changes.{changed_by}
+use Rattle.coap_message.specs.Spelling.{with_id}
+use Rattle.coap_model.specs.Step.{message_in}
+use Rattle.coap_model.proofs.examples.runs.Goals as goal
+
+pub returns : goal.returns
+unfolding read_message body_at options_within option_at extended spelling option_spelling uint_spelling mapped_target request_target token_of target_options verdict_of form_fits answer_of changed_by with_id message_in
+returns c = record { first_answer = refl; late_answer = refl; error = refl; fault = refl; changed = refl; valid = refl; block_in_response = refl; long_max_age = refl; impostor = refl; refusals = refl; long_paths = refl; long_segments = refl; payload_in_get = refl; full = refl; unprocessed = refl; too_long = refl; payload_that_fits = refl; payload_that_does_not = refl; last_id = refl; wrapping = refl }

@@ -1,0 +1,75 @@
+-- Replies from the cache, and answers that are kept, which nothing justifies since the target was
+-- changed: histories that are right but for one thing (RFC 7252, 5.6.1 and 5.9.1).
+use Rattle.std.specs.Prelude.{ℕ, List, [], ◌∷◌, Some, None}
+use Rattle.coap_message.specs.declared.kind.Kind.TheVariants.{Ack}
+use Rattle.coap_message.specs.declared.code.TheConstants.Code.{CHANGED}
+use Rattle.coap_message.specs.Message.{Message}
+use Rattle.coap_forward.specs.Messages.{token_of}
+use Rattle.coap_model.specs.declared.report.Outcome.TheVariants.{Answered, Hit}
+use Rattle.coap_model.specs.declared.report.Storing.TheVariants.{Kept, NotStored}
+use Rattle.coap_model.specs.Events.{arrival}
+use Rattle.coap_model.specs.Examples.{origin, client, get_t, answer}
+use Rattle.coap_model.specs.History.{Entry, no_item, moves, Deed}
+use Rattle.coap_model.specs.Forged.{opened, asked}
+use Rattle.coap_model.specs.CacheExamples.{answered, opens_again, asks_again, asked_past}
+
+-- a client asks for the same again, and is shown the first answer with so many seconds of its
+-- Max-Age
+abbrev pub reply : ℕ → ℕ → Deed
+reply now left =
+    record {
+      entry = record {
+        now = now;
+        draw = 0;
+        event = arrival (client 4) (get_t []);
+        report = record { send = Some (client 4); outcome = Hit };
+        bytes = 0x50 ∷ 0x45 ∷ 0 ∷ 4 ∷ 0xD1 ∷ 1 ∷ left ∷ 0xFF ∷ 0x32 ∷ 0x31 ∷ [];
+      };
+      act = no_item;
+    }
+
+-- 2.04 answers the second exchange: its target is changed
+abbrev pub change_told : List ℕ
+change_told = answer 0x68 0x44 3 2 []
+
+abbrev pub changed_message : Message
+changed_message =
+    record {
+      kind = Ack;
+      code = CHANGED;
+      id = 3;
+      token = token_of 0 2;
+      options = [];
+      payload = [];
+    }
+
+abbrev pub change : Deed
+change =
+    record {
+      entry = record {
+        now = 20;
+        draw = 0;
+        event = arrival origin change_told;
+        report = record { send = None; outcome = Answered NotStored };
+        bytes = [];
+      };
+      act = moves 2;
+    }
+
+abbrev pub changed_past : List Deed
+changed_past = change ∷ asked_past
+
+-- the same, where the first exchange still has no answer
+abbrev pub overtaken_past : List Deed
+overtaken_past = change ∷ asks_again ∷ opens_again ∷ asked ∷ opened ∷ []
+
+-- its answer is kept
+abbrev pub keeps_overtaken : Deed
+keeps_overtaken = answered 25 1 1 (Answered Kept)
+
+-- ---- a word that isn't kept
+
+-- two exchanges are opened, for two paths, where there is room for one
+abbrev pub opens_two : List Entry
+opens_two =
+    record opened.entry { event = arrival (client 2) (get_t (1 ∷ 0x78 ∷ [])) } ∷ opened.entry ∷ []

@@ -1,0 +1,20 @@
+-- Turns and counts of the examples.
+use Rattle.std.specs.Prelude.{ℕ, Bool, false, true}
+use Rattle.coap_model.specs.Events.Event.{tick}
+use Rattle.coap_port.specs.Driven.{Given}
+use Rattle.coap_port.specs.declared.stats.Stats.{Stats}
+
+-- a tick, which was lost or not
+abbrev pub tick_given : Bool → Given
+tick_given lost = record {
+  wait = 1000;
+  turn = record { now = 5; draw = 0; event = tick };
+  lost = lost;
+  grown = false;
+  went = true;
+}
+
+-- how many turns, of which how many sent what was taken, sent what was not, and were lost
+abbrev pub counts : ℕ → ℕ → ℕ → ℕ → Stats
+counts turns sent send_faults lost =
+    record { turns = turns; sent = sent; send_faults = send_faults; lost = lost }
