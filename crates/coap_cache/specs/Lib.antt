@@ -1,8 +1,9 @@
-pub mod Keys
-pub mod Freshness
-pub mod Sizes
-pub mod Lists
-pub mod Entries
-pub mod Renewing
-pub mod Showing
-pub mod Writing
+pub use Rattle.coap_store.specs.Keys
+pub use Rattle.coap_store.specs.Freshness
+pub use Rattle.coap_store.specs.Sizes
+pub use Rattle.coap_store.specs.Lists
+pub use Rattle.coap_store.specs.Entries
+pub use Rattle.coap_store.specs.Renewing
+pub use Rattle.coap_store.specs.Showing
+pub use Rattle.coap_store.specs.Writing
+pub use Rattle.coap_store_lru.specs.Indexing

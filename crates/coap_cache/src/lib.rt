@@ -1,20 +1,10 @@
-//! The cache of a proxy: keys, stored responses, what a store of them is to do, and what clients are
-//! shown (RFC 7252, 5.6, 5.7.1, 5.10.5 and 5.10.6).
+//! The cache of a proxy (RFC 7252, 5.6): what it stores and under which keys, two stores of it, how
+//! a stored response is renewed by its origin, and what clients are shown.
+//!
+//! It is made of `coap_store`, `coap_store_list`, `coap_store_lru` and `coap_validation`.
 #![tactic(auto)]
 
-mod answer;
-mod key;
-pub mod laws;
-mod show;
-mod size;
-mod store;
-mod stored;
-mod tag;
-
-pub use answer::Answer;
-pub use key::CacheKey;
-pub use show::{put_aged, put_max_age, show_into, tells_age};
-pub use size::bytes_of;
-pub use store::{Put, Store};
-pub use stored::Stored;
-pub use tag::tag_of;
+pub use coap_store::{CacheKey, Put, Store, Stored, bytes_of, show_into};
+pub use coap_store_list::ListStore;
+pub use coap_store_lru::LruStore;
+pub use coap_validation::{RenewError, renewed};

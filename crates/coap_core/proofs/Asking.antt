@@ -11,12 +11,12 @@ use Rattle.coap_message.specs.declared.kind.Kind.{Kind}
 use Rattle.coap_message.specs.declared.kind.Kind.TheVariants.{Con, Non, Ack, Rst}
 use Rattle.coap_message.specs.Datagram.{Datagram}
 use Rattle.coap_message.specs.Message.{Message}
-use Rattle.coap_target.specs.declared.endpoint.Endpoint.{Endpoint}
-use Rattle.coap_cache.specs.declared.key.CacheKey.{CacheKey}
-use Rattle.coap_cache.specs.declared.stored.Stored.{Stored}
-use Rattle.coap_cache.specs.Entries.{Entry, entry_key, has_usable}
-use Rattle.coap_cache.specs.Freshness.{is_usable}
-use Rattle.coap_cache.specs.Lists.{of_key}
+use Rattle.coap_endpoint.specs.declared.endpoint.Endpoint.{Endpoint}
+use Rattle.coap_store.specs.declared.key.CacheKey.{CacheKey}
+use Rattle.coap_store.specs.declared.stored.Stored.{Stored}
+use Rattle.coap_store.specs.Entries.{Entry, entry_key, has_usable}
+use Rattle.coap_store.specs.Freshness.{is_usable}
+use Rattle.coap_store.specs.Lists.{of_key}
 use Rattle.coap_dedup.specs.declared.record.Record.{Record}
 use Rattle.coap_exchange.specs.Exchanges.{is_joinable}
 use Rattle.coap_exchange.specs.Ids.{given_in}

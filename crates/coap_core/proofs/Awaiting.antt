@@ -5,10 +5,10 @@ use Rattle.std.specs.List.{AllByRecursion, find}
 use Rattle.std.proofs.lemmas.Bool.{eqb-true, eqb-false}
 use Rattle.std.proofs.lemmas.Option.{same_Some}
 use Rattle.coap_message.specs.Message.{Message}
-use Rattle.coap_target.specs.declared.endpoint.Endpoint.{Endpoint}
-use Rattle.coap_target.specs.Endpoint.{same_endpoint}
-use Rattle.coap_target.specs.Equality.{same_bytes}
-use Rattle.coap_target.proofs.Equality.{Tells-bytes}
+use Rattle.coap_endpoint.specs.declared.endpoint.Endpoint.{Endpoint}
+use Rattle.coap_endpoint.specs.Endpoint.{same_endpoint}
+use Rattle.coap_endpoint.specs.Equality.{same_bytes}
+use Rattle.coap_endpoint.proofs.Equality.{Tells-bytes}
 use Rattle.coap_exchange.specs.declared.exchange.Exchange.{Exchange}
 use Rattle.coap_exchange.specs.declared.exchange.ExchangeState.{ExchangeState}
 use Rattle.coap_exchange.specs.declared.exchange.ExchangeState.TheVariants.{Queued, Sent, Acked, Done}

@@ -9,11 +9,11 @@ use Rattle.coap_message.specs.Datagram.{Datagram, holding}
 use Rattle.coap_message.specs.Message.{Message}
 use Rattle.coap_message.specs.Spelling.{spelling}
 use Rattle.coap_message.proofs.Spellings.{spelling-length}
-use Rattle.coap_target.specs.declared.endpoint.Endpoint.{Endpoint}
-use Rattle.coap_target.specs.declared.target.Target.{Target}
-use Rattle.coap_cache.specs.Entries.{Entry, entry_key, entry_size}
-use Rattle.coap_cache.specs.Lists.{of_key, others}
-use Rattle.coap_cache.specs.declared.answer.Answer.{Answer}
+use Rattle.coap_endpoint.specs.declared.endpoint.Endpoint.{Endpoint}
+use Rattle.coap_endpoint.specs.declared.target.Target.{Target}
+use Rattle.coap_store.specs.Entries.{Entry, entry_key, entry_size}
+use Rattle.coap_store.specs.Lists.{of_key, others}
+use Rattle.coap_store.specs.declared.answer.Answer.{Answer}
 use Rattle.coap_exchange.specs.declared.exchange.Exchange.{Exchange}
 use Rattle.coap_exchange.specs.Exchanges.{answered, is_done, is_sent, is_changed_with, tainted_by}
 use Rattle.coap_exchange.specs.Table.{Numbered, IsRising, all_changed, item_at, changed_at}

@@ -6,7 +6,7 @@ use Rattle.coap_message.specs.declared.error.ReadError.{ReadError}
 use Rattle.coap_message.specs.Message.{Message}
 use Rattle.coap_message.specs.Reading.{read_message, head_at}
 use Rattle.coap_message.proofs.WholeMessages.{head_read}
-use Rattle.coap_target.specs.declared.endpoint.Endpoint.{Endpoint}
+use Rattle.coap_endpoint.specs.declared.endpoint.Endpoint.{Endpoint}
 use Rattle.coap_model.specs.Step.{message_in, on_message, on_datagram}
 use Rattle.coap_model.specs.World.{World}
 

@@ -9,10 +9,10 @@ use Rattle.coap_dedup.specs.Records.{Records, AreRecords, living_at}
 use Rattle.coap_dedup.proofs.Kept.{room-there}
 use Rattle.coap_message.specs.Datagram.{Datagram, holding}
 use Rattle.coap_message.specs.Message.{Message}
-use Rattle.coap_target.specs.declared.endpoint.Endpoint.{Endpoint}
+use Rattle.coap_endpoint.specs.declared.endpoint.Endpoint.{Endpoint}
 use Rattle.coap_model.specs.World.{World, records_of, has_record_room, known_of, remembers}
 use Rattle.coap_model.specs.Requests.{on_new, on_request}
-use Rattle.coap_target.proofs.Lists.{All-weaken}
+use Rattle.coap_endpoint.proofs.Lists.{All-weaken}
 use Rattle.coap_core.specs.Steps.{CanGoOn}
 
 -- they are records

@@ -4,8 +4,8 @@ use Rattle.std.specs.Prelude.{◌==◌, ◌||◌, filter, map}
 use Rattle.std.specs.List.{list_any}
 use Rattle.coap_message.specs.declared.options.Opt.{Opt}
 use Rattle.coap_message.specs.Message.{Message}
-use Rattle.coap_routes.specs.Request.{first_value, value_of}
-use Rattle.coap_routes.specs.Routes.{values_of}
+use Rattle.coap_target.specs.Request.{first_value, value_of}
+use Rattle.coap_target.specs.Routes.{values_of}
 use Rattle.coap_core.specs.Forms.{says_uri}
 
 -- neither number is there

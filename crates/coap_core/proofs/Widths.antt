@@ -6,7 +6,7 @@ use Rattle.coap_message.specs.declared.error.Full.{Full}
 use Rattle.coap_message.specs.Message.{Message}
 use Rattle.coap_message.specs.Datagram.{Datagram, Appends, holding}
 use Rattle.coap_message.specs.Spelling.{spelling}
-use Rattle.coap_target.specs.declared.target.Target.{Target}
+use Rattle.coap_endpoint.specs.declared.target.Target.{Target}
 use Rattle.coap_forward.specs.Forms.{forwarded, form_fits}
 use Rattle.coap_model.proofs.Verdicts.{form-length}
 

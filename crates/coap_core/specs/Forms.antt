@@ -3,8 +3,8 @@ use Rattle.std.specs.Prelude.{◌==◌, ◌||◌, Bool}
 use Rattle.std.specs.List.{list_any}
 use Rattle.coap_message.specs.Message.{Message}
 use Rattle.coap_option.specs.declared.numbers.TheConstants.{PROXY_URI, PROXY_SCHEME}
-use Rattle.coap_target.specs.declared.target.Target.{Target}
-use Rattle.coap_routes.specs.MappedTarget as mapped
+use Rattle.coap_endpoint.specs.declared.target.Target.{Target}
+use Rattle.coap_target.specs.MappedTarget as mapped
 use Rattle.coap_core.specs.declared.request_target.RequestTarget.{RequestTarget}
 use Rattle.coap_core.specs.declared.request_target.RequestTarget.TheVariants.{Mapped, Named}
 

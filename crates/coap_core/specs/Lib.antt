@@ -2,3 +2,12 @@ pub mod Events
 pub mod Forms
 pub mod Steps
 pub mod Storing
+pub use Rattle.coap_model.specs.Setting
+pub use Rattle.coap_model.specs.World
+pub use Rattle.coap_model.specs.Step
+pub use Rattle.coap_model.specs.Ticks
+pub use Rattle.coap_model.specs.History
+pub use Rattle.coap_model.specs.Carries
+pub use Rattle.coap_model.specs.Held
+pub use Rattle.coap_model.specs.Word
+pub use Rattle.coap_limits.specs.Limits

@@ -18,11 +18,11 @@ use Rattle.coap_model.specs.declared.report.Outcome.TheVariants.{Answered, Deliv
 use Rattle.coap_model.specs.declared.report.Report.{Report}
 use Rattle.coap_model.specs.declared.report.Storing.TheVariants.{NotStored}
 use Rattle.coap_model.specs.Verdicts as verdicts
-use Rattle.coap_routes.specs.Routes.{AreRoutes}
+use Rattle.coap_target.specs.Routes.{AreRoutes}
 use Rattle.coap_option.specs.Selection.{tags_of}
-use Rattle.coap_cache.specs.declared.key.CacheKey.{CacheKey}
-use Rattle.coap_cache.specs.declared.stored.Stored.{Stored}
-use Rattle.coap_cache.specs.Entries.{stored_for}
+use Rattle.coap_store.specs.declared.key.CacheKey.{CacheKey}
+use Rattle.coap_store.specs.declared.stored.Stored.{Stored}
+use Rattle.coap_store.specs.Entries.{stored_for}
 use Rattle.coap_core.specs.declared.request_target.Asked.{Asked}
 use Rattle.coap_model.specs.Events.{Event}
 use Rattle.coap_model.specs.History.{Entry, is_con_datagram}
@@ -30,7 +30,7 @@ use Rattle.coap_model.specs.Memory.{takes_memory}
 use Rattle.coap_model.specs.Carries.{Carries}
 use Rattle.coap_model.specs.Promised.{Promised}
 use Rattle.coap_model.specs.Word.{KeepsItsWord}
-use Rattle.coap_target.specs.declared.endpoint.Endpoint.{Endpoint}
+use Rattle.coap_endpoint.specs.declared.endpoint.Endpoint.{Endpoint}
 use Rattle.coap_dedup.specs.Lists.{AreUpTo}
 use Rattle.coap_dedup.specs.Records.{AreRecords}
 use Rattle.coap_model.specs.World.{World, Step, later, silent, records_of, reserved, known_of, repeats, next_id, has_room_to_join}

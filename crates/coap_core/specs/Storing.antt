@@ -1,9 +1,9 @@
 -- The store of the program: its limits, and what is done with an answer.
 use Rattle.std.specs.Prelude.{◌≡◌, ℕ, ◌<◌, ◌≤◌, Bool, if◌then◌else◌, List, [], ◌∷◌, Option, Some, None, option_map}
-use Rattle.coap_cache.specs.Entries as store
-use Rattle.coap_cache.specs.Entries.{Entry, entry_key, entry_size}
-use Rattle.coap_cache.specs.Lists.{of_key, others, put}
-use Rattle.coap_cache.specs.declared.answer.Answer.{Answer}
+use Rattle.coap_store.specs.Entries as store
+use Rattle.coap_store.specs.Entries.{Entry, entry_key, entry_size}
+use Rattle.coap_store.specs.Lists.{of_key, others, put}
+use Rattle.coap_store.specs.declared.answer.Answer.{Answer}
 use Rattle.coap_exchange.specs.declared.exchange.Exchange.{Exchange}
 use Rattle.coap_exchange.specs.Table.{Numbered, item_at}
 use Rattle.coap_message.specs.Message.{Message}
@@ -15,8 +15,8 @@ use Rattle.coap_model.specs.Answers.{entry_made, may_store, answers}
 use Rattle.coap_model.specs.Responses.{awaiting, on_awaited, on_separate, on_unknown}
 use Rattle.coap_model.specs.World.{World, Step, known_of, remembers, with_record}
 use Rattle.coap_message.specs.Spelling.{spelling}
-use Rattle.coap_target.specs.declared.endpoint.Endpoint.{Endpoint}
-use Rattle.coap_target.specs.declared.target.Target.{Target}
+use Rattle.coap_endpoint.specs.declared.endpoint.Endpoint.{Endpoint}
+use Rattle.coap_endpoint.specs.declared.target.Target.{Target}
 use Rattle.coap_core.specs.declared.responses.Changed.{Changed}
 
 -- it keeps as much as the limits say

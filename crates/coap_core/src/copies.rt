@@ -1,8 +1,8 @@
 //! What is kept twice: responses, while they are validated and after they came.
 ghost use Rattle.std.specs.Prelude.{◌≡◌, IfOk};
 
-use coap_cache::Stored;
 use coap_message::{Message, OutOfMemory};
+use coap_store::Stored;
 
 /// The same message once more.
 pub(crate) fn message_again(message: &Message) -> Result<Message, OutOfMemory>

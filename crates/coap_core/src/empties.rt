@@ -8,11 +8,11 @@ ghost use Rattle.coap_model.specs.History.{grown_of};
 ghost use Rattle.coap_core.specs.Steps.{Does, CanGoOn, IsSentAt, resets};
 
 use crate::world::{World, silent};
-use coap_cache::Store;
+use coap_endpoint::Endpoint;
 use coap_forward::bad_gateway;
 use coap_message::{Datagram, Kind, MessageRef};
 use coap_model::{Outcome, Report, Storing};
-use coap_target::Endpoint;
+use coap_store::Store;
 
 impl<S: Store + Drop> World<S> {
     pub(crate) fn on_empty(

@@ -3,7 +3,7 @@ ghost use Rattle.coap_message.specs.Uint.{IsBytes};
 ghost use Rattle.coap_model.specs.Events.{IsEvent};
 ghost use Rattle.coap_core.specs.Events.{seen};
 
-use coap_target::Endpoint;
+use coap_endpoint::Endpoint;
 
 /// What happens to a proxy.
 #[derive(Clone, Copy)]

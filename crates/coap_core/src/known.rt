@@ -11,12 +11,12 @@ ghost use Rattle.coap_core.specs.Steps.{CanGoOn, CanRemember, Does, IsSaid, repe
 ghost use Rattle.coap_core.specs.Storing.{taken_up_bytes, taken_up_to};
 
 use crate::world::{World, silent};
-use coap_cache::Store;
 use coap_dedup::{Records, Seen};
+use coap_endpoint::Endpoint;
 use coap_forward::put_bare;
 use coap_message::{Code, Datagram, Head, Kind, MessageRef, OutOfMemory, Seq, Token};
 use coap_model::{Outcome, Report};
-use coap_target::Endpoint;
+use coap_store::Store;
 
 /// In which type of message a reply goes out at once to a request of this type.
 pub(crate) fn reply_kind(kind: Kind) -> Kind

@@ -1,8 +1,8 @@
 //! The core of a proxy: one step for one event.
 ghost use Rattle.std.specs.Prelude.{◌≡◌, ◌≤◌, ◌<◌, ◌^◌, [], true, length, IfOk, IsOk, OnErr};
 ghost use Rattle.coap_message.specs.Datagram.{holding};
-ghost use Rattle.coap_cache.specs.Entries.{entry_size};
-ghost use Rattle.coap_cache.specs.Lists.{total};
+ghost use Rattle.coap_store.specs.Entries.{entry_size};
+ghost use Rattle.coap_store.specs.Lists.{total};
 ghost use Rattle.coap_dedup.specs.Records.{living_at};
 ghost use Rattle.coap_model.specs.Events.{tick};
 ghost use Rattle.coap_model.specs.Held.{held, most_held};
@@ -17,14 +17,14 @@ ghost use Rattle.coap_core.specs.Steps.{CarriesOn, Does, GivesConfirmable, Keeps
 
 use crate::event::Event;
 use crate::world::World;
-use coap_cache::Store;
 use coap_message::{Datagram, OutOfMemory};
 use coap_model::laws::{
     datagrams_fit, new_proxies_carry_nothing, settings_stay, steps_are_carried,
     what_is_carried_is_promised,
 };
 use coap_model::{Counts, Limits, Report};
-use coap_routes::Routes;
+use coap_store::Store;
+use coap_target::Routes;
 use std::alloc::Global;
 use std::marker::Model;
 

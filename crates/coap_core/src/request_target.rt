@@ -4,11 +4,11 @@ ghost use Rattle.coap_option.specs.Selection.{tags_of};
 ghost use Rattle.coap_model.specs.Keys.{request_key};
 ghost use Rattle.coap_core.specs.Forms.{seen};
 
-use coap_cache::CacheKey;
+use coap_endpoint::{Endpoint, Ip, Target};
 use coap_message::{MessageRef, OptionList, OutOfMemory, Pieces};
 use coap_option::{key_options_into, tags_into};
-use coap_routes::MappedTarget;
-use coap_target::{Endpoint, Ip, Target};
+use coap_store::CacheKey;
+use coap_target::MappedTarget;
 use std::alloc::Global;
 
 /// The target of a request.

@@ -4,13 +4,13 @@ ghost use Rattle.coap_message.specs.Spelling.{spelling};
 ghost use Rattle.coap_option.specs.declared.side.Side.{Side};
 ghost use Rattle.coap_option.specs.Screening.{first_refused};
 ghost use Rattle.coap_option.specs.Selection.{tags_of};
-ghost use Rattle.coap_target.specs.Target.{IsTarget};
-ghost use Rattle.coap_routes.specs.declared.error.TargetError.TheVariants as errors;
-ghost use Rattle.coap_routes.specs.Request.{request_target};
+ghost use Rattle.coap_endpoint.specs.Target.{IsTarget};
+ghost use Rattle.coap_target.specs.declared.error.TargetError.TheVariants as errors;
+ghost use Rattle.coap_target.specs.Request.{request_target};
 ghost use Rattle.coap_forward.specs.Forms.{form_fits, forwarded};
 ghost use Rattle.coap_forward.specs.Messages.{is_get, is_method};
 ghost use Rattle.coap_model.specs.Verdicts.{verdict_of};
-ghost use Rattle.coap_cache.specs.Entries.{has_usable};
+ghost use Rattle.coap_store.specs.Entries.{has_usable};
 ghost use Rattle.coap_message.specs.Datagram.{holding};
 ghost use Rattle.coap_model.specs.Requests.{lacks_id, refuses, overloads, opens, next_token, copy_of, tag_carried, joins, on_key, on_miss, on_wanted, on_new, on_request};
 ghost use Rattle.coap_model.specs.World.{can_reply, later, remembers, takes_up};
@@ -23,14 +23,14 @@ use crate::copies::stored_again;
 use crate::known::{put_taken_up, reply_kind};
 use crate::request_target::{Asked, RequestTarget};
 use crate::world::{World, silent};
-use coap_cache::{CacheKey, Store, Stored};
+use coap_endpoint::{Endpoint, Target};
 use coap_forward::{put_bare, put_forwarded, put_stored, put_with_max_age, tag_to_send, token_of};
 use coap_message::{Code, Datagram, MessageRef, OutOfMemory, Pieces, Seq};
 use coap_model::{Outcome, Report};
 use coap_option::{numbers, screen_request};
-use coap_routes::TargetError;
-use coap_routes::laws::{requests_to_the_proxy_are_mapped, targets_fit_options};
-use coap_target::{Endpoint, Target};
+use coap_store::{CacheKey, Store, Stored};
+use coap_target::TargetError;
+use coap_target::laws::{requests_to_the_proxy_are_mapped, targets_fit_options};
 
 /// What becomes of a request, leaving length, room and what is stored aside.
 #[derive(Drop)]

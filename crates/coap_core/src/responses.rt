@@ -2,7 +2,7 @@
 //! 5.2.1, 5.2.2 and 5.3.2).
 ghost use Rattle.std.specs.Prelude.{◌≡◌, ◌≤◌, ◌&&◌, [], ◌∷◌, true, false, length, option_map, IfOk, IfSome, OnOk, OnErr};
 ghost use Rattle.coap_message.specs.Datagram.{holding};
-ghost use Rattle.coap_target.specs.Endpoint.{same_endpoint};
+ghost use Rattle.coap_endpoint.specs.Endpoint.{same_endpoint};
 ghost use Rattle.coap_forward.specs.Messages.{is_con};
 ghost use Rattle.coap_forward.specs.Changes.{changed_by};
 ghost use Rattle.coap_model.specs.Answers.{answer_for, asked_of, may_store, with_changed};
@@ -15,12 +15,12 @@ ghost use Rattle.coap_core.specs.Steps.{Does, CanGoOn, CanRemember, IsOpenAt, wa
 use crate::copies::message_again;
 use crate::known::put_taken_up;
 use crate::world::World;
-use coap_cache::{CacheKey, Put, Store, Stored};
+use coap_endpoint::{Endpoint, Target};
 use coap_exchange::{Answer, Exchange, Sending};
 use coap_forward::{answer_of, created_by, is_change, is_storable, number_of};
 use coap_message::{Datagram, Kind, MessageRef, OutOfMemory};
 use coap_model::{Outcome, Report, Storing};
-use coap_target::{Endpoint, Target};
+use coap_store::{CacheKey, Put, Store, Stored};
 use std::alloc::Global;
 
 /// Whether its request was sent, and has no answer.

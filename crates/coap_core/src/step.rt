@@ -12,11 +12,11 @@ ghost use Rattle.coap_core.specs.Steps.{Does, CanGoOn, GivesConfirmable, wants_m
 
 use crate::event::Event;
 use crate::world::{World, silent};
-use coap_cache::Store;
+use coap_endpoint::Endpoint;
 use coap_forward::put_bare;
 use coap_message::{Code, Datagram, Head, Kind, MessageRef, OutOfMemory, Token, head_of};
 use coap_model::{Outcome, Report};
-use coap_target::Endpoint;
+use coap_store::Store;
 
 impl<S: Store + Drop> World<S> {
     /// One step. Where memory is missing, nothing happened, and `out` is empty.

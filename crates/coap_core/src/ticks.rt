@@ -11,11 +11,11 @@ ghost use Rattle.coap_exchange.specs.Waiters.{is_waiting};
 ghost use Rattle.coap_core.specs.Steps.{Does, CanGoOn, GivesConfirmable, IsClientDueAt, IsDueAt, answer_at, delivery_at, firing_at, form_at, sending_at, told_in, unheard_at};
 
 use crate::world::{World, silent};
-use coap_cache::Store;
 use coap_exchange::{Exchange, ExchangeState, Fire, Sending, Timer, WaiterState};
 use coap_forward::{gateway_timeout, put_shown};
 use coap_message::{Datagram, Kind, OutOfMemory, Seq, Token};
 use coap_model::{DueItem, Outcome, Report};
+use coap_store::Store;
 
 // Nothing is done: a proof learns here that a token has at most eight bytes.
 fn is_short(token: &Token)

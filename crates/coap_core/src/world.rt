@@ -10,12 +10,12 @@ ghost use Rattle.coap_model.specs.World.{next_id, later, reserved, has_ids, has_
 ghost use Rattle.coap_core.specs.Steps.{CanGoOn};
 
 use crate::request_target::Asked;
-use coap_cache::Store;
 use coap_dedup::{EXCHANGE_LIFETIME, NON_LIFETIME, Records};
 use coap_exchange::{Exchanges, Ids, Waiters};
 use coap_message::OutOfMemory;
 use coap_model::{Counts, Limits, Outcome, Report};
-use coap_routes::Routes;
+use coap_store::Store;
+use coap_target::Routes;
 use std::alloc::Global;
 use std::marker::Model;
 use std::mem;

@@ -1,7 +1,7 @@
 -- The record of a message: there is one at most, and it is found among those that live if it lives.
 use Rattle.std.proofs.Common.{◌≡◌, ℕ, ◌≤◌, Bool, true, false, cond, List, [], ◌∷◌, ◌++◌, zero, suc, slice_get, Some, None, ◌⊎◌, inl, inr, refl, ap, subst, ◌∙◌}
 use Rattle.std.specs.List.{AllByRecursion}
-use Rattle.coap_target.specs.declared.endpoint.Endpoint.{Endpoint}
+use Rattle.coap_endpoint.specs.declared.endpoint.Endpoint.{Endpoint}
 use Rattle.coap_dedup.specs.declared.key.Key.{Key}
 use Rattle.coap_dedup.specs.declared.record.Record.{Record}
 use Rattle.coap_dedup.specs.Keys.{key_of}

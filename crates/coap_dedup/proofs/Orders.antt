@@ -2,9 +2,9 @@
 use Rattle.std.proofs.Common.{◌≡◌, ◌==◌, Bool, true, false, refl, sym, subst, ◌∙◌, eq-eqb}
 use Rattle.std.specs.Ordering.{is_eq, nat_cmp}
 use Rattle.std.proofs.lemmas.Bool.{and_parts, and_from, eqb-true}
-use Rattle.coap_target.specs.Endpoint.{same_endpoint}
-use Rattle.coap_target.proofs.Equality.{Tells-endpoint}
-use Rattle.coap_target.proofs.Orders.{endpoint_cmp, Ranks, Ranks-in_turn, Ranks-nat, Ranks-endpoint, ranks-tell}
+use Rattle.coap_endpoint.specs.Endpoint.{same_endpoint}
+use Rattle.coap_endpoint.proofs.Equality.{Tells-endpoint}
+use Rattle.coap_endpoint.proofs.Orders.{endpoint_cmp, Ranks, Ranks-in_turn, Ranks-nat, Ranks-endpoint, ranks-tell}
 use Rattle.coap_dedup.specs.declared.key.Key.{Key}
 use Rattle.coap_dedup.specs.Indexing.{key_cmp}
 use Rattle.coap_dedup.specs.Keys.{same_key}

@@ -5,7 +5,7 @@ use Rattle.std.proofs.lemmas.Bool.{both_ways}
 use Rattle.std.proofs.lemmas.List.Elements.{filter-append}
 use Rattle.std.proofs.lemmas.List.Sums.{sum_by-append, sum_by-cons}
 use Rattle.std.proofs.Math.Nat.{mul-le-mul_right}
-use Rattle.coap_target.specs.declared.endpoint.Endpoint.{Endpoint}
+use Rattle.coap_endpoint.specs.declared.endpoint.Endpoint.{Endpoint}
 use Rattle.coap_dedup.specs.declared.record.Record.{Record}
 use Rattle.coap_dedup.specs.Keys.{key_of}
 use Rattle.coap_dedup.specs.Lists.{is_living, is_of, living, record_of, reply_bytes, bytes_of, AreInOrder, AreUpTo}

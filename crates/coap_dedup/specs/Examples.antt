@@ -1,7 +1,7 @@
 -- Records of the examples.
 use Rattle.std.specs.Prelude.{ℕ, List, [], ◌∷◌, Option, Some, None}
-use Rattle.coap_target.specs.declared.endpoint.Endpoint.{Endpoint}
-use Rattle.coap_target.specs.declared.endpoint.Ip.TheVariants.{V4}
+use Rattle.coap_endpoint.specs.declared.endpoint.Endpoint.{Endpoint}
+use Rattle.coap_endpoint.specs.declared.endpoint.Ip.TheVariants.{V4}
 use Rattle.coap_dedup.specs.declared.record.Record.{Record}
 use Rattle.coap_dedup.specs.Lists.{living, record_of}
 use Rattle.coap_dedup.specs.Records.{Records, no_records, with_kept}

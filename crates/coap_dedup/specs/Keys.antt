@@ -1,6 +1,6 @@
 -- By what messages are known again.
 use Rattle.std.specs.Prelude.{Bool, ◌==◌, ◌&&◌}
-use Rattle.coap_target.specs.Endpoint.{same_endpoint}
+use Rattle.coap_endpoint.specs.Endpoint.{same_endpoint}
 use Rattle.coap_dedup.specs.declared.key.Key.{Key}
 use Rattle.coap_dedup.specs.declared.record.Record.{Record}
 

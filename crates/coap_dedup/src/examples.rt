@@ -1,6 +1,6 @@
 //! Examples, computed on the definitions.
 ghost use Rattle.std.specs.Prelude.{◌≡◌, ◌^◌, ◌-◌, ◌∷◌, [], true, false, None, Some, length};
-ghost use Rattle.coap_target.specs.declared.endpoint.Ip.TheVariants.{V6};
+ghost use Rattle.coap_endpoint.specs.declared.endpoint.Ip.TheVariants.{V6};
 ghost use Rattle.coap_dedup.specs.Examples.{acknowledgement, client, confirmable, found_at, message, one, third, two, unanswered};
 ghost use Rattle.coap_dedup.specs.Indexing.{number_of};
 ghost use Rattle.coap_dedup.specs.Keys.{key_of};

@@ -2,7 +2,7 @@
 ghost use Rattle.std.specs.Prelude.{◌≡◌};
 ghost use Rattle.coap_dedup.specs.Keys.{same_key};
 
-use coap_target::Endpoint;
+use coap_endpoint::Endpoint;
 
 /// Which message: from which endpoint it came, and with which message id (RFC 7252, 4.4).
 #[derive(Clone, Copy, Debug, PartialEq, Eq, PartialOrd, Ord)]

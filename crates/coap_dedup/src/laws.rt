@@ -1,7 +1,7 @@
 //! Laws of the definitions: public functions that do nothing, whose contracts are the laws.
 ghost use Rattle.std.specs.Prelude.{◌≡◌, ℕ, ◌+◌, ◌*◌, ◌-◌, ◌<◌, ◌≤◌, ◌++◌, ◌∷◌, [], List, None, Some, true, false, drop, length, slice_get};
 ghost use Rattle.std.specs.List.{AllByRecursion};
-ghost use Rattle.coap_target.specs.declared.endpoint.Endpoint.{Endpoint};
+ghost use Rattle.coap_endpoint.specs.declared.endpoint.Endpoint.{Endpoint};
 ghost use Rattle.coap_dedup.specs.declared.record.Record.{Record};
 ghost use Rattle.coap_dedup.specs.Lists.{AreApart, AreInOrder, AreUpTo, bytes_of, is_living, is_of, living, record_of, reply_bytes};
 ghost use Rattle.coap_dedup.specs.Records.{AreRecords, Records, living_at, no_records, with_kept};

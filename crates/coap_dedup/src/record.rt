@@ -5,8 +5,8 @@ ghost use Rattle.coap_dedup.specs.Keys.{key_of};
 ghost use Rattle.coap_dedup.specs.Lists.{is_living};
 
 use crate::key::Key;
+use coap_endpoint::Endpoint;
 use coap_message::Seq;
-use coap_target::Endpoint;
 
 /// For how long the record of a Confirmable message lives, in milliseconds: EXCHANGE_LIFETIME
 /// (RFC 7252, 4.8.2).

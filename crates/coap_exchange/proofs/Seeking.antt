@@ -3,16 +3,16 @@ use Rattle.std.proofs.Common.{◌≡◌, ℕ, ◌+◌, ◌-◌, ◌≤◌, ◌<�
 use Rattle.std.specs.Prelude.{◌⊎◌, not, IfSome}
 use Rattle.std.proofs.lemmas.Bool.{eqb-true, eq-eqb, ne_eqb}
 use Rattle.std.proofs.lemmas.Bool.Decides.{nat_tests}
-use Rattle.coap_cache.specs.declared.key.CacheKey.{CacheKey}
-use Rattle.coap_cache.specs.Keys.{same_key}
-use Rattle.coap_cache.proofs.Keys.{Tells-key}
+use Rattle.coap_store.specs.declared.key.CacheKey.{CacheKey}
+use Rattle.coap_store.specs.Keys.{same_key}
+use Rattle.coap_store.proofs.Keys.{Tells-key}
 use Rattle.coap_exchange.specs.declared.exchange.Exchange.{Exchange}
 use Rattle.coap_exchange.specs.declared.exchange.ExchangeState.{ExchangeState}
 use Rattle.coap_exchange.specs.declared.exchange.ExchangeState.TheVariants.{Queued, Sent, Acked, Done}
 use Rattle.coap_exchange.specs.declared.exchange.Sending.{Sending}
 use Rattle.coap_exchange.specs.Due.{is_before, sooner, as_due, due_row, first_due}
-use Rattle.coap_target.specs.declared.endpoint.Endpoint.{Endpoint}
-use Rattle.coap_target.specs.Endpoint.{same_endpoint}
+use Rattle.coap_endpoint.specs.declared.endpoint.Endpoint.{Endpoint}
+use Rattle.coap_endpoint.specs.Endpoint.{same_endpoint}
 use Rattle.coap_exchange.specs.Exchanges.{answer_at, is_joinable, is_some_as, was_sent_as, due_among, due_in, is_blocked, is_queued, is_queued_state, is_sent_state, answer_in_state, is_missing, timer_or, AreTimely}
 use Rattle.coap_exchange.specs.Index.{digest_of_key, key_of, id_in, id_of, owner_at, opening_of, end_in, end_of, later, turn_among, AreListed, IsRollOf}
 use Rattle.coap_exchange.specs.Roll.{Pair, Roll, is_in, is_owner, IsLeast, IsNextOf}

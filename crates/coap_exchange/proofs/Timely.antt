@@ -2,7 +2,7 @@
 use Rattle.std.proofs.Common.{◌≡◌, ℕ, ◌+◌, ◌≤◌, ◌^◌, List, [], ◌∷◌, ◌++◌, Bool, true, false, Option, Some, None, refl, sym, ◌∙◌, arith}
 use Rattle.std.proofs.lemmas.Bool.{leb-true}
 use Rattle.std.specs.Prelude.{IfSome, if◌then◌else◌}
-use Rattle.coap_target.specs.declared.target.Target.{Target}
+use Rattle.coap_endpoint.specs.declared.target.Target.{Target}
 use Rattle.coap_exchange.specs.declared.exchange.Exchange.{Exchange}
 use Rattle.coap_exchange.specs.declared.exchange.Change.{Change}
 use Rattle.coap_exchange.specs.declared.exchange.Change.TheVariants as change

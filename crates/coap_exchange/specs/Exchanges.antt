@@ -2,13 +2,13 @@
 use Rattle.std.specs.Prelude.{◌≡◌, ◌≤◌, ℕ, ◌+◌, ◌-◌, ◌^◌, ◌==◌, ◌&&◌, ◌||◌, min, Bool, true, false, not, nat_lt, nat_le, if◌then◌else◌, List, Option, Some, None, IfSome}
 use Rattle.std.specs.List.{AllByRecursion}
 use Rattle.coap_message.specs.Spelling.{with_id}
-use Rattle.coap_target.specs.declared.endpoint.Endpoint.{Endpoint}
-use Rattle.coap_target.specs.declared.target.Target.{Target}
-use Rattle.coap_target.specs.Endpoint.{same_endpoint}
-use Rattle.coap_target.specs.Equality.{same_target}
-use Rattle.coap_cache.specs.declared.answer.Answer.{Answer}
-use Rattle.coap_cache.specs.declared.key.CacheKey.{CacheKey}
-use Rattle.coap_cache.specs.Keys.{same_key}
+use Rattle.coap_endpoint.specs.declared.endpoint.Endpoint.{Endpoint}
+use Rattle.coap_endpoint.specs.declared.target.Target.{Target}
+use Rattle.coap_endpoint.specs.Endpoint.{same_endpoint}
+use Rattle.coap_endpoint.specs.Equality.{same_target}
+use Rattle.coap_store.specs.declared.answer.Answer.{Answer}
+use Rattle.coap_store.specs.declared.key.CacheKey.{CacheKey}
+use Rattle.coap_store.specs.Keys.{same_key}
 use Rattle.coap_exchange.specs.declared.timer.Fire.{Fire}
 use Rattle.coap_exchange.specs.declared.timer.Fire.TheVariants.{GiveUp}
 use Rattle.coap_exchange.specs.declared.exchange.ExchangeState.{ExchangeState}

@@ -4,10 +4,10 @@ use Rattle.std.specs.Hash.{HashWrites}
 use Rattle.std.specs.Hash.DefaultHasher as sip
 use Rattle.std.specs.List.{fold}
 use Rattle.std.specs.Option.{is_some}
-use Rattle.coap_cache.specs.contracts.key.CacheKeyHash.TheImpl as keys
-use Rattle.coap_cache.specs.declared.key.CacheKey.{CacheKey}
-use Rattle.coap_target.specs.contracts.target.TargetHash.TheImpl as targets
-use Rattle.coap_target.specs.declared.target.Target.{Target}
+use Rattle.coap_store.specs.contracts.key.CacheKeyHash.TheImpl as keys
+use Rattle.coap_store.specs.declared.key.CacheKey.{CacheKey}
+use Rattle.coap_endpoint.specs.contracts.target.TargetHash.TheImpl as targets
+use Rattle.coap_endpoint.specs.declared.target.Target.{Target}
 use Rattle.coap_exchange.specs.declared.exchange.Exchange.{Exchange}
 use Rattle.coap_exchange.specs.declared.exchange.Sending.{Sending}
 use Rattle.coap_exchange.specs.declared.index.Index.{Index}

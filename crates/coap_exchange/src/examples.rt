@@ -1,6 +1,6 @@
 //! Examples, computed on the definitions.
 ghost use Rattle.std.specs.Prelude.{◌≡◌, ◌∷◌, [], true, false, None, Some};
-ghost use Rattle.coap_cache.specs.declared.key.CacheKey.{CacheKey};
+ghost use Rattle.coap_store.specs.declared.key.CacheKey.{CacheKey};
 ghost use Rattle.coap_exchange.specs.declared.timer.Fire.TheVariants.{Again, GiveUp};
 ghost use Rattle.coap_exchange.specs.Due.{first_of};
 ghost use Rattle.coap_exchange.specs.Examples.{due, queued, sent_at, timer_after};

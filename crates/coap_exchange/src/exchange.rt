@@ -5,9 +5,9 @@ ghost use Rattle.coap_exchange.specs.Exchanges.{answer_at, changed_by, fire_of_s
 ghost use Rattle.coap_exchange.specs.Lines.{sends};
 
 use crate::timer::{Fire, Timer};
-use coap_cache::{Answer, CacheKey, Stored};
+use coap_endpoint::{Endpoint, Target};
 use coap_message::{Seq, set_id};
-use coap_target::{Endpoint, Target};
+use coap_store::{Answer, CacheKey, Stored};
 
 /// For how long a message id that was given isn't given again, in milliseconds (EXCHANGE_LIFETIME;
 /// RFC 7252, 4.8.2).

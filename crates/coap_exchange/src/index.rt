@@ -7,9 +7,9 @@ ghost use Rattle.coap_exchange.specs.Table.{first_that, item_at, passes, IsRisin
 use crate::exchange::Exchange;
 use crate::roll::Roll;
 use crate::table::Table;
-use coap_cache::CacheKey;
+use coap_endpoint::{Endpoint, Target};
 use coap_message::OutOfMemory;
-use coap_target::{Endpoint, Target};
+use coap_store::CacheKey;
 use std::alloc::Global;
 use std::hash::{DefaultHasher, Hash, Hasher};
 

@@ -18,7 +18,7 @@ mod timer;
 mod waiter;
 mod waiters;
 
-pub use coap_cache::Answer;
+pub use coap_store::Answer;
 pub use exchange::{Exchange, ExchangeState, Sending};
 pub use exchanges::Exchanges;
 pub use ids::Ids;

@@ -4,8 +4,8 @@ ghost use Rattle.coap_exchange.specs.Waiters.{changed_by, exchange_of, fire_of_s
 
 use crate::exchange::LIFETIME;
 use crate::timer::{Fire, Timer};
+use coap_endpoint::Endpoint;
 use coap_message::{Kind, Pieces, Seq, Token};
-use coap_target::Endpoint;
 use std::alloc::Global;
 
 /// How far a client was served.

@@ -17,10 +17,10 @@ use Rattle.coap_option.specs.Places.{PlacedOption, places, places_behind, is_rec
 use Rattle.coap_option.specs.Recognition.{is_recognised}
 use Rattle.coap_option.specs.Screening.{is_refused, first_refused}
 use Rattle.coap_option.specs.Selection.{used_up, is_tag_of_get, stays, sent_on, is_key, key_of}
-use Rattle.coap_target.specs.declared.target.Target.{Target}
-use Rattle.coap_target.specs.Target.{IsShort, IsTarget}
-use Rattle.coap_target.proofs.Lists.{All-weaken}
-use Rattle.coap_cache.proofs.Picked.{AreOptions-filter, AreOptions-weaken}
+use Rattle.coap_endpoint.specs.declared.target.Target.{Target}
+use Rattle.coap_endpoint.specs.Target.{IsShort, IsTarget}
+use Rattle.coap_endpoint.proofs.Lists.{All-weaken}
+use Rattle.coap_store.proofs.Picked.{AreOptions-filter, AreOptions-weaken}
 use Rattle.coap_forward.specs.Forms.{is_used_up, goes_on, host_options, put_in, merged, target_options, tagged, forwarded}
 use Rattle.coap_forward.specs.Messages.{is_method}
 

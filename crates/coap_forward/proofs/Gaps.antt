@@ -17,10 +17,10 @@ use Rattle.coap_message.proofs.OptionSpellings.{options_spelling-append}
 use Rattle.coap_option.specs.declared.side.Side.TheVariants.{Request}
 use Rattle.coap_option.specs.Screening.{first_refused}
 use Rattle.coap_option.specs.Selection.{sent_on}
-use Rattle.coap_target.specs.declared.target.Target.{Target}
-use Rattle.coap_target.specs.Target.{IsShort, IsTarget}
-use Rattle.coap_cache.specs.Renewing.{below, above}
-use Rattle.coap_cache.proofs.Picked.{AreOptions-above, AreOptions-weaken}
+use Rattle.coap_endpoint.specs.declared.target.Target.{Target}
+use Rattle.coap_endpoint.specs.Target.{IsShort, IsTarget}
+use Rattle.coap_store.specs.Renewing.{below, above}
+use Rattle.coap_store.proofs.Picked.{AreOptions-above, AreOptions-weaken}
 use Rattle.coap_forward.specs.Forms.{is_used_up, goes_on, put_in, merged, host_options, target_options, tagged}
 use Rattle.coap_forward.proofs.Forms.{AreUnused, IsShortTag, AreOptions-merged, filter-put_in, sent-screened, sent-unused, sent-options, tagged-options, tagged-unused}
 use Rattle.coap_forward.specs.declared.form.Gap.{Gap}

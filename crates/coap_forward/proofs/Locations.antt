@@ -10,8 +10,8 @@ use Rattle.coap_option.specs.declared.side.Side.TheVariants.{Response}
 use Rattle.coap_option.specs.Places.{PlacedOption, places}
 use Rattle.coap_option.specs.Recognition.{is_recognised}
 use Rattle.coap_option.specs.Selection.{is_of}
-use Rattle.coap_target.specs.declared.target.Target.{Target}
-use Rattle.coap_target.specs.Target.{IsShort, IsTarget}
+use Rattle.coap_endpoint.specs.declared.target.Target.{Target}
+use Rattle.coap_endpoint.specs.Target.{IsShort, IsTarget}
 use Rattle.coap_forward.specs.Changes.{is_change, values_at, path_at, located, locations, created_by, changed_by}
 
 -- options of this number are recognised only where they are short

@@ -20,10 +20,10 @@ use Rattle.coap_option.specs.Recognition.{is_recognised}
 use Rattle.coap_option.specs.Screening.{first_refused}
 use Rattle.coap_option.specs.Side.{side_of}
 use Rattle.coap_option.specs.Selection.{is_of, is_tag_of_get, sent_on, tags_of}
-use Rattle.coap_target.specs.declared.target.Target.{Target}
-use Rattle.coap_target.proofs.Lists.{All-weaken}
-use Rattle.coap_cache.specs.Renewing.{tag_of}
-use Rattle.coap_cache.specs.Showing.{is_content}
+use Rattle.coap_endpoint.specs.declared.target.Target.{Target}
+use Rattle.coap_endpoint.proofs.Lists.{All-weaken}
+use Rattle.coap_store.specs.Renewing.{tag_of}
+use Rattle.coap_store.specs.Showing.{is_content}
 use Rattle.coap_forward.specs.Forms.{is_used_up, goes_on, host_options, put_in, merged, target_options, tagged, forwarded, form_fits, tag_if_fits, tag_to_send, tag_for}
 use Rattle.coap_forward.specs.Gaps.{given}
 use Rattle.coap_forward.specs.Messages.{is_get}

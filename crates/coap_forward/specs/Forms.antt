@@ -13,9 +13,9 @@ use Rattle.coap_option.specs.declared.numbers.TheConstants.{URI_HOST, ETAG, URI_
 use Rattle.coap_option.specs.declared.side.Side.TheVariants.{Request}
 use Rattle.coap_option.specs.Recognition.{is_recognised}
 use Rattle.coap_option.specs.Selection.{used_up, is_tag_of_get, sent_on}
-use Rattle.coap_target.specs.declared.target.Target.{Target}
-use Rattle.coap_cache.specs.Renewing.{tag_of}
-use Rattle.coap_cache.specs.Showing.{is_content}
+use Rattle.coap_endpoint.specs.declared.target.Target.{Target}
+use Rattle.coap_store.specs.Renewing.{tag_of}
+use Rattle.coap_store.specs.Showing.{is_content}
 use Rattle.coap_forward.specs.Messages.{is_get, eight_zeros}
 
 -- ---- which options go on

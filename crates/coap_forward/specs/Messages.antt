@@ -9,7 +9,7 @@ use Rattle.coap_message.specs.declared.code.TheConstants.Code.{EMPTY, GET, POST,
 use Rattle.coap_message.specs.Codes.{is_code, is_request, is_response}
 use Rattle.coap_message.specs.declared.options.Opt.{Opt}
 use Rattle.coap_message.specs.Message.{Message}
-use Rattle.coap_cache.specs.Renewing.{max_age_option}
+use Rattle.coap_store.specs.Renewing.{max_age_option}
 
 -- ---- types
 

@@ -7,12 +7,12 @@ ghost use Rattle.coap_message.specs.declared.kind.Kind.TheVariants.{Non};
 ghost use Rattle.coap_option.specs.declared.numbers.TheConstants.{OBSERVE};
 ghost use Rattle.coap_forward.specs.Answers.{is_storable, without_observe, taken_of, validates, fits, answer_if_fits, answer_of, validated, left_of, left_told, bad_gateway, gateway_timeout, origin_answer, own_answer};
 
-use coap_cache::{Answer, Stored, put_aged, tells_age};
 use coap_message::{
     Code, Datagram, Head, Kind, Message, MessageRef, OptionList, Options, OutOfMemory, Seq, Token,
 };
 use coap_option::{max_age, numbers, screen_response};
-use coap_renewal::{RenewError, renewed};
+use coap_store::{Answer, Stored, put_aged, tells_age};
+use coap_validation::{RenewError, renewed};
 use std::alloc::Global;
 
 /// The greatest Max-Age, in seconds: it takes four bytes (RFC 7252, 5.10.5).

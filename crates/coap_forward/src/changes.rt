@@ -4,9 +4,9 @@ ghost use Rattle.coap_option.specs.declared.side.Side.{Side};
 ghost use Rattle.coap_option.specs.Recognition.{is_recognised};
 ghost use Rattle.coap_forward.specs.Changes.{created_by, is_change, located, values_at};
 
+use coap_endpoint::Target;
 use coap_message::{Code, MessageRef, OutOfMemory, Pieces};
 use coap_option::{Side, numbers, recognised};
-use coap_target::Target;
 use std::alloc::Global;
 
 /// Whether a response of this code says that its target was changed: 2.01, 2.02 and 2.04 (RFC 7252,

@@ -10,19 +10,19 @@ ghost use Rattle.coap_message.specs.Spelling.{spelling, options_spelling};
 ghost use Rattle.coap_option.specs.declared.side.Side.{Side};
 ghost use Rattle.coap_option.specs.Screening.{first_refused};
 ghost use Rattle.coap_option.specs.Selection.{sent_on};
-ghost use Rattle.coap_target.specs.Target.{IsTarget, IsShort};
+ghost use Rattle.coap_endpoint.specs.Target.{IsTarget, IsShort};
 ghost use Rattle.coap_forward.specs.Forms.{merged, target_options, tagged, forwarded, goes_on, payload_sent, tag_to_send};
 ghost use Rattle.coap_forward.specs.Gaps.{end_of, floor_of, is_in, others_in, part_of, values_left};
 ghost use Rattle.coap_forward.specs.Messages.{is_method};
 
 use crate::part::{PartValues, host_of};
-use coap_cache::tag_of;
+use coap_endpoint::Target;
 use coap_message::{
     Code, Datagram, Full, Head, Kind, Message, MessageRef, OptRef, Token, put_head, put_option,
     put_payload,
 };
 use coap_option::{Side, numbers, recognised};
-use coap_target::Target;
+use coap_store::tag_of;
 
 /// Where other options stand among those of a target.
 #[derive(Clone, Copy)]

@@ -2,8 +2,8 @@
 ghost use Rattle.std.specs.Prelude.{◌≡◌, ◌∷◌, [], MatchOption};
 ghost use Rattle.coap_forward.specs.Gaps.{given, values_left};
 
+use coap_endpoint::Target;
 use coap_message::PieceRefs;
-use coap_target::Target;
 
 /// Values that say a part of a target, or a tag.
 #[derive(Drop)]

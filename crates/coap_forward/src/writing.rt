@@ -4,14 +4,14 @@ ghost use Rattle.std.specs.Prelude.{◌≡◌, ◌≤◌, ◌∷◌, [], true, l
 ghost use Rattle.coap_message.specs.Datagram.{Appends, holding};
 ghost use Rattle.coap_message.specs.Message.{message_of};
 ghost use Rattle.coap_message.specs.Spelling.{spelling};
-ghost use Rattle.coap_cache.specs.Renewing.{max_age_option};
+ghost use Rattle.coap_store.specs.Renewing.{max_age_option};
 ghost use Rattle.coap_forward.specs.Answers.{shown_as, stored_answer};
 
 use crate::answers::left_told;
-use coap_cache::{Answer, Stored, put_max_age, show_into};
 use coap_message::{
     Datagram, Full, Head, Kind, Options, Pieces, Token, put_head, put_message, put_payload,
 };
+use coap_store::{Answer, Stored, put_max_age, show_into};
 
 // ---- the proxy's own messages
 

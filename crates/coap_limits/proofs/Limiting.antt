@@ -6,7 +6,7 @@ use Rattle.std.proofs.lemmas.Bool.{leb-true, and_parts}
 use Rattle.coap_limits.specs.declared.limits.Limit.{Limit}
 use Rattle.coap_limits.specs.declared.limits.Limit.TheVariants.{CacheBytes, CacheEntries, ConRecords, NonRecords, Exchanges, Waiters, Nstart, Datagram, ExchangeMs, RetryS}
 use Rattle.coap_limits.specs.Limits.{Limits, value_of, range_of, MayBe, AreLimits, is_out, all_limits, first_fault}
-use Rattle.coap_target.proofs.Lists.{none-found}
+use Rattle.coap_endpoint.proofs.Lists.{none-found}
 
 -- what isn't false is true
 not_out : (b : Bool) → not b ≡ false → b ≡ true

@@ -17,7 +17,7 @@ use Rattle.std.proofs.Math.Bool.{and-false}
 use Rattle.std.proofs.Math.Nat.{pow-le-pow_right}
 use Rattle.coap_message.specs.Reading.{◌>>=◌}
 use Rattle.coap_uri.proofs.Texts.{passing-utf8}
-use Rattle.coap_routes.specs.RouteTexts.{all_of}
+use Rattle.coap_target.specs.RouteTexts.{all_of}
 use Rattle.coap_lines.specs.Endpoints.{AreGroups, if_eight, segments_read}
 use Rattle.coap_lines.specs.Numbers.{group_of}
 use Rattle.coap_lines.specs.Texts.{colon, has}

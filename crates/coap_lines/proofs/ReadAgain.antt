@@ -10,8 +10,8 @@ use Rattle.std.proofs.lemmas.Fmt.{digits_is_IsNumeral}
 use Rattle.hex.specs.Hex.{upper_digits}
 use Rattle.hex.proofs.HexLemmas.{decode_of-encode_upper, length-encode_with}
 use Rattle.coap_message.specs.Uint.{IsBytes}
-use Rattle.coap_target.specs.declared.endpoint.Ip.{Ip}
-use Rattle.coap_target.specs.declared.endpoint.Ip.TheVariants.{V4, V6}
+use Rattle.coap_endpoint.specs.declared.endpoint.Ip.{Ip}
+use Rattle.coap_endpoint.specs.declared.endpoint.Ip.TheVariants.{V4, V6}
 use Rattle.coap_lines.specs.Datagrams.{bytes_read, hex_text}
 use Rattle.coap_lines.specs.Endpoints.{IsAddress, IsIp, address_text, endpoint_at, endpoint_of, endpoint_text}
 use Rattle.coap_lines.proofs.HexTexts.{bytes_read-written}

@@ -6,7 +6,7 @@ use Rattle.std.proofs.lemmas.Bool.{false≢true, leb-true, ne_eqb}
 use Rattle.std.proofs.lemmas.List.Folds.{list_any-append}
 use Rattle.std.proofs.lemmas.Option.{none-some}
 use Rattle.std.proofs.lemmas.Slice.Eq.{bytes_eq-Decides}
-use Rattle.coap_target.specs.declared.endpoint.Endpoint.{Endpoint}
+use Rattle.coap_endpoint.specs.declared.endpoint.Endpoint.{Endpoint}
 use Rattle.coap_model.specs.Events.{Event}
 use Rattle.coap_model.specs.Events.Event.{arrival, tick}
 use Rattle.coap_model.specs.Runs.{Turn}

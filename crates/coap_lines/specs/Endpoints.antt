@@ -6,11 +6,11 @@ use Rattle.std.specs.Net.Addr.{octets_of, segments_of}
 use Rattle.std.specs.Net.Grammar.{IsDotted, IsGroup}
 use Rattle.std.specs.Net.Reader.{read_byte}
 use Rattle.std.specs.Net.Text.{ipv4_text}
-use Rattle.coap_target.specs.declared.endpoint.Endpoint.{Endpoint}
-use Rattle.coap_target.specs.declared.endpoint.Ip.{Ip}
-use Rattle.coap_target.specs.declared.endpoint.Ip.TheVariants.{V4, V6}
+use Rattle.coap_endpoint.specs.declared.endpoint.Endpoint.{Endpoint}
+use Rattle.coap_endpoint.specs.declared.endpoint.Ip.{Ip}
+use Rattle.coap_endpoint.specs.declared.endpoint.Ip.TheVariants.{V4, V6}
 use Rattle.coap_uri.specs.Address.{ipv4_of}
-use Rattle.coap_routes.specs.RouteTexts.{all_of}
+use Rattle.coap_target.specs.RouteTexts.{all_of}
 use Rattle.coap_message.specs.Reading.{◌>>=◌}
 use Rattle.coap_lines.specs.Texts.{colon, cut, left_bracket, right_bracket}
 use Rattle.coap_lines.specs.Numbers.{IsNumber, group_of, number_of}

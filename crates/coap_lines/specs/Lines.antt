@@ -3,7 +3,7 @@ use Rattle.std.specs.Prelude.{◌≡◌, ◌≢◌, ℕ, ◌==◌, ◌⊎◌, na
 use Rattle.std.specs.Fmt.{decimal}
 use Rattle.std.specs.Io.KnownBytes.{Consumes}
 use Rattle.std.specs.List.{AllByRecursion, flat_map, slice_split}
-use Rattle.coap_target.specs.declared.endpoint.Endpoint.{Endpoint}
+use Rattle.coap_endpoint.specs.declared.endpoint.Endpoint.{Endpoint}
 use Rattle.coap_lines.specs.declared.reading.input.Next.{Next}
 use Rattle.coap_lines.specs.declared.reading.input.Next.TheVariants.{Line, TooLong, End}
 use Rattle.coap_lines.specs.declared.reading.input.Piece.{Piece}

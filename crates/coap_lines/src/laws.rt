@@ -2,8 +2,8 @@
 ghost use Rattle.std.specs.Prelude.{◌≡◌, ◌+◌, ◌<◌, ◌≤◌, ◌^◌, ℕ, List, None, Some, false, true};
 ghost use Rattle.std.specs.List.{AllByRecursion};
 ghost use Rattle.coap_message.specs.Uint.{IsBytes};
-ghost use Rattle.coap_target.specs.declared.endpoint.Endpoint.{Endpoint};
-ghost use Rattle.coap_target.specs.declared.endpoint.Ip.{Ip};
+ghost use Rattle.coap_endpoint.specs.declared.endpoint.Endpoint.{Endpoint};
+ghost use Rattle.coap_endpoint.specs.declared.endpoint.Ip.{Ip};
 ghost use Rattle.coap_model.specs.Runs.{AreTurns, Turn};
 ghost use Rattle.coap_lines.specs.Datagrams.{IsHex, bytes_read, hex_text};
 ghost use Rattle.coap_lines.specs.Endpoints.{IsEndpoint, IsIp, endpoint_at, endpoint_of, endpoint_text};

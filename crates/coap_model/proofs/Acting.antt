@@ -4,8 +4,8 @@ use Rattle.std.specs.Prelude.{◌==◌, option_map, find}
 use Rattle.std.specs.List.{AllByRecursion}
 use Rattle.std.proofs.lemmas.Bool.{leb-true, leb-false, cases_lt}
 use Rattle.std.proofs.lemmas.Option.{same_Some}
-use Rattle.coap_cache.specs.declared.answer.Answer.{Answer}
-use Rattle.coap_cache.specs.declared.key.CacheKey.{CacheKey}
+use Rattle.coap_store.specs.declared.answer.Answer.{Answer}
+use Rattle.coap_store.specs.declared.key.CacheKey.{CacheKey}
 use Rattle.coap_exchange.specs.declared.exchange.Exchange.{Exchange}
 use Rattle.coap_exchange.specs.declared.exchange.ExchangeState.{ExchangeState}
 use Rattle.coap_exchange.specs.declared.exchange.ExchangeState.TheVariants.{Queued, Sent, Acked, Done}

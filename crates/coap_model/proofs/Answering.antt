@@ -6,8 +6,8 @@ use Rattle.coap_message.specs.Uint.{IsBytes}
 use Rattle.coap_message.specs.Message.{Message}
 use Rattle.coap_message.specs.Spelling.{spelling}
 use Rattle.coap_message.proofs.Spellings.{spelled}
-use Rattle.coap_target.specs.declared.endpoint.Endpoint.{Endpoint}
-use Rattle.coap_target.proofs.Lists.{All-weaken}
+use Rattle.coap_endpoint.specs.declared.endpoint.Endpoint.{Endpoint}
+use Rattle.coap_endpoint.proofs.Lists.{All-weaken}
 use Rattle.coap_dedup.specs.Records.{Records}
 use Rattle.coap_exchange.specs.declared.exchange.Exchange.{Exchange}
 use Rattle.coap_exchange.specs.Exchanges.{acked, answered, is_queued, is_sent_to}
@@ -15,7 +15,7 @@ use Rattle.coap_exchange.specs.Table.{Numbered, item_at, passes}
 use Rattle.coap_exchange.proofs.Counts.{one_if, count-moved}
 use Rattle.coap_model.specs.Events.{arrival}
 use Rattle.coap_forward.specs.Messages.{is_con, is_ack, acknowledgement}
-use Rattle.coap_cache.specs.Entries.{Entry}
+use Rattle.coap_store.specs.Entries.{Entry}
 use Rattle.coap_model.specs.declared.report.Outcome.TheVariants.{Answered}
 use Rattle.coap_model.specs.declared.report.Storing.{Storing}
 use Rattle.coap_model.specs.Justified.{TakesUp, IsNew, Acknowledges, to_acknowledge, to_reset, a_request, IsAnswer, got}
@@ -36,7 +36,7 @@ use Rattle.coap_model.proofs.Received.{gets, result-is, stored-then, answered-so
 use Rattle.coap_model.proofs.Changing.{told-stays}
 use Rattle.coap_model.specs.Answers.{tainted_all, answer_for}
 use Rattle.coap_forward.specs.Changes.{changed_by, concerns}
-use Rattle.coap_cache.specs.declared.key.CacheKey.{CacheKey}
+use Rattle.coap_store.specs.declared.key.CacheKey.{CacheKey}
 use Rattle.coap_model.specs.Promised.{IdsDiffer}
 use Rattle.coap_model.proofs.OneMeant.{one-meant}
 use Rattle.coap_model.proofs.Places.{here, doing, opened-later, one-brought}

@@ -6,7 +6,7 @@ use Rattle.coap_message.specs.declared.message.Head.{Head}
 use Rattle.coap_message.specs.Message.{Message}
 use Rattle.coap_message.specs.Reading.{head_at}
 use Rattle.coap_message.proofs.WholeMessages.{read_again, head_read}
-use Rattle.coap_target.specs.declared.endpoint.Endpoint.{Endpoint}
+use Rattle.coap_endpoint.specs.declared.endpoint.Endpoint.{Endpoint}
 use Rattle.coap_model.specs.Events.{Event, arrival, tick}
 use Rattle.std.specs.Option.{option_map_or}
 use Rattle.coap_model.specs.Setting.{Setting}

@@ -3,7 +3,7 @@ use Rattle.std.proofs.Common.{◌≡◌, List, sym, ap, ◌∙◌}
 use Rattle.coap_message.specs.Message.{Message}
 use Rattle.coap_message.specs.Spelling.{Spells}
 use Rattle.coap_message.proofs.WholeMessages.{one_message}
-use Rattle.coap_routes.specs.Routes.{AreRoutes}
+use Rattle.coap_target.specs.Routes.{AreRoutes}
 use Rattle.coap_model.specs.Setting.{Setting}
 use Rattle.coap_forward.specs.Messages.{token_of}
 use Rattle.coap_forward.specs.Forms.{forwarded, tag_for}

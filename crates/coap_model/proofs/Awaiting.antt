@@ -13,11 +13,11 @@ use Rattle.coap_message.specs.Message.{Message}
 use Rattle.coap_message.specs.Spelling.{Spells}
 use Rattle.coap_message.specs.Reading.{read_message}
 use Rattle.coap_message.proofs.WholeMessages.{read_again, one_message}
-use Rattle.coap_target.specs.declared.endpoint.Endpoint.{Endpoint}
-use Rattle.coap_target.specs.Endpoint.{same_endpoint}
-use Rattle.coap_target.specs.Equality.{same_bytes}
-use Rattle.coap_target.proofs.Equality.{Tells-both, Tells-endpoint}
-use Rattle.coap_target.proofs.Lists.{none-found}
+use Rattle.coap_endpoint.specs.declared.endpoint.Endpoint.{Endpoint}
+use Rattle.coap_endpoint.specs.Endpoint.{same_endpoint}
+use Rattle.coap_endpoint.specs.Equality.{same_bytes}
+use Rattle.coap_endpoint.proofs.Equality.{Tells-both, Tells-endpoint}
+use Rattle.coap_endpoint.proofs.Lists.{none-found}
 use Rattle.coap_exchange.specs.declared.exchange.Exchange.{Exchange}
 use Rattle.coap_exchange.specs.declared.exchange.ExchangeState.{ExchangeState}
 use Rattle.coap_exchange.specs.declared.exchange.ExchangeState.TheVariants.{Queued, Sent, Acked, Done}

@@ -1,10 +1,10 @@
 -- How an answer is stored goes by its size; what is kept stands first.
 use Rattle.std.proofs.Common.{◌≡◌, inl, inr, ℕ, ◌<◌, ◌≤◌, Bool, true, false, List, [], ◌∷◌, refl, ap, ◌∙◌, subst, arith}
 use Rattle.coap_option.specs.Selection.{tags_of}
-use Rattle.coap_target.specs.declared.target.Target.{Target}
-use Rattle.coap_cache.specs.Entries.{Entry}
-use Rattle.coap_cache.specs.Lists.{others, cut}
-use Rattle.coap_cache.proofs.Cuts.{cut-fits}
+use Rattle.coap_endpoint.specs.declared.target.Target.{Target}
+use Rattle.coap_store.specs.Entries.{Entry}
+use Rattle.coap_store.specs.Lists.{others, cut}
+use Rattle.coap_store.proofs.Cuts.{cut-fits}
 use Rattle.coap_forward.specs.Changes.{changed_by, concerns}
 use Rattle.coap_model.specs.declared.report.Outcome.{Outcome}
 use Rattle.coap_model.specs.declared.report.Outcome.TheVariants.{Answered}

@@ -11,10 +11,10 @@ use Rattle.coap_message.specs.Options.{option_of}
 use Rattle.coap_message.specs.Reading.{read_message, body_at, options_within, option_at, extended}
 use Rattle.coap_message.specs.Spelling.{Spells, spelling, option_spelling}
 use Rattle.coap_message.proofs.WholeMessages.{read_is}
-use Rattle.coap_target.specs.declared.endpoint.Endpoint.{Endpoint}
+use Rattle.coap_endpoint.specs.declared.endpoint.Endpoint.{Endpoint}
 use Rattle.coap_option.specs.declared.numbers.TheConstants.{URI_PATH}
-use Rattle.coap_routes.specs.Routes.{mapped_target}
-use Rattle.coap_routes.specs.Request.{request_target}
+use Rattle.coap_target.specs.Routes.{mapped_target}
+use Rattle.coap_target.specs.Request.{request_target}
 use Rattle.coap_model.specs.declared.report.Outcome.TheVariants.{Answered, SentRequest}
 use Rattle.coap_model.specs.declared.report.Storing.{Storing}
 use Rattle.coap_model.specs.declared.report.Storing.TheVariants.{Kept, TooLarge}

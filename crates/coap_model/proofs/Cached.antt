@@ -2,14 +2,14 @@
 use Rattle.std.proofs.Common.{◌≡◌, ◌≢◌, ℕ, ◌-◌, ◌&&◌, true, false, Bool, cond, nat_le, List, [], ◌∷◌, Some, Result, Ok, refl, sym, ap, ◌∙◌, subst}
 use Rattle.std.specs.List.{AllByRecursion}
 use Rattle.coap_message.specs.Message.{Message}
-use Rattle.coap_target.specs.declared.endpoint.Endpoint.{Endpoint}
-use Rattle.coap_target.specs.declared.target.Target.{Target}
-use Rattle.coap_target.proofs.Lists.{All-weaken}
+use Rattle.coap_endpoint.specs.declared.endpoint.Endpoint.{Endpoint}
+use Rattle.coap_endpoint.specs.declared.target.Target.{Target}
+use Rattle.coap_endpoint.proofs.Lists.{All-weaken}
 use Rattle.coap_option.specs.Selection.{tags_of}
-use Rattle.coap_routes.specs.declared.error.TargetError.{TargetError}
-use Rattle.coap_routes.specs.Request.{request_target}
-use Rattle.coap_cache.specs.declared.key.CacheKey.{CacheKey}
-use Rattle.coap_cache.specs.Lists.{has_key, has_other_key, of_key, others, cut, used}
+use Rattle.coap_target.specs.declared.error.TargetError.{TargetError}
+use Rattle.coap_target.specs.Request.{request_target}
+use Rattle.coap_store.specs.declared.key.CacheKey.{CacheKey}
+use Rattle.coap_store.specs.Lists.{has_key, has_other_key, of_key, others, cut, used}
 use Rattle.coap_forward.specs.Answers.{answer_of}
 use Rattle.coap_forward.specs.Messages.{is_get}
 use Rattle.coap_model.specs.declared.report.Outcome.{Outcome}

@@ -1,7 +1,7 @@
 -- Each step of a proxy that carries a history leaves one that carries the history with the step's entry.
 use Rattle.std.proofs.Common.{◌≡◌, ℕ, Bool, true, false, cond, eqb, ◌+◌, ◌≤◌, List, [], ◌∷◌, refl, ap, arith}
 use Rattle.std.specs.Prelude.{◌/◌}
-use Rattle.coap_routes.specs.Routes.{AreRoutes}
+use Rattle.coap_target.specs.Routes.{AreRoutes}
 use Rattle.coap_model.specs.Setting.{Setting}
 use Rattle.coap_model.specs.Events.{Event, IsEvent}
 use Rattle.coap_model.specs.World.{World, Step, new_world}

@@ -6,12 +6,12 @@ use Rattle.coap_message.specs.declared.code.Code.{Code}
 use Rattle.coap_message.specs.declared.code.TheConstants.Code.{CREATED, DELETED, CHANGED, VALID}
 use Rattle.coap_message.specs.Codes.{is_code}
 use Rattle.coap_option.specs.Selection.{max_age_of}
-use Rattle.coap_cache.specs.Showing.{is_content, tells_age}
+use Rattle.coap_store.specs.Showing.{is_content, tells_age}
 use Rattle.coap_forward.specs.Messages.{is_rst}
 use Rattle.coap_forward.specs.Answers.{validates, is_passed_on, without_observe, bad_gateway, own_answer, origin_answer, validated, answer_of, is_storable}
 use Rattle.coap_message.specs.Message.{Message}
 use Rattle.coap_message.specs.Spelling.{Spells}
-use Rattle.coap_target.specs.declared.target.Target.{Target}
+use Rattle.coap_endpoint.specs.declared.target.Target.{Target}
 use Rattle.coap_forward.specs.Changes.{is_change, created_by, changed_by, concerns}
 use Rattle.coap_model.specs.Setting.{Setting}
 use Rattle.coap_model.specs.Keys.{key_sent}

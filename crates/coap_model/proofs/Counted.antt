@@ -2,8 +2,8 @@
 use Rattle.std.proofs.Common.{◌≡◌, List, length, ap, ◌∙◌, arith}
 use Rattle.coap_message.specs.declared.kind.Kind.{Kind}
 use Rattle.coap_dedup.specs.Records.{Records, living_at}
-use Rattle.coap_cache.specs.Entries.{Entry, entry_size}
-use Rattle.coap_cache.specs.Lists.{total}
+use Rattle.coap_store.specs.Entries.{Entry, entry_size}
+use Rattle.coap_store.specs.Lists.{total}
 use Rattle.coap_model.specs.Setting.{Setting}
 use Rattle.coap_model.specs.World.{World}
 use Rattle.coap_model.specs.History.{Deed}

@@ -11,9 +11,9 @@ use Rattle.coap_message.specs.Spelling.{IsMessage, Spells, spelling}
 use Rattle.coap_message.proofs.Spellings.{spelled}
 use Rattle.coap_message.proofs.WholeMessages.{head_read, read_again}
 use Rattle.coap_option.specs.Selection.{tags_of}
-use Rattle.coap_target.proofs.Lists.{All-weaken}
-use Rattle.coap_cache.specs.declared.answer.Answer.{Answer}
-use Rattle.coap_cache.specs.declared.key.CacheKey.{CacheKey}
+use Rattle.coap_endpoint.proofs.Lists.{All-weaken}
+use Rattle.coap_store.specs.declared.answer.Answer.{Answer}
+use Rattle.coap_store.specs.declared.key.CacheKey.{CacheKey}
 use Rattle.coap_exchange.specs.declared.exchange.Exchange.{Exchange}
 use Rattle.coap_exchange.specs.declared.waiter.Waiter.{Waiter}
 use Rattle.coap_exchange.specs.declared.waiter.WaiterState.{WaiterState}

@@ -3,13 +3,13 @@ use Rattle.std.proofs.Common.{◌≡◌, inl, inr, refl, ⊎_elim, ℕ, ◌+◌,
 use Rattle.std.specs.Prelude.{filter, if◌then◌else◌}
 use Rattle.std.specs.List.{AllByRecursion}
 use Rattle.std.proofs.lemmas.Bool.{and_parts, ltb-true, lt-ltb}
-use Rattle.coap_target.proofs.Lists.{All-append, All-weaken}
+use Rattle.coap_endpoint.proofs.Lists.{All-append, All-weaken}
 use Rattle.coap_message.specs.declared.kind.Kind.{Kind}
 use Rattle.coap_message.specs.declared.kind.Kind.TheVariants.{Con, Non, Ack, Rst}
 use Rattle.coap_message.specs.declared.message.Head.{Head}
 use Rattle.coap_message.specs.Message.{Message}
 use Rattle.coap_message.specs.Reading.{head_at}
-use Rattle.coap_target.specs.declared.endpoint.Endpoint.{Endpoint}
+use Rattle.coap_endpoint.specs.declared.endpoint.Endpoint.{Endpoint}
 use Rattle.coap_dedup.specs.declared.record.Record.{Record}
 use Rattle.coap_dedup.specs.Lists.{is_living, is_of, record_of}
 use Rattle.coap_dedup.proofs.Apart.{is_of-key}
@@ -19,7 +19,7 @@ use Rattle.coap_forward.specs.Messages.{brings_requests, told_again}
 use Rattle.coap_model.specs.History.{Entry, Deed, Place, IsPlaceOf, Somewhere}
 use Rattle.coap_model.specs.Remembered.{goes_with, is_remembered, kept_of, kept_at, kept_by, kept_in, remembered_at, remembered_for}
 use Rattle.coap_model.specs.Duplicates.{Repeats, IsRememberedAt}
-use Rattle.coap_target.proofs.Lists.{none-found}
+use Rattle.coap_endpoint.proofs.Lists.{none-found}
 use Rattle.coap_model.proofs.Lists.{find-holds, All-filter}
 
 -- ---- each record was left at a place

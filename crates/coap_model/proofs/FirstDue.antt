@@ -3,7 +3,7 @@ use Rattle.std.proofs.Common.{◌≡◌, ℕ, ◌≤◌, Bool, true, false, Opti
 use Rattle.std.specs.List.{AllByRecursion}
 use Rattle.std.proofs.lemmas.Bool.Decides.{nat_tests}
 use Rattle.std.proofs.lemmas.Option.{same_Some}
-use Rattle.coap_target.proofs.Lists.{All-weaken}
+use Rattle.coap_endpoint.proofs.Lists.{All-weaken}
 use Rattle.coap_exchange.specs.Table.{Numbered}
 use Rattle.coap_exchange.specs.Due.{is_before, sooner, as_due, due_row, first_due}
 

@@ -21,7 +21,7 @@ use Rattle.coap_model.proofs.TakingUp.{taken-short}
 use Rattle.coap_model.proofs.OwnReplies.{own-short, busy-short}
 use Rattle.coap_model.proofs.Hitting.{hit-fits}
 use Rattle.coap_model.proofs.Lists.{find-holds, All-filter}
-use Rattle.coap_target.proofs.Lists.{All-weaken}
+use Rattle.coap_endpoint.proofs.Lists.{All-weaken}
 use Rattle.coap_message.specs.declared.kind.Kind.{Kind}
 use Rattle.coap_message.specs.declared.kind.Kind.TheVariants.{Con, Non, Ack, Rst}
 use Rattle.coap_dedup.specs.Lists.{is_of, is_living, record_of, reply_bytes}

@@ -2,7 +2,7 @@
 use Rattle.std.proofs.Common.{◌≡◌, inl, inr, ⊎_elim, ℕ, Bool, true, false, List, [], ◌∷◌, Some, None, Result, Ok, Err, refl, sym, ap, ◌∙◌, subst, length, arith}
 use Rattle.std.proofs.lemmas.Option.{same_Some}
 use Rattle.coap_message.specs.declared.error.ReadError.{ReadError}
-use Rattle.coap_target.specs.declared.endpoint.Endpoint.{Endpoint}
+use Rattle.coap_endpoint.specs.declared.endpoint.Endpoint.{Endpoint}
 use Rattle.coap_message.specs.declared.kind.Kind.TheVariants.{Rst}
 use Rattle.coap_message.specs.Message.{Message}
 use Rattle.coap_message.specs.Reading.{read_message, body_at, options_within, option_at, extended}
@@ -14,16 +14,16 @@ use Rattle.coap_forward.specs.Messages.{is_con, is_rst, is_get, token_of}
 use Rattle.coap_forward.specs.Answers.{answer_of, shown_as}
 use Rattle.coap_model.specs.Events.{arrival}
 use Rattle.coap_model.specs.Examples.{origin, client, get_t, content, content_for_client, content_in}
-use Rattle.coap_cache.specs.declared.answer.Answer.{Answer}
+use Rattle.coap_store.specs.declared.answer.Answer.{Answer}
 use Rattle.coap_model.specs.Verdicts.{Verdict, may_ask, refused_with, verdict_of}
 use Rattle.coap_model.specs.History.{no_item, moves, serves, Deed, Sends, Place, IsPlaceOf, admits_one, Admits, ends, Ends, GivesUp}
 use Rattle.coap_model.specs.declared.report.Outcome.TheVariants.{Answered}
 use Rattle.coap_model.specs.Due.{to_send}
 use Rattle.coap_model.specs.Justified.{EndsWith, got, given_up, IsDelivery}
 use Rattle.coap_model.specs.Forged.{setting, opened, opened_too, asked, answered, past, asked_elsewhere, past_elsewhere, opened_con, past_con, delivery, right, in_con, at_an_arrival}
-use Rattle.coap_routes.specs.Routes.{mapped_target}
-use Rattle.coap_routes.specs.Request.{request_target}
-use Rattle.coap_cache.specs.declared.key.CacheKey.{CacheKey}
+use Rattle.coap_target.specs.Routes.{mapped_target}
+use Rattle.coap_target.specs.Request.{request_target}
+use Rattle.coap_store.specs.declared.key.CacheKey.{CacheKey}
 use Rattle.coap_model.specs.Keys.{key_sent, target_sent}
 use Rattle.coap_model.specs.Cached.{copied, IsObtained, WasObtained}
 use Rattle.coap_model.specs.Changed.{key_asked}

@@ -10,14 +10,14 @@ use Rattle.coap_message.specs.Spelling.{Spells, spelling, option_spelling}
 use Rattle.coap_message.specs.Uint.{uint_spelling}
 use Rattle.coap_message.proofs.WholeMessages.{read_again, read_is}
 use Rattle.coap_option.specs.Selection.{max_age_of, tags_of}
-use Rattle.coap_routes.specs.Routes.{mapped_target}
-use Rattle.coap_routes.specs.Request.{request_target}
-use Rattle.coap_target.specs.declared.endpoint.Endpoint.{Endpoint}
-use Rattle.coap_target.specs.declared.target.Target.{Target}
-use Rattle.coap_cache.specs.declared.key.CacheKey.{CacheKey}
-use Rattle.coap_cache.specs.Freshness.{is_fresh}
-use Rattle.coap_cache.specs.Keys.{same_key}
-use Rattle.coap_cache.specs.Lists.{of_key}
+use Rattle.coap_target.specs.Routes.{mapped_target}
+use Rattle.coap_target.specs.Request.{request_target}
+use Rattle.coap_endpoint.specs.declared.endpoint.Endpoint.{Endpoint}
+use Rattle.coap_endpoint.specs.declared.target.Target.{Target}
+use Rattle.coap_store.specs.declared.key.CacheKey.{CacheKey}
+use Rattle.coap_store.specs.Freshness.{is_fresh}
+use Rattle.coap_store.specs.Keys.{same_key}
+use Rattle.coap_store.specs.Lists.{of_key}
 use Rattle.coap_forward.specs.Changes.{changed_by, concerns}
 use Rattle.coap_forward.specs.Forms.{target_options}
 use Rattle.coap_forward.specs.Messages.{token_of, at_once}

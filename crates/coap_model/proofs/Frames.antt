@@ -1,8 +1,8 @@
 -- What stays as the history grows by an entry.
 use Rattle.std.proofs.Common.{◌≡◌, ◌≢◌, ⊎_elim, inr, ℕ, ◌+◌, ◌<◌, ◌≤◌, Bool, true, false, cond, List, [], ◌∷◌, length, Option, Some, None, refl, sym, ap, ◌∙◌, subst, arith}
 use Rattle.std.specs.Prelude.{◌&&◌, ◌||◌, map}
-use Rattle.coap_target.specs.declared.target.Target.{Target}
-use Rattle.coap_target.specs.Equality.{same_target}
+use Rattle.coap_endpoint.specs.declared.target.Target.{Target}
+use Rattle.coap_endpoint.specs.Equality.{same_target}
 use Rattle.coap_exchange.specs.Exchanges.{is_sent_state, is_acked_state, tainted_by}
 use Rattle.coap_exchange.specs.Table.{all_changed}
 use Rattle.coap_forward.specs.Changes.{changed_by, concerns}
@@ -11,8 +11,8 @@ use Rattle.coap_model.specs.Changed.{key_asked, IsTold}
 use Rattle.coap_model.proofs.Changing.{told-stays, told-on}
 use Rattle.std.specs.List.{AllByRecursion}
 use Rattle.std.proofs.lemmas.Bool.{eqb-true, eq-eqb}
-use Rattle.coap_target.proofs.Lists.{All-weaken}
-use Rattle.coap_cache.specs.declared.key.CacheKey.{CacheKey}
+use Rattle.coap_endpoint.proofs.Lists.{All-weaken}
+use Rattle.coap_store.specs.declared.key.CacheKey.{CacheKey}
 use Rattle.coap_exchange.specs.declared.exchange.ExchangeState.{ExchangeState}
 use Rattle.coap_exchange.specs.declared.exchange.ExchangeState.TheVariants.{Queued, Sent, Acked, Done}
 use Rattle.coap_exchange.specs.declared.exchange.Exchange.{Exchange}

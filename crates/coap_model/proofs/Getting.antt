@@ -7,7 +7,7 @@ use Rattle.coap_message.proofs.Spellings.{spelling-length}
 use Rattle.std.specs.Prelude.{◌&&◌, not}
 use Rattle.coap_forward.specs.Messages.{is_rst}
 use Rattle.coap_forward.specs.Answers.{fits, validates, taken_of, is_passed_on, bad_gateway, own_answer, origin_answer, answer_if_fits, validated, gateway_timeout, answer_of, shown}
-use Rattle.coap_cache.specs.Renewing.{is_validated, renewed}
+use Rattle.coap_store.specs.Renewing.{is_validated, renewed}
 use Rattle.coap_model.proofs.Spelled.{own_reply-is}
 
 -- an answer is got at the moment of its response

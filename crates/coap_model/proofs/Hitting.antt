@@ -7,11 +7,11 @@ use Rattle.coap_message.specs.Message.{Message}
 use Rattle.coap_message.specs.Spelling.{IsMessage, Spells, spelling}
 use Rattle.coap_message.proofs.Spellings.{spelled}
 use Rattle.coap_option.specs.Selection.{tags_of}
-use Rattle.coap_target.specs.declared.endpoint.Endpoint.{Endpoint}
-use Rattle.coap_cache.specs.declared.key.CacheKey.{CacheKey}
-use Rattle.coap_cache.specs.Entries.{Entry, entry_key}
-use Rattle.coap_cache.specs.Freshness.{is_fresh, is_usable}
-use Rattle.coap_cache.specs.Lists.{of_key, used}
+use Rattle.coap_endpoint.specs.declared.endpoint.Endpoint.{Endpoint}
+use Rattle.coap_store.specs.declared.key.CacheKey.{CacheKey}
+use Rattle.coap_store.specs.Entries.{Entry, entry_key}
+use Rattle.coap_store.specs.Freshness.{is_fresh, is_usable}
+use Rattle.coap_store.specs.Lists.{of_key, used}
 use Rattle.coap_model.specs.Setting.{Setting}
 use Rattle.coap_model.specs.Events.{arrival}
 use Rattle.coap_forward.specs.Answers.{stored_answer, shown}

@@ -14,9 +14,9 @@ use Rattle.coap_message.specs.Pieces.{pieces_spelling}
 use Rattle.coap_message.specs.Spelling.{spelling, options_spelling, more_length, options_length}
 use Rattle.coap_message.proofs.PieceSpellings.{pieces-length}
 use Rattle.coap_message.proofs.Spellings.{options-length, spelled_once, spelling-length}
-use Rattle.coap_target.specs.declared.target.Target.{Target}
-use Rattle.coap_cache.specs.declared.key.CacheKey.{CacheKey}
-use Rattle.coap_target.proofs.Lists.{All-weaken}
+use Rattle.coap_endpoint.specs.declared.target.Target.{Target}
+use Rattle.coap_store.specs.declared.key.CacheKey.{CacheKey}
+use Rattle.coap_endpoint.proofs.Lists.{All-weaken}
 use Rattle.coap_exchange.specs.declared.exchange.ExchangeState.{ExchangeState}
 use Rattle.coap_exchange.specs.declared.exchange.ExchangeState.TheVariants.{Queued, Sent, Acked, Done}
 use Rattle.coap_exchange.specs.declared.exchange.Exchange.{Exchange}
@@ -33,15 +33,15 @@ use Rattle.coap_option.specs.Recognition.{is_recognised}
 use Rattle.coap_option.specs.Selection.{sent_on, is_of}
 use Rattle.coap_option.specs.Screening.{first_refused}
 use Rattle.coap_option.specs.Side.{side_of}
-use Rattle.coap_routes.specs.Routes.{AreRoutes}
+use Rattle.coap_target.specs.Routes.{AreRoutes}
 use Rattle.coap_forward.specs.Forms.{host_options, target_options, merged, tagged, forwarded, tag_for}
 use Rattle.coap_model.specs.Keys.{request_key, says_target}
 use Rattle.coap_model.specs.Cached.{kept_for}
-use Rattle.coap_cache.specs.declared.stored.Stored.{Stored}
+use Rattle.coap_store.specs.declared.stored.Stored.{Stored}
 use Rattle.coap_model.specs.World.{World}
 use Rattle.coap_model.specs.History.{Deed}
 use Rattle.coap_model.specs.Carries.{form_id, copy_for, IsState, IsExchangeOf, IsWaiterIn, IsWaiterOf, Bears}
-use Rattle.coap_target.specs.Target.{IsShort, IsTarget}
+use Rattle.coap_endpoint.specs.Target.{IsShort, IsTarget}
 use Rattle.coap_forward.proofs.Forms.{AreUnused, IsTag, in_key, short-tag, sent-unused, tagged-options, tagged-unused, AreOptions-merged, target-options, sent-options, with_id-forwarded, length-with_id}
 use Rattle.coap_forward.proofs.Tagging.{tag_for-is, tag_for-other}
 use Rattle.coap_forward.specs.Messages.{is_get, token_of}
@@ -50,8 +50,8 @@ use Rattle.coap_model.proofs.Verdicts.{IsAskable, askable}
 use Rattle.coap_model.proofs.OptionLengths.{filter-length, plain_length, small-numbers, says-small, both-apart}
 use Rattle.coap_model.proofs.Showing.{IsHoldable, holdable-short}
 use Rattle.coap_model.proofs.Endings.{kept-holdable, cache-holdable, ending-holdable}
-use Rattle.coap_cache.specs.Entries.{entry_size}
-use Rattle.coap_cache.specs.Lists.{total}
+use Rattle.coap_store.specs.Entries.{entry_size}
+use Rattle.coap_store.specs.Lists.{total}
 use Rattle.coap_dedup.specs.Lists.{bytes_of}
 use Rattle.coap_dedup.proofs.Passing.{bytes-bounded}
 use Rattle.coap_model.proofs.Stores.{store-within}

@@ -13,12 +13,12 @@ use Rattle.coap_option.specs.declared.side.Side.TheVariants.{Request}
 use Rattle.coap_option.specs.Classes.{is_no_cache_key}
 use Rattle.coap_option.specs.Screening.{first_refused}
 use Rattle.coap_option.specs.Selection.{sent_on, key_of}
-use Rattle.coap_target.specs.declared.target.Target.{Target}
-use Rattle.coap_target.specs.Target.{IsTarget}
-use Rattle.coap_target.proofs.Lists.{All-weaken}
-use Rattle.coap_routes.specs.Request.{first_value}
-use Rattle.coap_routes.specs.Routes.{values_of}
-use Rattle.coap_cache.specs.declared.key.CacheKey.{CacheKey}
+use Rattle.coap_endpoint.specs.declared.target.Target.{Target}
+use Rattle.coap_endpoint.specs.Target.{IsTarget}
+use Rattle.coap_endpoint.proofs.Lists.{All-weaken}
+use Rattle.coap_target.specs.Request.{first_value}
+use Rattle.coap_target.specs.Routes.{values_of}
+use Rattle.coap_store.specs.declared.key.CacheKey.{CacheKey}
 use Rattle.coap_forward.specs.Messages.{is_get}
 use Rattle.coap_forward.specs.Forms.{is_used_up, goes_on, host_options, put_in, merged, target_options, tagged, forwarded}
 use Rattle.coap_forward.proofs.Forms.{in_key, AreUnused, unused-clean, key-clean, key-screened, sent-screened, sent-unused, target-options, IsTag, tagged-unused}

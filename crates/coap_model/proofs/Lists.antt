@@ -2,7 +2,7 @@
 use Rattle.std.proofs.Common.{◌≡◌, ◌⊎◌, ⊎_elim, inl, inr, List, [], ◌∷◌, map, Bool, true, false, Some, refl, sym, subst, cond}
 use Rattle.std.specs.Prelude.{filter}
 use Rattle.std.specs.List.{AllByRecursion, find}
-use Rattle.coap_target.proofs.Lists.{All-weaken}
+use Rattle.coap_endpoint.proofs.Lists.{All-weaken}
 
 -- what holds of each element holds of the one that is found, which passes the test
 pub find-holds : {X : Type 0} (P : X → Type 0) (test : X → Bool) (xs : List X) (x : X) → AllByRecursion P xs → find test xs ≡ Some x → P x × (test x ≡ true)

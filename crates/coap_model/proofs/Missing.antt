@@ -5,11 +5,11 @@ use Rattle.std.proofs.lemmas.Bool.{and_parts, and_from}
 use Rattle.std.proofs.lemmas.Option.{same_Some}
 use Rattle.coap_message.specs.declared.code.Code.{Code}
 use Rattle.coap_message.specs.Message.{Message}
-use Rattle.coap_cache.specs.declared.key.CacheKey.{CacheKey}
-use Rattle.coap_cache.specs.Freshness.{is_fresh}
-use Rattle.coap_cache.specs.Keys.{same_key}
-use Rattle.coap_cache.proofs.Keys.{same_key-only, same_key-itself}
-use Rattle.coap_target.proofs.Lists.{none-found}
+use Rattle.coap_store.specs.declared.key.CacheKey.{CacheKey}
+use Rattle.coap_store.specs.Freshness.{is_fresh}
+use Rattle.coap_store.specs.Keys.{same_key}
+use Rattle.coap_store.proofs.Keys.{same_key-only, same_key-itself}
+use Rattle.coap_endpoint.proofs.Lists.{none-found}
 use Rattle.coap_exchange.specs.declared.exchange.Exchange.{Exchange}
 use Rattle.coap_exchange.specs.declared.exchange.ExchangeState.{ExchangeState}
 use Rattle.coap_exchange.specs.declared.exchange.ExchangeState.TheVariants.{Queued, Sent, Acked, Done}
@@ -20,7 +20,7 @@ use Rattle.coap_model.specs.Verdicts.{may_ask}
 use Rattle.coap_model.specs.World.{World}
 use Rattle.coap_model.specs.History.{Deed, Place, IsPlaceOf, Never, Sends, Asks, Ends}
 use Rattle.coap_forward.specs.Messages.{is_get}
-use Rattle.coap_cache.specs.Entries.{Entry}
+use Rattle.coap_store.specs.Entries.{Entry}
 use Rattle.coap_model.specs.Changed.{Unchanged, IsTold}
 use Rattle.coap_model.proofs.Changing.{told-contrary}
 use Rattle.coap_model.specs.Justified.{verdict_on, IsMiss, IsJoinable, IsUnanswered, Deserves, by_verdict, by_length, LacksRoom, to_join, to_open}

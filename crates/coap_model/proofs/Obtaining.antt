@@ -13,21 +13,21 @@ use Rattle.coap_message.specs.Codes.{is_code}
 use Rattle.coap_message.specs.Message.{Message}
 use Rattle.coap_message.proofs.WholeMessages.{one_message}
 use Rattle.coap_option.specs.Selection.{max_age_of, tags_of}
-use Rattle.coap_target.specs.declared.endpoint.Endpoint.{Endpoint}
-use Rattle.coap_target.specs.declared.target.Target.{Target}
-use Rattle.coap_target.proofs.Lists.{All-weaken}
-use Rattle.coap_routes.specs.Routes.{AreRoutes}
-use Rattle.coap_cache.specs.declared.answer.Answer.{Answer}
-use Rattle.coap_cache.specs.declared.key.CacheKey.{CacheKey}
-use Rattle.coap_cache.specs.Renewing.{tag_of, has_tag, is_validated, renewed}
-use Rattle.coap_cache.specs.Showing.{is_content, tells_age}
-use Rattle.coap_cache.proofs.Distinct.{of_key-key}
+use Rattle.coap_endpoint.specs.declared.endpoint.Endpoint.{Endpoint}
+use Rattle.coap_endpoint.specs.declared.target.Target.{Target}
+use Rattle.coap_endpoint.proofs.Lists.{All-weaken}
+use Rattle.coap_target.specs.Routes.{AreRoutes}
+use Rattle.coap_store.specs.declared.answer.Answer.{Answer}
+use Rattle.coap_store.specs.declared.key.CacheKey.{CacheKey}
+use Rattle.coap_store.specs.Renewing.{tag_of, has_tag, is_validated, renewed}
+use Rattle.coap_store.specs.Showing.{is_content, tells_age}
+use Rattle.coap_store.proofs.Distinct.{of_key-key}
 use Rattle.coap_forward.specs.Messages.{is_get, is_rst, brings_requests, token_of}
 use Rattle.coap_forward.specs.Forms.{forwarded, form_fits, tag_if_fits, tag_for}
 use Rattle.coap_forward.specs.Gaps.{given}
 use Rattle.coap_forward.specs.Answers.{fits, validates, without_observe, taken_of, is_passed_on, bad_gateway, own_answer, origin_answer, validated, answer_of, is_storable}
 use Rattle.coap_forward.proofs.Tagging.{tag_for-is, tags-forwarded}
-use Rattle.coap_cache.specs.Lists.{of_key}
+use Rattle.coap_store.specs.Lists.{of_key}
 use Rattle.coap_model.specs.declared.report.Outcome.{Outcome}
 use Rattle.coap_model.specs.declared.report.Outcome.TheVariants.{Answered, SentRequest}
 use Rattle.coap_model.specs.declared.report.Storing.TheVariants.{Kept, TooLarge, NoMemory, NotStored}

@@ -11,8 +11,8 @@ use Rattle.coap_message.specs.Reading.{head_at}
 use Rattle.coap_message.specs.Spelling.{spelling}
 use Rattle.coap_message.proofs.Spellings.{spelled_once}
 use Rattle.coap_message.proofs.WholeMessages.{one_message}
-use Rattle.coap_target.specs.declared.endpoint.Endpoint.{Endpoint}
-use Rattle.coap_target.specs.declared.target.Target.{Target}
+use Rattle.coap_endpoint.specs.declared.endpoint.Endpoint.{Endpoint}
+use Rattle.coap_endpoint.specs.declared.target.Target.{Target}
 use Rattle.coap_option.specs.Selection.{tags_of}
 use Rattle.coap_model.specs.declared.report.Outcome.{Outcome}
 use Rattle.coap_model.specs.declared.report.Outcome.TheVariants.{Ignored, Rejected, Again, NoRecordRoom, Refused, Hit, Joined, Opened, Overloaded, NoId, Answered, Acked, SentRequest, Resent, GaveUp, Delivered, Idle}
@@ -28,7 +28,7 @@ use Rattle.coap_model.specs.Standing.{HasIds, HasRoomToJoin, HasRoomToOpen, queu
 use Rattle.coap_model.specs.Schedules.{sends_by, MayGoOn, SaysAsBefore}
 use Rattle.coap_model.specs.Due.{IsToEnd, IsToRepeat, IsToServe, IsDueAt, ComesBefore}
 use Rattle.coap_model.specs.Verdicts.{verdict_of}
-use Rattle.coap_cache.specs.declared.answer.Answer.{Answer}
+use Rattle.coap_store.specs.declared.answer.Answer.{Answer}
 use Rattle.coap_model.specs.Justified.{Comes, known_of, HasRecordRoom, IsMiss, IsJoinable, IsUnanswered, LacksRoom, Deserves, HaveOneMemory, IsUsable, verdict_on, IsNew, HasIdFor, SaysAgain, Tells, IsSilent, TakesUp, IsAwaited, Acknowledges, Closes, IsMeant, to_acknowledge, to_reset, to_close, Settles, a_request, an_answer, IsDropped, IsAnswer, IsActing, InTime, IsForwarding, IsToSendAgain, request_again, answer_again, IsResending, IsGivingUp, overdue, unheard, unacknowledged, EndsWith, got, given_up as was_given_up, IsDelivery, IsIdle, IsUnprocessable, JustifiedBy, AllJustified, MayFollow, AreOfOneTurn}
 use Rattle.coap_model.proofs.Places.{here, same_moves, same_serves, arrival-same, one-brought, request-unique, one-opened, one-admitted}
 use Rattle.coap_model.proofs.Once.{ended-once, one-joinable}
@@ -37,8 +37,8 @@ use Rattle.coap_model.proofs.Stages.{opened-before, sent-number}
 use Rattle.coap_forward.proofs.Tokens.{token-same}
 use Rattle.coap_model.proofs.Cached.{cache-unique}
 use Rattle.coap_model.proofs.OneStoring.{one-former, one-answer as one-gotten, one-storing}
-use Rattle.coap_cache.specs.declared.key.CacheKey.{CacheKey}
-use Rattle.coap_cache.specs.Lists.{of_key}
+use Rattle.coap_store.specs.declared.key.CacheKey.{CacheKey}
+use Rattle.coap_store.specs.Lists.{of_key}
 use Rattle.coap_model.specs.Cached.{cached_key, entry_of_cached, kept_for, IsCacheOf}
 use Rattle.coap_model.proofs.Arrivals.{request_con}
 use Rattle.coap_model.proofs.Sorts.{recorded-sorts, token-or-reset}

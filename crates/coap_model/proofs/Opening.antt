@@ -6,15 +6,15 @@ use Rattle.std.proofs.lemmas.Bool.{leb-true, ltb-true, and_parts, eq-eqb}
 use Rattle.std.proofs.lemmas.List.{map-append}
 use Rattle.coap_message.specs.Message.{Message}
 use Rattle.coap_message.specs.Spelling.{spelling}
-use Rattle.coap_target.specs.declared.endpoint.Endpoint.{Endpoint}
-use Rattle.coap_target.specs.declared.target.Target.{Target}
-use Rattle.coap_cache.specs.declared.key.CacheKey.{CacheKey}
-use Rattle.coap_cache.specs.declared.stored.Stored.{Stored}
-use Rattle.coap_cache.specs.Entries.{Entry, entry_key}
-use Rattle.coap_cache.specs.Lists.{of_key}
-use Rattle.coap_cache.specs.Renewing.{tag_of}
-use Rattle.coap_cache.specs.Showing.{is_content}
-use Rattle.coap_target.proofs.Lists.{All-append, All-weaken}
+use Rattle.coap_endpoint.specs.declared.endpoint.Endpoint.{Endpoint}
+use Rattle.coap_endpoint.specs.declared.target.Target.{Target}
+use Rattle.coap_store.specs.declared.key.CacheKey.{CacheKey}
+use Rattle.coap_store.specs.declared.stored.Stored.{Stored}
+use Rattle.coap_store.specs.Entries.{Entry, entry_key}
+use Rattle.coap_store.specs.Lists.{of_key}
+use Rattle.coap_store.specs.Renewing.{tag_of}
+use Rattle.coap_store.specs.Showing.{is_content}
+use Rattle.coap_endpoint.proofs.Lists.{All-append, All-weaken}
 use Rattle.coap_exchange.specs.declared.exchange.Exchange.{Exchange}
 use Rattle.coap_exchange.specs.declared.waiter.Waiter.{Waiter}
 use Rattle.coap_exchange.specs.declared.waiter.WaiterState.{WaiterState}

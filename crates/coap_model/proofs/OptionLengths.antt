@@ -6,7 +6,7 @@ use Rattle.std.proofs.lemmas.Bool.{eqb-true, eqb-false, eq-eqb, leb-true, leb-fa
 use Rattle.coap_message.specs.declared.options.Opt.{Opt}
 use Rattle.coap_message.specs.Options.{AreOptions}
 use Rattle.coap_message.specs.Spelling.{more_length, options_length}
-use Rattle.coap_cache.proofs.Picked.{AreOptions-filter}
+use Rattle.coap_store.proofs.Picked.{AreOptions-filter}
 use Rattle.coap_model.specs.Keys.{says_target}
 
 -- the bytes that extend a number are at most one more than those of two that add up to it

@@ -1,7 +1,7 @@
 -- What is owed at a place of a history.
 use Rattle.std.proofs.Common.{◌≡◌, ⊎_elim, List, [], ◌∷◌, Option, Some, None, refl, subst}
 use Rattle.coap_message.specs.Message.{Message}
-use Rattle.coap_target.specs.declared.endpoint.Endpoint.{Endpoint}
+use Rattle.coap_endpoint.specs.declared.endpoint.Endpoint.{Endpoint}
 use Rattle.coap_dedup.specs.declared.record.Record.{Record}
 use Rattle.coap_model.specs.declared.report.Outcome.TheVariants.{Again}
 use Rattle.coap_model.specs.Setting.{Setting}

@@ -6,8 +6,8 @@ use Rattle.coap_message.specs.declared.code.TheConstants.Code.{EMPTY}
 use Rattle.coap_message.specs.declared.message.Head.{Head}
 use Rattle.coap_message.specs.Message.{Message}
 use Rattle.coap_message.specs.Reading.{head_at}
-use Rattle.coap_target.specs.declared.endpoint.Endpoint.{Endpoint}
-use Rattle.coap_cache.specs.declared.key.CacheKey.{CacheKey}
+use Rattle.coap_endpoint.specs.declared.endpoint.Endpoint.{Endpoint}
+use Rattle.coap_store.specs.declared.key.CacheKey.{CacheKey}
 use Rattle.coap_model.specs.declared.report.Outcome.{Outcome}
 use Rattle.coap_model.specs.declared.report.Outcome.TheVariants.{Ignored, Rejected, Again, NoRecordRoom, Refused, Hit, Joined, Opened, Overloaded, NoId, Answered, Acked, SentRequest, Resent, GaveUp, Delivered, Idle}
 use Rattle.coap_model.specs.declared.report.Storing.{Storing}
@@ -19,7 +19,7 @@ use Rattle.coap_forward.specs.Messages.{is_recorded}
 use Rattle.coap_model.specs.Verdicts.{may_ask}
 use Rattle.coap_model.specs.Standing.{HasIds, HasRoomToJoin, HasRoomToOpen}
 use Rattle.coap_model.specs.History.{Act, moves, serves, Deed, takes, Brings, IsRequestOf, Meets, Matches}
-use Rattle.coap_cache.specs.Lists.{of_key}
+use Rattle.coap_store.specs.Lists.{of_key}
 use Rattle.coap_model.specs.Cached.{Cached, cached_key, IsCacheOf}
 use Rattle.coap_model.proofs.Cached.{cache-unique}
 use Rattle.coap_model.specs.Due.{IsDueAt}

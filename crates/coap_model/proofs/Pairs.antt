@@ -3,9 +3,9 @@ use Rattle.std.proofs.Common.{◌≡◌, ℕ, ◌-◌, ◌&&◌, Bool, true, fal
 use Rattle.std.specs.List.{list_all}
 use Rattle.std.specs.Option.{option_map_or}
 use Rattle.std.proofs.lemmas.List.Sums.{sum_by-cons}
-use Rattle.coap_cache.specs.declared.key.CacheKey.{CacheKey}
-use Rattle.coap_cache.specs.Keys.{same_key}
-use Rattle.coap_cache.specs.Lists.{has_other_key, are_distinct, of_key, others, used, cut, put, total}
+use Rattle.coap_store.specs.declared.key.CacheKey.{CacheKey}
+use Rattle.coap_store.specs.Keys.{same_key}
+use Rattle.coap_store.specs.Lists.{has_other_key, are_distinct, of_key, others, used, cut, put, total}
 use Rattle.coap_model.specs.Pairs.{Pairs, Both}
 
 module _ {X Y : Type 0} (R : X → Y → Type 0) where

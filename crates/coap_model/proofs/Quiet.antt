@@ -2,7 +2,7 @@
 use Rattle.std.proofs.Common.{◌≡◌, ◌≢◌, ℕ, ◌+◌, ◌≤◌, true, false, List, ◌∷◌, refl, sym, ◌∙◌, arith}
 use Rattle.coap_message.specs.declared.kind.Kind.{Kind}
 use Rattle.coap_message.specs.declared.kind.Kind.TheVariants.{Con, Non}
-use Rattle.coap_cache.specs.Entries as cache
+use Rattle.coap_store.specs.Entries as cache
 use Rattle.coap_dedup.specs.Records.{Records}
 use Rattle.coap_exchange.specs.declared.ids.Ids.{Ids as Given}
 use Rattle.coap_exchange.specs.Ids.{given_in}

@@ -5,9 +5,9 @@ use Rattle.std.proofs.lemmas.Bool.{and_parts, and_from}
 use Rattle.coap_message.specs.Message.{Message}
 use Rattle.coap_message.specs.Uint.{IsBytes}
 use Rattle.coap_option.specs.Selection.{tags_of}
-use Rattle.coap_cache.specs.declared.key.CacheKey.{CacheKey}
-use Rattle.coap_cache.specs.Entries.{Entry, entry_key, entry_size}
-use Rattle.coap_cache.specs.Lists.{of_key, others, put}
+use Rattle.coap_store.specs.declared.key.CacheKey.{CacheKey}
+use Rattle.coap_store.specs.Entries.{Entry, entry_key, entry_size}
+use Rattle.coap_store.specs.Lists.{of_key, others, put}
 use Rattle.coap_exchange.specs.declared.exchange.Exchange.{Exchange}
 use Rattle.coap_exchange.specs.Table.{Numbered}
 use Rattle.coap_forward.specs.Answers.{answer_of, is_storable}

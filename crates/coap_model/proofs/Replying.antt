@@ -13,10 +13,10 @@ use Rattle.coap_message.specs.Reading.{head_at, read_message}
 use Rattle.coap_message.specs.Spelling.{Spells}
 use Rattle.coap_message.proofs.Spellings.{spelled}
 use Rattle.coap_message.proofs.WholeMessages.{read_again}
-use Rattle.coap_target.specs.declared.endpoint.Endpoint.{Endpoint}
+use Rattle.coap_endpoint.specs.declared.endpoint.Endpoint.{Endpoint}
 use Rattle.coap_dedup.specs.declared.record.Record.{Record}
 use Rattle.coap_dedup.specs.Lists.{record_of}
-use Rattle.coap_cache.specs.declared.key.CacheKey.{CacheKey}
+use Rattle.coap_store.specs.declared.key.CacheKey.{CacheKey}
 use Rattle.coap_model.specs.Events.{arrival}
 use Rattle.coap_message.specs.Codes.{is_request, is_response}
 use Rattle.coap_exchange.specs.declared.exchange.Exchange.{Exchange}

@@ -8,10 +8,10 @@ use Rattle.coap_message.specs.Uint.{uint_spelling}
 use Rattle.coap_message.specs.Reading.{read_message, body_at, options_within, option_at, extended}
 use Rattle.coap_message.specs.Spelling.{Spells, spelling, option_spelling}
 use Rattle.coap_message.proofs.WholeMessages.{read_is}
-use Rattle.coap_target.specs.declared.endpoint.Endpoint.{Endpoint}
+use Rattle.coap_endpoint.specs.declared.endpoint.Endpoint.{Endpoint}
 use Rattle.coap_option.specs.Selection.{tags_of}
-use Rattle.coap_routes.specs.Routes.{mapped_target}
-use Rattle.coap_routes.specs.Request.{request_target}
+use Rattle.coap_target.specs.Routes.{mapped_target}
+use Rattle.coap_target.specs.Request.{request_target}
 use Rattle.coap_forward.specs.Forms.{target_options}
 use Rattle.coap_forward.specs.Messages.{token_of, is_get}
 use Rattle.coap_forward.specs.Answers.{answer_of, shown_as}

@@ -3,7 +3,7 @@ use Rattle.std.proofs.Common.{◌≡◌, ℕ, ◌+◌, ◌<◌, ◌≤◌, List,
 use Rattle.std.specs.Prelude.{◌/◌, ◌&&◌}
 use Rattle.std.proofs.lemmas.Bool.{leb-true, leb-false, ltb-true, ltb-false, and_parts}
 use Rattle.std.proofs.lemmas.List.{length-map}
-use Rattle.coap_target.specs.declared.endpoint.Endpoint.{Endpoint}
+use Rattle.coap_endpoint.specs.declared.endpoint.Endpoint.{Endpoint}
 use Rattle.coap_exchange.specs.Exchanges as exchanges
 use Rattle.coap_exchange.specs.Waiters.{is_waiting}
 use Rattle.coap_exchange.specs.Ids.{given_in}

@@ -1,6 +1,6 @@
 -- Runs of any length keep what is carried, and no step changes the setting.
 use Rattle.std.proofs.Common.{◌≡◌, ℕ, Bool, ◌+◌, List, [], ◌∷◌, refl, sym, ◌∙◌, subst, Option, Some, None}
-use Rattle.coap_routes.specs.Routes.{AreRoutes}
+use Rattle.coap_target.specs.Routes.{AreRoutes}
 use Rattle.coap_model.specs.Setting.{Setting}
 use Rattle.coap_model.specs.Events.{Event, IsEvent}
 use Rattle.coap_model.specs.World.{World, Step, repeats}

@@ -7,12 +7,12 @@ use Rattle.std.proofs.lemmas.Option.{same_Some}
 use Rattle.coap_message.specs.Message.{Message}
 use Rattle.coap_message.specs.Spelling.{Spells}
 use Rattle.coap_message.proofs.WholeMessages.{one_message}
-use Rattle.coap_target.specs.declared.endpoint.Endpoint.{Endpoint}
-use Rattle.coap_target.specs.Endpoint.{same_endpoint}
-use Rattle.coap_target.proofs.Equality.{Tells-endpoint}
-use Rattle.coap_target.proofs.Lists.{none-found}
+use Rattle.coap_endpoint.specs.declared.endpoint.Endpoint.{Endpoint}
+use Rattle.coap_endpoint.specs.Endpoint.{same_endpoint}
+use Rattle.coap_endpoint.proofs.Equality.{Tells-endpoint}
+use Rattle.coap_endpoint.proofs.Lists.{none-found}
 use Rattle.coap_forward.specs.Messages.{token_of}
-use Rattle.coap_cache.specs.declared.key.CacheKey.{CacheKey}
+use Rattle.coap_store.specs.declared.key.CacheKey.{CacheKey}
 use Rattle.coap_exchange.specs.declared.exchange.Exchange.{Exchange}
 use Rattle.coap_exchange.specs.declared.exchange.ExchangeState.{ExchangeState}
 use Rattle.coap_exchange.specs.declared.exchange.ExchangeState.TheVariants.{Queued, Sent, Acked, Done}

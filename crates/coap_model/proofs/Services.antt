@@ -3,7 +3,7 @@ use Rattle.std.proofs.Common.{◌≡◌, ◌≢◌, inl, inr, ℕ, Bool, true, f
 use Rattle.std.specs.Prelude.{◌==◌, find, not, option_map, if◌then◌else◌}
 use Rattle.std.specs.List.{AllByRecursion}
 use Rattle.std.proofs.lemmas.Bool.{eqb-true, eqb-false}
-use Rattle.coap_target.proofs.Lists.{All-append, All-weaken}
+use Rattle.coap_endpoint.proofs.Lists.{All-append, All-weaken}
 use Rattle.coap_model.specs.declared.report.Outcome.{Outcome}
 use Rattle.coap_model.specs.declared.report.Outcome.TheVariants.{Joined, Opened, Acked, GaveUp, Delivered}
 use Rattle.coap_model.specs.Setting.{Setting}

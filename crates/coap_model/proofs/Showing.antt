@@ -24,17 +24,17 @@ use Rattle.coap_option.specs.Recognition.{is_recognised}
 use Rattle.coap_option.specs.Screening.{is_refused, first_refused}
 use Rattle.coap_option.specs.Selection.{is_of, max_age_of}
 use Rattle.coap_option.proofs.MaxAges.{length-first_max_age}
-use Rattle.coap_cache.specs.Renewing.{tag_of, of_number, has_number, below, above, updated, with_max_age, safe_options, news_of, is_validated, renewed}
-use Rattle.coap_cache.specs.Showing as showing
-use Rattle.coap_cache.specs.Showing.{is_content, tells_age, among, held_tag, valid, aged, told}
-use Rattle.coap_cache.proofs.Updates.{of_number-updated, AreOptions-updated}
+use Rattle.coap_store.specs.Renewing.{tag_of, of_number, has_number, below, above, updated, with_max_age, safe_options, news_of, is_validated, renewed}
+use Rattle.coap_store.specs.Showing as showing
+use Rattle.coap_store.specs.Showing.{is_content, tells_age, among, held_tag, valid, aged, told}
+use Rattle.coap_store.proofs.Updates.{of_number-updated, AreOptions-updated}
 use Rattle.coap_option.specs.Classes.{is_unsafe}
 use Rattle.std.specs.Int.{w64, to_be_bytes}
 use Rattle.coap_message.specs.declared.kind.Kind.{Kind}
-use Rattle.coap_cache.proofs.Picked.{AreOptions-above, AreOptions-filter, above-all, below-none, last-below}
-use Rattle.coap_cache.proofs.Tags.{first_tag, tag_of-first, tag-short}
-use Rattle.coap_target.specs.Equality.{same_bytes}
-use Rattle.coap_cache.specs.declared.answer.Answer.{Answer}
+use Rattle.coap_store.proofs.Picked.{AreOptions-above, AreOptions-filter, above-all, below-none, last-below}
+use Rattle.coap_store.proofs.Tags.{first_tag, tag_of-first, tag-short}
+use Rattle.coap_endpoint.specs.Equality.{same_bytes}
+use Rattle.coap_store.specs.declared.answer.Answer.{Answer}
 use Rattle.coap_forward.specs.Answers.{is_screened, without_observe, greatest_max_age, widest, fits, validates, taken_of, is_passed_on, bad_gateway, gateway_timeout, own_answer, origin_answer, answer_if_fits, validated, answer_taken, answer_of, left_of, left_told, shown_as}
 use Rattle.coap_forward.specs.Messages.{is_rst}
 use Rattle.coap_model.specs.History.{Matches, in_acknowledgement, separate, by_reset}

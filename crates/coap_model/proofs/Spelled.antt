@@ -13,7 +13,7 @@ use Rattle.coap_message.specs.Spelling.{spelling, IsMessage, Spells}
 use Rattle.coap_message.specs.Reading.{read_message}
 use Rattle.coap_message.proofs.Spellings.{spelling-length}
 use Rattle.coap_message.proofs.WholeMessages.{read_is}
-use Rattle.coap_cache.specs.Renewing.{max_age_option}
+use Rattle.coap_store.specs.Renewing.{max_age_option}
 use Rattle.coap_forward.specs.Messages.{acknowledgement, reset, own_reply, busy_reply}
 use Rattle.coap_model.specs.Step.{message_in}
 

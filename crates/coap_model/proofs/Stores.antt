@@ -1,19 +1,19 @@
 -- A store that has the cache of a history: each way in which an entry moves keeps it, and what is changed is marked.
 use Rattle.std.proofs.Common.{◌≡◌, inr, ℕ, Bool, true, false, cond, List, [], ◌∷◌, Option, Some, None, map, refl, sym, ap, ◌∙◌, subst, arith}
-use Rattle.coap_target.specs.declared.endpoint.Endpoint.{Endpoint}
-use Rattle.coap_target.specs.declared.target.Target.{Target}
-use Rattle.coap_target.specs.Equality.{same_target}
+use Rattle.coap_endpoint.specs.declared.endpoint.Endpoint.{Endpoint}
+use Rattle.coap_endpoint.specs.declared.target.Target.{Target}
+use Rattle.coap_endpoint.specs.Equality.{same_target}
 use Rattle.coap_message.specs.Message.{Message}
 use Rattle.std.specs.Prelude.{Ok, ◌||◌}
 use Rattle.std.specs.Option.{option_map}
 use Rattle.std.proofs.lemmas.Option.{same_Some}
-use Rattle.coap_routes.specs.Request.{request_target}
-use Rattle.coap_cache.specs.declared.key.CacheKey.{CacheKey}
-use Rattle.coap_cache.specs.declared.stored.Stored.{Stored}
-use Rattle.coap_cache.specs.Entries.{Entry, entry_key, entry_size, marked, stored_for, IsStore}
-use Rattle.coap_cache.specs.Lists.{of_key, others, put, used}
-use Rattle.coap_cache.proofs.Distinct.{of_key-key}
-use Rattle.coap_cache.proofs.Held.{IsStore-others, IsStore-used, IsStore-put}
+use Rattle.coap_target.specs.Request.{request_target}
+use Rattle.coap_store.specs.declared.key.CacheKey.{CacheKey}
+use Rattle.coap_store.specs.declared.stored.Stored.{Stored}
+use Rattle.coap_store.specs.Entries.{Entry, entry_key, entry_size, marked, stored_for, IsStore}
+use Rattle.coap_store.specs.Lists.{of_key, others, put, used}
+use Rattle.coap_store.proofs.Distinct.{of_key-key}
+use Rattle.coap_store.proofs.Held.{IsStore-others, IsStore-used, IsStore-put}
 use Rattle.coap_forward.specs.Changes.{changed_by, concerns}
 use Rattle.coap_model.specs.declared.report.Outcome.TheVariants.{Answered, Hit}
 use Rattle.coap_model.specs.declared.report.Storing.TheVariants.{Kept, TooLarge}

@@ -5,7 +5,7 @@ use Rattle.coap_message.specs.declared.kind.Kind.TheVariants.{Con, Non, Ack, Rst
 use Rattle.coap_message.specs.Message.{Message}
 use Rattle.coap_message.specs.Spelling.{Spells}
 use Rattle.coap_message.proofs.Spellings.{spelled}
-use Rattle.coap_target.specs.declared.endpoint.Endpoint.{Endpoint}
+use Rattle.coap_endpoint.specs.declared.endpoint.Endpoint.{Endpoint}
 use Rattle.coap_forward.specs.Messages.{is_con, acknowledgement}
 use Rattle.coap_model.specs.History.{Entry}
 use Rattle.coap_model.specs.Justified.{Tells, IsSilent, TakesUp}

@@ -8,15 +8,15 @@ use Rattle.coap_message.specs.Spelling.{spelling}
 use Rattle.coap_message.proofs.Spellings.{spelling-length}
 use Rattle.coap_option.specs.declared.side.Side.TheVariants.{Request}
 use Rattle.coap_option.specs.Screening.{first_refused}
-use Rattle.coap_target.specs.declared.target.Target.{Target}
-use Rattle.coap_target.specs.Target.{IsTarget}
-use Rattle.coap_cache.specs.declared.key.CacheKey.{CacheKey}
-use Rattle.coap_routes.specs.declared.error.TargetError.{TargetError}
-use Rattle.coap_routes.specs.declared.error.TargetError.TheVariants.{BadUri, NotProxied, NotFound, OutOfMemory}
-use Rattle.coap_routes.specs.declared.routes.Routes.{Routes}
-use Rattle.coap_routes.specs.Request.{request_target}
-use Rattle.coap_routes.specs.Routes.{AreRoutes}
-use Rattle.coap_routes.proofs.Requests.{request_target-is}
+use Rattle.coap_endpoint.specs.declared.target.Target.{Target}
+use Rattle.coap_endpoint.specs.Target.{IsTarget}
+use Rattle.coap_store.specs.declared.key.CacheKey.{CacheKey}
+use Rattle.coap_target.specs.declared.error.TargetError.{TargetError}
+use Rattle.coap_target.specs.declared.error.TargetError.TheVariants.{BadUri, NotProxied, NotFound, OutOfMemory}
+use Rattle.coap_target.specs.declared.routes.Routes.{Routes}
+use Rattle.coap_target.specs.Request.{request_target}
+use Rattle.coap_target.specs.Routes.{AreRoutes}
+use Rattle.coap_target.proofs.Requests.{request_target-is}
 use Rattle.coap_forward.specs.Messages.{eight_zeros, is_method}
 use Rattle.coap_forward.specs.Forms.{forwarded, form_fits}
 use Rattle.coap_model.specs.Keys.{request_key}

@@ -9,12 +9,12 @@ use Rattle.coap_message.specs.declared.kind.Kind.TheVariants.{Con, Non}
 use Rattle.coap_message.specs.declared.message.Head.{Head}
 use Rattle.coap_message.specs.Message.{Message}
 use Rattle.coap_message.specs.Reading.{head_at}
-use Rattle.coap_target.specs.declared.endpoint.Endpoint.{Endpoint}
-use Rattle.coap_routes.specs.Routes.{AreRoutes}
-use Rattle.coap_cache.specs.Entries.{entry_size}
-use Rattle.coap_cache.specs.Lists.{total}
-use Rattle.coap_cache.proofs.Distinct.{of_key-key}
-use Rattle.coap_cache.proofs.Held.{filter-length}
+use Rattle.coap_endpoint.specs.declared.endpoint.Endpoint.{Endpoint}
+use Rattle.coap_target.specs.Routes.{AreRoutes}
+use Rattle.coap_store.specs.Entries.{entry_size}
+use Rattle.coap_store.specs.Lists.{total}
+use Rattle.coap_store.proofs.Distinct.{of_key-key}
+use Rattle.coap_store.proofs.Held.{filter-length}
 use Rattle.coap_dedup.specs.declared.record.Record.{Record}
 use Rattle.coap_dedup.specs.Lists.{is_living, living}
 use Rattle.coap_dedup.proofs.Aging.{length-living}

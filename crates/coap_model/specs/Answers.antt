@@ -2,11 +2,11 @@
 -- (RFC 7252, 5.6 and 5.9.1).
 use Rattle.std.specs.Prelude.{ℕ, ◌&&◌, Bool, false, not, nat_le, if◌then◌else◌, List, [], ◌∷◌, map, Option, Some, None, option_map}
 use Rattle.coap_message.specs.Message.{Message}
-use Rattle.coap_target.specs.declared.endpoint.Endpoint.{Endpoint}
-use Rattle.coap_target.specs.declared.target.Target.{Target}
-use Rattle.coap_cache.specs.Entries.{Entry, entry_key, entry_size, marked}
-use Rattle.coap_cache.specs.Lists.{of_key, others, put}
-use Rattle.coap_cache.specs.declared.answer.Answer.{Answer}
+use Rattle.coap_endpoint.specs.declared.endpoint.Endpoint.{Endpoint}
+use Rattle.coap_endpoint.specs.declared.target.Target.{Target}
+use Rattle.coap_store.specs.Entries.{Entry, entry_key, entry_size, marked}
+use Rattle.coap_store.specs.Lists.{of_key, others, put}
+use Rattle.coap_store.specs.declared.answer.Answer.{Answer}
 use Rattle.coap_exchange.specs.declared.exchange.Exchange.{Exchange}
 use Rattle.coap_exchange.specs.declared.exchange.Sending.{Sending}
 use Rattle.coap_exchange.specs.Exchanges.{answered, tainted_by}

@@ -9,7 +9,7 @@ use Rattle.coap_message.specs.Message.{Message}
 use Rattle.coap_message.specs.Options.{option_of}
 use Rattle.coap_message.specs.Reading.{read_message}
 use Rattle.coap_option.specs.declared.numbers.TheConstants.{MAX_AGE}
-use Rattle.coap_cache.specs.declared.stored.Stored.{Stored}
+use Rattle.coap_store.specs.declared.stored.Stored.{Stored}
 use Rattle.coap_model.specs.declared.report.Outcome.{Outcome}
 use Rattle.coap_model.specs.declared.report.Outcome.TheVariants.{Answered, Hit}
 use Rattle.coap_model.specs.declared.report.Storing.TheVariants.{Kept}

@@ -2,17 +2,17 @@
 -- 7252, 5.6 and 5.9.1). This file names no table.
 use Rattle.std.specs.Prelude.{◌≡◌, ℕ, ◌<◌, Bool, true, false, List, [], ◌∷◌, Option, Some, None, Ok, option_map}
 use Rattle.coap_message.specs.Message.{Message}
-use Rattle.coap_target.specs.declared.endpoint.Endpoint.{Endpoint}
-use Rattle.coap_target.specs.declared.target.Target.{Target}
+use Rattle.coap_endpoint.specs.declared.endpoint.Endpoint.{Endpoint}
+use Rattle.coap_endpoint.specs.declared.target.Target.{Target}
 use Rattle.coap_option.specs.Selection.{max_age_of, tags_of}
-use Rattle.coap_routes.specs.Request.{request_target}
-use Rattle.coap_cache.specs.declared.answer.Answer.{Answer}
-use Rattle.coap_cache.specs.declared.key.CacheKey.{CacheKey}
-use Rattle.coap_cache.specs.Entries as entries
-use Rattle.coap_cache.specs.Entries.{entry_key, entry_size}
-use Rattle.coap_cache.specs.Lists.{of_key, others, put, used}
-use Rattle.coap_cache.specs.Renewing.{tag_of, is_validated, renewed}
-use Rattle.coap_cache.specs.Showing.{tells_age}
+use Rattle.coap_target.specs.Request.{request_target}
+use Rattle.coap_store.specs.declared.answer.Answer.{Answer}
+use Rattle.coap_store.specs.declared.key.CacheKey.{CacheKey}
+use Rattle.coap_store.specs.Entries as entries
+use Rattle.coap_store.specs.Entries.{entry_key, entry_size}
+use Rattle.coap_store.specs.Lists.{of_key, others, put, used}
+use Rattle.coap_store.specs.Renewing.{tag_of, is_validated, renewed}
+use Rattle.coap_store.specs.Showing.{tells_age}
 use Rattle.coap_model.specs.declared.report.Outcome.{Outcome}
 use Rattle.coap_model.specs.declared.report.Outcome.TheVariants.{Ignored, Rejected, Again, NoRecordRoom, Refused, Hit, Joined, Opened, Overloaded, NoId, Answered, Acked, SentRequest, Resent, GaveUp, Delivered, Idle}
 use Rattle.coap_model.specs.declared.report.Storing.{Storing}

@@ -1,7 +1,7 @@
 -- What is due, by the history alone, and what of it first.
 use Rattle.std.specs.Prelude.{◌≡◌, ◌⊎◌, ℕ, ◌+◌, ◌<◌, ◌≤◌, List, Some}
-use Rattle.coap_target.specs.declared.endpoint.Endpoint.{Endpoint}
-use Rattle.coap_cache.specs.declared.key.CacheKey.{CacheKey}
+use Rattle.coap_endpoint.specs.declared.endpoint.Endpoint.{Endpoint}
+use Rattle.coap_store.specs.declared.key.CacheKey.{CacheKey}
 use Rattle.coap_model.specs.Setting.{Setting}
 use Rattle.coap_model.specs.Verdicts.{may_ask, verdict_of}
 use Rattle.coap_model.specs.Standing.{queued, sent, stage_of, outstanding_to, told, service_of}

@@ -2,7 +2,7 @@
 -- answer (RFC 7252, 4.2 and 4.3).
 use Rattle.std.specs.Prelude.{ℕ, Bool, if◌then◌else◌, Option, Some, None}
 use Rattle.coap_message.specs.Message.{Message}
-use Rattle.coap_target.specs.declared.endpoint.Endpoint.{Endpoint}
+use Rattle.coap_endpoint.specs.declared.endpoint.Endpoint.{Endpoint}
 use Rattle.coap_exchange.specs.declared.exchange.Exchange.{Exchange}
 use Rattle.coap_exchange.specs.Exchanges.{acked, is_sent, was_sent_as}
 use Rattle.coap_exchange.specs.Table.{changed_at, first_that, item_at, without}

@@ -1,7 +1,7 @@
 -- What happens to a proxy.
 use Rattle.std.specs.Prelude.{ℕ, List}
 use Rattle.coap_message.specs.Uint.{IsBytes}
-use Rattle.coap_target.specs.declared.endpoint.Endpoint.{Endpoint}
+use Rattle.coap_endpoint.specs.declared.endpoint.Endpoint.{Endpoint}
 
 -- a datagram with its source, or a tick
 pub data Event : Type 0 where

@@ -4,8 +4,8 @@
 use Rattle.std.specs.Prelude.{ℕ, true, List, [], ◌∷◌, Option, Some, option_map}
 use Rattle.std.specs.Result.{result_ok}
 use Rattle.coap_message.specs.Reading.{read_message}
-use Rattle.coap_target.specs.declared.endpoint.Endpoint.{Endpoint}
-use Rattle.coap_target.specs.declared.target.Target.{Target}
+use Rattle.coap_endpoint.specs.declared.endpoint.Endpoint.{Endpoint}
+use Rattle.coap_endpoint.specs.declared.target.Target.{Target}
 use Rattle.coap_model.specs.World.{World}
 use Rattle.coap_model.specs.Keys.{target_sent}
 use Rattle.coap_model.specs.Runs.{Turn}

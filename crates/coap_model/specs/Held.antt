@@ -6,11 +6,11 @@ use Rattle.std.specs.Option.{option_map_or}
 use Rattle.coap_message.specs.Message.{Message}
 use Rattle.coap_message.specs.Pieces.{pieces_spelling}
 use Rattle.coap_message.specs.Spelling.{options_spelling}
-use Rattle.coap_target.specs.declared.target.Target.{Target}
-use Rattle.coap_cache.specs.declared.key.CacheKey.{CacheKey}
-use Rattle.coap_cache.specs.declared.stored.Stored.{Stored}
-use Rattle.coap_cache.specs.Entries.{entry_size}
-use Rattle.coap_cache.specs.Lists.{total}
+use Rattle.coap_endpoint.specs.declared.target.Target.{Target}
+use Rattle.coap_store.specs.declared.key.CacheKey.{CacheKey}
+use Rattle.coap_store.specs.declared.stored.Stored.{Stored}
+use Rattle.coap_store.specs.Entries.{entry_size}
+use Rattle.coap_store.specs.Lists.{total}
 use Rattle.coap_dedup.specs.Lists.{bytes_of}
 use Rattle.coap_exchange.specs.declared.exchange.ExchangeState.{ExchangeState}
 use Rattle.coap_exchange.specs.declared.exchange.ExchangeState.TheVariants.{Queued, Sent, Acked, Done}

@@ -8,12 +8,12 @@ use Rattle.coap_message.specs.declared.message.Head.{Head}
 use Rattle.coap_message.specs.Message.{Message}
 use Rattle.coap_message.specs.Reading.{head_at}
 use Rattle.coap_message.specs.Spelling.{Spells}
-use Rattle.coap_target.specs.declared.endpoint.Endpoint.{Endpoint}
-use Rattle.coap_cache.specs.declared.key.CacheKey.{CacheKey}
-use Rattle.coap_cache.specs.Freshness.{is_fresh}
+use Rattle.coap_endpoint.specs.declared.endpoint.Endpoint.{Endpoint}
+use Rattle.coap_store.specs.declared.key.CacheKey.{CacheKey}
+use Rattle.coap_store.specs.Freshness.{is_fresh}
 use Rattle.coap_dedup.specs.declared.record.Record.{Record}
 use Rattle.coap_dedup.specs.Lists.{record_of}
-use Rattle.coap_cache.specs.Lists.{of_key}
+use Rattle.coap_store.specs.Lists.{of_key}
 use Rattle.coap_option.specs.Selection.{tags_of}
 use Rattle.coap_model.specs.declared.report.Outcome.{Outcome}
 use Rattle.coap_model.specs.declared.report.Outcome.TheVariants.{Ignored, Rejected, Again, NoRecordRoom, Refused, Hit, Joined, Opened, Overloaded, NoId, Answered, Acked, SentRequest, Resent, GaveUp, Delivered, Idle}
@@ -27,7 +27,7 @@ use Rattle.coap_forward.specs.Forms.{forwarded, form_fits, tag_for}
 use Rattle.coap_model.specs.Changed.{key_asked, to_get, Unchanged}
 use Rattle.coap_model.specs.Verdicts.{Verdict, refused_with, may_ask, verdict_of}
 use Rattle.coap_forward.specs.Answers.{own_answer, gateway_timeout, is_storable, stored_answer, shown, shown_as}
-use Rattle.coap_cache.specs.declared.answer.Answer.{Answer}
+use Rattle.coap_store.specs.declared.answer.Answer.{Answer}
 use Rattle.coap_model.specs.Cached.{Cached, cached_key, cached_size, entry_of_cached, kept_for, answer_got, entry_got, IsCacheOf, WasCacheAt}
 use Rattle.coap_model.specs.Standing.{sent, stage_of, told, service_of, HasIds, HasRoomToJoin, HasRoomToOpen}
 use Rattle.coap_model.specs.Schedules.{sends_by, MayGoOn, SaysAsBefore}

@@ -3,11 +3,11 @@ use Rattle.std.specs.Prelude.{ℕ, ◌==◌, ◌||◌, Bool, not, filter}
 use Rattle.coap_message.specs.Message.{Message}
 use Rattle.coap_option.specs.declared.numbers.TheConstants.{URI_HOST, URI_PATH, URI_QUERY}
 use Rattle.coap_option.specs.Selection.{key_of}
-use Rattle.coap_target.specs.declared.endpoint.Endpoint.{Endpoint}
-use Rattle.coap_target.specs.declared.target.Target.{Target}
-use Rattle.coap_routes.specs.Request.{first_value}
-use Rattle.coap_routes.specs.Routes.{values_of}
-use Rattle.coap_cache.specs.declared.key.CacheKey.{CacheKey}
+use Rattle.coap_endpoint.specs.declared.endpoint.Endpoint.{Endpoint}
+use Rattle.coap_endpoint.specs.declared.target.Target.{Target}
+use Rattle.coap_target.specs.Request.{first_value}
+use Rattle.coap_target.specs.Routes.{values_of}
+use Rattle.coap_store.specs.declared.key.CacheKey.{CacheKey}
 
 -- of a request for a target: with the options that are part of the key
 abbrev pub request_key : Target → Message → CacheKey

@@ -9,12 +9,12 @@ use Rattle.coap_message.specs.declared.options.Opt.{Opt}
 use Rattle.coap_message.specs.Message.{Message, message_of}
 use Rattle.coap_message.specs.Options.{option_of}
 use Rattle.coap_message.specs.Reading.{read_message}
-use Rattle.coap_target.specs.declared.endpoint.Endpoint.{Endpoint}
-use Rattle.coap_target.specs.declared.endpoint.Ip.TheVariants.{V4}
-use Rattle.coap_routes.specs.declared.routes.Routes.{Routes}
+use Rattle.coap_endpoint.specs.declared.endpoint.Endpoint.{Endpoint}
+use Rattle.coap_endpoint.specs.declared.endpoint.Ip.TheVariants.{V4}
+use Rattle.coap_target.specs.declared.routes.Routes.{Routes}
 use Rattle.coap_uri.specs.declared.uri.HostPart.TheVariants.{Name}
-use Rattle.coap_routes.specs.Routes.{fixed_map}
-use Rattle.coap_cache.specs.declared.key.CacheKey.{CacheKey}
+use Rattle.coap_target.specs.Routes.{fixed_map}
+use Rattle.coap_store.specs.declared.key.CacheKey.{CacheKey}
 use Rattle.coap_model.specs.declared.report.Outcome.TheVariants.{Refused, Opened, SentRequest}
 use Rattle.coap_limits.specs.Limits.{default_limits}
 use Rattle.coap_model.specs.Keys.{key_sent}

@@ -5,13 +5,13 @@ use Rattle.coap_message.specs.declared.code.TheConstants.Code.{REQUEST_ENTITY_TO
 use Rattle.coap_message.specs.Message.{Message}
 use Rattle.coap_message.specs.Spelling.{spelling}
 use Rattle.coap_option.specs.Selection.{tags_of}
-use Rattle.coap_target.specs.declared.endpoint.Endpoint.{Endpoint}
-use Rattle.coap_target.specs.declared.target.Target.{Target}
-use Rattle.coap_cache.specs.declared.key.CacheKey.{CacheKey}
-use Rattle.coap_cache.specs.declared.stored.Stored.{Stored}
-use Rattle.coap_cache.specs.Entries.{Entry, entry_key}
-use Rattle.coap_cache.specs.Freshness.{is_usable}
-use Rattle.coap_cache.specs.Lists.{of_key, used}
+use Rattle.coap_endpoint.specs.declared.endpoint.Endpoint.{Endpoint}
+use Rattle.coap_endpoint.specs.declared.target.Target.{Target}
+use Rattle.coap_store.specs.declared.key.CacheKey.{CacheKey}
+use Rattle.coap_store.specs.declared.stored.Stored.{Stored}
+use Rattle.coap_store.specs.Entries.{Entry, entry_key}
+use Rattle.coap_store.specs.Freshness.{is_usable}
+use Rattle.coap_store.specs.Lists.{of_key, used}
 use Rattle.coap_dedup.specs.declared.record.Record.{Record}
 use Rattle.coap_forward.specs.Answers.{shown, stored_answer}
 use Rattle.coap_exchange.specs.declared.exchange.ExchangeState.TheVariants.{Queued}

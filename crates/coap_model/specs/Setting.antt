@@ -1,6 +1,6 @@
 -- What a proxy is made with, which no step changes (`laws::settings_stay`).
 use Rattle.std.specs.Prelude.{ℕ}
-use Rattle.coap_routes.specs.declared.routes.Routes.{Routes}
+use Rattle.coap_target.specs.declared.routes.Routes.{Routes}
 use Rattle.coap_limits.specs.Limits.{Limits}
 
 pub record Setting : Type 0 where

@@ -1,6 +1,6 @@
 -- The step of a tick: what is due is done, one thing at a time (RFC 7252, 4.2 and 4.7).
 use Rattle.std.specs.Prelude.{ℕ, ◌==◌, Bool, nat_le, if◌then◌else◌, List, Option, Some, None, option_map}
-use Rattle.coap_cache.specs.declared.answer.Answer.{Answer}
+use Rattle.coap_store.specs.declared.answer.Answer.{Answer}
 use Rattle.coap_exchange.specs.declared.exchange.ExchangeState.{ExchangeState}
 use Rattle.coap_exchange.specs.declared.exchange.ExchangeState.TheVariants.{Queued, Sent, Acked, Done}
 use Rattle.coap_exchange.specs.declared.exchange.Exchange.{Exchange}

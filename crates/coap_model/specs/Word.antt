@@ -3,11 +3,11 @@
 use Rattle.std.specs.Prelude.{◌≡◌, ℕ, ◌≤◌, List, ◌∷◌, length}
 use Rattle.coap_message.specs.Message.{Message}
 use Rattle.coap_message.specs.declared.kind.Kind.TheVariants.{Con, Non}
-use Rattle.coap_target.specs.declared.endpoint.Endpoint.{Endpoint}
+use Rattle.coap_endpoint.specs.declared.endpoint.Endpoint.{Endpoint}
 use Rattle.coap_option.specs.Selection.{tags_of}
-use Rattle.coap_cache.specs.declared.key.CacheKey.{CacheKey}
-use Rattle.coap_cache.specs.Entries.{entry_size}
-use Rattle.coap_cache.specs.Lists.{total}
+use Rattle.coap_store.specs.declared.key.CacheKey.{CacheKey}
+use Rattle.coap_store.specs.Entries.{entry_size}
+use Rattle.coap_store.specs.Lists.{total}
 use Rattle.coap_forward.specs.Messages.{at_once, told_again}
 use Rattle.coap_forward.specs.Answers.{shown, stored_answer}
 use Rattle.coap_model.specs.declared.report.Outcome.TheVariants.{Again, Hit}

@@ -3,13 +3,13 @@ use Rattle.std.specs.Prelude.{ℕ, ◌+◌, ◌%◌, ◌&&◌, ◌||◌, Bool, n
 use Rattle.coap_message.specs.Message.{Message}
 use Rattle.coap_message.specs.Spelling.{spelling}
 use Rattle.coap_message.specs.declared.kind.Kind.{Kind}
-use Rattle.coap_target.specs.declared.endpoint.Endpoint.{Endpoint}
+use Rattle.coap_endpoint.specs.declared.endpoint.Endpoint.{Endpoint}
 use Rattle.coap_dedup.specs.declared.record.TheConstants.{EXCHANGE_LIFETIME, NON_LIFETIME}
 use Rattle.coap_dedup.specs.declared.record.Record.{Record}
 use Rattle.coap_dedup.specs.Lists.{record_of}
 use Rattle.coap_dedup.specs.Records.{Records, living_at, no_records, with_kept}
-use Rattle.coap_cache.specs.Entries.{Entry, entry_size}
-use Rattle.coap_cache.specs.Lists.{total}
+use Rattle.coap_store.specs.Entries.{Entry, entry_size}
+use Rattle.coap_store.specs.Lists.{total}
 use Rattle.coap_exchange.specs.declared.exchange.Exchange.{Exchange}
 use Rattle.coap_exchange.specs.declared.waiter.Waiter.{Waiter}
 use Rattle.coap_exchange.specs.declared.ids.Ids.{Ids}

@@ -16,7 +16,7 @@ ghost use Rattle.coap_model.specs.Events.{tick};
 ghost use Rattle.coap_model.specs.World.{counts};
 ghost use Rattle.coap_message.specs.declared.code.TheConstants.Code.{BAD_REQUEST, NOT_FOUND};
 ghost use Rattle.coap_message.specs.Uint.{uint_spelling};
-ghost use Rattle.coap_routes.specs.declared.error.TargetError.TheVariants.{OutOfMemory};
+ghost use Rattle.coap_target.specs.declared.error.TargetError.TheVariants.{OutOfMemory};
 ghost use Rattle.coap_model.specs.Memory.{takes_memory};
 ghost use Rattle.coap_model.specs.Ticks.{next_due};
 ghost use Rattle.coap_model.specs.History.{comes_con, moves, serves, is_con_datagram};

@@ -1,6 +1,6 @@
 //! What a step answers.
+use coap_endpoint::Endpoint;
 use coap_message::Code;
-use coap_target::Endpoint;
 
 /// What was done with an answer towards the cache.
 #[derive(Clone, Copy, Debug, PartialEq, Eq)]

@@ -6,7 +6,7 @@ use Rattle.coap_model.specs.History.{Entry}
 use Rattle.coap_model.specs.Runs.{Run, Turn, one_turn, step_taken}
 use Rattle.coap_model.specs.Ticks.{next_due}
 use Rattle.coap_model.specs.World.{World}
-use Rattle.coap_target.specs.declared.endpoint.Endpoint.{Endpoint}
+use Rattle.coap_endpoint.specs.declared.endpoint.Endpoint.{Endpoint}
 use Rattle.std.specs.Prelude.{is_some}
 use Rattle.coap_port.specs.Driven.{taken_of, takes_some, DidTurn, DoesTurn, Given, IsDriven, came_last, last_moment, run_at, run_by, run_given, sent_at, stats_of, wait_for, world_by}
 use Rattle.coap_port.specs.Stats.{no_stats, with_turn}

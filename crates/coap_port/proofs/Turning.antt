@@ -11,7 +11,7 @@ use Rattle.coap_model.specs.Step.{step_of}
 use Rattle.coap_model.specs.Ticks.{next_due}
 use Rattle.coap_model.specs.World.{Step, World}
 use Rattle.coap_model.specs.declared.report.Report.{Report}
-use Rattle.coap_target.specs.declared.endpoint.Endpoint.{Endpoint}
+use Rattle.coap_endpoint.specs.declared.endpoint.Endpoint.{Endpoint}
 use Rattle.coap_port.specs.Driven.{DidTurn, HandsOver, datagram_of, is_arrival, wait_for}
 use Rattle.coap_port.specs.Given.{event_given}
 use Rattle.coap_port.specs.Stats.{with_turn}

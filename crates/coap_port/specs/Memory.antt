@@ -2,7 +2,7 @@
 use Rattle.std.specs.Prelude.{◌≡◌, ◌⊎◌, ◌==◌, ◌^◌, ℕ, min, max, take, Bool, true, false, List, [], ◌∷◌, ◌++◌, Option, Some, None}
 use Rattle.coap_model.specs.Events.{Event, arrival, tick}
 use Rattle.coap_model.specs.Runs.{Turn}
-use Rattle.coap_target.specs.declared.endpoint.Endpoint.{Endpoint}
+use Rattle.coap_endpoint.specs.declared.endpoint.Endpoint.{Endpoint}
 use Rattle.coap_port.specs.declared.memory.Handed.{Handed}
 use Rattle.coap_port.specs.declared.memory.Scripted.{Scripted}
 

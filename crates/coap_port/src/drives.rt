@@ -6,9 +6,9 @@ use crate::error::{DriveError, PortFault};
 use crate::port::Port;
 use crate::stats::Stats;
 use crate::turns::do_turn;
-use coap_cache::Store;
 use coap_core::Core;
 use coap_message::Datagram;
+use coap_store::Store;
 use std::alloc::Global;
 
 /// Drives a core over a port for so many turns: each that the port gives is done, and what is sent

@@ -5,8 +5,8 @@ ghost use Rattle.coap_port.specs.Memory as spec;
 
 use crate::error::PortFault;
 use crate::port::{Port, Turn};
+use coap_endpoint::Endpoint;
 use coap_message::{Datagram, OutOfMemory, Seq};
-use coap_target::Endpoint;
 use std::alloc::Global;
 use std::collections::VecDeque;
 use std::marker::Model;

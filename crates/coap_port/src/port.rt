@@ -1,7 +1,7 @@
 //! Ports.
 use crate::error::PortFault;
+use coap_endpoint::Endpoint;
 use coap_message::Datagram;
-use coap_target::Endpoint;
 
 /// What a port gives: a moment, a draw, and where the datagram came from that it put into the
 /// buffer; none for a tick.
@@ -20,7 +20,7 @@ pub struct Turn {
 pub trait Port {
     ghost use Rattle.std.specs.Prelude.{◌≡◌, ◌≤◌, ◌<◌, ◌+◌, ◌^◌, ℕ, List, Bool, None, IfOk, OnOk, OnErr};
     ghost use Rattle.coap_model.specs.Runs.{Turn};
-    ghost use Rattle.coap_target.specs.declared.endpoint.Endpoint.{Endpoint};
+    ghost use Rattle.coap_endpoint.specs.declared.endpoint.Endpoint.{Endpoint};
     ghost use Rattle.coap_port.specs.Given.{IsOnward, given_by};
 
     ghost clock: { Self → ℕ };

@@ -10,10 +10,10 @@ ghost use Rattle.coap_port.specs.Stats.{AreWithin, with_turn};
 use crate::error::PortFault;
 use crate::port::Port;
 use crate::stats::Stats;
-use coap_cache::Store;
 use coap_core::{Core, Event};
+use coap_endpoint::Endpoint;
 use coap_message::{Datagram, OutOfMemory};
-use coap_target::Endpoint;
+use coap_store::Store;
 
 /// The longest wait, in milliseconds.
 const LONGEST_WAIT: u64 = 1000;

@@ -3,3 +3,13 @@ pub mod Words
 pub mod Planning
 pub mod Serving
 pub mod Examples
+pub use Rattle.coap_port.specs.Given
+pub use Rattle.coap_port.specs.Stats
+pub use Rattle.coap_port.specs.Driven
+pub use Rattle.coap_port.specs.Memory
+pub use Rattle.coap_replay.specs.Replays
+pub use Rattle.coap_words.specs.MapOption
+pub use Rattle.coap_words.specs.ProxyOption
+pub use Rattle.coap_words.specs.Config
+pub use Rattle.coap_words.specs.ConfigView
+pub use Rattle.coap_words.specs.Settings

@@ -3,9 +3,9 @@ use Rattle.std.specs.Prelude.{ℕ, List, [], ◌∷◌, ◌++◌, Option, Some, 
 use Rattle.std.specs.Option.{unwrap_or}
 use Rattle.coap_limits.specs.Limits.{default_limits}
 use Rattle.coap_model.specs.Setting as model
-use Rattle.coap_routes.specs.RouteLists.{RouteLists}
-use Rattle.coap_routes.specs.RouteTexts.{Pair, routes_of}
-use Rattle.coap_routes.specs.declared.error.RouteError.{RouteError}
+use Rattle.coap_target.specs.RouteLists.{RouteLists}
+use Rattle.coap_target.specs.RouteTexts.{Pair, routes_of}
+use Rattle.coap_target.specs.declared.error.RouteError.{RouteError}
 use Rattle.coap_words.specs.Config.{Said, config_of}
 use Rattle.coap_words.specs.MapOption.{map_option_of}
 use Rattle.coap_words.specs.Texts.{Text}

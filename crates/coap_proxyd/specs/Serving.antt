@@ -7,7 +7,7 @@ use Rattle.coap_model.specs.World.{World}
 use Rattle.coap_port.specs.Driven as port
 use Rattle.coap_port.specs.declared.error.DriveError.{DriveError}
 use Rattle.coap_port.specs.declared.stats.Stats.{Stats}
-use Rattle.coap_target.specs.declared.endpoint.Endpoint.{Endpoint}
+use Rattle.coap_endpoint.specs.declared.endpoint.Endpoint.{Endpoint}
 use Rattle.coap_replay.specs.declared.error.ReplayError.{ReplayError}
 use Rattle.coap_proxyd.specs.declared.fault.Fault.{Fault}
 use Rattle.coap_proxyd.specs.declared.fault.Fault.TheVariants.{OutOfMemory}

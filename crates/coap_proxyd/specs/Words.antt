@@ -1,8 +1,8 @@
 -- What the words of the program ask for, before a configuration is read.
 use Rattle.std.specs.Prelude.{◌≡◌, ◌⊎◌, ℕ, List, [], ◌∷◌, Option, Some, None, option_map, Result, Ok, Err, string_bytes}
-use Rattle.coap_target.specs.declared.endpoint.Endpoint.{Endpoint}
-use Rattle.coap_target.specs.declared.endpoint.Ip.{Ip}
-use Rattle.coap_target.specs.declared.endpoint.Ip.TheVariants.{V4}
+use Rattle.coap_endpoint.specs.declared.endpoint.Endpoint.{Endpoint}
+use Rattle.coap_endpoint.specs.declared.endpoint.Ip.{Ip}
+use Rattle.coap_endpoint.specs.declared.endpoint.Ip.TheVariants.{V4}
 use Rattle.coap_uri.specs.Answer.{Says}
 use Rattle.coap_words.specs.LocalAddress.{local_address_of}
 use Rattle.coap_words.specs.ProxyOption as proxy

@@ -1,6 +1,6 @@
 //! Examples, computed on the definitions.
 ghost use Rattle.std.specs.Prelude.{◌≡◌, ◌∷◌, [], None, Some, Ok, codes};
-ghost use Rattle.coap_target.specs.declared.endpoint.Ip.TheVariants.{V4};
+ghost use Rattle.coap_endpoint.specs.declared.endpoint.Ip.TheVariants.{V4};
 ghost use Rattle.coap_proxyd.specs.Examples.{named, no_settings};
 ghost use Rattle.coap_proxyd.specs.Faults.{fault_text, status_of};
 ghost use Rattle.coap_proxyd.specs.Planning.{with_names};

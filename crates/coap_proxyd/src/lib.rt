@@ -8,6 +8,14 @@ mod planning;
 mod serving;
 mod words;
 
+pub use coap_port::{
+    DriveError, Handed, MemoryPort, Port, PortFault, Scripted, Stats, Turn, drive,
+};
+pub use coap_replay::{ReplayError, replay};
+pub use coap_words::{
+    Config, ConfigError, KeyName, MapOptionError, ProxyOption, ProxyOptionError, Settings,
+    WordsError, parse_map_option, parse_proxy_option, read_config, read_words,
+};
 pub use fault::Fault;
 pub use planning::{Plan, read_plan};
 pub use serving::{serve_events, serve_port};

@@ -1,7 +1,7 @@
 //! What the program is to do, by its words and its configuration.
 ghost use Rattle.std.specs.Prelude.{◌≡◌, IfOk, Ok, option_map, string_bytes};
 ghost use Rattle.coap_model.specs.World.{new_world};
-ghost use Rattle.coap_routes.specs.RouteTexts.{pair_of};
+ghost use Rattle.coap_target.specs.RouteTexts.{pair_of};
 ghost use Rattle.coap_uri.specs.Answer.{Says};
 ghost use Rattle.coap_words.specs.ConfigView as view;
 ghost use Rattle.coap_words.specs.ProxyOption.{bytes_of};
@@ -11,11 +11,11 @@ ghost use Rattle.coap_proxyd.specs.declared.fault.Fault.TheVariants as faults;
 
 use crate::fault::Fault;
 use crate::words::Wanted;
-use coap_cache::Store;
 use coap_core::{Core, LimitValues, Limits};
+use coap_endpoint::Endpoint;
 use coap_message::OutOfMemory;
-use coap_routes::{RouteError, Routes};
-use coap_target::Endpoint;
+use coap_store::Store;
+use coap_target::{RouteError, Routes};
 use coap_words::{Config, parse_map_option, read_config};
 use std::alloc::Global;
 

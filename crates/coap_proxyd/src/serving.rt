@@ -6,10 +6,10 @@ ghost use Rattle.coap_proxyd.specs.Serving as spec;
 
 use crate::fault::Fault;
 use crate::planning::{Plan, core_of};
-use coap_cache::Store;
 use coap_core::Core;
 use coap_port::{DriveError, Port, Stats, drive};
 use coap_replay::{ReplayError, replay};
+use coap_store::Store;
 use std::alloc::Global;
 use std::io::{BufReader, Read, Write};
 

@@ -6,13 +6,13 @@ ghost use Rattle.coap_lines.specs.Room.{longest_line};
 ghost use Rattle.coap_lines.specs.Turns.{turn_seen, event_seen};
 
 use crate::error::ReplayError;
-use coap_cache::Store;
 use coap_core::{Core, Event, Report};
 use coap_lines::{
     LONGEST, LineError, Next, OwnedEvent, Turn, is_skipped, line_buffer, next_line, put_line,
     read_turn, write_bytes,
 };
 use coap_message::Datagram;
+use coap_store::Store;
 use std::alloc::Global;
 use std::io::{BufRead, Write};
 

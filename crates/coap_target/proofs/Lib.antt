@@ -1,3 +1,8 @@
-pub mod Equality
-pub mod Lists
-pub mod Orders
+pub mod Dropping
+pub mod Gathering
+pub mod MapSearch
+pub mod Origins
+pub mod Requests
+pub mod Screened
+pub mod Targets
+pub mod Winners

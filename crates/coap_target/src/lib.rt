@@ -1,10 +1,25 @@
-//! Endpoints, and targets: the resources of origins that requests are for (RFC 7252, 1.2 and
-//! 5.7.2).
+//! Where requests go: routes, and the targets of requests (RFC 7252, 5.7).
+//!
+//! Endpoints and targets themselves are `coap_endpoint`'s, reading URIs is `coap_uri`'s; both are
+//! offered here too.
 #![tactic(auto)]
 
-mod endpoint;
+mod error;
 pub mod laws;
-mod target;
+mod map;
+mod mapped;
+mod options;
+mod request;
+mod route_texts;
+mod routes;
+mod segment;
 
-pub use endpoint::{Endpoint, Ip};
-pub use target::Target;
+pub use coap_endpoint::{Endpoint, Ip, Target};
+pub use coap_uri::{HostPart, UriError, UriParts, read_ip, read_ipv4, split_uri};
+pub use error::{RouteError, TargetError};
+pub use map::{KnownHost, Map};
+pub use mapped::MappedTarget;
+pub use options::Values;
+pub use route_texts::is_name;
+pub use routes::Routes;
+pub use segment::Segments;

@@ -3,8 +3,8 @@ use Rattle.std.specs.Prelude.{◌≡◌, ℕ, Bool, true, false, List, ◌∷◌
 use Rattle.std.specs.declared.net.ip_addr.IpAddr.{IpAddr}
 use Rattle.std.specs.declared.net.ip_addr.IpAddr.TheVariants as ip
 use Rattle.std.specs.Net.Addr.{IsIpv4Mapped, ipv4_octets, ipv6_octets, ipv6_segments, low_octets, segments_of}
-use Rattle.coap_target.specs.declared.endpoint.Ip.{Ip}
-use Rattle.coap_target.specs.declared.endpoint.Ip.TheVariants.{V4, V6}
+use Rattle.coap_endpoint.specs.declared.endpoint.Ip.{Ip}
+use Rattle.coap_endpoint.specs.declared.endpoint.Ip.TheVariants.{V4, V6}
 
 -- An IPv4 address is itself; so is an IPv6 address, but for those of ::ffff:0:0/96, whose last four
 -- octets are an IPv4 address.

@@ -2,7 +2,7 @@
 use Rattle.std.specs.Prelude.{◌≡◌, ◌≤◌, ◌^◌, ℕ, List, Bool}
 use Rattle.coap_model.specs.Events.{tick}
 use Rattle.coap_model.specs.Runs.{Turn}
-use Rattle.coap_target.specs.declared.endpoint.Endpoint.{Endpoint}
+use Rattle.coap_endpoint.specs.declared.endpoint.Endpoint.{Endpoint}
 
 -- its last moment, and how often it failed
 pub record Udp : Type 0 where

@@ -4,7 +4,7 @@ ghost use Rattle.std.specs.Net.Addr.{ipv4_octets};
 ghost use Rattle.std.specs.Net.Socket.{socket_ip, socket_port};
 ghost use Rattle.coap_udp.specs.Addresses.{IsAddress, IsByFamily, IsEndpoint};
 
-use coap_target::{Endpoint, Ip};
+use coap_endpoint::{Endpoint, Ip};
 use std::net::{IpAddr, Ipv4Addr, Ipv6Addr, SocketAddr};
 
 /// The endpoint of a socket's address. An IPv4 address in the form that an IPv6 socket gives it,

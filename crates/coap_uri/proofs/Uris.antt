@@ -1,8 +1,8 @@
 -- What compares as equal of hosts and URIs, part by part, is equal.
 use Rattle.std.proofs.Common.{◌≡◌, ◌==◌, true, ap, refl, eq-eqb}
 use Rattle.std.proofs.lemmas.Bool.{eqb-true}
-use Rattle.coap_target.specs.Equality.{same_parts}
-use Rattle.coap_target.proofs.Equality.{Tells, Tells-bytes, Tells-parts, Tells-ip, four, of_four}
+use Rattle.coap_endpoint.specs.Equality.{same_parts}
+use Rattle.coap_endpoint.proofs.Equality.{Tells, Tells-bytes, Tells-parts, Tells-ip, four, of_four}
 use Rattle.coap_uri.specs.declared.uri.HostPart.{HostPart}
 use Rattle.coap_uri.specs.declared.uri.HostPart.TheVariants.{Name, Addr}
 use Rattle.coap_uri.specs.declared.uri.UriParts.{UriParts}

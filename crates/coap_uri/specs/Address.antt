@@ -10,8 +10,8 @@ use Rattle.url.specs.declared.host.Host.TheVariants.{Domain, Ipv4, Ipv6}
 use Rattle.url.specs.Ascii.{colon, dot, left_bracket, right_bracket}
 use Rattle.url.specs.Parser.{parse_url}
 use Rattle.url.specs.Parts.{Parts, nonempty_host}
-use Rattle.coap_target.specs.declared.endpoint.Ip.{Ip}
-use Rattle.coap_target.specs.declared.endpoint.Ip.TheVariants.{V4, V6}
+use Rattle.coap_endpoint.specs.declared.endpoint.Ip.{Ip}
+use Rattle.coap_endpoint.specs.declared.endpoint.Ip.TheVariants.{V4, V6}
 
 -- the four bytes of an IPv4 address in dotted-decimal form, each written in one way (RFC 3986,
 -- 3.2.2)

@@ -10,8 +10,8 @@ use Rattle.url.specs.declared.host.Host.TheVariants.{Domain, Ipv4, Ipv6}
 use Rattle.url.specs.Ascii.{slash}
 use Rattle.url.specs.Parser.{parse_url}
 use Rattle.url.specs.Parts.{Parts, nonempty_host, has_credentials}
-use Rattle.coap_target.specs.declared.endpoint.Ip.{Ip}
-use Rattle.coap_target.specs.declared.endpoint.Ip.TheVariants.{V4, V6}
+use Rattle.coap_endpoint.specs.declared.endpoint.Ip.{Ip}
+use Rattle.coap_endpoint.specs.declared.endpoint.Ip.TheVariants.{V4, V6}
 use Rattle.coap_uri.specs.declared.uri.HostPart.{HostPart}
 use Rattle.coap_uri.specs.declared.uri.HostPart.TheVariants.{Name, Addr}
 use Rattle.coap_uri.specs.declared.uri.UriParts.{UriParts}

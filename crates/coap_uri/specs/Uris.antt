@@ -1,8 +1,8 @@
 -- When hosts and URIs are the same, part by part.
 use Rattle.std.specs.Prelude.{Bool, false, nat_eq, ◌&&◌, ◌==◌}
 use Rattle.std.specs.Cmp.Lexicographic.{pointwise}
-use Rattle.coap_target.specs.Endpoint.{same_ip}
-use Rattle.coap_target.specs.Equality.{same_parts}
+use Rattle.coap_endpoint.specs.Endpoint.{same_ip}
+use Rattle.coap_endpoint.specs.Equality.{same_parts}
 use Rattle.coap_uri.specs.declared.uri.HostPart.{HostPart}
 use Rattle.coap_uri.specs.declared.uri.HostPart.TheVariants.{Name, Addr}
 use Rattle.coap_uri.specs.declared.uri.UriParts.{UriParts}

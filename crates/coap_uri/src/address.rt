@@ -6,14 +6,14 @@ ghost use Rattle.url.specs.Host.{borrowed_host};
 ghost use Rattle.url.specs.Parser.{parse_url};
 ghost use Rattle.coap_uri.specs.Address.{ipv4_of, is_address_byte, inner_of, ipv6_host, ipv6_read, ipv6_between, bracketed_uri, ip_of};
 ghost use Rattle.coap_uri.specs.Answer.{Answers};
-ghost use Rattle.coap_target.specs.declared.endpoint.Ip.TheVariants.{V4, V6};
+ghost use Rattle.coap_endpoint.specs.declared.endpoint.Ip.TheVariants.{V4, V6};
 ghost use Rattle.coap_uri.specs.Uri.{host_of, url_or_bad};
 ghost use Rattle.coap_uri.specs.declared.error.UriError.TheVariants as errors;
 
 use crate::error::UriError;
 use crate::uri::HostPart;
+use coap_endpoint::Ip;
 use coap_message::{OutOfMemory, Seq};
-use coap_target::Ip;
 use std::alloc::Global;
 use std::net::Ipv4Addr;
 use url::{Host, ParseError, Url};

@@ -13,8 +13,8 @@ ghost use Rattle.coap_uri.specs.declared.error.UriError.TheVariants as errors;
 use crate::address::{read_ipv4, read_url};
 use crate::error::UriError;
 use crate::parts::{LONGEST, all_short, decoded, split_decoded};
+use coap_endpoint::Ip;
 use coap_message::{OutOfMemory, Pieces, Seq};
-use coap_target::Ip;
 use std::alloc::Global;
 use url::{Host, Url};
 

@@ -7,9 +7,9 @@ use Rattle.toml.specs.Parse.{parse_document}
 use Rattle.coap_limits.specs.declared.limits.Limit.{Limit}
 use Rattle.coap_limits.specs.declared.limits.Limit.TheVariants.{CacheBytes, CacheEntries, ConRecords, NonRecords, Exchanges, Waiters, Nstart, Datagram, ExchangeMs, RetryS}
 use Rattle.coap_limits.specs.Limits.{Limits, default_limits, first_fault, value_of}
-use Rattle.coap_routes.specs.RouteLists.{RouteLists}
-use Rattle.coap_routes.specs.RouteTexts.{Pair, routes_of}
-use Rattle.coap_routes.specs.declared.error.RouteError.{RouteError}
+use Rattle.coap_target.specs.RouteLists.{RouteLists}
+use Rattle.coap_target.specs.RouteTexts.{Pair, routes_of}
+use Rattle.coap_target.specs.declared.error.RouteError.{RouteError}
 use Rattle.coap_words.specs.Texts.{Text, lower}
 use Rattle.coap_words.specs.Tree.{after, each_item, each_member, first_key}
 use Rattle.coap_words.specs.declared.config_error.ConfigError.{ConfigError}

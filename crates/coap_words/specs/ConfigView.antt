@@ -1,6 +1,6 @@
 -- A configuration and its faults, as they are seen.
 use Rattle.std.specs.Prelude.{List, map, codes, ◌++◌, Vec, String}
-use Rattle.coap_routes.specs.RouteTexts.{Pair, pair_of}
+use Rattle.coap_target.specs.RouteTexts.{Pair, pair_of}
 use Rattle.coap_words.specs.Config.{Said}
 use Rattle.coap_words.specs.ProxyOption.{bytes_of}
 use Rattle.coap_words.specs.Texts.{Text}

@@ -1,7 +1,7 @@
 -- The value of `-A`.
 use Rattle.std.specs.Prelude.{◌++◌, codes, Option}
 use Rattle.std.specs.Option.{option_or}
-use Rattle.coap_target.specs.declared.endpoint.Ip.{Ip}
+use Rattle.coap_endpoint.specs.declared.endpoint.Ip.{Ip}
 use Rattle.coap_uri.specs.Address.{ip_of}
 use Rattle.coap_words.specs.Texts.{Text}
 

@@ -1,6 +1,6 @@
 -- The value of `--map`.
 use Rattle.std.specs.Prelude.{Result, ok_or}
-use Rattle.coap_routes.specs.RouteTexts.{Pair}
+use Rattle.coap_target.specs.RouteTexts.{Pair}
 use Rattle.coap_words.specs.Texts.{Text, cut_at}
 use Rattle.coap_words.specs.declared.error.MapOptionError.{MapOptionError}
 use Rattle.coap_words.specs.declared.error.MapOptionError.TheVariants.{NoEquals}

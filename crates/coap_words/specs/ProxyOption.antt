@@ -2,8 +2,8 @@
 use Rattle.std.specs.Prelude.{ℕ, ◌==◌, nat_le, List, [], ◌∷◌, length, map, Option, Some, None, Result, Ok, Err, String, Vec, string_bytes, if◌then◌else◌}
 use Rattle.std.specs.List.{slice_split}
 use Rattle.std.specs.Prelude.{option_and_then}
-use Rattle.coap_routes.specs.RouteTexts.{all_of, is_name}
-use Rattle.coap_target.specs.declared.endpoint.Endpoint.{Endpoint}
+use Rattle.coap_target.specs.RouteTexts.{all_of, is_name}
+use Rattle.coap_endpoint.specs.declared.endpoint.Endpoint.{Endpoint}
 use Rattle.coap_words.specs.Texts.{Text, cut_at, lower}
 use Rattle.coap_words.specs.declared.error.ProxyOptionError.{ProxyOptionError}
 use Rattle.coap_words.specs.declared.error.ProxyOptionError.TheVariants.{NoComma, NextProxy, BadName}

@@ -4,8 +4,8 @@ ghost use Rattle.coap_uri.specs.Answer.{Answers};
 ghost use Rattle.coap_uri.specs.declared.error.UriError.TheVariants as errors;
 ghost use Rattle.coap_words.specs.LocalAddress.{local_address_of};
 
-use coap_routes::{UriError, read_ip};
-use coap_target::Ip;
+use coap_endpoint::Ip;
+use coap_target::{UriError, read_ip};
 use std::alloc::Global;
 
 /// The address that a text is: IPv4 in dotted-decimal form, each number written in one way, or

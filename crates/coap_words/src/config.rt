@@ -13,7 +13,7 @@ use crate::limit_table::read_limits;
 use crate::lists::{read_hosts, read_maps, read_names};
 use crate::tables::{Place, bad_value, check_keys, member};
 use coap_limits::Limits;
-use coap_routes::{RouteError, Routes};
+use coap_target::{RouteError, Routes};
 use std::alloc::Global;
 use toml::{Table, Value};
 

@@ -4,7 +4,7 @@ ghost use Rattle.coap_words.specs.ConfigView.{fault_text};
 ghost use Rattle.coap_words.specs.declared.config_error.ConfigError.TheVariants as errors;
 
 use coap_message::OutOfMemory;
-use coap_routes::RouteError;
+use coap_target::RouteError;
 use std::alloc::{AllocError, AllocFailed, Global};
 use std::error::Error;
 use std::fmt;

@@ -2,8 +2,8 @@
 ghost use Rattle.std.specs.Prelude.{◌≡◌, ◌∷◌, ◌++◌, [], None, Some, Ok, Err, true, false, negsuc, codes, replicate};
 ghost use Rattle.clap.specs.Words.{fault_of, first_of, matches_of, one_of};
 ghost use Rattle.clap.specs.declared.error.ErrorKind.TheVariants as kind;
-ghost use Rattle.coap_routes.specs.declared.error.RouteError.TheVariants as route_errors;
-ghost use Rattle.coap_target.specs.declared.endpoint.Ip.TheVariants.{V4};
+ghost use Rattle.coap_target.specs.declared.error.RouteError.TheVariants as route_errors;
+ghost use Rattle.coap_endpoint.specs.declared.endpoint.Ip.TheVariants.{V4};
 ghost use Rattle.toml.specs.Data.{integer, string};
 ghost use Rattle.toml.specs.Parse.{parse_document};
 ghost use Rattle.coap_words.specs.Config.{holding, routes_checked, sending, table_said};

@@ -2,7 +2,7 @@
 ghost use Rattle.std.specs.Prelude.{◌≡◌, option_map, string_bytes};
 ghost use Rattle.toml.specs.Data.{get_member};
 ghost use Rattle.toml.specs.View.{array_view, table_view, view};
-ghost use Rattle.coap_routes.specs.RouteTexts.{pair_of};
+ghost use Rattle.coap_target.specs.RouteTexts.{pair_of};
 ghost use Rattle.coap_uri.specs.Answer.{Says};
 ghost use Rattle.coap_words.specs.Config as spec;
 ghost use Rattle.coap_words.specs.ConfigView.{pairs_of};

@@ -1,5 +1,5 @@
 //! The value of `--map`: a prefix and an origin.
-ghost use Rattle.coap_routes.specs.RouteTexts.{pair_of};
+ghost use Rattle.coap_target.specs.RouteTexts.{pair_of};
 ghost use Rattle.coap_uri.specs.Answer.{Says};
 ghost use Rattle.coap_words.specs.MapOption.{map_option_of};
 ghost use Rattle.coap_words.specs.declared.error.MapOptionError.TheVariants as errors;

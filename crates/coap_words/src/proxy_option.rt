@@ -8,8 +8,8 @@ ghost use Rattle.coap_words.specs.declared.error.ProxyOptionError.TheVariants as
 
 use crate::error::ProxyOptionError;
 use crate::texts::cut;
-use coap_routes::is_name;
-use coap_target::Endpoint;
+use coap_endpoint::Endpoint;
+use coap_target::is_name;
 use std::alloc::Global;
 
 /// The most own names.

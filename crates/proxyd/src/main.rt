@@ -1,7 +1,7 @@
 //! The program: a proxy over a socket, or a replay of recorded events.
 #![tactic(auto)]
 
-use coap_lru::LruStore;
+use coap_cache::LruStore;
 use coap_proxyd::{Fault, Plan, read_plan, read_wanted, serve_events, serve_port};
 use coap_udp::UdpPort;
 use std::hash::RandomState;

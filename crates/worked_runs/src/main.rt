@@ -12,9 +12,7 @@ mod files;
 mod lines;
 mod run;
 
-use coap_cache::Store;
-use coap_list::ListStore;
-use coap_lru::LruStore;
+use coap_cache::{ListStore, LruStore, Store};
 use std::hash::RandomState;
 use std::io::Write;
 use std::{fs, io};

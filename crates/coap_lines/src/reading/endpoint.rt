@@ -6,7 +6,7 @@ ghost use Rattle.coap_lines.specs.Numbers.{number_of};
 
 use crate::reading::cutting::cut;
 use crate::reading::number::{read_group, read_number};
-use coap_target::{Endpoint, Ip};
+use coap_endpoint::{Endpoint, Ip};
 use coap_uri::{first_part, read_ipv4};
 use std::net::Ipv6Addr;
 

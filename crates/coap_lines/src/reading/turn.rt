@@ -9,8 +9,8 @@ use crate::reading::cutting::cut;
 use crate::reading::datagram::read_bytes;
 use crate::reading::endpoint::read_endpoint;
 use crate::reading::number::read_number;
+use coap_endpoint::Endpoint;
 use coap_message::Seq;
-use coap_target::Endpoint;
 use std::alloc::Global;
 
 /// The greatest moment, in milliseconds: 2^62.

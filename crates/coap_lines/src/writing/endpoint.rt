@@ -6,7 +6,7 @@ ghost use Rattle.coap_lines.specs.Room.{Adds, HasRoom};
 
 use crate::room::put;
 use crate::writing::number::{put_group, put_number};
-use coap_target::{Endpoint, Ip};
+use coap_endpoint::{Endpoint, Ip};
 use std::net::Ipv6Addr;
 
 /// Adds four numbers, with dots between them.

@@ -7,8 +7,8 @@ use crate::room::put;
 use crate::writing::datagram::put_bytes;
 use crate::writing::endpoint::put_endpoint;
 use crate::writing::number::put_number;
+use coap_endpoint::Endpoint;
 use coap_message::OutOfMemory;
-use coap_target::Endpoint;
 use std::alloc::Global;
 
 /// An empty buffer with room for the line of a datagram of so many bytes.

@@ -1,7 +1,7 @@
 use Rattle.std.proofs.Common.{sym, ◌∙◌, ap, ◌++◌}
 use Rattle.std.proofs.lemmas.Bool.{ne_eqb, eq-eqb}
 use Rattle.coap_message.specs.OptRef.{seen}
-use Rattle.coap_cache.proofs.Renewals.{pushed-in_order, skipped-in_order}
+use Rattle.coap_store.proofs.Renewals.{pushed-in_order, skipped-in_order}
 use Rattle.coap_forward.proofs.Observing.{all-kept, pushed, skipped}
 use Rattle.coap_forward.proofs.answers.without_observe.Goals as goal
 

@@ -2,7 +2,7 @@ use Rattle.std.proofs.Common.{◌≡◌, ◌++◌, ◌≤◌, length, map}
 use Rattle.std.specs.List.{AllByRecursion}
 use Rattle.coap_message.specs.Options.{last_number, option_of}
 use Rattle.coap_message.specs.Spelling.{options_spelling}
-use Rattle.coap_target.specs.Target.{IsShort}
+use Rattle.coap_endpoint.specs.Target.{IsShort}
 use Rattle.coap_forward.specs.Gaps.{values_left}
 use Rattle.coap_forward.proofs.form.put_values.Given as goal
 

@@ -3,7 +3,7 @@ use Rattle.std.proofs.lemmas.Result.{err_from_is_err_and}
 use Rattle.coap_message.specs.Datagram.{holding}
 use Rattle.coap_message.specs.Spelling.{head_spelling, options_spelling, payload_spelling, spelling}
 use Rattle.coap_message.proofs.Appending.{Appends-full, Appends-behind}
-use Rattle.coap_cache.specs.Renewing.{max_age_option}
+use Rattle.coap_store.specs.Renewing.{max_age_option}
 use Rattle.coap_forward.proofs.writing.try_with_max_age.Goals as goal
 
 pub returns-in_err-put_max_age : goal.returns-in_err-put_max_age

@@ -1,7 +1,7 @@
 use Rattle.std.proofs.Common.{◌≡◌, Bool, List, Some, ap, ◌∙◌}
-use Rattle.coap_cache.specs.declared.key.CacheKey.{CacheKey}
-use Rattle.coap_cache.specs.Entries.{Entry, entry_key, entry_size}
-use Rattle.coap_cache.specs.Lists.{of_key}
+use Rattle.coap_store.specs.declared.key.CacheKey.{CacheKey}
+use Rattle.coap_store.specs.Entries.{Entry, entry_key, entry_size}
+use Rattle.coap_store.specs.Lists.{of_key}
 use Rattle.coap_model.specs.Setting.{Setting}
 use Rattle.coap_model.specs.History.{Deed}
 use Rattle.coap_model.specs.Changed.{IsTold}

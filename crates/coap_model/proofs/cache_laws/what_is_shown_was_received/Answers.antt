@@ -1,7 +1,7 @@
 use Rattle.std.proofs.Common.{List, subst}
-use Rattle.coap_cache.specs.declared.key.CacheKey.{CacheKey}
-use Rattle.coap_cache.proofs.Distinct.{of_key-key}
-use Rattle.coap_routes.specs.Routes.{AreRoutes}
+use Rattle.coap_store.specs.declared.key.CacheKey.{CacheKey}
+use Rattle.coap_store.proofs.Distinct.{of_key-key}
+use Rattle.coap_target.specs.Routes.{AreRoutes}
 use Rattle.coap_model.specs.Setting.{Setting}
 use Rattle.coap_model.specs.History.{Deed}
 use Rattle.coap_model.specs.Cached.{cached_key, IsObtained, WasObtained}

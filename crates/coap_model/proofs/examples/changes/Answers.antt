@@ -4,8 +4,8 @@ use Rattle.coap_message.specs.Spelling.{spelling, option_spelling}
 use Rattle.coap_message.specs.Uint.{uint_spelling}
 use Rattle.std.specs.Net.Reader.{read_number, read_octet, read_ipv4}
 use Rattle.coap_uri.specs.Address.{ipv4_of, ipv6_between}
-use Rattle.coap_routes.specs.Request.{by_scheme, request_target}
-use Rattle.coap_routes.specs.Routes.{mapped_target}
+use Rattle.coap_target.specs.Request.{by_scheme, request_target}
+use Rattle.coap_target.specs.Routes.{mapped_target}
 use Rattle.coap_forward.specs.Messages.{token_of}
 use Rattle.coap_model.specs.Keys.{target_sent, key_sent}
 use Rattle.coap_forward.specs.Forms.{target_options, form_fits}

@@ -2,8 +2,8 @@ use Rattle.std.proofs.Common.{refl}
 use Rattle.coap_message.specs.Reading.{read_message, body_at, options_within, option_at, extended}
 use Rattle.coap_message.specs.Spelling.{spelling, option_spelling}
 use Rattle.coap_message.specs.Uint.{uint_spelling}
-use Rattle.coap_routes.specs.Request.{request_target}
-use Rattle.coap_routes.specs.Routes.{mapped_target}
+use Rattle.coap_target.specs.Request.{request_target}
+use Rattle.coap_target.specs.Routes.{mapped_target}
 use Rattle.coap_forward.specs.Messages.{token_of}
 use Rattle.coap_model.specs.Keys.{target_sent}
 use Rattle.coap_forward.specs.Forms.{target_options, form_fits}

@@ -1,5 +1,5 @@
 use Rattle.std.proofs.Common.{◌≡◌, ◌+◌, ℕ, Bool, List, Result, inr, refl, subst}
-use Rattle.coap_target.specs.declared.endpoint.Endpoint.{Endpoint}
+use Rattle.coap_endpoint.specs.declared.endpoint.Endpoint.{Endpoint}
 use Rattle.coap_model.specs.Runs.{Turn}
 use Rattle.coap_model.specs.World.{World, new_world}
 use Rattle.coap_port.specs.Driven.{Ends}

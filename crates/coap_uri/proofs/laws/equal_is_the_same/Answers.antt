@@ -1,4 +1,4 @@
-use Rattle.coap_target.proofs.Equality.{Tells-both}
+use Rattle.coap_endpoint.proofs.Equality.{Tells-both}
 use Rattle.coap_uri.specs.Uris.{same_host, same_uri}
 use Rattle.coap_uri.proofs.Uris.{Tells-host, Tells-uri}
 use Rattle.coap_uri.proofs.laws.equal_is_the_same.Goals as goal

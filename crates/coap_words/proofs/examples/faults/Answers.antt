@@ -1,7 +1,7 @@
 use Rattle.std.proofs.Common.{refl}
 use Rattle.toml.proofs.OnLiterals.{toml_on_literals}
 use Rattle.coap_words.specs.Config.{table_said}
-use Rattle.coap_routes.specs.RouteTexts.{routes_of}
+use Rattle.coap_target.specs.RouteTexts.{routes_of}
 use Rattle.coap_words.proofs.examples.faults.Goals as goal
 
 pub returns : goal.returns

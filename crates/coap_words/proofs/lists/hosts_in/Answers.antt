@@ -1,7 +1,7 @@
 use Rattle.std.proofs.Common.{◌≡◌, ◌∙◌, [], ◌∷◌, ◌++◌, map, Ok, ap, string_bytes}
 use Rattle.std.proofs.lemmas.List.{map-append}
 use Rattle.toml.specs.View.{members_view, view}
-use Rattle.coap_routes.specs.RouteTexts.{pair_of}
+use Rattle.coap_target.specs.RouteTexts.{pair_of}
 use Rattle.coap_words.specs.Config.{host_said}
 use Rattle.coap_words.specs.ConfigView.{pairs_of}
 use Rattle.coap_words.specs.Tree.{each_member, with_front}

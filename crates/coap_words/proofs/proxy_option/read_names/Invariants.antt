@@ -1,6 +1,6 @@
 use Rattle.std.proofs.Common.{◌≡◌, ◌+◌, ℕ, List, Option, Some, None, Bor, length}
 use Rattle.std.specs.Option.{option_copied}
-use Rattle.coap_routes.proofs.Gathering.{with_rest}
+use Rattle.coap_target.proofs.Gathering.{with_rest}
 use Rattle.coap_uri.specs.Uri.{parts_left}
 use Rattle.coap_words.specs.ProxyOption.{bytes_of, comma, names_of, parts}
 use Rattle.coap_words.proofs.proxy_option.read_names.Given as goal

@@ -1,6 +1,6 @@
 use Rattle.std.proofs.Common.{◌≡◌, ◌≢◌, ◌^◌, ◌<◌, ◌∙◌, true, false, Some, length, sym, ap, arith}
 use Rattle.std.specs.Prelude.{option_map}
-use Rattle.coap_target.specs.Endpoint.{same_endpoint}
+use Rattle.coap_endpoint.specs.Endpoint.{same_endpoint}
 use Rattle.coap_exchange.specs.declared.exchange.Exchange.{Exchange}
 use Rattle.coap_exchange.specs.Table.{Numbered, item_at}
 use Rattle.coap_forward.specs.Messages.{token_of}

@@ -1,7 +1,7 @@
 use Rattle.std.proofs.Common.{◌≡◌, ◌==◌, ◌++◌, length, map, take, option_map}
 use Rattle.std.specs.List.{slice_split}
 use Rattle.std.specs.Option.{option_copied}
-use Rattle.coap_routes.specs.RouteTexts.{all_of}
+use Rattle.coap_target.specs.RouteTexts.{all_of}
 use Rattle.coap_uri.specs.Uri.{parts_left}
 use Rattle.coap_lines.specs.Numbers.{group_of}
 use Rattle.coap_lines.proofs.reading.endpoint.read_segments.Given as goal

@@ -1,5 +1,0 @@
-use Rattle.coap_cache.proofs.Cuts.{cut-is-longest}
-use Rattle.coap_cache.proofs.laws.cuts_are_longest.Goals as goal
-
-pub returns : goal.returns
-returns g c = cut-is-longest

@@ -1,0 +1,3 @@
+pub mod Equality
+pub mod Lists
+pub mod Orders

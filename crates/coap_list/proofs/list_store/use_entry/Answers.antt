@@ -1,7 +1,0 @@
-use Rattle.std.proofs.Common.{sym, ◌∙◌}
-use Rattle.coap_cache.specs.Entries.{entry_key}
-use Rattle.coap_cache.proofs.Found.{others-none}
-use Rattle.coap_list.proofs.list_store.use_entry.Goals as goal
-
-pub returns-in-None : goal.returns-in-None
-returns-in-None c = rw (← c.in-None.ensures.entry) (c.in-None.ensures.others ∙ others-none entry_key c.args.key.now c.args.entries.now.items (sym c.in-None.ensures.entry))

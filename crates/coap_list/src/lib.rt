@@ -1,6 +1,0 @@
-//! A store of responses as a plain list, with the contracts of `coap_cache`'s `Store`.
-#![tactic(auto)]
-
-mod list_store;
-
-pub use list_store::ListStore;

@@ -1,7 +1,0 @@
-//! A store of responses as a recency map, with the contracts of `coap_cache`'s `Store`.
-#![tactic(auto)]
-
-mod lru_store;
-mod target_index;
-
-pub use lru_store::LruStore;

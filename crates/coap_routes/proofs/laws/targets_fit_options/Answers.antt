@@ -1,5 +1,0 @@
-use Rattle.coap_routes.proofs.Requests.{request_target-is}
-use Rattle.coap_routes.proofs.laws.targets_fit_options.Goals as goal
-
-pub returns : goal.returns
-returns c = request_target-is

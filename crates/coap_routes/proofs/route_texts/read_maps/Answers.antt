@@ -1,5 +1,0 @@
-use Rattle.coap_routes.proofs.Gathering.{map-map}
-use Rattle.coap_routes.proofs.route_texts.read_maps.Goals as goal
-
-pub returns : goal.returns
-returns c = rw map-map c.read_all.ensures

@@ -1,5 +1,0 @@
-use Rattle.coap_routes.proofs.Dropping.{drop-next}
-use Rattle.coap_routes.proofs.segment.skip.Goals as goal
-
-pub loop-index-preserved : goal.loop-index-preserved
-loop-index-preserved g c = drop-next c.loop-index.index _ _ _ _ c.loop-index.invariant c.next_segment-passed.ensures

@@ -1,8 +1,0 @@
--- An endpoint of examples.
-use Rattle.std.specs.Prelude.{ℕ, [], ◌∷◌}
-use Rattle.coap_target.specs.declared.endpoint.Endpoint.{Endpoint}
-use Rattle.coap_target.specs.declared.endpoint.Ip.TheVariants.{V4}
-
--- a port of the loopback network
-abbrev pub loopback : ℕ → Endpoint
-loopback port = record { ip = V4 (127 ∷ 0 ∷ 0 ∷ 1 ∷ []); port = port }

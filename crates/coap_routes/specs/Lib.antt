@@ -1,9 +1,0 @@
-pub mod RouteLists
-pub mod RoutesView
-pub mod Routes
-pub mod Hosts
-pub mod Request
-pub mod RouteTexts
-pub mod Winner
-pub mod Examples
-pub mod MappedTarget

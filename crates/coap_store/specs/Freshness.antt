@@ -1,0 +1,22 @@
+-- For how long a stored response is used (RFC 7252, 5.6.1, 5.7.1 and 5.10.5). Moments are in
+-- milliseconds, a Max-Age is in seconds.
+use Rattle.std.specs.Prelude.{ℕ, ◌-◌, ◌*◌, ◌&&◌, Bool, not, nat_le}
+use Rattle.std.specs.Int.{div_ceil}
+use Rattle.coap_option.specs.Selection.{max_age_of}
+use Rattle.coap_store.specs.declared.stored.Stored.{Stored}
+
+-- how long ago it came
+abbrev pub age_of : ℕ → Stored → ℕ
+age_of now stored = now - stored.got
+
+-- it is fresh until its Max-Age has passed, in the last of its moments too
+abbrev pub is_fresh : ℕ → Stored → Bool
+is_fresh now stored = nat_le (age_of now stored) (1000 * max_age_of stored.response)
+
+-- for how many seconds it will be fresh: a second that has begun is gone
+abbrev pub left_of : ℕ → Stored → ℕ
+left_of now stored = max_age_of stored.response - div_ceil (age_of now stored) 1000
+
+-- it may answer a request: it is fresh, and its resource wasn't changed since it was asked for
+abbrev pub is_usable : ℕ → Stored → Bool
+is_usable now stored = is_fresh now stored && not stored.marked

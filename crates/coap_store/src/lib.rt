@@ -1,0 +1,20 @@
+//! The cache of a proxy: keys, stored responses, what a store of them is to do, and what clients are
+//! shown (RFC 7252, 5.6, 5.7.1, 5.10.5 and 5.10.6).
+#![tactic(auto)]
+
+mod answer;
+mod key;
+pub mod laws;
+mod show;
+mod size;
+mod store;
+mod stored;
+mod tag;
+
+pub use answer::Answer;
+pub use key::CacheKey;
+pub use show::{put_aged, put_max_age, show_into, tells_age};
+pub use size::bytes_of;
+pub use store::{Put, Store};
+pub use stored::Stored;
+pub use tag::tag_of;

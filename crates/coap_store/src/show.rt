@@ -1,0 +1,250 @@
+//! What clients are given for a response, written without memory (RFC 7252, 5.6, 5.7.1, 5.10.5 and
+//! 5.10.6).
+ghost use Rattle.std.specs.Prelude.{◌≡◌, ◌≤◌, ◌<◌, ◌↔◌, ◌∷◌, [], length, IfOk, IsErr, OnOk, OnErr};
+ghost use Rattle.coap_message.specs.Datagram.{Appends, holding, unit_of};
+ghost use Rattle.coap_message.specs.Message.{message_of};
+ghost use Rattle.coap_message.specs.Options.{last_number, option_of};
+ghost use Rattle.coap_message.specs.Spelling.{options_spelling, spelling};
+ghost use Rattle.coap_option.specs.declared.numbers.TheConstants.{ETAG, MAX_AGE};
+ghost use Rattle.coap_store.specs.Renewing.{max_age_option, with_max_age};
+ghost use Rattle.coap_store.specs.Showing.{addressed, shown, tells_age, told};
+ghost use Rattle.coap_store.specs.Writing.{floor_of, is_in, part_of};
+
+use crate::tag::held_tag;
+use coap_message::{
+    Code, Datagram, Full, Head, Kind, Message, Options, Pieces, Token, put_head, put_message,
+    put_option, put_payload, without_zeros,
+};
+use coap_option::numbers;
+
+/// Writes what a client is shown for a response: as a message of this kind, message id and token.
+/// It takes no memory.
+///
+/// `left` is how many seconds are left of an answer of an origin to a GET. A 2.05 and a code of
+/// class 4 or 5 then carry exactly one Max-Age of that; a 2.05 whose ETag is among the client's
+/// `tags` is a 2.03 with that ETag and the Max-Age alone. Every other response, and each one
+/// without `left`, is shown as it is.
+///
+/// # Errors
+/// `Full`, exactly where it is longer than `room` bytes: the datagram is empty then.
+pub fn show_into(
+    message: &Message,
+    kind: Kind,
+    id: u16,
+    token: &Token,
+    left: Option<u64>,
+    tags: &Pieces,
+    out: &mut Datagram,
+    room: usize,
+) -> Result<(), Full>
+    requires { room ≤ out.old.room }
+    ensures ok { OnOk result
+        (out.new
+        ≡ holding out.old
+        (spelling (addressed kind id token.now (shown message.now left tags.now)))) }
+    ensures full { IsErr result
+        ↔ (room
+        < length (spelling (addressed kind id token.now (shown message.now left tags.now)))) }
+    ensures err { OnErr result (out.new ≡ holding out.old []) }
+{
+    let head = Head {
+        kind,
+        code: message.code,
+        id,
+    };
+    if let Err(full) = put_shown(message, head, token, left, tags, out, room) {
+        out.clear();
+        return Err(full);
+    }
+    Ok(())
+}
+
+/// Whether a response of this code is told with a Max-Age (RFC 7252, 5.10.5).
+pub fn tells_age(code: Code) -> bool
+    ensures { result ≡ tells_age code }
+{
+    code == Code::CONTENT || code.class() == 4 || code.class() == 5
+}
+
+/// Writes what is shown, if it is at most `room` bytes.
+fn put_shown(
+    message: &Message,
+    head: Head,
+    token: &Token,
+    left: Option<u64>,
+    tags: &Pieces,
+    out: &mut Datagram,
+    room: usize,
+) -> Result<(), Full>
+    requires room { room ≤ out.old.room }
+    requires code { head.code ≡ message.now.code }
+    ensures { Appends (holding out.old []) out.new room
+        (spelling (addressed head.kind head.id token.now (shown message.now left tags.now)))
+        result }
+{
+    match left {
+        Some(left) if tells_age(head.code) => {
+            put_told(message, head, token, left, tags, out, room)
+        }
+        _ => {
+            let options = message.options.lent();
+            put_message(out, room, head, token, &options, message.payload.as_slice())
+        }
+    }
+}
+
+/// Writes a response that is told with a Max-Age.
+fn put_told(
+    message: &Message,
+    head: Head,
+    token: &Token,
+    left: u64,
+    tags: &Pieces,
+    out: &mut Datagram,
+    room: usize,
+) -> Result<(), Full>
+    requires room { room ≤ out.old.room }
+    requires code { head.code ≡ message.now.code }
+    ensures { Appends (holding out.old []) out.new room
+        (spelling (addressed head.kind head.id token.now (told message.now left tags.now))) result }
+{
+    match held_tag(message, tags) {
+        Some(tag) => put_valid(head, token, tag, left, out, room),
+        None => put_aged(message, head, token, left, out, room),
+    }
+}
+
+/// Writes a 2.03 with a tag and a Max-Age.
+#[tactic(auto, unfolding(coap_message::specs::Spelling::spelling))]
+fn put_valid(
+    head: Head,
+    token: &Token,
+    tag: &[u8],
+    left: u64,
+    out: &mut Datagram,
+    room: usize,
+) -> Result<(), Full>
+    requires room { room ≤ out.old.room }
+    requires short { length tag.now ≤ 8 }
+    ensures { Appends (holding out.old []) out.new room
+        (spelling
+        (message_of (record head { code = Code.VALID }) token.now
+        (option_of ETAG tag.now ∷ max_age_option left ∷ []) [])) result }
+{
+    let valid = Head {
+        kind: head.kind,
+        code: Code::VALID,
+        id: head.id,
+    };
+    put_head(out, room, valid, token)?;
+    put_option(out, room, 0, numbers::ETAG, tag)?;
+    put_max_age(out, room, numbers::ETAG, left)
+}
+
+/// Adds a Max-Age of so many seconds after an option of the number `before`, 0 for none, if at most
+/// `room` bytes are held then. It takes no memory.
+///
+/// # Errors
+/// `Full`, exactly where more than `room` bytes would be held. Then a part of it may have been
+/// added.
+#[tactic(auto, unfolding(coap_message::specs::Uint::uint_spelling))]
+pub fn put_max_age(out: &mut Datagram, room: usize, before: u16, seconds: u64) -> Result<(), Full>
+    requires room { room ≤ out.old.room }
+    requires above { before ≤ MAX_AGE }
+    ensures { Appends out.old out.new room (options_spelling before (max_age_option seconds ∷ []))
+        result }
+{
+    let bytes = seconds.to_be_bytes();
+    put_option(out, room, before, numbers::MAX_AGE, without_zeros(&bytes))
+}
+
+/// Writes a response with one Max-Age of so many seconds, if it is at most `room` bytes: as a
+/// message of this head and token, whose options and payload are those of the response. It takes no
+/// memory.
+///
+/// # Errors
+/// `Full`, exactly where it is longer than `room` bytes. Then a part of it may have been written.
+#[tactic(auto, unfolding(coap_message::specs::Spelling::spelling))]
+pub fn put_aged(
+    message: &Message,
+    head: Head,
+    token: &Token,
+    left: u64,
+    out: &mut Datagram,
+    room: usize,
+) -> Result<(), Full>
+    requires { room ≤ out.old.room }
+    ensures { Appends (holding out.old []) out.new room
+        (spelling
+        (message_of head token.now (with_max_age left message.now.options) message.now.payload))
+        result }
+{
+    put_head(out, room, head, token)?;
+    put_with_max_age(out, room, &message.options.lent(), left)?;
+    put_payload(out, room, message.payload.as_slice())
+}
+
+/// Adds the options of a response, with one Max-Age in place of its own.
+fn put_with_max_age(
+    out: &mut Datagram,
+    room: usize,
+    options: &Options<'_>,
+    left: u64,
+) -> Result<(), Full>
+    requires room { room ≤ out.old.room }
+    requires held { length out.old.bytes ≤ room }
+    ensures { Appends out.old out.new room (options_spelling 0 (with_max_age left options.now))
+        result }
+{
+    let before = put_part(out, room, 0, options, Part::Before)?;
+    put_max_age(out, room, before, left)?;
+    put_part(out, room, numbers::MAX_AGE, options, Part::After)?;
+    Ok(())
+}
+
+/// Where an option stands by its number.
+#[derive(Clone, Copy)]
+pub(crate) enum Part {
+    /// Before a Max-Age.
+    Before,
+    /// After it.
+    After,
+}
+
+impl Part {
+    /// Whether an option of this number stands there.
+    fn has(self, number: u16) -> bool
+        ensures { result ≡ is_in self number }
+    {
+        match self {
+            Part::Before => number < numbers::MAX_AGE,
+            Part::After => numbers::MAX_AGE < number,
+        }
+    }
+}
+
+/// Adds those options that stand in this part, after one of the number `before`. Answers the
+/// number of the last.
+fn put_part(
+    out: &mut Datagram,
+    room: usize,
+    before: u16,
+    options: &Options<'_>,
+    part: Part,
+) -> Result<u16, Full>
+    requires room { room ≤ out.old.room }
+    requires held { length out.old.bytes ≤ room }
+    requires above { before ≤ floor_of part }
+    ensures written { Appends out.old out.new room
+        (options_spelling before (part_of part options.now)) (unit_of result) }
+    ensures last { IfOk result (λ last. last ≡ last_number before (part_of part options.now)) }
+{
+    let mut last = before;
+    for option in options.iter() {
+        if part.has(option.number) {
+            put_option(out, room, last, option.number, option.value)?;
+            last = option.number;
+        }
+    }
+    Ok(last)
+}

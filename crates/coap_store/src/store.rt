@@ -1,0 +1,132 @@
+//! Stores of responses (RFC 7252, 5.6).
+ghost use Rattle.std.specs.Prelude.{◌≡◌, ◌↔◌, ◌<◌, ◌≤◌, ◌^◌, [], None, IfOk, IsTrue, IsFalse, List, length, map, count_by, is_some};
+ghost use Rattle.std.specs.Option.{option_map};
+ghost use Rattle.coap_store.specs.Entries.{Entry, IsStore, Limits, entry_key, entry_size, has_usable, is_for, marked, stored_for};
+ghost use Rattle.coap_store.specs.Lists.{of_key, others, put, total, used};
+ghost use Rattle.coap_store.specs.Sizes.{size_of};
+
+use crate::key::CacheKey;
+use crate::stored::Stored;
+use coap_endpoint::Target;
+use coap_message::OutOfMemory;
+use std::alloc::Global;
+
+/// What became of a response that was to be stored.
+#[derive(Clone, Copy, Debug, PartialEq, Eq)]
+pub enum Put {
+    /// It is stored. What no longer fits was given up.
+    Kept,
+    /// It alone counts more bytes than the store keeps. What was stored for its key was given up.
+    TooLarge,
+    /// There was no memory for one more entry. Nothing was changed.
+    NoMemory,
+}
+
+/// A store of responses, which keeps the most recently used within limits. A contract sees its
+/// limits, and its entries as a list, the most recently used first. No two have one key.
+pub trait Store {
+    /// What a store is made of beside its limits, as a hasher.
+    type Seed;
+
+    ghost limits: { Self → Limits };
+
+    ghost entries: { Self → List Entry };
+
+    /// An empty store, which keeps at most so many bytes, as `bytes_of` counts them, and so many
+    /// entries.
+    fn with_limits(
+        alloc: Global,
+        seed: Self::Seed,
+        most_bytes: u64,
+        most_entries: usize,
+    ) -> Result<Self, OutOfMemory>
+    where
+        Self: Sized,
+        requires { most_bytes < 2 ^ 63 }
+        ensures limited { IfOk result
+            (λ s. limits s ≡ record { bytes = most_bytes; entries = most_entries }) }
+        ensures empty { IfOk result (λ s. entries s ≡ []) };
+
+    /// Whether a response is stored for the key that may answer a request at this moment, in
+    /// milliseconds: it is fresh, and it isn't marked (RFC 7252, 5.6 and 5.6.1). It is the most
+    /// recently used then. It takes no memory.
+    fn hit(&mut self, key: &CacheKey, now: u64) -> bool
+        ensures usable { result ≡ has_usable key.now now (entries self.old) }
+        ensures moved { IsTrue result
+            → entries self.new ≡ used entry_key key.now (entries self.old) }
+        ensures unmoved { IsFalse result → entries self.new ≡ entries self.old }
+        ensures limited { limits self.new ≡ limits self.old }
+    {
+        let usable = self.peek(key).is_some_and(|stored| stored.is_usable(now));
+        if usable {
+            self.touch(key);
+        }
+        usable
+    }
+
+    /// What is stored for the key, if anything is, is the most recently used from here on. It takes
+    /// no memory.
+    fn touch(&mut self, key: &CacheKey)
+        ensures moved { entries self.new ≡ used entry_key key.now (entries self.old) }
+        ensures limited { limits self.new ≡ limits self.old };
+
+    /// What is stored for the key. It takes no memory.
+    fn peek(&self, key: &CacheKey) -> Option<&Stored>
+        ensures { option_map (λ stored. stored.now) result
+            ≡ stored_for key.now (entries self.now) };
+
+    /// Stores a response in place of the one for its key, as the most recently used. The least
+    /// recently used ones are given up until the rest keeps within both limits, so that a store of
+    /// no entries keeps none. It takes no memory where the key has an entry already.
+    fn put(&mut self, key: CacheKey, stored: Stored) -> Put
+        ensures kept { result ≡ Put.Kept
+            → entries self.new
+            ≡ put entry_key entry_size (limits self.old).bytes (limits self.old).entries
+            (key, stored) (entries self.old) }
+        ensures kept_fits { result ≡ Put.Kept → size_of key stored ≤ (limits self.old).bytes }
+
+        ensures too_large { result ≡ Put.TooLarge
+            → entries self.new ≡ others entry_key key (entries self.old) }
+        ensures too_large_exceeds { result ≡ Put.TooLarge
+            → (limits self.old).bytes < size_of key stored }
+
+        ensures no_memory { result ≡ Put.NoMemory → entries self.new ≡ entries self.old }
+        ensures no_memory_fits { result ≡ Put.NoMemory
+            → size_of key stored ≤ (limits self.old).bytes }
+        ensures no_memory_new { result ≡ Put.NoMemory
+            → of_key entry_key key (entries self.old) ≡ None }
+
+        ensures limited { limits self.new ≡ limits self.old };
+
+    /// Marks what is stored for any key of a target that was changed, so that it answers no request
+    /// any more (RFC 7252, 5.9.1). The answer is how many entries the target has, those marked
+    /// before too. It takes no memory.
+    fn mark(&mut self, target: &Target) -> usize
+        ensures counted { result ≡ count_by (is_for target.now) (entries self.old) }
+        ensures marked { entries self.new ≡ map (marked target.now) (entries self.old) }
+        ensures limited { limits self.new ≡ limits self.old };
+
+    /// Gives up what is stored for the key, and says whether there was something. It takes no
+    /// memory.
+    fn forget(&mut self, key: &CacheKey) -> bool
+        ensures found { result ≡ is_some (of_key entry_key key.now (entries self.old)) }
+        ensures given_up { entries self.new ≡ others entry_key key.now (entries self.old) }
+        ensures limited { limits self.new ≡ limits self.old };
+
+    /// How many bytes the entries count, as `bytes_of` counts them. It takes no memory.
+    fn total(&self) -> u64
+        ensures bytes { result ≡ total entry_size (entries self.now) }
+        ensures within { result ≤ (limits self.now).bytes };
+
+    /// How many entries there are. It takes no memory.
+    fn len(&self) -> usize
+        ensures length { result ≡ length (entries self.now) }
+        ensures valid { IsStore (limits self.now) (entries self.now) };
+
+    /// Whether there is no entry. It takes no memory.
+    fn is_empty(&self) -> bool
+        ensures { IsTrue result ↔ (entries self.now ≡ []) }
+    {
+        self.len() == 0
+    }
+}

@@ -1,0 +1,10 @@
+use Rattle.coap_store.specs.Entries.{IsStore}
+use Rattle.coap_store_list.proofs.ListStores.{IsStore-along, is_store, limits_of}
+use Rattle.coap_store.proofs.Held.{IsStore-others}
+use Rattle.coap_store_list.proofs.list_store.ListStoreStore.forget.Goals as goal
+
+pub invariant_of-self : goal.invariant_of-self
+invariant_of-self c =
+    let s = c.args.self.now in
+    let is : IsStore (limits_of s) c.forget_entry.new.entries.items = IsStore-along (limits_of s) _ _ c.forget_entry.ensures.others (IsStore-others (limits_of s) c.args.key.now s.entries.items (is_store s)) in
+    record { distinct = is.distinct; within_bytes = is.within_bytes; within_entries = is.within_entries; small = s.small }

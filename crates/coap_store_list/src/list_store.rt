@@ -1,0 +1,238 @@
+//! A store as a plain list.
+ghost use Rattle.std.specs.Prelude.{◌≡◌, ◌<◌, ◌≤◌, ◌^◌, ◌∷◌, None, true, is_some, IsSome, IsTrue, OnOk, OnErr, length, map, count_by, position, take, vec_len, vec_capacity};
+ghost use Rattle.coap_store.specs.Entries.{entry_key, entry_size, is_for, marked};
+ghost use Rattle.coap_store.specs.Lists.{are_distinct, cut, has_key, of_key, others, total, used};
+
+use coap_endpoint::Target;
+use coap_message::OutOfMemory;
+use coap_store::{CacheKey, Put, Store, Stored, bytes_of};
+use std::alloc::Global;
+
+/// A store that keeps its entries as a list, the most recently used first, and walks it for each
+/// call.
+pub struct ListStore {
+    entries: Vec<(CacheKey, Stored)>,
+    most_bytes: u64,
+    most_entries: usize,
+    ghost distinct: { are_distinct entry_key entries.items ≡ true },
+    ghost within_bytes: { total entry_size entries.items ≤ most_bytes },
+    ghost within_entries: { length entries.items ≤ most_entries },
+    ghost small: { most_bytes < 2 ^ 63 },
+}
+
+impl Drop for ListStore {
+    fn drop(self) {
+        let ListStore {
+            entries: _,
+            most_bytes: _,
+            most_entries: _,
+        } = self;
+    }
+}
+
+impl Store for ListStore {
+    type Seed = ();
+
+    ghost limits = { λ s. record { bytes = s.most_bytes; entries = s.most_entries } };
+
+    ghost entries = { λ s. s.entries.items };
+
+    fn with_limits(
+        alloc: Global,
+        _seed: (),
+        most_bytes: u64,
+        most_entries: usize,
+    ) -> Result<ListStore, OutOfMemory> {
+        Ok(ListStore {
+            entries: Vec::new(alloc),
+            most_bytes,
+            most_entries,
+        })
+    }
+
+    fn touch(&mut self, key: &CacheKey) {
+        use_entry(&mut self.entries, key);
+    }
+
+    fn peek(&self, key: &CacheKey) -> Option<&Stored> {
+        match place_of(&self.entries, key) {
+            Some(place) => Some(&self.entries[place].1),
+            None => None,
+        }
+    }
+
+    fn put(&mut self, key: CacheKey, stored: Stored) -> Put {
+        if bytes_of(&key, &stored) > self.most_bytes {
+            forget_entry(&mut self.entries, &key);
+            return Put::TooLarge;
+        }
+        match put_entry(&mut self.entries, key, stored) {
+            Ok(()) => {
+                cut_to(&mut self.entries, self.most_bytes, self.most_entries);
+                Put::Kept
+            }
+            Err(_) => Put::NoMemory,
+        }
+    }
+
+    fn mark(&mut self, target: &Target) -> usize {
+        mark_all(&mut self.entries, target)
+    }
+
+    fn forget(&mut self, key: &CacheKey) -> bool {
+        forget_entry(&mut self.entries, key)
+    }
+
+    fn total(&self) -> u64 {
+        total_of(&self.entries)
+    }
+
+    fn len(&self) -> usize {
+        self.entries.len()
+    }
+}
+
+/// The place of the entry of a key.
+fn place_of(entries: &[(CacheKey, Stored)], key: &CacheKey) -> Option<usize>
+    ensures { result ≡ position (has_key entry_key key.now) entries.now }
+{
+    entries.iter().position(|entry| entry.0.is(key))
+}
+
+/// Takes out the entry of a key. There is room for another then.
+fn take_out(entries: &mut Vec<(CacheKey, Stored)>, key: &CacheKey) -> Option<(CacheKey, Stored)>
+    requires { are_distinct entry_key entries.old.items ≡ true }
+    ensures entry { result ≡ of_key entry_key key.now entries.old.items }
+    ensures others { entries.new.items ≡ others entry_key key.now entries.old.items }
+    ensures room { IsSome result → vec_len entries.new < vec_capacity entries.new }
+{
+    match place_of(entries, key) {
+        Some(place) => Some(entries.remove(place)),
+        None => None,
+    }
+}
+
+/// Puts an entry first, where there is room for it.
+fn put_back(entries: &mut Vec<(CacheKey, Stored)>, entry: (CacheKey, Stored))
+    requires { vec_len entries.old < vec_capacity entries.old }
+    ensures { entries.new.items ≡ entry ∷ entries.old.items }
+{
+    if entries.insert(0, entry).is_err() {
+        unreachable!();
+    }
+}
+
+/// Takes out the entry of a key and lets it go. Says whether there was one: then there is room for
+/// another.
+fn forget_entry(entries: &mut Vec<(CacheKey, Stored)>, key: &CacheKey) -> bool
+    requires { are_distinct entry_key entries.old.items ≡ true }
+    ensures found { result ≡ is_some (of_key entry_key key.now entries.old.items) }
+    ensures others { entries.new.items ≡ others entry_key key.now entries.old.items }
+    ensures room { IsTrue result → vec_len entries.new < vec_capacity entries.new }
+{
+    take_out(entries, key).is_some()
+}
+
+/// Puts an entry first, in place of the one of its key.
+fn put_entry(
+    entries: &mut Vec<(CacheKey, Stored)>,
+    key: CacheKey,
+    stored: Stored,
+) -> Result<(), OutOfMemory>
+    requires { are_distinct entry_key entries.old.items ≡ true }
+    ensures ok { OnOk result
+        (entries.new.items ≡ (key, stored) ∷ others entry_key key entries.old.items) }
+    ensures err { OnErr result (entries.new.items ≡ entries.old.items) }
+    ensures err_new { OnErr result (of_key entry_key key entries.old.items ≡ None) }
+{
+    if forget_entry(entries, &key) {
+        put_back(entries, (key, stored));
+        return Ok(());
+    }
+    entries.insert(0, (key, stored))?;
+    Ok(())
+}
+
+/// The number of entries from the first on that keep within the limits.
+fn count_fitting(entries: &[(CacheKey, Stored)], bytes: u64, most: usize) -> usize
+    requires { bytes < 2 ^ 63 }
+    ensures { take result entries.now ≡ cut entry_size bytes most entries.now }
+{
+    let mut left = bytes;
+    let mut count = 0;
+    for (key, stored) in entries {
+        let size = bytes_of(key, stored);
+        if size > left || count == most {
+            break;
+        }
+        left -= size;
+        count += 1;
+    }
+    count
+}
+
+/// Gives up the entries after those that keep within the limits.
+fn cut_to(entries: &mut Vec<(CacheKey, Stored)>, bytes: u64, most: usize)
+    requires { bytes < 2 ^ 63 }
+    ensures { entries.new.items ≡ cut entry_size bytes most entries.old.items }
+{
+    let count = count_fitting(entries, bytes, most);
+    entries.truncate(count);
+}
+
+/// Moves the entry of a key to the front.
+fn use_entry(entries: &mut Vec<(CacheKey, Stored)>, key: &CacheKey)
+    requires { are_distinct entry_key entries.old.items ≡ true }
+    ensures { entries.new.items ≡ used entry_key key.now entries.old.items }
+{
+    match take_out(entries, key) {
+        Some(entry) => put_back(entries, entry),
+        None => {}
+    }
+}
+
+/// Marks the entry, if it is one of this target, and says whether it is.
+fn mark_entry(entry: &mut (CacheKey, Stored), target: &Target) -> bool
+    ensures answer { result ≡ is_for target.now entry.old }
+    ensures marked { entry.new ≡ marked target.now entry.old }
+{
+    let is_for = entry.0.target.is(target);
+    if is_for {
+        entry.1.marked = true;
+    }
+    is_for
+}
+
+/// Marks the entries of a target, wherever they stand, and counts them.
+fn mark_all(entries: &mut Vec<(CacheKey, Stored)>, target: &Target) -> usize
+    ensures counted { result ≡ count_by (is_for target.now) entries.old.items }
+    ensures marked { entries.new.items ≡ map (marked target.now) entries.old.items }
+{
+    mark_entries(entries, target)
+}
+
+/// Marks those of some entries that are of a target, and counts them.
+fn mark_entries(entries: &mut [(CacheKey, Stored)], target: &Target) -> usize
+    ensures counted { result ≡ count_by (is_for target.now) entries.old }
+    ensures marked { entries.new ≡ map (marked target.now) entries.old }
+{
+    let mut count = 0;
+    for entry in entries.iter_mut() {
+        if mark_entry(entry, target) {
+            count += 1;
+        }
+    }
+    count
+}
+
+/// How many bytes entries count.
+fn total_of(entries: &[(CacheKey, Stored)]) -> u64
+    requires { total entry_size entries.now < 2 ^ 63 }
+    ensures { result ≡ total entry_size entries.now }
+{
+    let mut total = 0;
+    for (key, stored) in entries {
+        total += bytes_of(key, stored);
+    }
+    total
+}

@@ -1,0 +1,129 @@
+-- Entries that are given up from the end, one by one, for as long as they are too many.
+use Rattle.std.proofs.Common.{◌≡◌, ℕ, zero, suc, ◌-◌, ◌<◌, ◌≤◌, ◌&&◌, ◌⊎◌, inl, inr, Bool, true, false, cond, nat_le, nat_lt, ◌||◌, List, [], ◌∷◌, ◌++◌, Some, None, length, take, slice_get, refl, sym, ap, subst, ◌∙◌, arith}
+use Rattle.std.specs.List.{list_all}
+use Rattle.std.proofs.lemmas.Bool.{and_parts, leb-true, lt-leb, ltb-false, ltb-true, not-true, or_cases, or_parts}
+use Rattle.std.proofs.lemmas.List.{length-take}
+use Rattle.std.proofs.lemmas.List.Sums.{sum_by-cons}
+use Rattle.coap_store.specs.Entries.{Entry, entry_key, entry_size}
+use Rattle.coap_store.specs.Keys.{same_key}
+use Rattle.coap_store.specs.Lists.{has_other_key, of_key, others, are_distinct, total, cut}
+use Rattle.coap_store.proofs.Cuts.{cut-fits}
+use Rattle.coap_store.proofs.Keys.{same_key-itself}
+use Rattle.coap_store_lru.proofs.Recency.{same_key-flips}
+
+-- the last one stands after those before it
+last_by : {X : Type 0} (n : ℕ) (xs : List X) (x : X) → length xs ≡ suc n → slice_get xs n ≡ Some x → xs ≡ take n xs ++ x ∷ []
+last_by n [] x len is = absurd (omega (arith, len))
+last_by zero (y ∷ []) x len is = let same : y ≡ x = cc in ap (λ z. z ∷ []) same
+last_by zero (y ∷ z ∷ zs) x len is = absurd (omega (arith, len))
+last_by (suc n) (y ∷ ys) x len is = ap (λ l. y ∷ l) (last_by n ys x (omega (arith, len)) is)
+
+module _ {X : Type 0} (size : X → ℕ) where
+  -- what is within both limits is kept whole
+  pub cut-whole : (bytes count : ℕ) (xs : List X) → total size xs ≤ bytes → length xs ≤ count → cut size bytes count xs ≡ xs
+  cut-whole bytes count [] small few = refl
+  cut-whole bytes count (x ∷ xs) small few =
+      let sum = sum_by-cons size x xs in
+      let rest = cut-whole (bytes - size x) (count - 1) xs (omega (arith, small, sum)) (omega (arith, few)) in
+      rw (cut-fits size bytes count x xs (omega (arith, small, sum)) (omega (arith, few)), rest) refl
+
+  -- of what isn't within them the last one isn't kept
+  cut-without_last : (bytes count : ℕ) (xs : List X) (x : X) → (bytes < total size (xs ++ x ∷ [])) ⊎ (count < length (xs ++ x ∷ [])) → cut size bytes count (xs ++ x ∷ []) ≡ cut size bytes count xs
+  cut-without_last bytes count [] x (inl large) = rw (lt-leb (size x) bytes (omega (arith, large, sum_by-cons size x []))) refl
+  cut-without_last bytes count [] x (inr many) = go (nat_le (size x) bytes)
+    where
+      go : (b : Bool) → cond (b && nat_le 1 count) (x ∷ []) [] ≡ []
+      go true = rw (lt-leb 1 count (omega (arith, many))) refl
+      go false = refl
+  cut-without_last bytes count (y ∷ ys) x exceeds = go (nat_le (size y) bytes) (nat_le 1 count) refl refl (λ e. cut-without_last (bytes - size y) (count - 1) ys x e)
+    where
+      less : size y ≤ bytes → 1 ≤ count → (bytes < total size (y ∷ (ys ++ x ∷ []))) ⊎ (count < length (y ∷ (ys ++ x ∷ []))) → (bytes - size y < total size (ys ++ x ∷ [])) ⊎ (count - 1 < length (ys ++ x ∷ []))
+      less small some (inl large) = inl (omega (arith, small, large, sum_by-cons size y (ys ++ x ∷ [])))
+      less small some (inr many) = inr (omega (arith, some, many))
+
+      go : (a b : Bool) → nat_le (size y) bytes ≡ a → nat_le 1 count ≡ b
+          → ((bytes - size y < total size (ys ++ x ∷ [])) ⊎ (count - 1 < length (ys ++ x ∷ [])) → cut size (bytes - size y) (count - 1) (ys ++ x ∷ []) ≡ cut size (bytes - size y) (count - 1) ys)
+          → cond (a && b) (y ∷ cut size (bytes - size y) (count - 1) (ys ++ x ∷ [])) [] ≡ cond (a && b) (y ∷ cut size (bytes - size y) (count - 1) ys) []
+      go true true e f rest = ap (λ l. y ∷ l) (rest (less (leb-true (size y) bytes e) (leb-true 1 count f) exceeds))
+      go true false e f rest = refl
+      go false b e f rest = refl
+
+-- The last entry: those before it are the others.
+pub record IsLast (entries : List Entry) (x : Entry) : Type 0 where
+  pub found : of_key entry_key x.0 entries ≡ Some x
+  pub left : take (length entries - 1) entries ≡ others entry_key x.0 entries
+
+-- the last element passes what all pass
+last_passes : {X : Type 0} (p : X → Bool) (ys : List X) (x : X) → list_all p (ys ++ x ∷ []) ≡ true → p x ≡ true
+last_passes p [] x all = (and_parts (p x) true all).0
+last_passes p (y ∷ ys) x all = last_passes p ys x (and_parts (p y) (list_all p (ys ++ x ∷ [])) all).1
+
+-- it is found, and the others stand before it
+last_of : (ys : List Entry) (x : Entry) → are_distinct entry_key (ys ++ x ∷ []) ≡ true → (of_key entry_key x.0 (ys ++ x ∷ []) ≡ Some x) × (ys ≡ others entry_key x.0 (ys ++ x ∷ []))
+last_of [] x distinct = rw (same_key-itself x.0) (refl, refl)
+last_of (y ∷ ys) x distinct =
+    let parts = and_parts (list_all (has_other_key entry_key y.0) (ys ++ x ∷ [])) (are_distinct entry_key (ys ++ x ∷ [])) distinct in
+    let rest = last_of ys x parts.1 in
+    let apart : same_key y.0 x.0 ≡ false = same_key-flips y.0 x.0 ∙ not-true (same_key x.0 y.0) (last_passes (has_other_key entry_key y.0) ys x parts.0) in
+    rw apart (rest.0, ap (λ l. y ∷ l) rest.1)
+
+-- the entry at the last place is the last
+pub IsLast-of : (entries : List Entry) (x : Entry) → are_distinct entry_key entries ≡ true → slice_get entries (length entries - 1) ≡ Some x → IsLast entries x
+IsLast-of [] x distinct is = absurd cc
+IsLast-of (e ∷ es) x distinct is =
+    let n = length es in
+    let len : length (e ∷ es) - 1 ≡ n = omega arith in
+    let split : e ∷ es ≡ take n (e ∷ es) ++ x ∷ [] = last_by n (e ∷ es) x (omega arith) (subst (λ m. slice_get (e ∷ es) m ≡ Some x) len is) in
+    let last = last_of (take n (e ∷ es)) x (subst (λ l. are_distinct entry_key l ≡ true) split distinct) in
+    record {
+      found = subst (λ l. of_key entry_key x.0 l ≡ Some x) (sym split) last.0;
+      left = ap (λ m. take m (e ∷ es)) len ∙ last.1 ∙ ap (others entry_key x.0) (sym split);
+    }
+
+-- there is a last one
+has_last : {X : Type 0} (n : ℕ) (xs : List X) → length xs ≡ suc n → (x : X) × (slice_get xs n ≡ Some x)
+has_last n [] len = absurd (omega (arith, len))
+has_last zero (y ∷ ys) len = (y, refl)
+has_last (suc n) (y ∷ ys) len = has_last n ys (omega (arith, len))
+
+-- so too many entries are cut as they are without the last
+pub cut-taken : (bytes count : ℕ) (entries : List Entry) → (bytes < total entry_size entries) ⊎ (count < length entries) → cut entry_size bytes count (take (length entries - 1) entries) ≡ cut entry_size bytes count entries
+cut-taken bytes count [] exceeds = refl
+cut-taken bytes count (e ∷ es) exceeds =
+    let n = length es in
+    let len : length (e ∷ es) - 1 ≡ n = omega arith in
+    let ys = take n (e ∷ es) in
+    let last = has_last n (e ∷ es) (omega arith) in
+    let split : e ∷ es ≡ ys ++ last.0 ∷ [] = last_by n (e ∷ es) last.0 (omega arith) last.1 in
+    let shorter = cut-without_last entry_size bytes count ys last.0 (subst (λ l. (bytes < total entry_size l) ⊎ (count < length l)) split exceeds) in
+    ap (λ m. cut entry_size bytes count (take m (e ∷ es))) len ∙ sym shorter ∙ ap (cut entry_size bytes count) (sym split)
+
+-- too many entries are some, and fewer without the last
+pub fewer : (bytes count : ℕ) (entries : List Entry) → (bytes < total entry_size entries) ⊎ (count < length entries) → length (take (length entries - 1) entries) < length entries
+fewer bytes count [] (inl large) = absurd (omega (arith, large))
+fewer bytes count [] (inr many) = absurd (omega (arith, many))
+fewer bytes count (e ∷ es) exceeds = omega (arith, length-take (length (e ∷ es) - 1) (e ∷ es))
+
+-- where there is no last one, nothing is left out
+pub take-none : (entries : List Entry) → slice_get entries (length entries - 1) ≡ None → take (length entries - 1) entries ≡ entries
+take-none [] none = refl
+take-none (e ∷ es) none =
+    let n = length es in
+    let len : length (e ∷ es) - 1 ≡ n = omega arith in
+    let last = has_last n (e ∷ es) (omega arith) in
+    let some = sym (ap (slice_get (e ∷ es)) len ∙ last.1) ∙ none in
+    absurd (cc)
+
+-- a limit is exceeded
+pub exceeds-of : (bytes count : ℕ) (entries : List Entry) (counted : ℕ) → counted ≡ total entry_size entries → (nat_lt bytes counted || nat_lt count (length entries)) ≡ true → (bytes < total entry_size entries) ⊎ (count < length entries)
+exceeds-of bytes count entries counted are is = go (or_cases (nat_lt bytes counted) (nat_lt count (length entries)) is)
+  where
+    go : (nat_lt bytes counted ≡ true) ⊎ (nat_lt count (length entries) ≡ true) → (bytes < total entry_size entries) ⊎ (count < length entries)
+    go (inl large) = inl (omega (arith, are, ltb-true bytes counted large))
+    go (inr many) = inr (ltb-true count (length entries) many)
+
+-- or none is
+pub cut-kept : (bytes count : ℕ) (entries : List Entry) (counted : ℕ) → counted ≡ total entry_size entries → (nat_lt bytes counted || nat_lt count (length entries)) ≡ false → cut entry_size bytes count entries ≡ entries
+cut-kept bytes count entries counted are is =
+    let parts = or_parts (nat_lt bytes counted) (nat_lt count (length entries)) is in
+    cut-whole entry_size bytes count entries (omega (arith, are, ltb-false bytes counted parts.0)) (ltb-false count (length entries) parts.1)

@@ -1,0 +1,191 @@
+-- Entries as a recency map has them: it compares a key from the other side, and takes out the first entry that it finds.
+use Rattle.std.proofs.Common.{◌≡◌, ◌+◌, ◌-◌, ◌≤◌, is_some, length, take, ◌&&◌, ◌||◌, Bool, true, false, cond, not, List, [], ◌∷◌, Option, Some, None, refl, sym, ap, subst, ◌∙◌, arith}
+use Rattle.std.specs.List.{list_all}
+use Rattle.std.specs.Map.{lookup, lookup_entry, remove_entry}
+use Rattle.std.specs.Option.{option_map, option_map_or}
+use Rattle.std.proofs.lemmas.Bool.{and_parts}
+use Rattle.std.proofs.lemmas.List.Sums.{sum_by-cons}
+use Rattle.std.proofs.lemmas.List.{take_all}
+use Rattle.lru.specs.LruCache.{LruCache, promoted, put_entries}
+use Rattle.coap_store.specs.contracts.key.CacheKeyPartialEq.TheImpl as keys
+use Rattle.coap_store.specs.declared.key.CacheKey.{CacheKey}
+use Rattle.coap_store.specs.declared.stored.Stored.{Stored}
+use Rattle.coap_store.specs.Entries.{Entry, entry_key, entry_size, stored_for}
+use Rattle.coap_store_lru.specs.Indexing.{is_held}
+use Rattle.coap_store.specs.Keys.{same_key}
+use Rattle.coap_store.specs.Lists.{has_other_key, of_key, others, used, are_distinct, total}
+use Rattle.coap_store_lru.proofs.Alike.{key_eq}
+use Rattle.coap_store.proofs.Distinct.{of_key-key}
+use Rattle.coap_store.proofs.Found.{filter-all}
+use Rattle.coap_store.proofs.Keys.{same_key-itself, same_key-only}
+
+-- two keys compare alike from either side
+pub same_key-flips : (a b : CacheKey) → same_key a b ≡ same_key b a
+same_key-flips a b = go (same_key a b) (same_key b a) refl refl
+  where
+    go : (p q : Bool) → same_key a b ≡ p → same_key b a ≡ q → p ≡ q
+    go true true e f = refl
+    go false false e f = refl
+    go true false e f = sym (subst (λ x. same_key b x ≡ true) (sym (same_key-only a b e)) (same_key-itself b)) ∙ f
+    go false true e f = sym e ∙ subst (λ x. same_key a x ≡ true) (sym (same_key-only b a f)) (same_key-itself a)
+
+module _ (k : CacheKey) where
+  -- the entry that is found is that of the key
+  pub lookup_entry-is : (es : List Entry) → lookup_entry (same_key k) es ≡ of_key entry_key k es
+  lookup_entry-is [] = refl
+  lookup_entry-is (e ∷ es) = rw (same_key-flips k e.0, lookup_entry-is es) refl
+
+  -- and so is what is stored in it
+  pub lookup-is : (es : List Entry) → lookup (same_key k) es ≡ stored_for k es
+  lookup-is [] = refl
+  lookup-is (e ∷ es) = rw (same_key-flips k e.0, lookup-is es) (go (same_key e.0 k))
+    where
+      go : (b : Bool) → cond b (Some e.1) (stored_for k es) ≡ option_map (λ (x : Entry). x.1) (cond b (Some e) (of_key entry_key k es))
+      go true = refl
+      go false = refl
+
+  -- what stands after the entry of a key has other keys
+  rest-others : (e : Entry) (es : List Entry) → same_key e.0 k ≡ true → are_distinct entry_key (e ∷ es) ≡ true → others entry_key k es ≡ es
+  rest-others e es is distinct =
+      let parts = and_parts (list_all (has_other_key entry_key e.0) es) (are_distinct entry_key es) distinct in
+      filter-all (has_other_key entry_key k) es (subst (λ q. list_all (has_other_key entry_key q) es ≡ true) (same_key-only e.0 k is) parts.0)
+
+  -- what is left without it is the others
+  pub remove_entry-is : (es : List Entry) → are_distinct entry_key es ≡ true → remove_entry (same_key k) es ≡ others entry_key k es
+  remove_entry-is [] distinct = refl
+  remove_entry-is (e ∷ es) distinct =
+      let parts = and_parts (list_all (has_other_key entry_key e.0) es) (are_distinct entry_key es) distinct in
+      rw (same_key-flips k e.0) (go (same_key e.0 k) refl (remove_entry-is es parts.1))
+    where
+      go : (b : Bool) → same_key e.0 k ≡ b → remove_entry (same_key k) es ≡ others entry_key k es → cond b es (e ∷ remove_entry (same_key k) es) ≡ cond (not b) (e ∷ others entry_key k es) (others entry_key k es)
+      go true is rest = sym (rest-others e es is distinct)
+      go false is rest = ap (λ l. e ∷ l) rest
+
+  -- the entry of a key that is used goes to the front
+  pub promoted-is : (es : List Entry) → are_distinct entry_key es ≡ true → promoted (same_key k) es ≡ used entry_key k es
+  promoted-is es distinct = rw (lookup_entry-is es, remove_entry-is es distinct) refl
+
+  -- the entry of a key and the others count what all count
+  pub total-others : (es : List Entry) (x : Entry) → are_distinct entry_key es ≡ true → of_key entry_key k es ≡ Some x → total entry_size (others entry_key k es) + entry_size x ≡ total entry_size es
+  total-others [] x distinct found = absurd cc
+  total-others (e ∷ es) x distinct found =
+      let parts = and_parts (list_all (has_other_key entry_key e.0) es) (are_distinct entry_key es) distinct in
+      go (same_key e.0 k) refl (total-others es x parts.1) found
+    where
+      go : (b : Bool) → same_key e.0 k ≡ b → (of_key entry_key k es ≡ Some x → total entry_size (others entry_key k es) + entry_size x ≡ total entry_size es) → cond b (Some e) (of_key entry_key k es) ≡ Some x
+          → total entry_size (cond (not b) (e ∷ others entry_key k es) (others entry_key k es)) + entry_size x ≡ total entry_size (e ∷ es)
+      go true is rest f =
+          let same : e ≡ x = cc in
+          omega (arith, ap entry_size same, ap (total entry_size) (rest-others e es is distinct), sum_by-cons entry_size e es)
+      go false is rest f = omega (arith, rest f, sum_by-cons entry_size e es, sum_by-cons entry_size e (others entry_key k es))
+
+-- the others have each key but the one
+pub held-others : (k : CacheKey) (es : List Entry) (q : CacheKey) → is_held (others entry_key k es) q ≡ (not (same_key k q) && is_held es q)
+held-others k [] q = go (same_key k q)
+  where
+    go : (b : Bool) → false ≡ (not b && false)
+    go true = refl
+    go false = refl
+held-others k (e ∷ es) q = go (same_key e.0 k) (same_key k q) (same_key q e.0) refl refl refl (held-others k es q)
+  where
+    go : (b p r : Bool) → same_key e.0 k ≡ b → same_key k q ≡ p → same_key q e.0 ≡ r → is_held (others entry_key k es) q ≡ (not p && is_held es q)
+        → is_held (cond (not b) (e ∷ others entry_key k es) (others entry_key k es)) q ≡ (not p && (r || is_held es q))
+    go true true r is same at rest = rest
+    go true false true is same at rest =
+        let also : same_key k q ≡ true = subst (λ x. same_key x q ≡ true) (same_key-only e.0 k is) (same_key-flips e.0 q ∙ at) in
+        absurd (cc)
+    go true false false is same at rest = rest
+    go false true true is same at rest =
+        let also : same_key e.0 k ≡ true = subst (λ x. same_key e.0 x ≡ true) (sym (same_key-only k q same)) (same_key-flips e.0 q ∙ at) in
+        absurd (cc)
+    go false true false is same at rest = rw (at, rest) refl
+    go false false true is same at rest = rw at refl
+    go false false false is same at rest = rw (at, rest) refl
+
+-- an entry before the others adds its key
+pub held-front : (x : Entry) (es : List Entry) (q : CacheKey) → is_held (x ∷ others entry_key x.0 es) q ≡ (same_key x.0 q || is_held es q)
+held-front x es q = rw (held-others x.0 es q, same_key-flips q x.0) (go (same_key x.0 q) (is_held es q))
+  where
+    go : (p h : Bool) → (p || (not p && h)) ≡ (p || h)
+    go true h = refl
+    go false h = refl
+
+-- a key with an entry is held
+pub found-held : (k : CacheKey) (es : List Entry) (x : Entry) → of_key entry_key k es ≡ Some x → is_held es k ≡ true
+found-held k [] x found = absurd cc
+found-held k (e ∷ es) x found = rw (same_key-flips k e.0) (go (same_key e.0 k) (λ f. found-held k es x f) found)
+  where
+    go : (b : Bool) → (of_key entry_key k es ≡ Some x → is_held es k ≡ true) → cond b (Some e) (of_key entry_key k es) ≡ Some x → (b || is_held es k) ≡ true
+    go true rest f = refl
+    go false rest f = rest f
+
+-- and one without isn't
+pub none_held : (k : CacheKey) (es : List Entry) → of_key entry_key k es ≡ None → is_held es k ≡ false
+none_held k [] none = refl
+none_held k (e ∷ es) none = rw (same_key-flips k e.0) (go (same_key e.0 k) (λ f. none_held k es f) none)
+  where
+    go : (b : Bool) → (of_key entry_key k es ≡ None → is_held es k ≡ false) → cond b (Some e) (of_key entry_key k es) ≡ None → (b || is_held es k) ≡ false
+    go true rest f = absurd cc
+    go false rest f = rest f
+
+-- a use keeps the keys
+pub held-used : (k : CacheKey) (es : List Entry) (q : CacheKey) → is_held (used entry_key k es) q ≡ is_held es q
+held-used k es q = go (of_key entry_key k es) refl
+  where
+    again : (x : Entry) → of_key entry_key k es ≡ Some x → (p : Bool) → same_key k q ≡ p → (p || is_held es q) ≡ is_held es q
+    again x found true e = sym (subst (λ j. is_held es j ≡ true) (same_key-only k q e) (found-held k es x found))
+    again x found false e = refl
+
+    go : (found : Option Entry) → of_key entry_key k es ≡ found → is_held (option_map_or (λ x. x ∷ others entry_key k es) found es) q ≡ is_held es q
+    go None e = refl
+    go (Some x) e =
+        let key : x.0 ≡ k = of_key-key entry_key k es x e in
+        let front : is_held (x ∷ others entry_key k es) q ≡ (same_key k q || is_held es q) = subst (λ j. is_held (x ∷ others entry_key j es) q ≡ (same_key j q || is_held es q)) key (held-front x es q) in
+        front ∙ again x e (same_key k q) refl
+
+-- The map's own words, at the comparison that it has.
+module _ (k : CacheKey) (es : List Entry) where
+  pub peeked : lookup (keys.ghosts.eq k) es ≡ stored_for k es
+  peeked = ap (λ (eq : CacheKey → CacheKey → Bool). lookup (eq k) es) key_eq ∙ lookup-is k es
+
+  -- the entry that is found
+  pub popped : lookup_entry (keys.ghosts.eq k) es ≡ of_key entry_key k es
+  popped = ap (λ (eq : CacheKey → CacheKey → Bool). lookup_entry (eq k) es) key_eq ∙ lookup_entry-is k es
+
+  -- what is left after a removal
+  pub removed : are_distinct entry_key es ≡ true → remove_entry (keys.ghosts.eq k) es ≡ others entry_key k es
+  removed distinct = ap (λ (eq : CacheKey → CacheKey → Bool). remove_entry (eq k) es) key_eq ∙ remove_entry-is k es distinct
+
+  -- what a use leaves
+  pub moved : are_distinct entry_key es ≡ true → promoted (keys.ghosts.eq k) es ≡ used entry_key k es
+  moved distinct = ap (λ (eq : CacheKey → CacheKey → Bool). promoted (eq k) es) key_eq ∙ promoted-is k es distinct
+
+  -- nothing is stored for a key without an entry
+  pub none_stored : stored_for k es ≡ None → of_key entry_key k es ≡ None
+  none_stored = go (of_key entry_key k es)
+    where
+      go : (o : Option Entry) → option_map (λ (x : Entry). x.1) o ≡ None → o ≡ None
+      go None e = refl
+      go (Some x) e = absurd cc
+
+  -- what is stored for a key stands in its entry
+  pub some_stored : (s : Stored) → stored_for k es ≡ Some s → (x : Entry) × (of_key entry_key k es ≡ Some x) × (x.1 ≡ s)
+  some_stored s = go (of_key entry_key k es)
+    where
+      go : (o : Option Entry) → option_map (λ (x : Entry). x.1) o ≡ Some s → (x : Entry) × (o ≡ Some x) × (x.1 ≡ s)
+      go None e = absurd cc
+      go (Some x) e = (x, refl, cc)
+
+module _ (c : LruCache CacheKey Stored) (k : CacheKey) (v : Stored) where
+  -- a put in place of an entry
+  pub put-replaced : are_distinct entry_key c.entries ≡ true → is_some (stored_for k c.entries) ≡ true → put_entries keys.ghosts.eq c k v ≡ (k, v) ∷ others entry_key k c.entries
+  put-replaced distinct some = rw (popped k c.entries, removed k c.entries distinct) (go (of_key entry_key k c.entries) refl some)
+    where
+      go : (o : Option Entry) → of_key entry_key k c.entries ≡ o → is_some (option_map (λ (x : Entry). x.1) o) ≡ true
+          → option_map_or (λ (e : Entry). (e.0, v) ∷ others entry_key k c.entries) o ((k, v) ∷ take (c.cap - 1) c.entries) ≡ (k, v) ∷ others entry_key k c.entries
+      go None e some = absurd cc
+      go (Some x) e some = ap (λ j. (j, v) ∷ others entry_key k c.entries) (of_key-key entry_key k c.entries x e)
+
+  -- a put of another key
+  pub put-added : stored_for k c.entries ≡ None → length c.entries ≤ c.cap - 1 → put_entries keys.ghosts.eq c k v ≡ (k, v) ∷ c.entries
+  put-added none few = rw (popped k c.entries, none_stored k c.entries none, take_all (c.cap - 1) c.entries few) refl

@@ -1,0 +1,313 @@
+//! A store as a recency map.
+ghost use Rattle.std.specs.Prelude.{◌≡◌, ◌+◌, ◌<◌, ◌≤◌, ◌^◌, ◌-◌, ◌∷◌, None, Ok, true, is_some, OnOk, OnErr, length, take, map, nat_lt, ◌||◌};
+ghost use Rattle.std.specs.HashSet.{contains};
+ghost use Rattle.std.specs.List.{IsDistinct};
+ghost use Rattle.lru.specs.LruCache.{lru_cache};
+ghost use Rattle.coap_store.specs.Entries.{entry_key, entry_size, stored_for};
+ghost use Rattle.coap_store_lru.specs.Indexing.{AreThoseOf, marked_by};
+ghost use Rattle.coap_store.specs.Keys.{same_key};
+ghost use Rattle.coap_store.specs.Lists.{are_distinct, cut, of_key, others};
+ghost use Rattle.coap_store.specs.Sizes.{size_of};
+
+use crate::target_index::TargetIndex;
+use coap_endpoint::Target;
+use coap_message::OutOfMemory;
+use coap_store::{CacheKey, Put, Store, Stored, bytes_of};
+use lru::LruCache;
+use std::alloc::Global;
+use std::collections::HashSet;
+use std::hash::BuildHasher;
+
+/// A store that finds an entry by the hash of its key, and the keys of a target by the hash of
+/// that. Strangers choose both, so that the hasher is to have keys drawn at random, as
+/// `RandomState` has.
+pub struct LruStore<H: BuildHasher> {
+    recent: LruCache<CacheKey, Stored, H>,
+    total: u64,
+    index: TargetIndex<H>,
+    most_bytes: u64,
+    most_entries: usize,
+    ghost are_those: { AreThoseOf recent.entries total index.groups },
+    ghost unlimited: { recent.cap ≡ 2 ^ 64 - 1 },
+    ghost within_bytes: { total ≤ most_bytes },
+    ghost within_entries: { length recent.entries ≤ most_entries },
+    ghost small: { most_bytes < 2 ^ 63 },
+}
+
+impl<H: BuildHasher + Drop> Drop for LruStore<H> {
+    fn drop(self) {
+        let LruStore {
+            recent: _,
+            total: _,
+            index: _,
+            most_bytes: _,
+            most_entries: _,
+        } = self;
+    }
+}
+
+impl<H: BuildHasher + Copy> Store for LruStore<H> {
+    type Seed = H;
+
+    ghost limits = { λ s. record { bytes = s.most_bytes; entries = s.most_entries } };
+
+    ghost entries = { λ s. s.recent.entries };
+
+    fn with_limits(
+        alloc: Global,
+        seed: H,
+        most_bytes: u64,
+        most_entries: usize,
+    ) -> Result<LruStore<H>, OutOfMemory> {
+        Ok(LruStore {
+            recent: LruCache::unbounded_with_hasher(alloc, seed)?,
+            total: 0,
+            index: TargetIndex::new(alloc, seed),
+            most_bytes,
+            most_entries,
+        })
+    }
+
+    fn touch(&mut self, key: &CacheKey) {
+        self.recent.promote(key);
+    }
+
+    fn peek(&self, key: &CacheKey) -> Option<&Stored> {
+        self.recent.peek(key)
+    }
+
+    fn put(&mut self, key: CacheKey, stored: Stored) -> Put {
+        if bytes_of(&key, &stored) > self.most_bytes {
+            self.forget(&key);
+            return Put::TooLarge;
+        }
+        match put_first(
+            &mut self.recent,
+            &mut self.total,
+            &mut self.index,
+            key,
+            stored,
+        ) {
+            Ok(()) => {
+                cut_to(
+                    &mut self.recent,
+                    &mut self.total,
+                    &mut self.index,
+                    self.most_bytes,
+                    self.most_entries,
+                );
+                Put::Kept
+            }
+            Err(_) => Put::NoMemory,
+        }
+    }
+
+    fn mark(&mut self, target: &Target) -> usize {
+        match self.index.keys_of(target) {
+            Some(keys) => mark_keys(&mut self.recent, keys),
+            None => 0,
+        }
+    }
+
+    fn forget(&mut self, key: &CacheKey) -> bool {
+        take_out(&mut self.recent, &mut self.total, &mut self.index, key)
+    }
+
+    fn total(&self) -> u64 {
+        self.total
+    }
+
+    fn len(&self) -> usize {
+        self.recent.len()
+    }
+}
+
+/// Takes out the entry of a key and lets it go. Says whether there was one.
+fn take_out<H: BuildHasher + Copy>(
+    recent: &mut LruCache<CacheKey, Stored, H>,
+    total: &mut u64,
+    index: &mut TargetIndex<H>,
+    key: &CacheKey,
+) -> bool
+    requires { AreThoseOf recent.old.entries total.old index.old.groups }
+    ensures found { result ≡ is_some (of_key entry_key key.now recent.old.entries) }
+    ensures others { recent.new
+        ≡ lru_cache (others entry_key key.now recent.old.entries) recent.old.cap }
+    ensures those { AreThoseOf recent.new.entries total.new index.new.groups }
+{
+    match recent.pop_entry(key) {
+        Some((of, stored)) => {
+            index.remove(key);
+            *total -= bytes_of(&of, &stored);
+            true
+        }
+        None => false,
+    }
+}
+
+/// Puts an entry first, in place of the one of its key.
+fn put_first<H: BuildHasher + Copy>(
+    recent: &mut LruCache<CacheKey, Stored, H>,
+    total: &mut u64,
+    index: &mut TargetIndex<H>,
+    key: CacheKey,
+    stored: Stored,
+) -> Result<(), OutOfMemory>
+    requires those { AreThoseOf recent.old.entries total.old index.old.groups }
+    requires few { total.old < 2 ^ 63 }
+    requires small { size_of key stored < 2 ^ 63 }
+    requires unlimited { recent.old.cap ≡ 2 ^ 64 - 1 }
+    ensures ok { OnOk result
+        (recent.new
+        ≡ lru_cache ((key, stored) ∷ others entry_key key recent.old.entries) recent.old.cap) }
+    ensures err { OnErr result (recent.new ≡ recent.old) }
+    ensures err_total { OnErr result (total.new ≡ total.old) }
+    ensures err_new { OnErr result (of_key entry_key key recent.old.entries ≡ None) }
+    ensures those { AreThoseOf recent.new.entries total.new index.new.groups }
+{
+    match recent.peek(&key) {
+        Some(former) => {
+            let former = bytes_of(&key, former);
+            replace(recent, total, former, key, stored)
+        }
+        None => put_new(recent, total, index, key, stored),
+    }
+}
+
+/// Puts an entry in place of the one of its key, which counts `former` bytes. It takes no memory.
+fn replace<H: BuildHasher>(
+    recent: &mut LruCache<CacheKey, Stored, H>,
+    total: &mut u64,
+    former: u64,
+    key: CacheKey,
+    stored: Stored,
+) -> Result<(), OutOfMemory>
+    requires distinct { are_distinct entry_key recent.old.entries ≡ true }
+    requires found { is_some (stored_for key recent.old.entries) ≡ true }
+    requires within { former ≤ total.old }
+    requires few { total.old < 2 ^ 63 }
+    requires small { size_of key stored < 2 ^ 63 }
+    ensures done { result ≡ Ok tt }
+    ensures ok { recent.new
+        ≡ lru_cache ((key, stored) ∷ others entry_key key recent.old.entries) recent.old.cap }
+    ensures counted { total.new + former ≡ total.old + size_of key stored }
+{
+    let size = bytes_of(&key, &stored);
+    recent.put(key, stored)?;
+    *total = *total - former + size;
+    Ok(())
+}
+
+/// Puts an entry of another key first.
+fn put_new<H: BuildHasher + Copy>(
+    recent: &mut LruCache<CacheKey, Stored, H>,
+    total: &mut u64,
+    index: &mut TargetIndex<H>,
+    key: CacheKey,
+    stored: Stored,
+) -> Result<(), OutOfMemory>
+    requires those { AreThoseOf recent.old.entries total.old index.old.groups }
+    requires new { stored_for key recent.old.entries ≡ None }
+    requires few { total.old < 2 ^ 63 }
+    requires small { size_of key stored < 2 ^ 63 }
+    requires unlimited { recent.old.cap ≡ 2 ^ 64 - 1 }
+    ensures ok { OnOk result
+        (recent.new ≡ lru_cache ((key, stored) ∷ recent.old.entries) recent.old.cap) }
+    ensures err { OnErr result (recent.new ≡ recent.old) }
+    ensures err_total { OnErr result (total.new ≡ total.old) }
+    ensures those { AreThoseOf recent.new.entries total.new index.new.groups }
+{
+    let _few = recent.len();
+    let size = bytes_of(&key, &stored);
+    index.insert(&key)?;
+    match recent.put(key, stored) {
+        Ok(_) => {
+            *total += size;
+            Ok(())
+        }
+        Err(refused) => {
+            index.remove(&refused.value.0);
+            Err(OutOfMemory)
+        }
+    }
+}
+
+/// Gives up the least recently used entries until the rest keeps within the limits.
+fn cut_to<H: BuildHasher + Copy>(
+    recent: &mut LruCache<CacheKey, Stored, H>,
+    total: &mut u64,
+    index: &mut TargetIndex<H>,
+    bytes: u64,
+    most: usize,
+)
+    requires { AreThoseOf recent.old.entries total.old index.old.groups }
+    ensures kept { recent.new
+        ≡ lru_cache (cut entry_size bytes most recent.old.entries) recent.old.cap }
+    ensures those { AreThoseOf recent.new.entries total.new index.new.groups }
+{
+    'over: while is_over(recent, *total, bytes, most) {
+        take_last(recent, total, index);
+    }
+}
+
+/// Whether entries that count so many bytes exceed a limit.
+fn is_over<H: BuildHasher>(
+    recent: &LruCache<CacheKey, Stored, H>,
+    total: u64,
+    bytes: u64,
+    most: usize,
+) -> bool
+    ensures { result ≡ (nat_lt bytes total || nat_lt most (length recent.now.entries)) }
+{
+    total > bytes || recent.len() > most
+}
+
+/// Gives up the least recently used entry, if there is one.
+fn take_last<H: BuildHasher + Copy>(
+    recent: &mut LruCache<CacheKey, Stored, H>,
+    total: &mut u64,
+    index: &mut TargetIndex<H>,
+)
+    requires { AreThoseOf recent.old.entries total.old index.old.groups }
+    ensures left { recent.new
+        ≡ lru_cache (take (length recent.old.entries - 1) recent.old.entries) recent.old.cap }
+    ensures those { AreThoseOf recent.new.entries total.new index.new.groups }
+{
+    match recent.pop_lru() {
+        Some((key, stored)) => {
+            index.remove(&key);
+            *total -= bytes_of(&key, &stored);
+        }
+        None => {}
+    }
+}
+
+/// Marks the entries of some keys, and counts the keys.
+fn mark_keys<H: BuildHasher>(
+    recent: &mut LruCache<CacheKey, Stored, H>,
+    keys: &HashSet<CacheKey, H>,
+) -> usize
+    requires { are_distinct entry_key recent.old.entries ≡ true }
+    ensures marked { recent.new
+        ≡ lru_cache (map (marked_by (contains same_key keys.now)) recent.old.entries)
+        recent.old.cap }
+    ensures counted { result ≡ length keys.now.keys }
+    ensures distinct { IsDistinct same_key keys.now.keys }
+{
+    for key in keys {
+        mark_key(recent, key);
+    }
+    keys.len()
+}
+
+/// Marks the entry of a key, if there is one.
+fn mark_key<H: BuildHasher>(recent: &mut LruCache<CacheKey, Stored, H>, key: &CacheKey)
+    requires { are_distinct entry_key recent.old.entries ≡ true }
+    ensures { recent.new
+        ≡ lru_cache (map (marked_by (λ k. same_key k key.now)) recent.old.entries) recent.old.cap }
+{
+    match recent.peek_mut(key) {
+        Some(stored) => stored.marked = true,
+        None => {}
+    }
+}

@@ -1,0 +1,113 @@
+-- The target of a request is a target: its parts fit options.
+use Rattle.std.proofs.Common.{◌≡◌, ◌==◌, ◌&&◌, ℕ, ◌≤◌, Bool, true, false, cond, List, [], ◌∷◌, length, map, Option, Some, None, option_map, Result, Ok, Err, ok_or, refl, sym, subst}
+use Rattle.std.specs.Char.{to_ascii_lowercase}
+use Rattle.std.specs.List.{AllByRecursion}
+use Rattle.std.specs.Str.{is_utf8}
+use Rattle.std.proofs.lemmas.Bool.{and_parts, le-leb}
+use Rattle.std.proofs.lemmas.List.{length-map}
+use Rattle.coap_message.specs.Message.{Message}
+use Rattle.coap_option.specs.declared.side.Side.TheVariants.{Request}
+use Rattle.coap_option.specs.Screening.{first_refused}
+use Rattle.coap_endpoint.specs.declared.endpoint.Ip.{Ip}
+use Rattle.coap_target.specs.declared.error.TargetError.{TargetError}
+use Rattle.coap_target.specs.declared.error.TargetError.TheVariants.{BadUri, NotProxied, NotFound}
+use Rattle.coap_uri.specs.declared.error.UriError.{UriError}
+use Rattle.coap_uri.specs.declared.error.UriError.TheVariants as uri_error
+use Rattle.coap_target.specs.declared.map.Map.{Map}
+use Rattle.coap_target.specs.declared.routes.Routes.{Routes}
+use Rattle.coap_endpoint.specs.declared.target.Target.{Target}
+use Rattle.coap_uri.specs.declared.uri.HostPart.{HostPart}
+use Rattle.coap_uri.specs.declared.uri.UriParts.{UriParts}
+use Rattle.coap_uri.specs.Address.{ip_of}
+use Rattle.coap_target.specs.Hosts.{is_own}
+use Rattle.coap_target.specs.Request.{value_of, port_of, local, remote, resolved, of_uri, by_uri, composed, is_coap, by_scheme, if_any, by_options, request_target}
+use Rattle.coap_target.specs.Routes.{path_of, query_of, map_of, mapped, mapped_target, AreRoutes}
+use Rattle.coap_endpoint.specs.Target.{IsShort, IsTarget}
+use Rattle.coap_uri.specs.Uri.{is_short, is_short_host, are_short, host_or, host_of, uri_of}
+use Rattle.std.specs.List.{list_all}
+use Rattle.coap_target.proofs.Origins.{All-list_all, uri_of-short, target_at_host-is}
+use Rattle.coap_target.proofs.Screened.{path_of-short, uri_host-short, query_of-short}
+use Rattle.coap_target.proofs.Targets.{All-map_of, mapped-is}
+
+module _ (routes : Routes) (are : AreRoutes routes) (t : Target) where
+  -- what a request to the proxy itself is mapped to
+  local-is : (path query : List (List ℕ)) → AllByRecursion IsShort path → AllByRecursion IsShort query → local routes path query ≡ Ok t → IsTarget t
+  local-is path query of_path of_query e = go (map_of routes.maps path) refl e
+    where
+      go : (o : Option Map) → map_of routes.maps path ≡ o → ok_or (option_map (mapped path query) o) NotFound ≡ Ok t → IsTarget t
+      go None found f = absurd cc
+      go (Some n) found f =
+          let same : mapped path query n ≡ t = cc in
+          subst IsTarget same (mapped-is path query n (All-map_of (λ k. IsTarget k.origin) routes.maps path n are found) of_path of_query)
+
+  -- what a URI of short parts leads to
+  resolved-is : (uri : UriParts) → is_short_host uri.host ≡ true → AllByRecursion IsShort uri.path → AllByRecursion IsShort uri.query → resolved routes uri ≡ Ok t → IsTarget t
+  resolved-is uri host path query e = go (is_own routes.names uri.host) e
+    where
+      go : (b : Bool) → cond b (local routes uri.path uri.query) (remote routes.hosts uri) ≡ Ok t → IsTarget t
+      go true f = local-is uri.path uri.query path query f
+      go false f = target_at_host-is routes.hosts uri t path query uri.host host f
+
+  -- what a URI that was read leads to
+  of_uri-is : (r : Result UriParts UriError) → ((uri : UriParts) → r ≡ Ok uri → are_short uri ≡ true) → of_uri routes r ≡ Ok t → IsTarget t
+  of_uri-is (Ok uri) short e =
+      let host = and_parts (is_short_host uri.host) (list_all is_short uri.path && list_all is_short uri.query) (short uri refl) in
+      let rest = and_parts (list_all is_short uri.path) (list_all is_short uri.query) host.1 in
+      resolved-is uri host.0 (All-list_all uri.path rest.0) (All-list_all uri.query rest.1) e
+  of_uri-is (Err uri_error.Bad) short e = absurd cc
+  of_uri-is (Err uri_error.Scheme) short e = absurd cc
+  of_uri-is (Err uri_error.OutOfMemory) short e = absurd cc
+
+  -- what a Proxy-Uri leads to
+  by_uri-is : (text : List ℕ) → by_uri routes text ≡ Ok t → IsTarget t
+  unfolding by_uri
+  by_uri-is text e = go (is_utf8 text) e
+    where
+      go : (b : Bool) → cond b (of_uri routes (uri_of text)) (Err BadUri) ≡ Ok t → IsTarget t
+      go true f = of_uri-is (uri_of text) (uri_of-short text) f
+      go false f = absurd cc
+
+  -- a host that stands alone is as long as it is written
+  host_or-short : (ip : Option Ip) (lower : List ℕ) → length lower ≤ 255 → is_short_host (host_or ip lower) ≡ true
+  host_or-short None lower short = le-leb (length lower) 255 short
+  host_or-short (Some ip) lower short = refl
+
+  module _ (m : Message) (screened : first_refused Request m.options ≡ None) where
+    -- what the Uri options lead to
+    composed-is : (host : Option (List ℕ)) → value_of 3 m ≡ host → composed routes m host ≡ Ok t → IsTarget t
+    composed-is None at e = local-is (path_of m) (query_of m) (path_of-short m screened) (query_of-short m screened) e
+    composed-is (Some host) at e =
+        let lower : List ℕ = map to_ascii_lowercase host in
+        let short : length lower ≤ 255 = rw length-map (uri_host-short m host screened (sym at)) in
+        resolved-is (record { host = host_of host; port = port_of m; path = path_of m; query = query_of m }) (host_or-short (ip_of lower) lower short) (path_of-short m screened) (query_of-short m screened) e
+
+    -- what a Proxy-Scheme leads to
+    by_scheme-is : (scheme : List ℕ) → by_scheme routes m scheme ≡ Ok t → IsTarget t
+    unfolding by_scheme
+    by_scheme-is scheme e = go (is_coap scheme) (port_of m == 0) e
+      where
+        go : (b z : Bool) → cond b (cond z (Err BadUri) (composed routes m (value_of 3 m))) (Err NotProxied) ≡ Ok t → IsTarget t
+        go true true f = absurd cc
+        go true false f = composed-is (value_of 3 m) refl f
+        go false z f = absurd cc
+
+    -- a proxy that gives a target has own names
+    if_any-ok : (names : List HostPart) (r : Result Target TargetError) → if_any names r ≡ Ok t → r ≡ Ok t
+    if_any-ok [] r f = absurd cc
+    if_any-ok (name ∷ names) r f = f
+
+    -- in each case
+    by_options-is : (uri scheme : Option (List ℕ)) → by_options routes m uri scheme ≡ Ok t → IsTarget t
+    by_options-is None None e = local-is (path_of m) (query_of m) (path_of-short m screened) (query_of-short m screened) e
+    by_options-is None (Some scheme) e = by_scheme-is scheme (if_any-ok routes.names (by_scheme routes m scheme) e)
+    by_options-is (Some uri) scheme e = by_uri-is uri (if_any-ok routes.names (by_uri routes uri) e)
+
+-- the target of a request that was screened is a target
+pub request_target-is : (routes : Routes) (m : Message) (t : Target) → AreRoutes routes → first_refused Request m.options ≡ None → request_target routes m ≡ Ok t → IsTarget t
+unfolding request_target
+request_target-is routes m t are screened e = by_options-is routes are t m screened (value_of 35 m) (value_of 39 m) e
+
+-- that of a request without proxy options is the mapped one
+pub request_target-mapped : (routes : Routes) (m : Message) → value_of 35 m ≡ None → value_of 39 m ≡ None → request_target routes m ≡ ok_or (mapped_target routes m) NotFound
+unfolding request_target mapped_target
+request_target-mapped routes m uri scheme = rw (uri, scheme) refl

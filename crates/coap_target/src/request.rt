@@ -1,0 +1,283 @@
+//! The target of a request (RFC 7252, 5.7.2, 5.7.3, 5.10.1 and 5.10.2).
+ghost use Rattle.std.specs.Prelude.{◌≡◌, None, IfOk, OnOk, option_map};
+ghost use Rattle.std.specs.Option.{option_copied};
+ghost use Rattle.coap_option.specs.declared.side.Side.{Side};
+ghost use Rattle.coap_option.specs.Screening.{first_refused};
+ghost use Rattle.coap_uri.specs.Answer.{Answers};
+ghost use Rattle.coap_target.specs.Hosts as names;
+ghost use Rattle.coap_target.specs.Request as spec;
+ghost use Rattle.coap_target.specs.MappedTarget.{seen};
+ghost use Rattle.coap_target.specs.Routes.{AreRoutes, mapped, mapped_target, path_of, query_of};
+ghost use Rattle.coap_target.specs.declared.error.TargetError.TheVariants as errors;
+
+use crate::error::TargetError;
+use crate::map::{KnownHost, Map};
+use crate::mapped::MappedTarget;
+use crate::options::Values;
+use crate::routes::{Routes, map_of};
+use crate::segment::{Segments, append, copies, joined, skip};
+use coap_endpoint::{Endpoint, Ip, Target};
+use coap_message::{MessageRef, OutOfMemory, Seq, uint};
+use coap_option::numbers;
+use coap_uri::{DEFAULT_PORT, HostPart, UriError, UriParts, read_host, split_uri};
+use std::alloc::Global;
+
+/// The value of the first option of a number.
+fn value_of<'a>(request: &MessageRef<'a>, number: u16) -> Option<&'a [u8]>
+    ensures { option_copied result ≡ spec.value_of number request.now }
+{
+    let mut values = Values::of(&request.options, number);
+    values.next()
+}
+
+/// A copy of a host, if there is one.
+fn copy_of(alloc: Global, host: &Option<Seq<u8>>) -> Result<Option<Seq<u8>>, OutOfMemory>
+    ensures { IfOk result (λ copy. copy ≡ host.now) }
+{
+    match host {
+        Some(name) => Ok(Some(Seq::from_slice(alloc, name.as_slice())?)),
+        None => Ok(None),
+    }
+}
+
+/// Puts a copy of a host in place of another.
+fn copy_host(
+    alloc: Global,
+    host: &Option<Seq<u8>>,
+    copy: &mut Option<Seq<u8>>,
+) -> Result<(), OutOfMemory>
+    ensures { OnOk result (copy.new ≡ host.now) }
+{
+    if let (Some(name), Some(copy)) = (host, &mut *copy) {
+        copy.clear();
+        return copy.append(name.as_slice());
+    }
+    *copy = copy_of(alloc, host)?;
+    Ok(())
+}
+
+/// The origin's path followed by what stands after the map's prefix, and the query.
+fn mapped<'a, P: Segments<'a>>(
+    alloc: Global,
+    map: &Map,
+    path: P,
+    query: P,
+) -> Result<Target, OutOfMemory>
+    ensures { IfOk result (λ target. target ≡ mapped (P.left path) (P.left query) map.now) }
+{
+    let origin = &map.origin;
+    let mut rest = path;
+    skip(&mut rest, map.prefix.len());
+    Ok(Target {
+        host: copy_of(alloc, &origin.host)?,
+        at: origin.at,
+        path: joined(alloc, &origin.path, rest)?,
+        query: copies(alloc, query)?,
+    })
+}
+
+impl MappedTarget<'_, '_> {
+    /// Puts a copy in place of a target, whose room is used again. An `Err` is for want of memory:
+    /// then the target holds parts of both.
+    pub fn copy_to(&self, alloc: Global, target: &mut Target) -> Result<(), OutOfMemory>
+        ensures { OnOk result (target.new ≡ seen self.now) }
+    {
+        copy_host(alloc, &self.origin.host, &mut target.host)?;
+        target.at = self.origin.at;
+        target.path.clear();
+        append(&mut target.path, self.origin.path.iter())?;
+        append(&mut target.path, self.rest.again())?;
+        target.query.clear();
+        append(&mut target.query, self.query.again())
+    }
+}
+
+/// The port that Uri-Port says.
+fn port_of(request: &MessageRef<'_>) -> u16
+    requires { first_refused Side.Request request.now.options ≡ None }
+    ensures { result ≡ spec.port_of request.now }
+{
+    match value_of(request, numbers::URI_PORT) {
+        Some(value) => uint(value) as u16,
+        None => DEFAULT_PORT,
+    }
+}
+
+/// The address of the first host of a name.
+fn address_of(hosts: &[KnownHost], name: &Seq<u8>) -> Option<Ip>
+    ensures { result ≡ names.address_of hosts.now name.now }
+{
+    let host = hosts
+        .iter()
+        .find(|host| host.name.as_slice() == name.as_slice())?;
+    Some(host.ip)
+}
+
+/// The target of a request for a URI whose host is no own name.
+pub(crate) fn remote(hosts: &[KnownHost], uri: UriParts) -> Result<Target, TargetError>
+    ensures { result ≡ spec.remote hosts.now uri }
+{
+    let UriParts {
+        host,
+        port,
+        path,
+        query,
+    } = uri;
+    let (host, ip) = match host {
+        HostPart::Addr(ip) => (None, ip),
+        HostPart::Name(name) => match address_of(hosts, &name) {
+            Some(ip) => (Some(name), ip),
+            None => return Err(TargetError::NotProxied),
+        },
+    };
+    Ok(Target {
+        host,
+        at: Endpoint { ip, port },
+        path,
+        query,
+    })
+}
+
+/// The Uri-Path options of a request (RFC 7252, 5.10.1).
+fn path_of<'a>(request: &MessageRef<'a>) -> Values<'a>
+    ensures { result ≡ path_of request.now }
+{
+    Values::of(&request.options, numbers::URI_PATH)
+}
+
+/// The Uri-Query options of a request (RFC 7252, 5.10.1).
+fn query_of<'a>(request: &MessageRef<'a>) -> Values<'a>
+    ensures { result ≡ query_of request.now }
+{
+    Values::of(&request.options, numbers::URI_QUERY)
+}
+
+/// Whether a scheme is `coap`, in either case (RFC 3986, 3.1).
+fn is_coap(scheme: &[u8]) -> bool
+    ensures { result ≡ spec.is_coap scheme.now }
+{
+    scheme.eq_ignore_ascii_case(b"coap")
+}
+
+impl Routes {
+    /// What a request to the proxy itself is mapped to, if one of the maps has its path (RFC 7252,
+    /// 5.7.3). Nothing is copied, so that it takes no memory.
+    #[tactic(auto, unfolding(crate::specs::Routes::mapped_target))]
+    pub fn mapped<'m, 'a>(&'m self, request: &MessageRef<'a>) -> Option<MappedTarget<'m, 'a>>
+        ensures exact { option_map seen result ≡ mapped_target self.now request.now }
+        ensures sound { AreRoutes self.now }
+    {
+        let mut path = path_of(request);
+        let map = map_of(self.maps.as_slice(), &path)?;
+        skip(&mut path, map.prefix.len());
+        Some(MappedTarget {
+            origin: &map.origin,
+            rest: path,
+            query: query_of(request),
+        })
+    }
+
+    /// The target of a request to the proxy itself.
+    fn local<'a, P: Segments<'a>>(
+        &self,
+        alloc: Global,
+        path: P,
+        query: P,
+    ) -> Result<Target, TargetError>
+        ensures { Answers errors.OutOfMemory result
+            (spec.local self.now (P.left path) (P.left query)) }
+    {
+        match map_of(self.maps.as_slice(), &path) {
+            Some(map) => Ok(mapped(alloc, map, path, query)?),
+            None => Err(TargetError::NotFound),
+        }
+    }
+
+    /// Whether a host is one of the own names.
+    fn is_own(&self, host: &HostPart) -> bool
+        ensures { result ≡ names.is_own self.now.names host.now }
+    {
+        self.names.as_slice().iter().any(|name| name.is(host))
+    }
+
+    /// The target of a request for a URI.
+    fn resolved(&self, alloc: Global, uri: UriParts) -> Result<Target, TargetError>
+        ensures { Answers errors.OutOfMemory result (spec.resolved self.now uri) }
+    {
+        if self.is_own(&uri.host) {
+            self.local(alloc, uri.path.iter(), uri.query.iter())
+        } else {
+            remote(self.hosts.as_slice(), uri)
+        }
+    }
+
+    /// The target of a request with a Proxy-Uri.
+    #[tactic(auto, unfolding(crate::specs::Request::by_uri))]
+    fn by_uri(&self, alloc: Global, text: &[u8]) -> Result<Target, TargetError>
+        ensures { Answers errors.OutOfMemory result (spec.by_uri self.now text.now) }
+    {
+        let Ok(text) = str::from_utf8(text) else {
+            return Err(TargetError::BadUri);
+        };
+        match split_uri(alloc, text) {
+            Ok(uri) => self.resolved(alloc, uri),
+            Err(UriError::Bad) => Err(TargetError::BadUri),
+            Err(UriError::Scheme) => Err(TargetError::NotProxied),
+            Err(UriError::OutOfMemory) => Err(TargetError::OutOfMemory),
+        }
+    }
+
+    /// The target of a request with a Proxy-Scheme and no Proxy-Uri.
+    #[tactic(auto, unfolding(crate::specs::Request::by_scheme))]
+    fn by_scheme(
+        &self,
+        alloc: Global,
+        request: &MessageRef<'_>,
+        scheme: &[u8],
+    ) -> Result<Target, TargetError>
+        requires { first_refused Side.Request request.now.options ≡ None }
+        ensures { Answers errors.OutOfMemory result
+            (spec.by_scheme self.now request.now scheme.now) }
+    {
+        if !is_coap(scheme) {
+            return Err(TargetError::NotProxied);
+        }
+        let port = port_of(request);
+        if port == 0 {
+            return Err(TargetError::BadUri);
+        }
+        let Some(host) = value_of(request, numbers::URI_HOST) else {
+            return self.local(alloc, path_of(request), query_of(request));
+        };
+        let uri = UriParts {
+            host: read_host(alloc, host)?,
+            port,
+            path: copies(alloc, path_of(request))?,
+            query: copies(alloc, query_of(request))?,
+        };
+        self.resolved(alloc, uri)
+    }
+
+    /// The target of a request that passed screening (RFC 7252, 5.7.2 and 5.7.3): by its Proxy-Uri,
+    /// else by its Proxy-Scheme and its Uri options, else by the maps. A host that is an own name
+    /// makes it a request to the proxy itself, which is mapped too.
+    ///
+    /// `BadUri` where the Proxy-Uri is no URI that can be carried, or the Uri-Port is 0;
+    /// `NotProxied` where there are no own names, or the scheme or the host is not served;
+    /// `NotFound` where no map has the path of a request to the proxy itself.
+    #[tactic(auto, unfolding(crate::specs::Request::request_target))]
+    pub fn target_of(&self, alloc: Global, request: &MessageRef<'_>) -> Result<Target, TargetError>
+        requires { first_refused Side.Request request.now.options ≡ None }
+        ensures { Answers errors.OutOfMemory result (spec.request_target self.now request.now) }
+    {
+        match (
+            value_of(request, numbers::PROXY_URI),
+            value_of(request, numbers::PROXY_SCHEME),
+        ) {
+            (None, None) => self.local(alloc, path_of(request), query_of(request)),
+            _ if self.names.is_empty() => Err(TargetError::NotProxied),
+            (Some(uri), _) => self.by_uri(alloc, uri),
+            (None, Some(scheme)) => self.by_scheme(alloc, request, scheme),
+        }
+    }
+}

@@ -1,0 +1,109 @@
+//! Routes: the own names of a proxy, the hosts that it knows, and the origins that its paths are
+//! mapped to (RFC 7252, 5.7.2 and 5.7.3).
+ghost use Rattle.std.specs.Prelude.{◌≡◌, IfOk};
+ghost use Rattle.std.specs.Option.{option_copied};
+ghost use Rattle.coap_target.specs.Routes as spec;
+
+use crate::map::{KnownHost, Map};
+use crate::segment::{Segments, begins};
+use coap_endpoint::{Endpoint, Ip, Target};
+use coap_message::{OutOfMemory, Pieces, Seq};
+use coap_uri::HostPart;
+use std::alloc::Global;
+use std::marker::Model;
+
+/// The routes of a proxy: its own names, the addresses of hosts, and its maps, each in the order in
+/// which it was handed in. A contract sees the three lists. The origins of the maps are targets:
+/// host, segments and parts of the query have at most 255 bytes each.
+pub struct Routes {
+    pub(crate) names: Seq<HostPart>,
+    pub(crate) hosts: Seq<KnownHost>,
+    pub(crate) maps: Seq<Map>,
+}
+
+impl Drop for Routes {
+    fn drop(self) {
+        let Routes {
+            names: _,
+            hosts: _,
+            maps: _,
+        } = self;
+    }
+}
+
+impl Model for Routes {
+    ghost use Rattle.coap_target.specs.RouteLists.{RouteLists, HaveTargets};
+
+    ghost Value = { RouteLists };
+
+    ghost use Rattle.coap_target.specs.RoutesView.{seen, kept};
+
+    ghost view = { seen };
+
+    ghost invariant = { λ routes. HaveTargets routes.maps };
+
+    ghost inverse = { kept };
+}
+
+impl Routes {
+    ghost use Rattle.coap_target.specs.Routes.{fixed_routes, AreRoutes};
+
+    /// The maps, in order.
+    pub fn maps(&self) -> &[Map]
+        ensures maps { result.now ≡ self.now.maps }
+        ensures sound { AreRoutes self.now }
+    {
+        self.maps.as_slice()
+    }
+
+    /// The path `t` is mapped to `coap://127.0.0.1:5690/temp`.
+    pub fn fixed(alloc: Global) -> Result<Routes, OutOfMemory>
+        ensures { IfOk result (λ routes. routes ≡ fixed_routes) }
+    {
+        let mut prefix = Pieces::new(alloc);
+        prefix.push(b"t")?;
+        let mut path = Pieces::new(alloc);
+        path.push(b"temp")?;
+        let at = Endpoint {
+            ip: Ip::V4([127, 0, 0, 1]),
+            port: 5690,
+        };
+        let origin = Target {
+            host: None,
+            at,
+            path,
+            query: Pieces::new(alloc),
+        };
+        let mut maps = Seq::new(alloc);
+        maps.push(Map { prefix, origin })?;
+        Ok(Routes {
+            names: Seq::new(alloc),
+            hosts: Seq::new(alloc),
+            maps,
+        })
+    }
+}
+
+/// The map of a path: among those whose prefix begins it the one with the longest, then the
+/// earliest.
+pub(crate) fn map_of<'m, 'a, P: Segments<'a>>(maps: &'m [Map], path: &P) -> Option<&'m Map>
+    ensures { option_copied result ≡ spec.map_of maps.entry.now (P.left path.now) }
+{
+    let mut best: Option<&Map> = None;
+    for map in maps {
+        if is_longer(map, best) && begins(&map.prefix, path.again()) {
+            best = Some(map);
+        }
+    }
+    best
+}
+
+/// Whether a map's prefix is longer than that of the best so far.
+fn is_longer(map: &Map, best: Option<&Map>) -> bool
+    ensures { result ≡ spec.is_longer map.now (option_copied best.entry) }
+{
+    match best {
+        Some(best) => best.prefix.len() < map.prefix.len(),
+        None => true,
+    }
+}

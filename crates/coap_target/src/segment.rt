@@ -1,0 +1,119 @@
+//! Segments of paths and parts of queries, wherever they are kept.
+ghost use Rattle.std.specs.Prelude.{◌≡◌, ◌++◌, ◌∷◌, [], IfOk, MatchOption, OnOk, drop as drop_list};
+ghost use Rattle.coap_target.specs.Routes as spec;
+
+use crate::options::Values;
+use coap_message::{OutOfMemory, PieceRefs, Pieces};
+use std::alloc::Global;
+
+/// Segments of a path, or parts of a query, that are left. A contract sees the list.
+pub trait Segments<'a>: Drop {
+    ghost use Rattle.std.specs.Prelude.{ℕ, List};
+
+    ghost left: { Self → List (List ℕ) };
+
+    /// The next one.
+    fn next_segment(&mut self) -> Option<&'a [u8]>
+        ensures { MatchOption result ((left self.old ≡ []) × (left self.new ≡ [])) (λ s.
+            left self.old ≡ s.now ∷ left self.new) };
+
+    /// The same ones once more.
+    fn again(&self) -> Self
+        ensures { left result ≡ left self.now };
+}
+
+impl<'a> Segments<'a> for PieceRefs<'a> {
+    ghost left = { λ pieces. pieces };
+
+    fn next_segment(&mut self) -> Option<&'a [u8]> {
+        self.next()
+    }
+
+    fn again(&self) -> PieceRefs<'a> {
+        self.again()
+    }
+}
+
+/// Options' values (RFC 7252, 5.10.1).
+impl<'a> Segments<'a> for Values<'a> {
+    ghost left = { λ values. values };
+
+    fn next_segment(&mut self) -> Option<&'a [u8]> {
+        self.next()
+    }
+
+    fn again(&self) -> Values<'a> {
+        self.again()
+    }
+}
+
+/// Whether a path begins with the segments of a prefix.
+pub(crate) fn begins<'a, P: Segments<'a>>(prefix: &Pieces, path: P) -> bool
+    ensures { result ≡ spec.begins prefix.now (P.left path) }
+{
+    let mut path = path;
+    for segment in prefix.iter() {
+        let Some(other) = path.next_segment() else {
+            return false;
+        };
+        if segment != other {
+            return false;
+        }
+    }
+    true
+}
+
+/// Passes so many segments.
+pub(crate) fn skip<'a, P: Segments<'a>>(path: &mut P, count: usize)
+    ensures { P.left path.new ≡ drop_list count (P.left path.old) }
+{
+    for index in 0..count {
+        let _index = index;
+        let _passed = path.next_segment();
+    }
+}
+
+/// Adds copies of segments at the end.
+pub(crate) fn append<'a, P: Segments<'a>>(list: &mut Pieces, segments: P) -> Result<(), OutOfMemory>
+    ensures { OnOk result (list.new ≡ list.old ++ P.left segments) }
+{
+    let mut segments = segments;
+    'segments: while let Some(segment) = segments.next_segment() {
+        list.push(segment)?;
+    }
+    Ok(())
+}
+
+/// How many bytes copies of segments take, as `Pieces` keeps them.
+fn size_of<'a, P: Segments<'a>>(segments: P) -> usize {
+    let mut segments = segments;
+    let mut size = 0usize;
+    'segments: while let Some(segment) = segments.next_segment() {
+        size = size.saturating_add(Pieces::size_of(segment));
+    }
+    size
+}
+
+/// Copies of segments, in no more room than they need.
+pub(crate) fn copies<'a, P: Segments<'a>>(alloc: Global, segments: P) -> Result<Pieces, OutOfMemory>
+    ensures { IfOk result (λ copies. copies ≡ P.left segments) }
+{
+    let mut copies = Pieces::with_room(alloc, size_of(segments.again()))?;
+    append(&mut copies, segments)?;
+    Ok(copies)
+}
+
+/// Pieces and copies of segments after them, in no more room than they need.
+pub(crate) fn joined<'a, P: Segments<'a>>(
+    alloc: Global,
+    front: &Pieces,
+    behind: P,
+) -> Result<Pieces, OutOfMemory>
+    ensures { IfOk result (λ list. list ≡ front.now ++ P.left behind) }
+{
+    let size = front.size().saturating_add(size_of(behind.again()));
+    let mut list = Pieces::with_room(alloc, size)?;
+    append(&mut list, front.iter())?;
+    append(&mut list, behind)?;
+    Ok(list)
+}

@@ -1,0 +1,25 @@
+//! What can go wrong.
+use coap_message::OutOfMemory;
+use thiserror::Error;
+
+/// Why a stored response isn't renewed. The first that applies, in this order.
+#[derive(Clone, Copy, Debug, PartialEq, Eq, Error)]
+pub enum RenewError {
+    /// It is no 2.05 with a 2.03 of its ETag.
+    #[error("the tag isn't that of the stored response")]
+    WrongTag,
+    /// The allocator had no memory for the renewed response.
+    #[error("out of memory")]
+    OutOfMemory,
+}
+
+impl From<OutOfMemory> for RenewError {
+    ghost use Rattle.std.specs.Prelude.{◌≡◌};
+    ghost use Rattle.coap_validation.specs.declared.error.RenewError.TheVariants as errors;
+
+    ghost from_gives = { λ _ e. e ≡ errors.OutOfMemory };
+
+    fn from(_refused: OutOfMemory) -> RenewError {
+        RenewError::OutOfMemory
+    }
+}

@@ -1,0 +1,129 @@
+//! A core over a port in memory.
+ghost use Rattle.std.specs.Prelude.{◌≡◌, IfOk};
+
+use coap_cache::ListStore;
+use coap_core::{Core, LimitValues, Limits};
+use coap_message::{OutOfMemory, Seq};
+use coap_proxyd::{DriveError, Handed, MemoryPort, Port, Scripted, Stats, drive};
+use coap_target::{Endpoint, Ip, Routes};
+use std::alloc::{AllocError, Global};
+use std::process::Abort;
+use std::test::*;
+
+/// A GET of `t` by a client, and the origin's answer.
+const GET: [u8; 6] = [0x50, 0x01, 0x00, 0x07, 0xB1, 0x74];
+
+const ANSWER: [u8; 18] = [
+    0x68, 0x45, 0x00, 0x01, 0, 0, 0, 0, 0, 0, 0, 0x01, 0xD1, 0x01, 0x0A, 0xFF, 0x32, 0x31,
+];
+
+/// What the origin is sent for the one, what the client is given for the other, and both.
+const SENT_ON: &str = "5690 480100010000000000000001B474656D70\n";
+
+const DELIVERED: &str = "40001 50450002D1010AFF3231\n";
+
+const BOTH: &str = "\
+5690 480100010000000000000001B474656D70
+40001 50450002D1010AFF3231
+";
+
+/// A datagram from this host, at a moment.
+fn arrival(alloc: Global, now: u64, port: u16, bytes: &[u8]) -> Result<Scripted, OutOfMemory> {
+    let ip = Ip::V4([127, 0, 0, 1]);
+    Ok(Scripted {
+        now,
+        draw: 0,
+        datagram: Some((Endpoint { ip, port }, Seq::from_slice(alloc, bytes)?)),
+    })
+}
+
+/// A port that gives the first so many of a request and its answer, and nothing more; it refuses
+/// the datagram that comes after so many others, if that is said.
+fn port(alloc: Global, given: usize, refused: Option<usize>) -> Result<MemoryPort, OutOfMemory>
+    ensures { IfOk result (λ port. port.failures ≡ 0) }
+{
+    let mut port = MemoryPort::new(alloc, refused);
+    if given > 0 {
+        port.add(arrival(alloc, 5, 40001, &GET)?)?;
+    }
+    if given > 1 {
+        port.add(arrival(alloc, 7, 5690, &ANSWER)?)?;
+    }
+    Ok(port)
+}
+
+/// What was done in so many turns, where the port took so many datagrams, and didn't take others.
+fn stats(turns: u64, sent: u64, send_faults: u64) -> Stats {
+    Stats {
+        turns,
+        sent,
+        send_faults,
+        lost: 0,
+    }
+}
+
+/// The port failed when this was done.
+fn failed(stats: Stats) -> Result<Stats, DriveError> {
+    Err(DriveError::Port { stats })
+}
+
+/// Drives a new core of the default limits, which maps `t` to the origin, for so many turns.
+fn drive_anew(
+    rt: &impl Abort,
+    alloc: Global,
+    port: &mut MemoryPort,
+    turns: u64,
+) -> Result<Result<Stats, DriveError>, Fail> {
+    let limits = Limits::new(LimitValues::default())?;
+    let mut core: Core<ListStore> = Core::new(alloc, (), limits, Routes::fixed(alloc)?, 1, 0)?;
+    assert!(rt; turns < 1_000 && core.events() < 1_000);
+    assert!(rt; core.last() <= port.last() && port.failures() < 1_000);
+    Ok(drive(alloc, &mut core, port, turns))
+}
+
+/// What was handed over, a line each.
+fn shown(alloc: Global, handed: &[Handed]) -> Result<String, AllocError> {
+    let mut out = String::new(alloc);
+    for datagram in handed {
+        write!(out, "{} ", datagram.to.port)?;
+        for byte in datagram.bytes.as_slice() {
+            write!(out, "{byte:02X}")?;
+        }
+        out.push_str("\n")?;
+    }
+    Ok(out)
+}
+
+/// Drives a core over a port that gives so many datagrams and refuses one or none, and checks what
+/// was done in so many turns, and what was handed over.
+fn check_driven(
+    rt: &impl Abort,
+    alloc: Global,
+    (turns, given, refused): (u64, usize, Option<usize>),
+    expected: (Result<Stats, DriveError>, &str),
+) -> Result<(), Fail> {
+    let mut port = port(alloc, given, refused)?;
+    let done = drive_anew(rt, alloc, &mut port, turns)?;
+    assert!(rt; done == expected.0);
+    let written = shown(alloc, port.handed())?;
+    assert_eq!(rt; written.as_str(), expected.1);
+    Ok(())
+}
+
+#[test]
+fn a_core_is_driven_over_a_port(rt: HostRuntime) -> Result<(), Fail> {
+    let alloc = rt.alloc();
+    for (turns, given, refused, expected) in [
+        (4, 2, None, (Ok(stats(4, 2, 0)), BOTH)),
+        // the port fails at the first turn, the third or the fifth, as it has nothing more to give
+        (5, 0, None, (failed(stats(0, 0, 0)), "")),
+        (5, 1, None, (failed(stats(2, 1, 0)), SENT_ON)),
+        (5, 2, None, (failed(stats(4, 2, 0)), BOTH)),
+        // a datagram that isn't taken is counted
+        (4, 2, Some(0), (Ok(stats(4, 1, 1)), DELIVERED)),
+        (4, 2, Some(1), (Ok(stats(4, 1, 1)), SENT_ON)),
+    ] {
+        check_driven(&rt, alloc, (turns, given, refused), expected)?;
+    }
+    Ok(())
+}

@@ -1,0 +1,219 @@
+//! A core that is called by hand: what it answers, what it sends, and what it tells of itself.
+use coap_cache::ListStore;
+use coap_core::{Core, Counts, Event, LimitValues, Limits, Outcome, Report, Storing};
+use coap_message::{Datagram, OutOfMemory};
+use coap_target::{Endpoint, Ip, Routes};
+use std::alloc::Global;
+use std::process::Abort;
+use std::test::*;
+
+/// What a core tells of itself.
+#[derive(Clone, Copy, Debug, PartialEq, Eq)]
+struct Seen {
+    next_due: Option<u64>,
+    last: u64,
+    events: u64,
+    counts: Counts,
+    datagram: usize,
+}
+
+/// A core under way, and the datagram that it writes to.
+#[derive(Drop)]
+struct Run {
+    core: Core<ListStore>,
+    out: Datagram,
+}
+
+impl Run {
+    /// A core of the default limits with the fixed route.
+    fn new(alloc: Global, limits: Limits) -> Result<Run, OutOfMemory> {
+        let routes = Routes::fixed(alloc)?;
+        let core = Core::new(alloc, (), limits, routes, 1, 0)?;
+        let out = Datagram::new(alloc, core.datagram())?;
+        Ok(Run { core, out })
+    }
+
+    /// One step.
+    fn step(&mut self, rt: &impl Abort, now: u64, event: Event<'_>) -> Result<Report, OutOfMemory> {
+        assert!(rt; now <= 1 << 62 && self.core.last() <= now);
+        assert!(rt; self.core.events() < 1 << 63);
+        assert!(rt; self.core.datagram() <= self.out.room());
+        self.core.step(now, 0, event, &mut self.out)
+    }
+
+    /// The bytes that the last step sent.
+    fn sent(&self) -> &[u8] {
+        self.out.bytes()
+    }
+
+    /// What the core tells of itself.
+    fn seen(&self) -> Seen {
+        Seen {
+            next_due: self.core.next_due(),
+            last: self.core.last(),
+            events: self.core.events(),
+            counts: self.core.counts(),
+            datagram: self.core.datagram(),
+        }
+    }
+}
+
+/// What a core tells after so many events, of which the first brought the one request: it is
+/// remembered, and as many exchanges are under way as clients wait.
+fn told(events: u64, last: u64, next_due: Option<u64>, under_way: u64) -> Seen {
+    Seen {
+        next_due,
+        last,
+        events,
+        counts: Counts {
+            cached_bytes: 0,
+            entries: 0,
+            con_records: 0,
+            non_records: events.min(1),
+            exchanges: under_way,
+            waiters: under_way,
+        },
+        datagram: 1500,
+    }
+}
+
+/// One step, taken again where there was no memory for it: then nothing has happened.
+fn insist(
+    run: &mut Run,
+    rt: &impl Abort,
+    now: u64,
+    event: Event<'_>,
+) -> Result<Report, OutOfMemory> {
+    let before = run.seen();
+    match run.step(rt, now, event) {
+        Ok(report) => Ok(report),
+        Err(OutOfMemory) => {
+            assert_eq!(rt; run.seen(), before);
+            assert_eq!(rt; run.sent().len(), 0);
+            run.step(rt, now, event)
+        }
+    }
+}
+
+/// A core, made again where there was no memory for it.
+fn insist_on_new(alloc: Global) -> Result<Run, Fail> {
+    // Nothing is stored, so that no want of memory is met but by the whole event.
+    let limits = Limits::new(LimitValues {
+        cache_bytes: 0,
+        ..LimitValues::default()
+    })?;
+    match Run::new(alloc, limits) {
+        Ok(run) => Ok(run),
+        Err(OutOfMemory) => Ok(Run::new(alloc, limits)?),
+    }
+}
+
+/// A step, taken again where there was no memory for it: what it answers, what it sends, and what
+/// the core tells after it.
+fn check_step(
+    rt: &impl Abort,
+    run: &mut Run,
+    now: u64,
+    event: Event<'_>,
+    expected: (Outcome, &[u8], Seen),
+) -> Result<(), OutOfMemory> {
+    let report = insist(run, rt, now, event)?;
+    assert_eq!(rt; report.outcome, expected.0);
+    assert_eq!(rt; run.sent(), expected.1);
+    assert_eq!(rt; run.seen(), expected.2);
+    Ok(())
+}
+
+/// A datagram from a port of the loopback network.
+fn arrival(port: u16, bytes: &[u8]) -> Event<'_> {
+    let from = Endpoint {
+        ip: Ip::V4([127, 0, 0, 1]),
+        port,
+    };
+    Event::Datagram { from, bytes }
+}
+
+/// The first answer, in bytes, so that only the core takes memory.
+fn check_first_answer(rt: &impl Abort, run: &mut Run) -> Result<(), OutOfMemory> {
+    let request = arrival(40001, b"\x50\x01\x00\x07\xB1t");
+    let expected = (Outcome::Opened, b"".as_slice(), told(1, 10, Some(10), 1));
+    check_step(rt, run, 10, request, expected)?;
+
+    let bytes = b"\x48\x01\x00\x01\x00\x00\x00\x00\x00\x00\x00\x01\xB4temp";
+    let expected = (
+        Outcome::SentRequest,
+        bytes.as_slice(),
+        told(2, 20, Some(2020), 1),
+    );
+    check_step(rt, run, 20, Event::Tick, expected)?;
+
+    let bytes = b"\x68\x45\x00\x01\x00\x00\x00\x00\x00\x00\x00\x01\xD1\x01\x0A\xFF21";
+    let storing = Storing::TooLarge;
+    let expected = (
+        Outcome::Answered { storing },
+        b"".as_slice(),
+        told(3, 30, Some(30), 1),
+    );
+    check_step(rt, run, 30, arrival(5690, bytes), expected)?;
+
+    let bytes = b"\x50\x45\x00\x02\xD1\x01\x09\xFF21";
+    let expected = (Outcome::Delivered, bytes.as_slice(), told(4, 40, None, 0));
+    check_step(rt, run, 40, Event::Tick, expected)
+}
+
+// It passes with ample memory, and also where any one request for memory is refused.
+#[test]
+fn steps_can_be_taken_again(rt: HostRuntime) -> Result<(), Fail> {
+    let mut run = insist_on_new(rt.alloc())?;
+    assert_eq!(rt; run.seen(), told(0, 0, None, 0));
+    Ok(check_first_answer(&rt, &mut run)?)
+}
+
+/// The first answer, which stays in the cache.
+fn store_first_answer(rt: &impl Abort, run: &mut Run) -> Result<(), OutOfMemory> {
+    run.step(rt, 0, arrival(40001, b"\x50\x01\x00\x07\xB1t"))?;
+    run.step(rt, 0, Event::Tick)?;
+    let bytes = b"\x68\x45\x00\x01\x00\x00\x00\x00\x00\x00\x00\x01\xD1\x01\x0A\xFF21";
+    let report = run.step(rt, 0, arrival(5690, bytes))?;
+    let storing = Storing::Kept;
+    assert_eq!(rt; report.outcome, Outcome::Answered { storing });
+    let report = run.step(rt, 0, Event::Tick)?;
+    assert_eq!(rt; report.outcome, Outcome::Delivered);
+    Ok(())
+}
+
+// The first answer takes the ids 1 and 2, and each hit one more. After 32,768 there is none left in
+// the first 247 seconds, but an acknowledgement needs none; then ids go on.
+#[test]
+fn ids_run_out_and_come_again(rt: HostRuntime) -> Result<(), Fail> {
+    let limits = Limits::new(LimitValues {
+        non_records: 65_536,
+        ..LimitValues::default()
+    })?;
+    let mut run = Run::new(rt.alloc(), limits)?;
+    store_first_answer(&rt, &mut run)?;
+    for id in 0u16..32_766 {
+        let [high, low] = id.to_be_bytes();
+        let request = [0x50, 1, high, low, 0xB1, 0x74];
+        let report = run.step(&rt, 0, arrival(40002, &request))?;
+        assert_eq!(rt; report.outcome, Outcome::Hit);
+    }
+    assert_eq!(rt;
+        run.sent(),
+        b"\x50\x45\x80\x00\xD1\x01\x0A\xFF21".as_slice()
+    );
+
+    let report = run.step(&rt, 0, arrival(40002, b"\x50\x01\x7F\xFE\xB1t"))?;
+    assert_eq!(rt; report.outcome, Outcome::NoId);
+    run.step(&rt, 0, arrival(40002, b"\x40\x01\x00\x01\xB1t"))?;
+    assert_eq!(rt;
+        run.sent(),
+        b"\x60\x45\x00\x01\xD1\x01\x0A\xFF21".as_slice()
+    );
+
+    let report = run.step(&rt, 246_999, arrival(40003, b"\x50\x01\x00\x06\xB1u"))?;
+    assert_eq!(rt; report.outcome, Outcome::NoId);
+    run.step(&rt, 247_000, arrival(40003, b"\x50\x01\x00\x07\xB1u"))?;
+    assert_eq!(rt; run.sent(), b"\x50\x84\x80\x01".as_slice());
+    Ok(())
+}
