@@ -1,5 +1,5 @@
 //! Stores of responses (RFC 7252, 5.6).
-ghost use Rattle.std.specs.Prelude.{◌≡◌, ◌↔◌, ◌<◌, ◌≤◌, ◌^◌, [], None, IfOk, IsTrue, IsFalse, List, length, map, count_by, is_some};
+ghost use Rattle.std.specs.Prelude.{◌≡◌, ◌↔◌, ◌<◌, ◌≤◌, ◌^◌, ◌-◌, [], None, IfOk, IsTrue, IsFalse, List, length, map, count_by, is_some, min};
 ghost use Rattle.std.specs.Option.{option_map};
 ghost use Rattle.coap_store.specs.Entries.{Entry, IsStore, Limits, entry_key, entry_size, has_usable, is_for, marked, stored_for};
 ghost use Rattle.coap_store.specs.Lists.{of_key, others, put, total, used};
@@ -33,7 +33,10 @@ pub trait Store {
     ghost entries: { Self → List Entry };
 
     /// An empty store, which keeps at most so many bytes, as `bytes_of` counts them, and so many
-    /// entries.
+    /// entries. Of bytes it never keeps more than 2^63 - 1: a greater limit is that one.
+    ///
+    /// # Errors
+    /// The store was refused memory.
     fn with_limits(
         alloc: Global,
         seed: Self::Seed,
@@ -42,9 +45,9 @@ pub trait Store {
     ) -> Result<Self, OutOfMemory>
     where
         Self: Sized,
-        requires { most_bytes < 2 ^ 63 }
         ensures limited { IfOk result
-            (λ s. limits s ≡ record { bytes = most_bytes; entries = most_entries }) }
+            (λ s. limits s
+            ≡ record { bytes = min most_bytes (2 ^ 63 - 1); entries = most_entries }) }
         ensures empty { IfOk result (λ s. entries s ≡ []) };
 
     /// Whether a response is stored for the key that may answer a request at this moment, in

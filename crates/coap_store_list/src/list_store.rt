@@ -45,7 +45,7 @@ impl Store for ListStore {
     ) -> Result<ListStore, OutOfMemory> {
         Ok(ListStore {
             entries: Vec::new(alloc),
-            most_bytes,
+            most_bytes: most_bytes.min(i64::MAX as u64),
             most_entries,
         })
     }

@@ -63,7 +63,7 @@ impl<H: BuildHasher + Copy> Store for LruStore<H> {
             recent: LruCache::unbounded_with_hasher(alloc, seed)?,
             total: 0,
             index: TargetIndex::new(alloc, seed),
-            most_bytes,
+            most_bytes: most_bytes.min(i64::MAX as u64),
             most_entries,
         })
     }

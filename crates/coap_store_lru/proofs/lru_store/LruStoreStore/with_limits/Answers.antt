@@ -1,4 +1,5 @@
 use Rattle.std.proofs.Common.{◌≡◌, length, [], refl, sym, ap, subst, arith}
+use Rattle.std.proofs.Math.Nat.{min-le_right}
 use Rattle.coap_store_lru.specs.Indexing.{AreThoseOf}
 use Rattle.coap_store_lru.proofs.lru_store.LruStoreStore.with_limits.Goals as goal
 
@@ -11,5 +12,5 @@ invariant_of-result g c =
       unlimited = ap (λ m. m.cap) made;
       within_bytes = omega arith;
       within_entries = omega (arith, ap length none);
-      small = c.requires;
+      small = omega (arith, min-le_right c.args.most_bytes 9223372036854775807);
     }
