@@ -4,7 +4,7 @@
 //! It is made of `coap_store`, `coap_store_list`, `coap_store_lru` and `coap_validation`.
 #![tactic(auto)]
 
-pub use coap_store::{CacheKey, Put, Store, Stored, bytes_of, show_into};
+pub use coap_store::{CacheKey, Put, Store, Stored, bytes_of, show_into, shown};
 pub use coap_store_list::ListStore;
 pub use coap_store_lru::LruStore;
 pub use coap_validation::{RenewError, renewed};

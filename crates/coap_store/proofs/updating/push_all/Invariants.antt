@@ -1,6 +1,6 @@
 use Rattle.std.proofs.Common.{◌≡◌, ◌++◌}
 use Rattle.coap_message.specs.Options.{AreOptions, last_number}
-use Rattle.coap_validation.proofs.renew.push_all.Given as goal
+use Rattle.coap_store.proofs.updating.push_all.Given as goal
 
 abbrev pub invariant-loop-option : goal.invariant-loop-option
 invariant-loop-option l = record {

@@ -1,7 +1,7 @@
 use Rattle.std.proofs.Common.{◌≡◌, length}
 use Rattle.coap_message.specs.Options.{AreOptions}
 use Rattle.coap_store.specs.Renewing.{above}
-use Rattle.coap_validation.proofs.renew.above.Given as goal
+use Rattle.coap_store.proofs.updating.above.Given as goal
 
 abbrev pub invariant-same : goal.invariant-same
 invariant-same l = record {

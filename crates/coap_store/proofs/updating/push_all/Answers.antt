@@ -1,7 +1,7 @@
 use Rattle.std.proofs.Common.{◌∙◌}
 use Rattle.coap_message.specs.OptRef.{seen}
 use Rattle.coap_store.proofs.Renewals.{pushed-in_order, pushed-all}
-use Rattle.coap_validation.proofs.renew.push_all.Goals as goal
+use Rattle.coap_store.proofs.updating.push_all.Goals as goal
 
 pub loop-option-preserved : goal.loop-option-preserved
 loop-option-preserved c =

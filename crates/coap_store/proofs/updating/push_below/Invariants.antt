@@ -1,7 +1,7 @@
 use Rattle.std.proofs.Common.{◌≡◌, ◌++◌, length}
 use Rattle.coap_message.specs.Options.{AreOptions, last_number}
 use Rattle.coap_store.specs.Renewing.{below, from}
-use Rattle.coap_validation.proofs.renew.push_below.Given as goal
+use Rattle.coap_store.proofs.updating.push_below.Given as goal
 
 abbrev pub invariant-below : goal.invariant-below
 invariant-below l = record {

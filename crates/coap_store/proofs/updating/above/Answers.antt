@@ -1,7 +1,7 @@
 use Rattle.std.proofs.Common.{sym, ◌∙◌}
 use Rattle.coap_message.specs.OptRef.{seen}
 use Rattle.coap_store.proofs.Renewals.{stops-above}
-use Rattle.coap_validation.proofs.renew.above.Goals as goal
+use Rattle.coap_store.proofs.updating.above.Goals as goal
 
 pub returns-then-option-number : goal.returns-then-option-number
 returns-then-option-number c =

@@ -2,7 +2,7 @@ use Rattle.std.proofs.Common.{◌++◌, sym, ap, ◌∙◌}
 use Rattle.std.proofs.lemmas.List.{append-nil}
 use Rattle.coap_message.specs.OptRef.{seen}
 use Rattle.coap_store.proofs.Renewals.{pushed-in_order, pushed-below, skipped-from, stops-below, stops-from}
-use Rattle.coap_validation.proofs.renew.push_below.Goals as goal
+use Rattle.coap_store.proofs.updating.push_below.Goals as goal
 
 pub returns-then-option-number-clause-pushed : goal.returns-then-option-number-clause-pushed
 returns-then-option-number-clause-pushed c =

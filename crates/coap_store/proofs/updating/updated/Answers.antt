@@ -3,7 +3,7 @@ use Rattle.coap_message.specs.OptRef.{seen}
 use Rattle.coap_message.proofs.Counting.{last_number-push}
 use Rattle.coap_store.specs.Renewing.{above, below}
 use Rattle.coap_store.proofs.Renewals.{last-before_new, older-above, older-above-in_order, older-from, rest-in_order, updated-step}
-use Rattle.coap_validation.proofs.renew.updated.Goals as goal
+use Rattle.coap_store.proofs.updating.updated.Goals as goal
 
 pub push-requires-clause-in_order : goal.push-requires-clause-in_order
 push-requires-clause-in_order c =

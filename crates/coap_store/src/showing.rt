@@ -1,0 +1,92 @@
+//! What clients are given for a response, as a message (RFC 7252, 5.6, 5.7.1, 5.10.5 and 5.10.6).
+ghost use Rattle.std.specs.Prelude.{◌≡◌, ◌≤◌, ◌∷◌, [], true, length, IfOk};
+ghost use Rattle.coap_message.specs.Options.{option_of};
+ghost use Rattle.coap_option.specs.declared.numbers.TheConstants.{ETAG};
+ghost use Rattle.coap_store.specs.Renewing.{max_age_option};
+ghost use Rattle.coap_store.specs.Showing.{aged, shown, tells_age, told, valid};
+
+use crate::show::tells_age;
+use crate::tag::held_tag;
+use crate::updating::with_max_age;
+use coap_message::{Code, Message, OptionList, OutOfMemory, Pieces, Seq, without_zeros};
+use coap_option::numbers;
+use std::alloc::Global;
+
+/// What a client is shown for a response, as `show_into` writes it, but for kind, message id and
+/// token, which are those of the response.
+///
+/// `left` is how many seconds are left of an answer of an origin to a GET. A 2.05 and a code of
+/// class 4 or 5 then carry exactly one Max-Age of that; a 2.05 whose ETag is among the client's
+/// `tags` is a 2.03 with that ETag and the Max-Age alone. Every other response, and each one
+/// without `left`, is shown as it is.
+///
+/// # Errors
+/// Out of memory.
+pub fn shown(
+    alloc: Global,
+    message: &Message,
+    left: Option<u32>,
+    tags: &Pieces,
+) -> Result<Message, OutOfMemory>
+    ensures { IfOk result (λ m. m ≡ shown message.now left tags.now) }
+{
+    match left {
+        Some(left) if tells_age(message.code) => told(alloc, message, left, tags),
+        _ => message.lent().to_message(alloc),
+    }
+}
+
+/// A response that is shown with a Max-Age.
+fn told(alloc: Global, message: &Message, left: u32, tags: &Pieces) -> Result<Message, OutOfMemory>
+    requires { tells_age message.now.code ≡ true }
+    ensures { IfOk result (λ m. m ≡ told message.now left tags.now) }
+{
+    match held_tag(message, tags) {
+        Some(tag) => valid(alloc, message, left, tag),
+        None => aged(alloc, message, left),
+    }
+}
+
+/// A 2.03 with a tag and a Max-Age, in place of a response.
+fn valid(alloc: Global, message: &Message, left: u32, tag: &[u8]) -> Result<Message, OutOfMemory>
+    requires { length tag.now ≤ 8 }
+    ensures { IfOk result (λ m. m ≡ valid message.now left tag.now) }
+{
+    Ok(Message {
+        kind: message.kind,
+        code: Code::VALID,
+        id: message.id,
+        token: message.token,
+        options: tag_and_age(alloc, tag, left)?,
+        payload: Seq::new(alloc),
+    })
+}
+
+/// An ETag and a Max-Age of this many seconds.
+#[tactic(auto, unfolding(coap_message::specs::Uint::uint_spelling))]
+fn tag_and_age(alloc: Global, tag: &[u8], left: u32) -> Result<OptionList, OutOfMemory>
+    requires { length tag.now ≤ 8 }
+    ensures { IfOk result (λ list. list ≡ option_of ETAG tag.now ∷ max_age_option left ∷ []) }
+{
+    let seconds = u64::from(left).to_be_bytes();
+    let mut list = OptionList::new(alloc);
+    list.push(numbers::ETAG, tag)?;
+    list.push(numbers::MAX_AGE, without_zeros(&seconds))?;
+    list.shrink_to_fit();
+    Ok(list)
+}
+
+/// A response with one Max-Age, of this many seconds.
+fn aged(alloc: Global, message: &Message, left: u32) -> Result<Message, OutOfMemory>
+    requires { tells_age message.now.code ≡ true }
+    ensures { IfOk result (λ m. m ≡ aged message.now left) }
+{
+    Ok(Message {
+        kind: message.kind,
+        code: message.code,
+        id: message.id,
+        token: message.token,
+        options: with_max_age(alloc, u64::from(left), &message.options.lent())?,
+        payload: Seq::from_slice(alloc, message.payload.as_slice())?,
+    })
+}
