@@ -1,13 +1,13 @@
 //! What can go wrong.
 ghost use Rattle.std.specs.Prelude.{◌≡◌};
-ghost use Rattle.coap_dedup.specs.declared.error.KeepError.TheVariants as errors;
+ghost use Rattle.coap_dedup.specs.declared.error.Refused.TheVariants as errors;
 
 use std::alloc::AllocFailed;
 use thiserror::Error;
 
-/// Why a message was not kept.
+/// Why a message wasn't kept.
 #[derive(Clone, Copy, Debug, PartialEq, Eq, Error)]
-pub enum KeepError {
+pub enum Refused {
     /// As many records live as there may be.
     #[error("no room")]
     Full,
@@ -16,10 +16,10 @@ pub enum KeepError {
     OutOfMemory,
 }
 
-impl<T: Drop> From<AllocFailed<T>> for KeepError {
+impl<T: Drop> From<AllocFailed<T>> for Refused {
     ghost from_gives = { λ _ e. e ≡ errors.OutOfMemory };
 
-    fn from(_refused: AllocFailed<T>) -> KeepError {
-        KeepError::OutOfMemory
+    fn from(_refused: AllocFailed<T>) -> Refused {
+        Refused::OutOfMemory
     }
 }

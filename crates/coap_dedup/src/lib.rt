@@ -9,7 +9,7 @@ mod record;
 mod records;
 mod seen;
 
-pub use error::KeepError;
+pub use error::Refused;
 pub use record::{EXCHANGE_LIFETIME, NON_LIFETIME, Record};
 pub use records::Records;
 pub use seen::Seen;

@@ -2,13 +2,13 @@
 ghost use Rattle.std.specs.Prelude.{◌≡◌, ◌↔◌, ◌==◌, ◌+◌, ◌<◌, ◌++◌, ◌∷◌, [], None, length, drop, slice_get, not, option_map, false, IfOk, IfErr, OnOk, OnErr};
 ghost use Rattle.std.specs.Option.{option_copied, option_map_or};
 ghost use Rattle.circular_buffer.specs.Buffer.{buffer};
-ghost use Rattle.coap_dedup.specs.declared.error.KeepError.TheVariants.{Full};
+ghost use Rattle.coap_dedup.specs.declared.error.Refused.TheVariants.{Full};
 ghost use Rattle.coap_dedup.specs.Indexing.{AreNumbered, AreNumberedUpTo};
 ghost use Rattle.coap_dedup.specs.Lists.{AreApart, AreInOrder, AreUpTo, is_living, living, record_of};
 ghost use Rattle.coap_dedup.specs.Records.{AreRecords, living_at, no_records, with_kept};
 ghost use Rattle.coap_dedup.specs.Seen.{told};
 
-use crate::error::KeepError;
+use crate::error::Refused;
 use crate::key::Key;
 use crate::record::Record;
 use crate::seen::Seen;
@@ -110,7 +110,7 @@ impl Records {
         id: u16,
         now: u64,
         reply: Option<Seq<u8>>,
-    ) -> Result<(), KeepError>
+    ) -> Result<(), Refused>
         requires new { record_of from id (living_at now self.old) ≡ None }
         requires in_order { AreUpTo now self.old.items }
         ensures ok { OnOk result
@@ -123,7 +123,7 @@ impl Records {
         ensures sound { AreRecords self.new }
     {
         if self.is_full(now) {
-            return Err(KeepError::Full);
+            return Err(Refused::Full);
         }
         let record = Record::new(from, id, now, reply);
         let number = next_number(&self.ring, &self.index);

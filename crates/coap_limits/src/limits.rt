@@ -24,8 +24,8 @@ pub enum Limit {
 #[derive(Clone, Copy, Debug, PartialEq, Eq, Error)]
 #[error("limit out of range")]
 pub struct LimitError {
-    /// The first such limit, in the order of `Limit`.
-    pub limit: Limit,
+    /// The name of the first such limit, in the order of `Limit`.
+    pub name: Limit,
 }
 
 impl Limit {
@@ -169,10 +169,10 @@ impl Limits {
     pub fn new(values: LimitValues) -> Result<Limits, LimitError>
         ensures exact { IfOk result (λ limits. limits ≡ values) }
         ensures in_range { IfOk result (λ limits. first_fault values ≡ None) }
-        ensures err { IfErr result (λ error. first_fault values ≡ Some error.limit) }
+        ensures err { IfErr result (λ error. first_fault values ≡ Some error.name) }
     {
         match values.first_fault() {
-            Some(limit) => Err(LimitError { limit }),
+            Some(name) => Err(LimitError { name }),
             None => Ok(Limits { values }),
         }
     }

@@ -58,7 +58,7 @@ fn check_limits(alloc: Global, values: LimitValues) -> Result<Limits, ConfigErro
 {
     match Limits::new(values) {
         Ok(limits) => Ok(limits),
-        Err(error) => Err(bad_value_in(alloc, "limits", limit_key(error.limit))),
+        Err(error) => Err(bad_value_in(alloc, "limits", limit_key(error.name))),
     }
 }
 
