@@ -12,8 +12,8 @@ use Rattle.coap_dedup.specs.Keys.{same_key}
 -- keys
 Ranks-key : Ranks key_cmp
 Ranks-key =
-    Ranks-in_turn (λ (k : Key). k.from) (λ (k : Key). k.id) endpoint_cmp nat_cmp Ranks-endpoint Ranks-nat
-    (λ a b from id. λ i. record { from = from i; id = id i })
+    Ranks-in_turn (λ (k : Key). k.id) (λ (k : Key). k.from) nat_cmp endpoint_cmp Ranks-nat Ranks-endpoint
+    (λ a b id from. λ i. record { from = from i; id = id i })
 
 -- keys that are one are equal
 pub same_key-only : (a b : Key) → same_key a b ≡ true → a ≡ b

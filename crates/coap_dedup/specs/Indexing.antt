@@ -1,5 +1,5 @@
 -- The index of a ring of records.
-use Rattle.std.specs.Prelude.{◌≡◌, ℕ, ◌+◌, ◌%◌, ◌^◌, if◌then◌else◌, List, [], ◌∷◌, length, Option, Some, None}
+use Rattle.std.specs.Prelude.{◌≡◌, ℕ, ◌+◌, ◌%◌, ◌^◌, if◌then◌else◌, List, [], ◌∷◌, Option, Some, None}
 use Rattle.std.specs.declared.cmp.Ordering.{Ordering}
 use Rattle.std.specs.BTreeMap.{BTreeMap, get}
 use Rattle.std.specs.Option.{option_or}
@@ -26,17 +26,14 @@ number_of n key (r ∷ rs) =
     (number_of (n + 1) key rs)
     (if is_of key.from key.id r then Some (n % 2 ^ 64) else None)
 
--- the index has the numbers of these records, and no others
-pub record AreNumbered (index : Index) (records : List Record) : Type 0 where
-  pub first : ℕ
-  pub numbered : (key : Key) → get key_cmp index key ≡ number_of first key records
-
--- and this would be the number of the next one
-pub record AreNumberedUpTo (next : ℕ) (index : Index) (records : List Record) : Type 0 where
-  pub numbers : AreNumbered index records
-  pub is_next : next ≡ (numbers.first + length records) % 2 ^ 64
+-- The index has the numbers of these records, and no others; that of the first is `first`. It is
+-- the rest of a number that only counts up.
+pub record AreNumbered (first : ℕ) (index : Index) (records : List Record) : Type 0 where
+  pub origin : ℕ
+  pub is_first : first ≡ origin % 2 ^ 64
+  pub numbered : (key : Key) → get key_cmp index key ≡ number_of origin key records
 
 -- what holds of records in a ring, and of their index
-pub record AreIndexed (t : Records) (index : Index) : Type 0 where
+pub record AreIndexed (t : Records) (first : ℕ) (index : Index) : Type 0 where
   pub are : AreRecords t
-  pub numbers : AreNumbered index t.items
+  pub numbers : AreNumbered first index t.items

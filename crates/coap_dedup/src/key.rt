@@ -4,11 +4,12 @@ ghost use Rattle.coap_dedup.specs.Keys.{same_key};
 
 use coap_endpoint::Endpoint;
 
-/// Which message: from which endpoint it came, and with which message id (RFC 7252, 4.4).
+/// Which message: from which endpoint it came, and with which message id (RFC 7252, 4.4). Keys are
+/// in order of message id first, which mostly tells two apart at the first look.
 #[derive(Clone, Copy, Debug, PartialEq, Eq, PartialOrd, Ord)]
 pub(crate) struct Key {
-    pub(crate) from: Endpoint,
     pub(crate) id: u16,
+    pub(crate) from: Endpoint,
 }
 
 impl Key {

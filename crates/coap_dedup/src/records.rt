@@ -3,7 +3,7 @@ ghost use Rattle.std.specs.Prelude.{◌≡◌, ◌↔◌, ◌==◌, ◌+◌, ◌
 ghost use Rattle.std.specs.Option.{option_copied, option_map_or};
 ghost use Rattle.circular_buffer.specs.Buffer.{buffer};
 ghost use Rattle.coap_dedup.specs.declared.error.Refused.TheVariants.{Full};
-ghost use Rattle.coap_dedup.specs.Indexing.{AreNumbered, AreNumberedUpTo};
+ghost use Rattle.coap_dedup.specs.Indexing.{AreNumbered};
 ghost use Rattle.coap_dedup.specs.Lists.{AreApart, AreInOrder, AreUpTo, is_living, living, record_of};
 ghost use Rattle.coap_dedup.specs.Records.{AreRecords, living_at, no_records, with_kept};
 ghost use Rattle.coap_dedup.specs.Seen.{told};
@@ -30,6 +30,8 @@ pub struct Records {
     /// A number for each record, one more than that of the record before it; after the greatest
     /// comes 0.
     index: BTreeMap<Key, u64>,
+    /// The number of the first record; where there is none, that of the next.
+    first: u64,
     /// For how long each lives, in milliseconds.
     lifetime: u64,
 }
@@ -39,6 +41,7 @@ impl Drop for Records {
         let Records {
             ring: _,
             index: _,
+            first: _,
             lifetime: _,
         } = self;
     }
@@ -56,6 +59,7 @@ impl Model for Records {
     ghost invariant = { λ r.
         AreIndexed
         (record { items = r.ring.items; limit = r.ring.capacity; lifetime = r.lifetime })
+        r.first
         r.index };
 }
 
@@ -67,6 +71,7 @@ impl Records {
         Ok(Records {
             ring: HeapCircularBuffer::with_capacity(alloc, limit)?,
             index: BTreeMap::new(alloc),
+            first: 0,
             lifetime,
         })
     }
@@ -126,9 +131,15 @@ impl Records {
             return Err(Refused::Full);
         }
         let record = Record::new(from, id, now, reply);
-        let number = next_number(&self.ring, &self.index);
+        let number = self.first.wrapping_add(self.ring.len() as u64);
         self.index.insert(record.key(), number)?;
-        release_dead(&mut self.ring, &mut self.index, self.lifetime, &record);
+        release_dead(
+            &mut self.ring,
+            &mut self.index,
+            &mut self.first,
+            self.lifetime,
+            &record,
+        );
         let _ = self.ring.try_push_back(record);
         Ok(())
     }
@@ -140,9 +151,7 @@ impl Records {
     {
         let _few = self.ring.len();
         let number = self.index.get(&key)?;
-        let first = self.ring.front()?;
-        let first = self.index.get(&first.key())?;
-        self.ring.get(number.wrapping_sub(*first) as usize)
+        self.ring.get(number.wrapping_sub(self.first) as usize)
     }
 }
 
@@ -186,37 +195,24 @@ fn is_first_dead(ring: &HeapCircularBuffer<Record>, lifetime: u64, now: u64) -> 
     }
 }
 
-/// The number of the next record.
-fn next_number(ring: &HeapCircularBuffer<Record>, index: &BTreeMap<Key, u64>) -> u64
-    requires { AreNumbered index.now ring.now.items }
-    ensures { AreNumberedUpTo result index.now ring.now.items }
-{
-    match ring.back() {
-        Some(last) => match index.get(&last.key()) {
-            Some(number) => number.wrapping_add(1),
-            None => 0,
-        },
-        None => 0,
-    }
-}
-
 /// Lets the records go that don't live any more when the new one is kept, whose number the index
 /// has already.
 fn release_dead(
     ring: &mut HeapCircularBuffer<Record>,
     index: &mut BTreeMap<Key, u64>,
+    first: &mut u64,
     lifetime: u64,
     new: &Record,
 )
     requires in_order { AreInOrder ring.old.items }
     requires apart { AreApart ring.old.items }
-    requires numbered { AreNumbered index.old (ring.old.items ++ new.now ∷ []) }
+    requires numbered { AreNumbered first.old index.old (ring.old.items ++ new.now ∷ []) }
     ensures left { ring.new
         ≡ buffer (living lifetime new.now.at ring.old.items) ring.old.capacity }
-    ensures numbered { AreNumbered index.new (ring.new.items ++ new.now ∷ []) }
+    ensures numbered { AreNumbered first.new index.new (ring.new.items ++ new.now ∷ []) }
 {
     'dead: while is_first_dead(ring, lifetime, new.at) {
-        release_first(ring, index, new);
+        release_first(ring, index, first, new);
     }
 }
 
@@ -224,15 +220,17 @@ fn release_dead(
 fn release_first(
     ring: &mut HeapCircularBuffer<Record>,
     index: &mut BTreeMap<Key, u64>,
+    first: &mut u64,
     new: &Record,
 )
     requires apart { AreApart ring.old.items }
-    requires numbered { AreNumbered index.old (ring.old.items ++ new.now ∷ []) }
+    requires numbered { AreNumbered first.old index.old (ring.old.items ++ new.now ∷ []) }
     ensures left { ring.new ≡ buffer (drop 1 ring.old.items) ring.old.capacity }
-    ensures numbered { AreNumbered index.new (ring.new.items ++ new.now ∷ []) }
+    ensures numbered { AreNumbered first.new index.new (ring.new.items ++ new.now ∷ []) }
 {
-    if let Some(first) = ring.pop_front() {
-        let key = first.key();
+    if let Some(record) = ring.pop_front() {
+        *first = first.wrapping_add(1);
+        let key = record.key();
         if !key.is(&new.key()) {
             index.remove(&key);
         }

@@ -10,7 +10,7 @@ invariant-dead l = record {
   same : living l.lifetime l.new.at l.ring.items ≡ living l.lifetime l.new.at l.initial.ring.items;
   in_order : AreInOrder l.ring.items;
   apart : AreApart l.ring.items;
-  numbered : AreNumbered l.index (l.ring.items ++ l.new ∷ []);
+  numbered : AreNumbered l.first l.index (l.ring.items ++ l.new ∷ []);
 }
 
 abbrev pub decreases-dead : goal.decreases-dead

@@ -1,4 +1,4 @@
-use Rattle.std.proofs.Common.{◌≡◌, [], ◌∷◌, ◌++◌, None, cond, true, false, sym, ap, subst, ◌∙◌}
+use Rattle.std.proofs.Common.{◌≡◌, ◌+◌, ◌%◌, ◌^◌, [], ◌∷◌, ◌++◌, None, cond, true, false, sym, ap, subst, ◌∙◌}
 use Rattle.std.specs.BTreeMap.{get}
 use Rattle.std.specs.Ordering.{is_eq}
 use Rattle.circular_buffer.specs.Buffer.{Buffer}
@@ -11,19 +11,19 @@ use Rattle.coap_dedup.proofs.records.release_first.Goals as goal
 
 pub returns-then-not-is-clause-numbered : goal.returns-then-not-is-clause-numbered
 returns-then-not-is-clause-numbered c =
-    let r = c.in-Some.first in
+    let r = c.in-Some.record in
     let x = c.args.new.now in
     let other : same_key (key_of r) (key_of x) ≡ false =
     ap (λ k. same_key (key_of r) k) (sym c.key.ensures) ∙ ap (λ k. same_key k c.key.result) (sym c.key-key.ensures) ∙ sym c.is.ensures ∙ c.if-not-is.true in
     let takes = subst (λ j. (k : Key) → get key_cmp c.remove.new.self k ≡ cond (is_eq (key_cmp j k)) None (get key_cmp c.args.index.now k)) c.key-key.ensures c.remove.ensures.updates.0 in
-    subst (λ (b : Buffer Record). AreNumbered c.remove.new.self (b.items ++ x ∷ [])) (sym c.in-Some.ensures.items)
-    (first-goes c.args.index.now c.args.ring.now.items r x c.requires.apart c.in-Some.ensures.value c.requires.numbered c.remove.new.self other takes)
+    subst (λ (b : Buffer Record). AreNumbered ((c.args.first.now + 1) % 2 ^ 64) c.remove.new.self (b.items ++ x ∷ [])) (sym c.in-Some.ensures.items)
+    (first-goes c.args.first.now c.args.index.now c.args.ring.now.items r x c.requires.apart c.in-Some.ensures.value c.requires.numbered c.remove.new.self other takes)
 
 pub returns-in-Some-clause-numbered : goal.returns-in-Some-clause-numbered
 returns-in-Some-clause-numbered c =
-    let r = c.in-Some.first in
+    let r = c.in-Some.record in
     let x = c.args.new.now in
     let same : same_key (key_of r) (key_of x) ≡ true =
     ap (λ k. same_key (key_of r) k) (sym c.key.ensures) ∙ ap (λ k. same_key k c.key.result) (sym c.key-key.ensures) ∙ sym c.is.ensures ∙ c.if-not-is.false in
-    subst (λ (b : Buffer Record). AreNumbered c.args.index.now (b.items ++ x ∷ [])) (sym c.in-Some.ensures.items)
-    (first-stays c.args.index.now c.args.ring.now.items r x c.requires.apart c.in-Some.ensures.value c.requires.numbered same)
+    subst (λ (b : Buffer Record). AreNumbered ((c.args.first.now + 1) % 2 ^ 64) c.args.index.now (b.items ++ x ∷ [])) (sym c.in-Some.ensures.items)
+    (first-stays c.args.first.now c.args.index.now c.args.ring.now.items r x c.requires.apart c.in-Some.ensures.value c.requires.numbered same)

@@ -1,4 +1,4 @@
-use Rattle.std.proofs.Common.{◌≡◌, ◌<◌, Some, cond, length, sym, ap, subst, ◌∙◌}
+use Rattle.std.proofs.Common.{◌≡◌, ◌+◌, ◌%◌, ◌^◌, ◌<◌, Some, cond, length, sym, ap, subst, ◌∙◌}
 use Rattle.std.specs.BTreeMap.{get}
 use Rattle.std.specs.Ordering.{is_eq}
 use Rattle.circular_buffer.specs.Buffer.{Buffer}
@@ -13,8 +13,9 @@ use Rattle.coap_dedup.proofs.records.Records.keep.Goals.{Joined-try_push_back}
 
 pub release_dead-requires-clause-numbered : goal.release_dead-requires-clause-numbered
 release_dead-requires-clause-numbered c =
-    AreNumbered-insert c.next_number-number.result c.self.inside.index c.insert.new.self c.self.inside.ring.items c.new-record.result c.next_number-number.ensures
-    (subst (λ j. (k : Key) → get key_cmp c.insert.new.self k ≡ cond (is_eq (key_cmp j k)) (Some c.next_number-number.result) (get key_cmp c.self.inside.index k)) c.key.ensures c.in_ok-insert.ensures.updates.0)
+    let next = (c.self.inside.first + c.len.result) % 2 ^ 64 in
+    AreNumbered-insert c.self.inside.first c.self.inside.index c.insert.new.self c.self.inside.ring.items c.new-record.result next c.self.invariant.numbers (ap (λ n. (c.self.inside.first + n) % 2 ^ 64) c.len.ensures.len)
+    (subst (λ j. (k : Key) → get key_cmp c.insert.new.self k ≡ cond (is_eq (key_cmp j k)) (Some next) (get key_cmp c.self.inside.index k)) c.key.ensures c.in_ok-insert.ensures.updates.0)
 
 -- there is room
 room : (c : Joined-try_push_back) → length (living_at c.args.now c.args.self.now) < c.args.self.now.limit
@@ -43,7 +44,7 @@ pub invariant_of-self-2 : goal.invariant_of-self-2
 invariant_of-self-2 c = record {
   are = are c;
   numbers =
-      subst (λ (b : Buffer Record). AreNumbered c.release_dead.new.index b.items)
+      subst (λ (b : Buffer Record). AreNumbered c.release_dead.new.first c.release_dead.new.index b.items)
       (sym (ring-put c.try_push_back.result c.self.inside.ring c.release_dead.new.ring c.try_push_back.new.self c.self.inside.lifetime c.new-record.result c.release_dead.ensures.left c.try_push_back.ensures.variant c.try_push_back.ensures.ok (room_inside c)))
       c.release_dead.ensures.numbered;
 }
