@@ -61,6 +61,7 @@ pub mod Opening
 pub mod Idling
 pub mod Carrying
 pub mod Holding
+pub mod Counting
 pub mod Counted
 pub mod Promising
 pub mod Running

@@ -11,6 +11,7 @@ use Rattle.coap_store.specs.declared.key.CacheKey.{CacheKey}
 use Rattle.coap_store.specs.declared.stored.Stored.{Stored}
 use Rattle.coap_store.specs.Entries.{entry_size}
 use Rattle.coap_store.specs.Lists.{total}
+use Rattle.coap_store.specs.Sizes.{key_size, options_size}
 use Rattle.coap_dedup.specs.Lists.{bytes_of}
 use Rattle.coap_exchange.specs.declared.exchange.ExchangeState.{ExchangeState}
 use Rattle.coap_exchange.specs.declared.exchange.ExchangeState.TheVariants.{Queued, Sent, Acked, Done}
@@ -73,6 +74,45 @@ held w =
     + (bytes_of w.con_records.items + bytes_of w.non_records.items)
     + sum_by exchange_bytes w.exchanges
     + sum_by waiter_bytes w.waiters
+
+-- ---- the bytes held, as values count
+
+-- A response counts as one that is stored does, without the 64 bytes of an entry: each value of its
+-- options with a byte more, and its payload.
+abbrev pub response_size : Message → ℕ
+response_size m = options_size m.options + length m.payload
+
+-- the answer of an exchange
+abbrev pub answer_size : ExchangeState → ℕ
+answer_size Queued = 0
+answer_size Sent = 0
+answer_size Acked = 0
+answer_size (Done a) = response_size a.message
+
+-- the copy of a stored response that is validated
+abbrev pub copy_size : Option Stored → ℕ
+copy_size copy = option_map_or (λ s. response_size s.response) copy 0
+
+-- an exchange: the form that is sent on, the key, the copy and the answer
+abbrev pub exchange_size : Numbered Exchange → ℕ
+exchange_size x =
+    length x.1.form + key_size x.1.key + copy_size x.1.copy + answer_size x.1.state
+
+-- a client that waits: its token and its tags; then the bytes of its answer
+abbrev pub waiter_size : Waiter → WaiterState → ℕ
+waiter_size v (Waiting exchange) = length v.token + sum_by length v.tags
+waiter_size v (Delivering bytes id timer) = length bytes
+
+-- The bytes held: what is stored; the replies that are kept, also of messages whose lifetime is over;
+-- the exchanges; and the clients that wait.
+abbrev pub bytes_held : World → ℕ
+bytes_held w =
+    total entry_size w.store
+    + (bytes_of w.con_records.items + bytes_of w.non_records.items)
+    + sum_by exchange_size w.exchanges
+    + sum_by (λ v. waiter_size v.1 v.1.state) w.waiters
+
+-- ---- the bound
 
 -- a bound on what the store, the records, the waiters and the exchanges hold together
 abbrev pub most_held : Limits → ℕ

@@ -22,7 +22,7 @@ ghost use Rattle.coap_model.specs.Examples.{nothing, to, from, client, proxy, ch
 ghost use Rattle.coap_model.specs.ResponseExamples.{comes, taken, no_room, response, request};
 ghost use Rattle.coap_model.specs.Standing.{waits, sent, done, outstanding_to, HasRoomToJoin, HasRoomToOpen, open_in, standing_in, told};
 ghost use Rattle.coap_model.specs.Schedules.{sends_by, IsSchedule};
-ghost use Rattle.coap_model.specs.Held.{held, most_held};
+ghost use Rattle.coap_model.specs.Held.{bytes_held, held, most_held};
 ghost use Rattle.coap_model.specs.LimitExamples.{got};
 ghost use Rattle.coap_message.specs.declared.message.Head.{Head};
 ghost use Rattle.coap_message.specs.Message.{Message};
@@ -518,6 +518,15 @@ pub fn datagrams_fit()
         → AreLimits w.setting.limits
         → IsEvent event
         → length (step_of w now draw grown event).bytes ≤ w.setting.limits.datagram }
+{}
+
+/// The bytes held, as values count, are at most those that are kept of them, and so within the same
+/// bound.
+pub fn bytes_held_are_kept()
+    ensures kept { (w : World) → bytes_held w ≤ held w }
+    ensures within { (w : World) (history : List Entry)
+        → Carries history w
+        → bytes_held w ≤ most_held w.setting.limits }
 {}
 
 /// Whatever happens to a new proxy at moments that don't go back, where datagrams are bytes and

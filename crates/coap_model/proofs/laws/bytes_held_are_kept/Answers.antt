@@ -1,0 +1,10 @@
+use Rattle.std.proofs.Common.{arith}
+use Rattle.coap_model.proofs.Counting.{bytes-kept}
+use Rattle.coap_model.proofs.Holding.{within-bound}
+use Rattle.coap_model.proofs.laws.bytes_held_are_kept.Goals as goal
+
+pub returns : goal.returns
+returns c = record {
+  kept = bytes-kept;
+  within = λ w history carried. omega (arith, bytes-kept w, within-bound carried.deeds w carried.bears);
+}
