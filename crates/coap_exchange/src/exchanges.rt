@@ -17,7 +17,7 @@ ghost use Rattle.coap_exchange.specs.Table.{empty_table, item_at, admitted_to, w
 use crate::due::{later, sooner};
 use crate::exchange::{Change, Exchange, ExchangeState, Sending};
 use crate::index::{Index, Sought, digest_of_key, digest_of_target, first_sought, owners_at};
-use crate::lines::{Line, close_one, line_to, move_one, open_one};
+use crate::lines::{Line, close_one, line_to, may_have_turn, move_one, open_one};
 use crate::table::{AdmitError, Table};
 use crate::timer::Fire;
 use coap_endpoint::{Endpoint, Target};
@@ -367,7 +367,8 @@ impl Table<Exchange> {
     }
 }
 
-/// What of the exchanges that wait for their turn is to be sent first. So many of them wait.
+/// What of the exchanges that wait for their turn is to be sent first. `queued` of them wait. Those
+/// are gone through only where it may be the turn of one.
 fn first_turn(
     exchanges: &Table<Exchange>,
     lines: &BTreeMap<Endpoint, Line>,
@@ -379,7 +380,8 @@ fn first_turn(
     ensures exact { result
         ≡ first_due (turn_among nstart exchanges.now.items) exchanges.now.items }
 {
-    if queued == 0 {
+    let _sound = exchanges.is_full();
+    if queued == 0 || !may_have_turn(lines, nstart) {
         return None;
     }
     exchanges.first_turn(lines, nstart)
