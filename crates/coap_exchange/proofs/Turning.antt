@@ -1,23 +1,21 @@
 -- Whose turn it may be, told from what is counted for each endpoint.
-use Rattle.std.proofs.Common.{◌≡◌, ℕ, ◌+◌, ◌-◌, ◌<◌, ◌≤◌, ◌&&◌, ◌||◌, List, [], ◌∷◌, Bool, true, false, cond, eqb, leb, ltb, Option, Some, None, refl, sym, ap, subst, ◌∙◌, arith}
+use Rattle.std.proofs.Common.{◌≡◌, ℕ, ◌<◌, ◌&&◌, ◌||◌, List, [], ◌∷◌, Bool, true, false, cond, eqb, leb, ltb, Option, Some, None, refl, ap, ◌∙◌, arith}
 use Rattle.std.specs.Prelude.{not, IfSome}
-use Rattle.std.specs.List.{AllByRecursion, list_any}
+use Rattle.std.specs.List.{list_any}
 use Rattle.std.specs.Map.{lookup}
 use Rattle.std.specs.BTreeMap.{get}
 use Rattle.std.proofs.lemmas.Bool.{eqb-true, eq-eqb}
 use Rattle.std.proofs.lemmas.Bool.Decides.{nat_tests}
-use Rattle.coap_endpoint.specs.declared.endpoint.Endpoint.{Endpoint}
+use Rattle.coap_endpoint.specs.Endpoint.{same_endpoint}
+use Rattle.coap_endpoint.proofs.Equality.{Tells-endpoint}
 use Rattle.coap_exchange.specs.declared.exchange.Exchange.{Exchange}
-use Rattle.coap_exchange.specs.declared.exchange.ExchangeState.{ExchangeState}
-use Rattle.coap_exchange.specs.declared.exchange.ExchangeState.TheVariants.{Queued, Sent, Acked, Done}
 use Rattle.coap_exchange.specs.declared.lines.Line.{Line}
-use Rattle.coap_exchange.specs.Due.{due_row, first_due, sooner, as_due}
-use Rattle.coap_exchange.specs.Exchanges.{is_blocked, is_queued, is_queued_state, is_sent, is_sent_state, is_sent_to}
+use Rattle.coap_exchange.specs.Due.{first_due}
+use Rattle.coap_exchange.specs.Exchanges.{is_blocked, is_queued, is_sent_to}
 use Rattle.coap_exchange.specs.Index.{turn_among}
-use Rattle.coap_exchange.specs.Lines.{AreLined, Lines, endpoint_cmp, may_have_turn, open_in, open_of, sent_in, sent_of}
-use Rattle.coap_exchange.specs.Table.{Numbered, Table, IsRising, IsTable, count, item_at}
-use Rattle.coap_exchange.proofs.Counts.{one_if}
-use Rattle.coap_exchange.proofs.Lining.{counted-there, few-sent}
+use Rattle.coap_exchange.specs.Lines.{AreLined, Lines, endpoint_cmp, has_turn, is_queued_to, queued_of, sent_of}
+use Rattle.coap_exchange.specs.Table.{Numbered, Table, IsRising, IsTable, count, item_at, passes}
+use Rattle.coap_exchange.proofs.Counts.{one_if, count-without}
 use Rattle.coap_exchange.proofs.Seeking.{none-under}
 
 -- what no entry passes, what is found doesn't pass
@@ -30,35 +28,24 @@ none-found find test (x ∷ xs) none = go (test x.1) refl none (none-found find 
     go false t h rest true = t
     go false t h rest false = rest h
 
--- one that waits isn't sent
-queued-unsent : (x : Exchange) → is_queued x ≡ true → is_sent x ≡ false
-queued-unsent x q = go x.state q
+-- where one waits, and it is nobody's turn, as many are sent as may be
+blocked-line : (nstart sent queued : ℕ) (o : Option Line) → IfSome o (λ l. has_turn nstart l ≡ false) → sent_of o ≡ sent → queued_of o ≡ queued → 0 < queued → leb nstart sent ≡ true
+blocked-line nstart sent queued None off same waits some = absurd (omega arith)
+blocked-line nstart sent queued (Some line) off same waits some = go (ltb 0 line.queued) refl (ltb line.sent nstart) refl off
   where
-    go : (s : ExchangeState) → is_queued_state s ≡ true → is_sent_state s ≡ false
-    go Queued e = refl
-    go Sent e = absurd cc
-    go Acked e = absurd cc
-    go (Done a) e = absurd cc
-
--- where there is one more than are sent, and it may be nobody's turn, as many are sent as may be
-blocked-line : (nstart sent : ℕ) (o : Option Line) → IfSome o (λ l. may_have_turn nstart l ≡ false) → sent_of o ≡ sent → sent < open_of o → leb nstart sent ≡ true
-blocked-line nstart sent None off same more = absurd (omega arith)
-blocked-line nstart sent (Some line) off same more = go (ltb line.sent line.all) refl (ltb line.sent nstart) refl off
-  where
-    go : (b : Bool) → ltb line.sent line.all ≡ b → (c : Bool) → ltb line.sent nstart ≡ c → (b && c) ≡ false → leb nstart sent ≡ true
+    go : (b : Bool) → ltb 0 line.queued ≡ b → (c : Bool) → ltb line.sent nstart ≡ c → (b && c) ≡ false → leb nstart sent ≡ true
     go false e c f h = absurd (grind (arith, nat_tests))
     go true e true f h = absurd cc
     go true e false f h = grind (arith, nat_tests)
 
--- where it may be nobody's turn, one that waits is blocked
-module _ (nstart : ℕ) (t : Table Exchange) (lines : Lines) (is : IsTable t) (are : AreLined t.items lines) (none : list_any (λ e. may_have_turn nstart e.1) lines.entries ≡ false) where
+-- where it is nobody's turn, one that waits is blocked
+module _ (nstart : ℕ) (t : Table Exchange) (lines : Lines) (is : IsTable t) (are : AreLined t.items lines) (none : list_any (λ e. has_turn nstart e.1) lines.entries ≡ false) where
   blocked-there : (n : ℕ) (x : Exchange) → item_at n t.items ≡ Some x → is_queued x ≡ true → is_blocked nstart t.items x ≡ true
   blocked-there n x there q =
       let at = x.key.target.at in
-      let unsent = queued-unsent x q in
-      let few : sent_in lines at ≤ (open_in lines at - 1) + one_if false = subst (λ (b : Bool). sent_in lines at ≤ (open_in lines at - 1) + one_if b) unsent (few-sent n t lines x is are there) in
-      let some = counted-there n t lines x is are there in
-      blocked-line nstart (count (is_sent_to at) t.items) (get endpoint_cmp lines at) (none-found _ (may_have_turn nstart) lines.entries none) (are.sent at) (let sent = are.sent at in omega (arith, few, some, sent))
+      let counted = count-without (is_queued_to at) n 0 t.items is.rising in
+      let one : one_if (passes (is_queued_to at) (item_at n t.items)) ≡ 1 = ap (λ (o : Option Exchange). one_if (passes (is_queued_to at) o)) there ∙ ap (λ (b : Bool). one_if (b && same_endpoint at at)) q ∙ ap one_if (Tells-endpoint.itself at) in
+      blocked-line nstart (count (is_sent_to at) t.items) (count (is_queued_to at) t.items) (get endpoint_cmp lines at) (none-found _ (has_turn nstart) lines.entries none) (are.sent at) (are.queued at) (omega (arith, counted, one))
 
   -- so it isn't its turn
   no-turn-there : (n : ℕ) (x : Exchange) → item_at n t.items ≡ Some x → turn_among nstart t.items x ≡ None
@@ -82,5 +69,5 @@ none-due due least (x ∷ xs) rises each =
         go true e = absurd (let gone : item_at n xs ≡ None = none-under n x.0 xs (let same = eqb-true n x.0 e in omega arith) rises.1 in cc)
         go false e = there
 
-pub nobodys-turn : (nstart : ℕ) (t : Table Exchange) (lines : Lines) → IsTable t → AreLined t.items lines → list_any (λ e. may_have_turn nstart e.1) lines.entries ≡ false → first_due (turn_among nstart t.items) t.items ≡ None
+pub nobodys-turn : (nstart : ℕ) (t : Table Exchange) (lines : Lines) → IsTable t → AreLined t.items lines → list_any (λ e. has_turn nstart e.1) lines.entries ≡ false → first_due (turn_among nstart t.items) t.items ≡ None
 nobodys-turn nstart t lines is are none = none-due (turn_among nstart t.items) 0 t.items is.rising (no-turn-there nstart t lines is are none)

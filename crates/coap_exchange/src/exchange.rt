@@ -4,6 +4,7 @@ ghost use Rattle.std.specs.Option.{option_copied};
 ghost use Rattle.coap_exchange.specs.Exchanges.{answer_at, changed_by, fire_of_sending, fired_exchange, is_as, is_acked, is_changed_with, is_joinable, is_queued, is_sent, tainted_by, was_sent_as, CanChange, CanFire};
 ghost use Rattle.coap_exchange.specs.Lines.{sends};
 
+use crate::lines::Stage;
 use crate::timer::{Fire, Timer};
 use coap_endpoint::{Endpoint, Target};
 use coap_message::{Seq, set_id};
@@ -143,6 +144,17 @@ impl Exchange {
         match self.state {
             ExchangeState::Acked => true,
             ExchangeState::Queued | ExchangeState::Sent | ExchangeState::Done(_) => false,
+        }
+    }
+
+    /// What of it is counted for its endpoint.
+    pub(crate) fn stage(&self) -> Stage
+        ensures sent { result.sent ≡ is_sent self.now }
+        ensures queued { result.queued ≡ is_queued self.now }
+    {
+        Stage {
+            sent: self.is_sent(),
+            queued: self.is_queued(),
         }
     }
 

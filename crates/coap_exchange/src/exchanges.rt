@@ -11,13 +11,13 @@ ghost use Rattle.coap_exchange.specs.declared.table.AdmitError.TheVariants.{Full
 ghost use Rattle.coap_exchange.specs.Due.{due_row, first_due};
 ghost use Rattle.coap_exchange.specs.Exchanges.{acked, answer_in, answered, changed_by, due_among, fire_at, fired_exchange, is_acked, is_done, is_joinable, is_queued, is_sent, is_sent_to, is_timely, sent, tainted_by, was_sent_as, AreTimely, CanChange, IsDue, IsFireDue};
 ghost use Rattle.coap_exchange.specs.Index.{turn_among, AreIndexed};
-ghost use Rattle.coap_exchange.specs.Lines.{is_with, open_in, sent_in, AreLined};
+ghost use Rattle.coap_exchange.specs.Lines.{is_queued_to, is_with, open_in, queued_in, sent_in, AreLined};
 ghost use Rattle.coap_exchange.specs.Table.{empty_table, item_at, admitted_to, without, withdrawn, changed_at, all_changed, count, first_that, passes, IsTable};
 
 use crate::due::{later, sooner};
 use crate::exchange::{Change, Exchange, ExchangeState, Sending};
 use crate::index::{Index, Sought, digest_of_key, digest_of_target, first_sought, owners_at};
-use crate::lines::{Line, close_one, line_to, may_have_turn, move_one, open_one};
+use crate::lines::{Line, Stage, close_one, has_turn, line_to, move_one, open_one};
 use crate::table::{AdmitError, Table};
 use crate::timer::Fire;
 use coap_endpoint::{Endpoint, Target};
@@ -241,7 +241,11 @@ impl Exchanges {
                 Ok(number)
             }
             Err(error) => {
-                close_one(&mut self.lines, at, false);
+                let queued = Stage {
+                    sent: false,
+                    queued: true,
+                };
+                close_one(&mut self.lines, at, queued);
                 Err(error)
             }
         }
@@ -368,7 +372,7 @@ impl Table<Exchange> {
 }
 
 /// What of the exchanges that wait for their turn is to be sent first. `queued` of them wait. Those
-/// are gone through only where it may be the turn of one.
+/// are gone through only where it is the turn of one.
 fn first_turn(
     exchanges: &Table<Exchange>,
     lines: &BTreeMap<Endpoint, Line>,
@@ -381,7 +385,7 @@ fn first_turn(
         ≡ first_due (turn_among nstart exchanges.now.items) exchanges.now.items }
 {
     let _sound = exchanges.is_full();
-    if queued == 0 || !may_have_turn(lines, nstart) {
+    if queued == 0 || !has_turn(lines, nstart) {
         return None;
     }
     exchanges.first_turn(lines, nstart)
@@ -501,14 +505,19 @@ fn leave(lines: &mut BTreeMap<Endpoint, Line>, exchanges: &Table<Exchange>, numb
         → sent_in lines.new e
         + (if passes (is_sent_to e) (item_at number exchanges.now.items) then 1 else 0)
         ≡ sent_in lines.old e }
+    ensures queued { (e : Endpoint)
+        → queued_in lines.new e
+        + (if passes (is_queued_to e) (item_at number exchanges.now.items) then 1 else 0)
+        ≡ queued_in lines.old e }
 {
     let _few = exchanges.len();
     if let Some(exchange) = exchanges.get(number) {
-        close_one(lines, exchange.key.target.at, exchange.is_sent());
+        close_one(lines, exchange.key.target.at, exchange.stage());
     }
 }
 
-/// The exchange of this number is counted for its endpoint by what it is after a change.
+/// The exchange of this number is counted for its endpoint by what it is after a change, when it
+/// waits for its turn no more.
 fn recount(
     lines: &mut BTreeMap<Endpoint, Line>,
     exchanges: &Table<Exchange>,
@@ -523,10 +532,18 @@ fn recount(
         ≡ sent_in lines.old e
         + (if passes (λ x. is_sent_to e (changed_by change.now x))
         (item_at number exchanges.now.items) then 1 else 0) }
+    ensures queued { (e : Endpoint)
+        → queued_in lines.new e
+        + (if passes (is_queued_to e) (item_at number exchanges.now.items) then 1 else 0)
+        ≡ queued_in lines.old e }
 {
     let _few = exchanges.len();
     if let Some(exchange) = exchanges.get(number) {
-        let was = exchange.is_sent();
-        move_one(lines, exchange.key.target.at, was, change.sends(was));
+        let was = exchange.stage();
+        let is = Stage {
+            sent: change.sends(was.sent),
+            queued: false,
+        };
+        move_one(lines, exchange.key.target.at, was, is);
     }
 }

@@ -3,15 +3,20 @@ use Rattle.coap_exchange.specs.Exchanges.{is_queued}
 use Rattle.coap_exchange.specs.Lines.{is_with}
 use Rattle.coap_exchange.proofs.Counts.{count-length}
 use Rattle.coap_exchange.proofs.Indexing.{all-can-pass, all-have-passed, moves-admitted}
-use Rattle.coap_exchange.proofs.Lining.{lined-push, one-itself, sent-few, sent-less}
+use Rattle.coap_exchange.proofs.Lining.{lined-push, one-itself, queued-few, queued-less, sent-less}
 use Rattle.coap_exchange.proofs.Tables.{admitted-is, room-there}
 use Rattle.coap_exchange.proofs.Timely.{exchanges-push}
 use Rattle.coap_exchange.proofs.exchanges.Exchanges.admit.Goals as goal
 
-pub open_one-requires : goal.open_one-requires
-open_one-requires c =
+pub open_one-requires-clause-all : goal.open_one-requires-clause-all
+open_one-requires-clause-all c =
     let room = room-there c.self.inside.table c.is_full.ensures.sound (sym c.is_full.ensures.exact ∙ c.if-is_full.false) in
     omega (arith, room, count-length (is_with c.args.key.target.at) c.self.inside.table.items, c.self.invariant.1.all c.args.key.target.at, c.is_full.ensures.fits)
+
+pub open_one-requires-clause-queued : goal.open_one-requires-clause-queued
+open_one-requires-clause-queued c =
+    let room = room-there c.self.inside.table c.is_full.ensures.sound (sym c.is_full.ensures.exact ∙ c.if-is_full.false) in
+    omega (arith, room, queued-few c.self.inside.lines c.self.inside.table.items c.args.key.target.at c.self.invariant.1, c.is_full.ensures.fits)
 
 pub overflow_add-self : goal.overflow_add-self
 overflow_add-self c = omega (arith, count-length is_queued c.self.inside.table.items, c.self.invariant.0.queued, c.in-Ok-admit.ensures.room, c.in-Ok-admit.ensures.fits)
@@ -30,7 +35,7 @@ invariant_of-self-in-Ok-admit c =
     let passed = rw (c.owners_at-was.ensures.exact, c.owners_at.ensures.exact, c.in-Ok-admit.ensures.ok, c.in-Ok-admit.ensures.number, c.admitted.ensures.exact) at c.pass.ensures.exact in
     rw c.in-Ok-admit.ensures.ok (
       exchanges-push c.self.inside.table.items c.self.inside.queued _ refl c.requires.now refl c.self.invariant.0,
-      lined-push c.self.inside.table.items c.self.inside.lines c.open_one.new.lines _ _ refl c.self.invariant.1 c.in-Ok.ensures.all c.in-Ok.ensures.sent,
+      lined-push c.self.inside.table.items c.self.inside.lines c.open_one.new.lines _ _ refl refl c.self.invariant.1 c.in-Ok.ensures.all c.in-Ok.ensures.sent c.in-Ok.ensures.queued,
       all-have-passed (c.self.inside.table.admitted + 1) c.self.inside.table.limit c.self.inside.table.items _ c.self.inside.index c.pass.new.self (moves-admitted c.self.inside.table _ is) c.self.invariant.2 passed (admitted-is c.self.inside.table _ is room).rising,
     )
 
@@ -40,15 +45,16 @@ close_one-requires-clause-all c =
     let one = one-itself c.args.key.target.at in
     omega (arith, more, one)
 
-pub close_one-requires-clause-few : goal.close_one-requires-clause-few
-close_one-requires-clause-few c =
-    let room = room-there c.self.inside.table c.is_full.ensures.sound (sym c.is_full.ensures.exact ∙ c.if-is_full.false) in
-    let same = c.in-Ok.ensures.sent c.args.key.target.at in
-    omega (arith, room, same, sent-few c.self.inside.lines c.self.inside.table.items c.args.key.target.at c.self.invariant.1, c.is_full.ensures.fits)
-
 pub close_one-requires-clause-sent : goal.close_one-requires-clause-sent
 close_one-requires-clause-sent c =
     let more = c.in-Ok.ensures.all c.args.key.target.at in
     let one = one-itself c.args.key.target.at in
     let same = c.in-Ok.ensures.sent c.args.key.target.at in
     omega (arith, more, one, same, sent-less c.self.inside.lines c.self.inside.table.items c.args.key.target.at c.self.invariant.1)
+
+pub close_one-requires-clause-queued : goal.close_one-requires-clause-queued
+close_one-requires-clause-queued c =
+    let all = c.in-Ok.ensures.all c.args.key.target.at in
+    let queued = c.in-Ok.ensures.queued c.args.key.target.at in
+    let one = one-itself c.args.key.target.at in
+    omega (arith, all, queued, one, queued-less c.self.inside.lines c.self.inside.table.items c.args.key.target.at c.self.invariant.1)

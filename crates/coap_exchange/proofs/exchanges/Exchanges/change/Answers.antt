@@ -28,6 +28,6 @@ invariant_of-self c =
     let passed = rw (c.owners_at-was.ensures.exact, c.owners_at.ensures.exact, c.change.ensures) at c.pass.ensures.exact in
     rw c.change.ensures (
       exchanges-changed c.args.number c.args.change c.self.inside.table.items c.self.inside.queued c.queued_without-self-inside.result c.self.inside.table refl c.queued_without-self-inside.ensures.sound c.self.invariant.0 c.requires.timely off c.queued_without-self-inside.ensures.fewer,
-      lined-changed c.args.number c.args.change c.self.inside.table c.self.inside.lines c.recount.new.lines c.queued_without-self-inside.ensures.sound c.self.invariant.1 c.recount.ensures.all c.recount.ensures.sent,
+      lined-changed c.args.number c.args.change c.self.inside.table c.self.inside.lines c.recount.new.lines c.queued_without-self-inside.ensures.sound c.self.invariant.1 c.recount.ensures.all c.recount.ensures.sent off c.recount.ensures.queued,
       all-have-passed c.args.number c.self.inside.table.limit c.self.inside.table.items _ c.self.inside.index c.pass.new.self (moves-changed c.args.number (changed_by c.args.change) c.self.inside.table is) c.self.invariant.2 passed (changed_at-is c.args.number (changed_by c.args.change) c.self.inside.table is).rising,
     )
