@@ -1,6 +1,6 @@
 -- What a proxy that carries a history can do: it can go on.
-use Rattle.std.proofs.Common.{◌≡◌, ℕ, ◌<◌, ◌≤◌, ◌^◌, Bool, List, [], ◌∷◌, length, Result, Ok, Err, refl, sym, ap, subst, arith}
-use Rattle.std.specs.Prelude.{IfOk, OnErr}
+use Rattle.std.proofs.Common.{◌≡◌, ℕ, ◌<◌, ◌≤◌, ◌^◌, Bool, ◌+◌, List, [], ◌∷◌, length, Option, Some, None, Result, Ok, Err, refl, sym, ap, subst, arith}
+use Rattle.std.specs.Prelude.{IfOk, IfSome, OnErr}
 use Rattle.coap_message.specs.declared.error.OutOfMemory.{OutOfMemory}
 use Rattle.coap_message.specs.Datagram.{Datagram, holding}
 use Rattle.coap_model.specs.declared.report.Report.{Report}
@@ -11,7 +11,11 @@ use Rattle.coap_dedup.specs.declared.record.Record.{Record}
 use Rattle.coap_dedup.specs.Lists.{AreUpTo}
 use Rattle.coap_model.specs.History.{Entry, Deed, last_of, grown_of}
 use Rattle.coap_model.specs.Runs.{entry_of}
+use Rattle.coap_limits.specs.Limits.{AreLimits}
 use Rattle.coap_model.specs.Carries.{Carries}
+use Rattle.coap_model.specs.Ranges.{AreInRange}
+use Rattle.coap_model.specs.Ticks.{next_due}
+use Rattle.coap_model.proofs.Bounding.{next-bounded}
 use Rattle.coap_model.proofs.Carrying.{keeps_step}
 use Rattle.coap_model.proofs.Frames.{opened-few, admitted-few}
 use Rattle.coap_model.specs.Promised.{Promised}
@@ -48,24 +52,31 @@ can_go_on history w c few =
 
 -- ---- what the step in code leaves
 
--- the setting is the same, and some history is carried
+-- the setting is the same, and some history is carried, within the ranges
 pub record IsLeft (w v : World) : Type 0 where
   pub setting : v.setting ≡ w.setting
   pub history : List Entry
   pub carries : Carries history v
+  pub in_range : AreInRange history
 
 -- what a step leaves: the setting, the limits, and a history that is carried
-pub is-left : (w : World) (now draw : ℕ) (event : Event) (history : List Entry) → Carries history w → w.last ≤ now → IsEvent event → (r : Result Report OutOfMemory) (old new : Datagram) (v : World)
+pub is-left : (w : World) (now draw : ℕ) (event : Event) (history : List Entry) → Carries history w → AreInRange history → now ≤ 2 ^ 62 → draw ≤ 1000 → w.last ≤ now → IsEvent event → (r : Result Report OutOfMemory) (old new : Datagram) (v : World)
     → IfOk r (λ report. Does (step_of w now draw (grown_of report.outcome) event) report old new v) → OnErr r (v ≡ w) → IsLeft w v
-is-left w now draw event history c onward fits (Ok report) old new v does same =
+is-left w now draw event history c ranges moment drawn onward fits (Ok report) old new v does same =
     let grown = grown_of report.outcome in
     let stays = setting_stays w now draw grown event fits in
     record {
       setting = rw does.2 stays;
       history = entry_of now draw event (step_of w now draw grown event) ∷ history;
       carries = rw does.2 (keeps_step w history now draw grown event c onward fits);
+      in_range = ((moment, drawn), ranges);
     }
-is-left w now draw event history c onward fits (Err e) old new v does same = record { setting = rw same refl; history = history; carries = rw same c }
+is-left w now draw event history c ranges moment drawn onward fits (Err e) old new v does same = record { setting = rw same refl; history = history; carries = rw same c; in_range = ranges }
+
+-- what is due next isn't far ahead
+pub is-bounded : (w : World) (history : List Entry) → AreLimits w.setting.limits → Carries history w → AreInRange history → (due : Option ℕ) → due ≡ next_due w → IfSome due (λ at. at ≤ 2 ^ 62 + 600000)
+is-bounded w history limits c ranges None is = tt
+is-bounded w history limits c ranges (Some at) is = next-bounded w history at c ranges limits (sym is)
 
 -- what is sent isn't too long, and where memory is missing nothing is sent
 pub is-short : (r : Result Report OutOfMemory) (s : Bool → Step) (old new : Datagram) (v : World) (most : ℕ) → ((grown : Bool) → length (s grown).bytes ≤ most) → IfOk r (λ report. Does (s (grown_of report.outcome)) report old new v) → OnErr r (new ≡ holding old []) → length new.bytes ≤ most

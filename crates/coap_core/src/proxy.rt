@@ -1,5 +1,5 @@
 //! The core of a proxy: one step for one event.
-ghost use Rattle.std.specs.Prelude.{◌≡◌, ◌≤◌, ◌<◌, ◌^◌, [], true, length, IfOk, IsOk, OnErr};
+ghost use Rattle.std.specs.Prelude.{◌≡◌, ◌≤◌, ◌<◌, ◌^◌, ◌+◌, [], true, length, IfOk, IfSome, IsOk, OnErr};
 ghost use Rattle.coap_message.specs.Datagram.{holding};
 ghost use Rattle.coap_store.specs.Entries.{entry_size};
 ghost use Rattle.coap_store.specs.Lists.{total};
@@ -45,15 +45,17 @@ impl<S: Store> Model for Core<S> {
     ghost use Rattle.coap_model.specs.World.{World};
     ghost use Rattle.coap_model.specs.History.{Entry};
     ghost use Rattle.coap_model.specs.Carries.{Carries};
+    ghost use Rattle.coap_model.specs.Ranges.{AreInRange};
     ghost use Rattle.coap_limits.specs.Limits.{AreLimits};
 
     ghost Value = { World };
 
     ghost view = { λ c. c.world };
 
-    // It carries some history.
+    // It carries some history, of moments and draws within their ranges.
     ghost invariant = { λ c.
-        AreLimits c.world.setting.limits × ((history : List Entry) × Carries history c.world) };
+        AreLimits c.world.setting.limits
+        × ((history : List Entry) × Carries history c.world × AreInRange history) };
 }
 
 impl<S: Store + Drop> Core<S> {
@@ -169,9 +171,11 @@ impl<S: Store + Drop> Core<S> {
         self.world.step(now, draw, event, out)
     }
 
-    /// The moment at which the next thing is due, in milliseconds, if anything is.
+    /// The moment at which the next thing is due, in milliseconds, if anything is. It is at most
+    /// 2^62 + 600,000.
     pub fn next_due(&self) -> Option<u64>
         ensures exact { result ≡ next_due self.now }
+        ensures bounded { IfSome result (λ at. at ≤ 2 ^ 62 + 600000) }
     {
         self.world.next_due()
     }

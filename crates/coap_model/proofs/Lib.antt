@@ -71,3 +71,4 @@ pub mod OneStep
 pub mod Ticking
 pub mod Word
 pub mod ForgingHits
+pub mod Bounding

@@ -41,3 +41,4 @@ pub mod CacheExamples
 pub mod ForgedHits
 pub mod HitExamples
 pub mod StoringExamples
+pub mod Ranges

@@ -23,6 +23,7 @@ ghost use Rattle.coap_model.specs.ResponseExamples.{comes, taken, no_room, respo
 ghost use Rattle.coap_model.specs.Standing.{waits, sent, done, outstanding_to, HasRoomToJoin, HasRoomToOpen, open_in, standing_in, told};
 ghost use Rattle.coap_model.specs.Schedules.{sends_by, IsSchedule};
 ghost use Rattle.coap_model.specs.Held.{bytes_held, held, most_held};
+ghost use Rattle.coap_model.specs.Ranges.{AreInRange};
 ghost use Rattle.coap_model.specs.LimitExamples.{got};
 ghost use Rattle.coap_message.specs.declared.message.Head.{Head};
 ghost use Rattle.coap_message.specs.Message.{Message};
@@ -508,6 +509,17 @@ pub fn next_due_is_least()
         → IsNextDue setting past a
         → IsNextDue setting past b
         → a ≡ b }
+{}
+
+/// Where moments are at most 2^62 and draws at most 1,000, nothing is due later than ten minutes
+/// after 2^62.
+pub fn dues_are_bounded()
+    ensures bounded { (w : World) (history : List Entry) (at : ℕ)
+        → Carries history w
+        → AreInRange history
+        → AreLimits w.setting.limits
+        → next_due w ≡ Some at
+        → at ≤ 2 ^ 62 + 600000 }
 {}
 
 /// No datagram that a step sends is longer than the limit `datagram`, where the limits are within

@@ -22,13 +22,13 @@ step-requires-clause-fits g c =
 leaves : (g : Over) (c : After-step g) → IsLeft c.self.inside.world c.step.new.self
 leaves g c =
     let i = c.self.invariant in
-    is-left c.self.inside.world c.args.now c.args.draw (seen c.args.event) i.1.0 i.1.1 (rw (← c.self.view_is) at c.requires.onward) c.holds_bytes.ensures c.step.result c.args.out.now c.step.new.out c.step.new.self c.step.ensures.exact c.step.ensures.err
+    is-left c.self.inside.world c.args.now c.args.draw (seen c.args.event) i.1.0 i.1.1 i.1.2 c.requires.moment c.requires.draw (rw (← c.self.view_is) at c.requires.onward) c.holds_bytes.ensures c.step.result c.args.out.now c.step.new.out c.step.new.self c.step.ensures.exact c.step.ensures.err
 
 pub invariant_of-self : goal.invariant_of-self
 invariant_of-self g c =
     let i = c.self.invariant in
     let left = leaves g (goal.at.invariant_of-self g c).After-step in
-    (subst (λ (s : Setting). AreLimits s.limits) (sym left.setting) i.0, (left.history, left.carries))
+    (subst (λ (s : Setting). AreLimits s.limits) (sym left.setting) i.0, (left.history, left.carries, left.in_range))
 
 pub returns-clause-setting : goal.returns-clause-setting
 returns-clause-setting g c =

@@ -1,0 +1,72 @@
+-- What is due next isn't far ahead, where moments and draws are within their ranges.
+use Rattle.std.proofs.Common.{◌≡◌, ⊎_elim, ℕ, zero, suc, ◌+◌, ◌^◌, ◌≤◌, Bool, true, false, cond, List, [], ◌∷◌, length, Some, ap, subst, sym, arith}
+use Rattle.std.specs.Prelude.{filter}
+use Rattle.std.proofs.lemmas.Nat.{mul-le}
+use Rattle.coap_limits.specs.Limits.{AreLimits}
+use Rattle.coap_limits.specs.declared.limits.Limit.TheVariants.{ExchangeMs}
+use Rattle.coap_model.specs.Setting.{Setting}
+use Rattle.coap_model.specs.World.{World}
+use Rattle.coap_model.specs.History.{Entry, Act, no_item, admits, moves, serves, Deed, told_by, Place, IsPlaceOf}
+use Rattle.coap_model.specs.Schedules.{next_send, oldest, sends_by, sends_for}
+use Rattle.coap_model.specs.Due.{IsDueAt, to_send, to_repeat, to_end, to_serve, to_serve_again}
+use Rattle.coap_model.specs.Carries.{AreSchedules, Carries}
+use Rattle.coap_model.specs.Ranges.{AreInRange, IsInRange}
+use Rattle.coap_model.specs.Ticks.{next_due}
+use Rattle.coap_model.proofs.Acting.{next-is}
+
+-- what was done at a place was done at a moment within the range
+at-place : (deeds : List Deed) (p : Place) → AreInRange (told_by deeds) → IsPlaceOf deeds p → p.deed.entry.now ≤ 2 ^ 62
+at-place [] p r at = absurd at
+at-place (d ∷ past) p r at =
+    ⊎_elim
+    (λ (same : record { before = past; deed = d } ≡ p). let now = ap (λ (q : Place). q.deed.entry.now) same in omega (arith, now, r.0.0))
+    (λ (there : IsPlaceOf past p). at-place past p r.1 there)
+    at
+
+-- what was sent for an act was sent within the ranges
+sends-in : (act : Act) (deeds : List Deed) → AreInRange (told_by deeds) → AreInRange (sends_by act deeds)
+sends-in act [] r = tt
+sends-in act (d ∷ deeds) r = go (sends_for act d) (sends-in act deeds r.1)
+  where
+    go : (b : Bool) → AreInRange (sends_by act deeds) → AreInRange (told_by (cond b (d ∷ filter (sends_for act) deeds) (filter (sends_for act) deeds)))
+    go true rest = (r.0, rest)
+    go false rest = rest
+
+-- the draw of the first sending too
+oldest-in : (e : Entry) (es : List Entry) → IsInRange e → AreInRange es → (oldest e es).draw ≤ 1000
+oldest-in e [] i r = i.1
+oldest-in e (before ∷ es) i r = oldest-in before es r.0 r.1
+
+-- twice as long each time, up to four times
+doubled : (n : ℕ) → n ≤ 4 → 2 ^ n ≤ 16
+doubled zero le = omega arith
+doubled (suc zero) le = omega arith
+doubled (suc (suc zero)) le = omega arith
+doubled (suc (suc (suc zero))) le = omega arith
+doubled (suc (suc (suc (suc zero)))) le = omega arith
+doubled (suc (suc (suc (suc (suc n))))) le = absurd (omega (arith, le))
+
+-- the next sending is within a minute of the last
+next-in : (es : List Entry) → length es ≤ 5 → AreInRange es → next_send es ≤ 2 ^ 62 + 600000
+next-in [] few r = omega arith
+next-in (e ∷ es) few r =
+    let draw = oldest-in e es r.0 r.1 in
+    let times : 2 ^ length es ≤ 16 = doubled (length es) (omega (arith, few)) in
+    let timeout = mul-le (2000 + (oldest e es).draw) (2 ^ length es) 3000 16 (omega (arith, draw)) times in
+    omega (arith, timeout, r.0.0)
+
+-- whatever is due is due by then
+due-in : (setting : Setting) (deeds : List Deed) → AreSchedules deeds → AreInRange (told_by deeds) → setting.limits.exchange_ms ≤ 600000 → (act : Act) (at : ℕ) → IsDueAt setting deeds act at → at ≤ 2 ^ 62 + 600000
+due-in setting deeds schedules r most no_item at due = absurd due
+due-in setting deeds schedules r most (admits v x) at due = absurd due
+due-in setting deeds schedules r most (moves x) at (to_send due) = omega (arith, due.at_is, at-place deeds due.opened.opening r due.opened.was_opened)
+due-in setting deeds schedules r most (moves x) at (to_repeat due) = omega (arith, due.at_is, next-in (sends_by (moves x) deeds) (schedules (moves x)).few (sends-in (moves x) deeds r))
+due-in setting deeds schedules r most (moves x) at (to_end due) = omega (arith, due.at_is, most, at-place deeds due.opened.opening r due.opened.was_opened)
+due-in setting deeds schedules r most (serves v) at (to_serve due) = omega (arith, due.at_is, at-place deeds due.ending r due.was_ended)
+due-in setting deeds schedules r most (serves v) at (to_serve_again due) = omega (arith, due.at_is, next-in (sends_by (serves v) deeds) (schedules (serves v)).few (sends-in (serves v) deeds r))
+
+-- so is what is due next
+pub next-bounded : (w : World) (history : List Entry) (at : ℕ) → Carries history w → AreInRange history → AreLimits w.setting.limits → next_due w ≡ Some at → at ≤ 2 ^ 62 + 600000
+next-bounded w history at c r limits next =
+    let is = next-is w c.deeds c.bears at next in
+    due-in w.setting c.deeds c.bears.schedules (subst AreInRange (sym c.told) r) (limits ExchangeMs).1 is.act at is.due

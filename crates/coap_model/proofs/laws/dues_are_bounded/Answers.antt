@@ -1,0 +1,5 @@
+use Rattle.coap_model.proofs.Bounding.{next-bounded}
+use Rattle.coap_model.proofs.laws.dues_are_bounded.Goals as goal
+
+pub returns : goal.returns
+returns c = record { bounded = next-bounded }

@@ -1,0 +1,11 @@
+-- The ranges of moments and draws.
+use Rattle.std.specs.Prelude.{◌≤◌, ◌^◌, List}
+use Rattle.std.specs.List.{AllByRecursion}
+use Rattle.coap_model.specs.History.{Entry}
+
+-- a moment is at most 2^62, and a draw at most 1,000
+abbrev pub IsInRange : Entry → Type 0
+IsInRange e = (e.now ≤ 2 ^ 62) × (e.draw ≤ 1000)
+
+abbrev pub AreInRange : List Entry → Type 0
+AreInRange history = AllByRecursion IsInRange history
