@@ -8,7 +8,7 @@ use crate::fault::Fault;
 use crate::planning::{Plan, core_of};
 use coap_core::Core;
 use coap_port::{DriveError, Port, Stats, drive};
-use coap_replay::{ReplayError, replay};
+use coap_replay::{ReplayError, replay_turns};
 use coap_store::Store;
 use std::alloc::Global;
 use std::io::{BufReader, Read, Write};
@@ -62,7 +62,7 @@ fn serve_on<R: Read + Drop, W: Write, S: Store + Drop>(
     let Ok(mut reader) = BufReader::new(alloc, input) else {
         return Err(Fault::OutOfMemory);
     };
-    ended(replay(alloc, &mut reader, output, core, turns))
+    ended(replay_turns(alloc, &mut reader, output, core, turns))
 }
 
 /// How the program ends after a replay.

@@ -1,5 +1,5 @@
 -- What a replay does: the turns that were done, what they left, and what was written for them.
-use Rattle.std.specs.Prelude.{◌≡◌, ◌≢◌, ◌⊎◌, ℕ, ◌+◌, ◌≤◌, ◌<◌, ◌^◌, false, true, List, [], ◌∷◌, ◌++◌, length, Option, Some, None, Result, Ok, Err, IfSome, Bool}
+use Rattle.std.specs.Prelude.{◌≡◌, ◌≢◌, ◌⊎◌, ℕ, ◌+◌, ◌≤◌, ◌<◌, ◌^◌, ◌-◌, false, true, List, [], ◌∷◌, ◌++◌, length, Option, Some, None, Result, Ok, Err, IfOk, IfSome, Bool}
 use Rattle.std.specs.Io.KnownBytes.{Appends}
 use Rattle.coap_endpoint.specs.declared.endpoint.Endpoint.{Endpoint}
 use Rattle.coap_model.specs.World.{World}
@@ -165,6 +165,17 @@ pub record IsReplayed (w v : World) (most : ℕ) (input left old new : Option (L
   pub turns : List Taken
   pub done : HasDone w turns v
   pub ends : Ends w most input left old new turns result
+
+-- A replay of a whole input, whatever it says. Where it ends well, all lines were done: the turns are
+-- all that they say, and none of them is bad. Else it ends as one of some turns does, of which there
+-- may be so many that no input says them.
+pub record IsWhollyReplayed (w v : World) (input left old new : Option (List ℕ))
+    (result : Result ℕ ReplayError) : Type 0 where
+  pub turns : List Taken
+  pub done : HasDone w turns v
+  pub ends : Ends w (2 ^ 64 - 1) input left old new turns result
+  pub whole : IfOk result (λ n. IfSome input
+      (λ i. script_for w i ≡ record { turns = turns_of turns; bad = None }))
 
 -- ---- a line of it
 

@@ -3,6 +3,8 @@
 
 mod error;
 mod replays;
+mod whole;
 
 pub use error::ReplayError;
-pub use replays::replay;
+pub use replays::replay_turns;
+pub use whole::replay;

@@ -126,9 +126,9 @@ fn do_turn<W: Write, S: Store + Drop>(
     Ok(())
 }
 
-/// Does the events of an input, one after the other, and writes the lines of what is sent: those
-/// that the core sends at each event, and nothing else. Answers how many events were done. After so
-/// many turns it ends, and reads nothing after the line of the last: a bad line there isn't seen.
+/// Does the events of an input, as `replay` does, but `turns` of them at most, and answers how many
+/// were done. After so many it ends, and reads nothing after the line of the last: a bad line there
+/// isn't seen.
 ///
 /// Room for a line that is read and for one that is written is made before the first event.
 ///
@@ -137,7 +137,7 @@ fn do_turn<W: Write, S: Store + Drop>(
 /// none before the first line; `Read` and `Write` where the reader or the writer failed. What the
 /// lines before say was done, and their lines were written; the event of the line was not done, but
 /// for `Write`.
-pub fn replay<R: BufRead, W: Write, S: Store + Drop>(
+pub fn replay_turns<R: BufRead, W: Write, S: Store + Drop>(
     alloc: Global,
     reader: &mut R,
     writer: &mut W,

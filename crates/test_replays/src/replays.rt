@@ -49,7 +49,7 @@ fn check_on(
 ) {
     let mut written = Vec::new(alloc);
     let mut reader = text;
-    let result = replay(alloc, &mut reader, &mut written, core, u64::MAX);
+    let result = replay(alloc, &mut reader, &mut written, core);
     assert_eq!(rt;
         (result, written.as_slice()),
         (expected.0, expected.1.as_bytes())
@@ -77,12 +77,12 @@ fn a_replay_goes_on_where_the_last_one_ended(rt: HostRuntime) -> Result<(), Fail
 
 // ---- readers
 
-/// A text that is lent in pieces of so many bytes. After it comes the end, or an error.
+/// A text that is lent in pieces of so many bytes. After it comes the end, or an error of this kind.
 #[derive(Drop)]
 struct Pieces<'a> {
     rest: &'a [u8],
     piece: usize,
-    fails: bool,
+    fails: Option<ErrorKind>,
 }
 
 impl<'a> Read for Pieces<'a> {
@@ -100,8 +100,8 @@ impl<'a> Read for Pieces<'a> {
 
 impl<'a> BufRead for Pieces<'a> {
     fn fill_buf(&mut self) -> io::Result<&[u8]> {
-        if self.fails && self.rest.is_empty() {
-            return Err(io::Error::from(ErrorKind::BrokenPipe));
+        if let (Some(kind), []) = (self.fails, self.rest) {
+            return Err(io::Error::from(kind));
         }
         let lent = self.piece.min(self.rest.len());
         Ok(&self.rest[..lent])
@@ -121,7 +121,7 @@ fn replay_anew(
     writer: &mut impl Write,
 ) -> Result<(Result<u64, ReplayError>, u64), Fail> {
     let mut core = usual_core(alloc)?;
-    let result = replay(alloc, reader, writer, &mut core, u64::MAX);
+    let result = replay(alloc, reader, writer, &mut core);
     Ok((result, core.events()))
 }
 
@@ -129,7 +129,7 @@ fn replay_anew(
 fn check_reader(
     rt: &impl Abort,
     alloc: Global,
-    reader: (usize, usize, bool),
+    reader: (usize, usize, Option<ErrorKind>),
     expected: (Result<u64, ReplayError>, u64, &str),
 ) -> Result<(), Fail> {
     let (given, piece, fails) = reader;
@@ -160,13 +160,16 @@ fn an_input_may_come_in_pieces_and_break_off(rt: HostRuntime) -> Result<(), Fail
             _ => both.as_str(),
         };
         for piece in [1, 7, WHOLE] {
-            let expected = (Err(ReplayError::Read), done, written);
-            check_reader(&rt, alloc, (given, piece, true), expected)?;
+            // an interruption isn't passed over
+            for kind in [ErrorKind::BrokenPipe, ErrorKind::Interrupted] {
+                let expected = (Err(ReplayError::Read), done, written);
+                check_reader(&rt, alloc, (given, piece, Some(kind)), expected)?;
+            }
         }
     }
     for piece in [1, 2, 7, 33, WHOLE] {
         let expected = (Ok(4), 4, both.as_str());
-        check_reader(&rt, alloc, (FIRST_RUN.len(), piece, false), expected)?;
+        check_reader(&rt, alloc, (FIRST_RUN.len(), piece, None), expected)?;
     }
     Ok(())
 }

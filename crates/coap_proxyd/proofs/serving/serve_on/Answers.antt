@@ -20,4 +20,4 @@ served turns proxy after input left old new replayed is =
 pub returns : goal.returns
 returns g c =
     let reader = c.in-Ok.ensures in
-    rw c.ended.ensures (served _ c.args.core.now _ (g.R.Read.remaining c.args.input) _ _ _ c.replay.result (rw (reader.capacity, reader.empty, reader.inner) at c.replay.ensures.replayed))
+    rw c.ended.ensures (served _ c.args.core.now _ (g.R.Read.remaining c.args.input) _ _ _ c.replay_turns.result (rw (reader.capacity, reader.empty, reader.inner) at c.replay_turns.ensures.replayed))

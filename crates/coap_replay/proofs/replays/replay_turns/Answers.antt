@@ -2,8 +2,8 @@ use Rattle.std.proofs.Common.{◌+◌, Ok, Err, arith}
 use Rattle.std.proofs.lemmas.Result.{err_from_is_err_and}
 use Rattle.coap_replay.specs.declared.replays.Asked.TheVariants.{Skip, Do}
 use Rattle.coap_replay.proofs.Replaying.{at-start, ends-at-start, ends-none, by-clock, may-by-clock, as-asked, as-may, ends-refused, ends-enough, ends-unread, ends-turn, goes-on, goes-further}
-use Rattle.coap_replay.proofs.replays.replay.Goals.{in-Skip, in-Do+in_ok-do_turn-in-Do+else-count-turns}
-use Rattle.coap_replay.proofs.replays.replay.Goals as goal
+use Rattle.coap_replay.proofs.replays.replay_turns.Goals.{in-Skip, in-Do+in_ok-do_turn-in-Do+else-count-turns}
+use Rattle.coap_replay.proofs.replays.replay_turns.Goals as goal
 
 pub loop-read-init : goal.loop-read-init
 loop-read-init g c = record {

@@ -1,7 +1,7 @@
 use Rattle.std.proofs.Common.{◌≤◌, ◌<◌, vec_capacity}
 use Rattle.coap_lines.specs.Room.{longest_line}
 use Rattle.coap_replay.proofs.Replaying.{IsAt}
-use Rattle.coap_replay.proofs.replays.replay.Given as goal
+use Rattle.coap_replay.proofs.replays.replay_turns.Given as goal
 
 abbrev pub invariant-loop-read : goal.invariant-loop-read
 invariant-loop-read g l = record {
