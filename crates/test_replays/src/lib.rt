@@ -1,5 +1,5 @@
 //! Tests of what no worked run can show: what a core tells of itself, readers and writers that fail,
-//! and calls that the program has no use for.
+//! calls that the program has no use for, and stores that are called by hand.
 #![tactic(auto)]
 
 #[cfg(test)]
@@ -8,3 +8,5 @@ mod parts;
 mod replays;
 #[cfg(test)]
 mod steps;
+#[cfg(test)]
+mod stores;

@@ -1,18 +1,25 @@
 //! What takes memory and isn't called in the worked runs, with ample memory: a message of its own,
-//! what is copied of the options of a request, and the bytes of a number.
-use coap_message::{MessageRef, OutOfMemory, decode, uint_bytes};
+//! what is copied of the options of a request, the bytes of a number, a response that is renewed,
+//! and what a client is shown of it.
+use coap_cache::{RenewError, Stored, renewed, shown};
+use coap_message::{
+    Datagram, DecodeError, Message, MessageRef, OutOfMemory, Pieces, decode, encode_into,
+    uint_bytes,
+};
 use coap_option::{forward_options, key_options, tags};
 use std::alloc::Global;
+use std::process::Abort;
 use std::test::*;
 
 /// A GET with an ETag, an Accept and a Size1.
 const REQUEST: &[u8] = b"\x40\x01\x00\x01\x41\x07\xD1\x00\x3C\xD1\x1E\x05";
 
-/// How many bytes the options take that go on, those of a key, and how many tags there are.
-fn sizes(alloc: Global, request: &MessageRef) -> Result<(usize, usize, usize), OutOfMemory> {
-    let sent = forward_options(alloc, request)?.size();
-    let key = key_options(alloc, request)?.size();
-    Ok((sent, key, tags(alloc, request)?.len()))
+/// The bytes of a message.
+fn written(alloc: Global, message: &Message) -> Result<Datagram, Fail> {
+    let mut out = Datagram::new(alloc, 64)?;
+    let room = out.room();
+    encode_into(message, &mut out, room)?;
+    Ok(out)
 }
 
 /// Whether a number is written in these bytes.
@@ -22,10 +29,116 @@ fn is_written(alloc: Global, number: u64, bytes: &[u8]) -> Result<bool, OutOfMem
 
 #[test]
 fn messages_options_and_numbers_are_copied(rt: HostRuntime) -> Result<(), Fail> {
+    let alloc = rt.alloc();
     let request = MessageRef::read(REQUEST)?;
-    assert!(rt; decode(rt.alloc(), REQUEST)?.options.size() == 8);
-    // options of two and of one, each of two bytes and one for a greater step
-    assert!(rt; sizes(rt.alloc(), &request)? == (6, 3, 1));
-    assert!(rt; is_written(rt.alloc(), 65536, b"\x01\x00\x00")?);
+    let copy = decode(alloc, REQUEST)?;
+    assert_eq!(rt; written(alloc, &copy)?.bytes(), REQUEST);
+    // the Accept and the Size1, and the Accept alone
+    let sent = forward_options(alloc, &request)?;
+    assert_eq!(rt; sent.lent().bytes(), b"\xD1\x04\x3C\xD1\x1E\x05".as_slice());
+    let key = key_options(alloc, &request)?;
+    assert_eq!(rt; key.lent().bytes(), b"\xD1\x04\x3C".as_slice());
+    let held = tags(alloc, &request)?;
+    let mut values = held.iter();
+    assert_eq!(rt;
+        (values.next(), values.next()),
+        (Some(b"\x07".as_slice()), None)
+    );
+    assert!(rt; is_written(alloc, 65536, b"\x01\x00\x00")?);
     Ok(())
+}
+
+/// Checks why bytes are no message.
+fn check_refused(rt: &impl Abort, alloc: Global, bytes: &[u8], expected: DecodeError) {
+    match decode(alloc, bytes) {
+        Ok(_) => assert!(rt; false),
+        Err(error) => assert_eq!(rt; error, expected),
+    }
+}
+
+#[test]
+fn malformed_bytes_are_no_message(rt: HostRuntime) -> Result<(), Fail> {
+    let alloc = rt.alloc();
+    check_refused(&rt, alloc, b"\x50\x01\x00", DecodeError::Short);
+    check_refused(&rt, alloc, b"\x10\x01\x00\x07", DecodeError::Version);
+    // a token of nine bytes
+    let nine = b"\x59\x01\x00\x07\0\0\0\0\0\0\0\0\0";
+    check_refused(&rt, alloc, nine, DecodeError::Format);
+    check_refused(&rt, alloc, b"\x50\x01\x00\x07\xF0", DecodeError::Format);
+    // a value that breaks off, and a marker without a payload
+    check_refused(&rt, alloc, b"\x50\x01\x00\x07\xB5t", DecodeError::Format);
+    check_refused(&rt, alloc, b"\x50\x01\x00\x07\xFF", DecodeError::Format);
+    // the numbers above 65,535 are none
+    check_refused(
+        &rt,
+        alloc,
+        b"\x50\x01\x00\x07\xE0\xFF\xFF",
+        DecodeError::Format,
+    );
+    let greatest = decode(alloc, b"\x50\x01\x00\x07\xE0\xFE\xF2")?;
+    let mut options = greatest.options.iter();
+    assert!(rt; options.next().is_some_and(|option| option.number == 65_535));
+    assert!(rt; options.next().is_none());
+    Ok(())
+}
+
+/// A 2.05 of a resource that says 21, with its tag, fresh for ten seconds.
+const STORED: &[u8] = b"\x68\x45\x00\x01\x00\x00\x00\x00\x00\x00\x00\x01\x41\xAB\xA1\x0A\xFF21";
+
+/// A 2.03 of that tag, with a Content-Format and without a Max-Age.
+const VALID: &[u8] = b"\x68\x43\x00\x03\x00\x00\x00\x00\x00\x00\x00\x02\x41\xAB\x81\x32";
+
+/// The same of another tag.
+const OTHER: &[u8] = b"\x68\x43\x00\x03\x00\x00\x00\x00\x00\x00\x00\x02\x41\xAC\x81\x32";
+
+/// The response as it came.
+fn stored(alloc: Global) -> Result<Stored, Fail> {
+    Ok(Stored {
+        response: decode(alloc, STORED)?,
+        asked: 1,
+        got_no: 2,
+        got: 0,
+        marked: false,
+    })
+}
+
+#[test]
+fn a_stored_response_is_renewed_by_its_tag_alone(rt: HostRuntime) -> Result<(), Fail> {
+    let alloc = rt.alloc();
+    let stored = stored(alloc)?;
+    match renewed(alloc, &stored, &MessageRef::read(OTHER)?) {
+        Ok(_) => assert!(rt; false),
+        Err(error) => assert_eq!(rt; error, RenewError::WrongTag),
+    }
+    let message = renewed(alloc, &stored, &MessageRef::read(VALID)?)?;
+    // fresh for a minute, as the 2.03 says nothing else
+    let bytes = b"\x68\x45\x00\x01\x00\x00\x00\x00\x00\x00\x00\x01\x41\xAB\x81\x32\x21\x3C\xFF21";
+    assert_eq!(rt; written(alloc, &message)?.bytes(), bytes.as_slice());
+    Ok(())
+}
+
+/// Checks what a client with these tags is shown of the stored response.
+fn check_shown(
+    rt: &impl Abort,
+    alloc: Global,
+    left: Option<u32>,
+    tags: &Pieces,
+    expected: &[u8],
+) -> Result<(), Fail> {
+    let message = shown(alloc, &stored(alloc)?.response, left, tags)?;
+    assert_eq!(rt; written(alloc, &message)?.bytes(), expected);
+    Ok(())
+}
+
+#[test]
+fn clients_are_shown_what_is_left_or_that_they_hold_it(rt: HostRuntime) -> Result<(), Fail> {
+    let alloc = rt.alloc();
+    let mut tags = Pieces::new(alloc);
+    check_shown(&rt, alloc, None, &tags, STORED)?;
+    let aged = b"\x68\x45\x00\x01\x00\x00\x00\x00\x00\x00\x00\x01\x41\xAB\xA1\x09\xFF21";
+    check_shown(&rt, alloc, Some(9), &tags, aged)?;
+    tags.push(b"\xAB")?;
+    let valid = b"\x68\x43\x00\x01\x00\x00\x00\x00\x00\x00\x00\x01\x41\xAB\xA1\x09";
+    check_shown(&rt, alloc, Some(9), &tags, valid)?;
+    check_shown(&rt, alloc, None, &tags, STORED)
 }

@@ -1,0 +1,167 @@
+//! Both stores, called by hand: what they keep within their limits, and what they answer.
+use coap_cache::{CacheKey, ListStore, LruStore, Put, Store, Stored, bytes_of};
+use coap_message::{Code, Kind, Message, OptionList, OutOfMemory, Pieces, Seq, Token};
+use coap_option::numbers;
+use coap_target::{Endpoint, Ip, Target};
+use std::alloc::Global;
+use std::hash::RandomState;
+use std::process::Abort;
+use std::test::*;
+
+/// A resource of one origin, with a path of one segment.
+fn target(alloc: Global, segment: &[u8]) -> Result<Target, OutOfMemory> {
+    let at = Endpoint {
+        ip: Ip::V4([127, 0, 0, 1]),
+        port: 5690,
+    };
+    let mut path = Pieces::new(alloc);
+    path.push(segment)?;
+    Ok(Target {
+        host: None,
+        at,
+        path,
+        query: Pieces::new(alloc),
+    })
+}
+
+/// A key of that resource, with an Accept or without one.
+fn key(alloc: Global, segment: &[u8], accept: &[u8]) -> Result<CacheKey, OutOfMemory> {
+    let mut options = OptionList::new(alloc);
+    if let [format] = accept {
+        options.push(numbers::ACCEPT, &[*format])?;
+    }
+    Ok(CacheKey {
+        target: target(alloc, segment)?,
+        options,
+    })
+}
+
+/// A 2.05 without options that came at moment 0, with a payload of this many bytes.
+fn stored(alloc: Global, bytes: usize) -> Result<Stored, OutOfMemory> {
+    let mut payload = Seq::new(alloc);
+    for _ in 0..bytes {
+        payload.push(b'.')?;
+    }
+    let response = Message {
+        kind: Kind::Ack,
+        code: Code::CONTENT,
+        id: 0,
+        token: Token::empty(),
+        options: OptionList::new(alloc),
+        payload,
+    };
+    Ok(Stored {
+        response,
+        asked: 0,
+        got_no: 0,
+        got: 0,
+        marked: false,
+    })
+}
+
+/// Puts an entry of a path of one segment, which counts this many bytes, and checks the answer.
+fn put<S: Store>(
+    rt: &impl Abort,
+    alloc: Global,
+    store: &mut S,
+    (segment, bytes): (&[u8], usize),
+    expected: Put,
+) -> Result<(), OutOfMemory> {
+    let key = key(alloc, segment, &[])?;
+    let stored = stored(alloc, bytes.saturating_sub(66))?;
+    assert_eq!(rt; bytes_of(&key, &stored), bytes as u64);
+    assert_eq!(rt; store.put(key, stored), expected);
+    Ok(())
+}
+
+/// Checks which of the entries of X, Y and Z there are, and how many bytes they count.
+fn check_entries<S: Store>(
+    rt: &impl Abort,
+    alloc: Global,
+    store: &S,
+    expected: (&[u8], u64),
+) -> Result<(), OutOfMemory> {
+    for segment in [b"X", b"Y", b"Z"] {
+        let is_there = store.peek(&key(alloc, segment, &[])?).is_some();
+        assert_eq!(rt; is_there, expected.0.contains(&segment[0]));
+    }
+    assert_eq!(rt;
+        (store.len(), store.total()),
+        (expected.0.len(), expected.1)
+    );
+    Ok(())
+}
+
+/// Entries of 80, 90 and 100 bytes, the first used last, where there is room for 300; then another
+/// of the last key.
+fn check_budget<S: Store>(
+    rt: &impl Abort,
+    alloc: Global,
+    store: &mut S,
+    newest: usize,
+    expected: (Put, &[u8], u64),
+) -> Result<(), OutOfMemory> {
+    put(rt, alloc, store, (b"Z", 100), Put::Kept)?;
+    put(rt, alloc, store, (b"Y", 90), Put::Kept)?;
+    put(rt, alloc, store, (b"X", 80), Put::Kept)?;
+    check_entries(rt, alloc, store, (b"XYZ", 270))?;
+    put(rt, alloc, store, (b"Z", newest), expected.0)?;
+    check_entries(rt, alloc, store, (expected.1, expected.2))
+}
+
+/// The same over an empty store of either kind.
+fn check_budgets(
+    rt: &impl Abort,
+    alloc: Global,
+    hasher: RandomState,
+    newest: usize,
+    expected: (Put, &[u8], u64),
+) -> Result<(), OutOfMemory> {
+    let mut list = ListStore::with_limits(alloc, (), 300, 3)?;
+    check_budget(rt, alloc, &mut list, newest, expected)?;
+    let mut map = LruStore::with_limits(alloc, hasher, 300, 3)?;
+    check_budget(rt, alloc, &mut map, newest, expected)
+}
+
+#[test]
+fn a_new_response_takes_the_room_of_those_used_least(rt: HostRuntime) -> Result<(), Fail> {
+    let (alloc, hasher) = (rt.alloc(), RandomState::new(&rt)?);
+    check_budgets(&rt, alloc, hasher, 230, (Put::Kept, b"Z", 230))?;
+    check_budgets(&rt, alloc, hasher, 200, (Put::Kept, b"XZ", 280))?;
+    // what alone counts too much takes what was stored for its key with it
+    check_budgets(&rt, alloc, hasher, 301, (Put::TooLarge, b"XY", 170))?;
+    Ok(())
+}
+
+/// Three responses of one resource, where there is room for two.
+fn check_marks<S: Store>(rt: &impl Abort, alloc: Global, store: &mut S) -> Result<(), OutOfMemory> {
+    for format in [0x28, 0x29, 0x2A] {
+        let kept = store.put(key(alloc, b"X", &[format])?, stored(alloc, 1)?);
+        assert_eq!(rt; kept, Put::Kept);
+    }
+    assert_eq!(rt; store.len(), 2);
+    let (first, last) = (key(alloc, b"X", &[0x28])?, key(alloc, b"X", &[0x2A])?);
+    // without a Max-Age a response is fresh for a minute
+    assert_eq!(rt;
+        (store.hit(&first, 0), store.hit(&last, 60_000)),
+        (false, true)
+    );
+    assert_eq!(rt; store.hit(&last, 60_001), false);
+    assert_eq!(rt; store.mark(&target(alloc, b"Y")?), 0);
+    assert_eq!(rt; store.mark(&target(alloc, b"X")?), 2);
+    assert_eq!(rt; store.hit(&last, 0), false);
+    assert_eq!(rt; (store.forget(&first), store.forget(&last)), (false, true));
+    assert_eq!(rt; (store.len(), store.is_empty()), (1, false));
+    Ok(())
+}
+
+#[test]
+fn a_change_marks_all_that_is_stored_of_its_resource(rt: HostRuntime) -> Result<(), Fail> {
+    let alloc = rt.alloc();
+    let mut list = ListStore::with_limits(alloc, (), 1_000, 2)?;
+    check_marks(&rt, alloc, &mut list)?;
+    let hasher = RandomState::new(&rt)?;
+    let mut map = LruStore::with_limits(alloc, hasher, 1_000, 2)?;
+    check_marks(&rt, alloc, &mut map)?;
+    Ok(())
+}
