@@ -63,9 +63,9 @@ fn draw(rt: &HostRuntime) -> Result<(u16, u64), Fault> {
 /// What the cache of the program is: a recency map, whose hashes strangers can't foresee.
 type Cache = LruStore<RandomState>;
 
-/// What it is made of.
+/// What it is made of: random bytes of the system, which are read like a file.
 fn seed(rt: &HostRuntime) -> Result<RandomState, Fault> {
-    RandomState::new(rt).map_err(|error| fault_of(&error, Fault::Socket))
+    RandomState::new(rt).map_err(|error| fault_of(&error, Fault::File))
 }
 
 /// Serves a socket.
