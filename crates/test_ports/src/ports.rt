@@ -67,18 +67,34 @@ fn failed(stats: Stats) -> Result<Stats, DriveError> {
     Err(DriveError::Port { stats })
 }
 
-/// Drives a new core of the default limits, which maps `t` to the origin, for so many turns.
+/// A core that maps `t` to the origin.
+fn core_of(alloc: Global, limits: Limits) -> Result<Core<ListStore>, OutOfMemory> {
+    let routes = Routes::fixed(alloc)?;
+    Core::new(alloc, (), limits, routes, 1, 0)
+}
+
+/// Drives a core for so many turns.
+fn drive_on(
+    rt: &impl Abort,
+    alloc: Global,
+    core: &mut Core<ListStore>,
+    port: &mut MemoryPort,
+    turns: u64,
+) -> Result<Stats, DriveError> {
+    assert!(rt; turns < 1_000 && core.events() < 1_000);
+    assert!(rt; core.last() <= port.last() && port.failures() < 1_000);
+    drive(alloc, core, port, turns)
+}
+
+/// Drives a new core of the default limits for so many turns.
 fn drive_anew(
     rt: &impl Abort,
     alloc: Global,
     port: &mut MemoryPort,
     turns: u64,
 ) -> Result<Result<Stats, DriveError>, Fail> {
-    let limits = Limits::new(LimitValues::default())?;
-    let mut core: Core<ListStore> = Core::new(alloc, (), limits, Routes::fixed(alloc)?, 1, 0)?;
-    assert!(rt; turns < 1_000 && core.events() < 1_000);
-    assert!(rt; core.last() <= port.last() && port.failures() < 1_000);
-    Ok(drive(alloc, &mut core, port, turns))
+    let mut core = core_of(alloc, Limits::new(LimitValues::default())?)?;
+    Ok(drive_on(rt, alloc, &mut core, port, turns))
 }
 
 /// What was handed over, a line each.
@@ -124,6 +140,74 @@ fn a_core_is_driven_over_a_port(rt: HostRuntime) -> Result<(), Fail> {
         (4, 2, Some(1), (Ok(stats(4, 1, 1)), SENT_ON)),
     ] {
         check_driven(&rt, alloc, (turns, given, refused), expected)?;
+    }
+    Ok(())
+}
+
+// ---- want of memory
+
+/// A port that gives a request twice, and its answer twice.
+fn port_that_repeats(alloc: Global) -> Result<MemoryPort, OutOfMemory> {
+    let mut port = MemoryPort::new(alloc, None);
+    port.add(arrival(alloc, 5, 40001, &GET)?)?;
+    port.add(arrival(alloc, 6, 40001, &GET)?)?;
+    port.add(arrival(alloc, 7, 5690, &ANSWER)?)?;
+    port.add(arrival(alloc, 8, 5690, &ANSWER)?)?;
+    Ok(port)
+}
+
+/// Such a port, made again where there was no memory for it.
+fn insist_on_port(alloc: Global) -> Result<MemoryPort, OutOfMemory> {
+    match port_that_repeats(alloc) {
+        Ok(port) => Ok(port),
+        Err(OutOfMemory) => port_that_repeats(alloc),
+    }
+}
+
+/// A core of the default limits, made again where there was no memory for it.
+fn insist_on_core(alloc: Global) -> Result<Core<ListStore>, Fail> {
+    let limits = Limits::new(LimitValues::default())?;
+    match core_of(alloc, limits) {
+        Ok(core) => Ok(core),
+        Err(OutOfMemory) => Ok(core_of(alloc, limits)?),
+    }
+}
+
+/// Drives a core for six turns, and again where there was no memory to begin: then nothing was done.
+fn insist_on_driving(
+    rt: &impl Abort,
+    alloc: Global,
+    core: &mut Core<ListStore>,
+    port: &mut MemoryPort,
+) -> Result<Stats, DriveError> {
+    match drive_on(rt, alloc, core, port, 6) {
+        Err(DriveError::OutOfMemory) => drive_on(rt, alloc, core, port, 6),
+        done => done,
+    }
+}
+
+/// What was handed over, written again where there was no memory for the text.
+fn insist_on_shown(alloc: Global, handed: &[Handed]) -> Result<String, AllocError> {
+    match shown(alloc, handed) {
+        Ok(text) => Ok(text),
+        Err(AllocError) => shown(alloc, handed),
+    }
+}
+
+// A turn whose step finds no memory is lost and counted, and the loop goes on: the request comes
+// again, and so does its answer. It passes with ample memory, when none is lost, and also where any
+// one request for memory is refused.
+#[test]
+fn what_comes_again_makes_up_for_a_lost_turn(rt: HostRuntime) -> Result<(), Fail> {
+    let alloc = rt.alloc();
+    let mut port = insist_on_port(alloc)?;
+    let mut core = insist_on_core(alloc)?;
+    let stats = insist_on_driving(&rt, alloc, &mut core, &mut port)?;
+    assert_eq!(rt; stats.turns, 6);
+    assert!(rt; stats.lost <= 1 && stats.send_faults <= 1 - stats.lost);
+    if stats.send_faults == 0 {
+        let written = insist_on_shown(alloc, port.handed())?;
+        assert_eq!(rt; written.as_str(), BOTH);
     }
     Ok(())
 }
