@@ -1,9 +1,13 @@
 -- Forged replies from the cache: what was changed is shown no more, and what a change overtook isn't kept.
-use Rattle.std.proofs.Common.{◌≡◌, ⊎_elim, inl, inr, ℕ, ◌+◌, Bool, true, false, ◌<◌, ◌≤◌, List, [], ◌∷◌, ◌++◌, length, Option, Some, None, Result, Ok, Err, refl, sym, ap, ◌∙◌, subst, arith}
-use Rattle.std.specs.Prelude.{if◌then◌else◌, get_or}
+use Rattle.std.proofs.Common.{◌≡◌, inl, inr, ℕ, ◌+◌, Bool, true, false, ◌<◌, List, [], ◌∷◌, ◌++◌, length, Some, None, Result, Ok, Err, refl, sym, ap, ◌∙◌, subst, arith}
+use Rattle.std.specs.Option.{option_map_or}
+use Rattle.std.specs.Prelude.{if◌then◌else◌, get_or, ◌&&◌}
 use Rattle.std.proofs.lemmas.List.{length-append}
+use Rattle.std.proofs.lemmas.Bool.{and_parts}
 use Rattle.std.proofs.lemmas.Option.{same_Some}
 use Rattle.coap_message.specs.declared.error.ReadError.{ReadError}
+use Rattle.coap_message.specs.declared.code.TheConstants.Code.{CONTENT}
+use Rattle.coap_message.specs.Codes.{is_code}
 use Rattle.coap_message.specs.Message.{Message}
 use Rattle.coap_message.specs.Reading.{read_message, body_at, options_within, option_at, extended}
 use Rattle.coap_message.specs.Spelling.{Spells, spelling, option_spelling}
@@ -18,33 +22,35 @@ use Rattle.coap_store.specs.declared.key.CacheKey.{CacheKey}
 use Rattle.coap_store.specs.Freshness.{is_fresh}
 use Rattle.coap_store.specs.Keys.{same_key}
 use Rattle.coap_store.specs.Lists.{of_key}
+use Rattle.coap_store.specs.Renewing.{has_tag, is_validated, tag_of}
+use Rattle.coap_store.specs.Showing.{tells_age}
 use Rattle.coap_forward.specs.Changes.{changed_by, concerns}
 use Rattle.coap_forward.specs.Forms.{target_options}
 use Rattle.coap_forward.specs.Messages.{token_of, at_once}
-use Rattle.coap_forward.specs.Answers.{stored_answer, shown}
+use Rattle.coap_forward.specs.Answers.{stored_answer, shown, taken_of}
 use Rattle.coap_model.specs.declared.report.Outcome.{Outcome}
-use Rattle.coap_model.specs.declared.report.Outcome.TheVariants.{Answered, Opened, SentRequest}
-use Rattle.coap_model.specs.declared.report.Storing.TheVariants.{Kept, NotStored}
+use Rattle.coap_model.specs.declared.report.Outcome.TheVariants.{Opened}
+use Rattle.coap_model.specs.declared.report.Storing.TheVariants.{Kept}
 use Rattle.coap_model.specs.Events.{arrival}
 use Rattle.coap_model.specs.Keys.{target_sent, key_sent}
 use Rattle.coap_model.specs.Examples.{origin, client, get_t}
 use Rattle.coap_model.specs.LimitExamples as limited
 use Rattle.coap_model.specs.OptionExamples.{key_of_temp}
-use Rattle.coap_model.specs.History.{Entry, Deed, told_by, opened_in, Place, IsRequestOf, index, IsPlaceOf, Never, Sends, Asks, Gets, in_acknowledgement}
+use Rattle.coap_model.specs.History.{Entry, Deed, told_by, opened_in, Place, IsRequestOf, IsPlaceOf, Never, Sends, Asks, Gets, in_acknowledgement, takes}
 use Rattle.coap_model.specs.Forged.{setting, opened, asked}
-use Rattle.coap_model.specs.Cached.{Cached, cached_key, entry_of_cached, IsCacheOf, otherwise}
+use Rattle.coap_model.specs.Cached.{Cached, cached_key, entry_of_cached, IsCacheOf, otherwise, IsFetched, first_hand, validated, IsObtained, WasObtained}
 use Rattle.coap_model.specs.Changed.{key_asked, Changes, IsTold, Unchanged, WasChanged}
-use Rattle.coap_model.specs.CacheExamples.{content_for, get_for, answered, kept_past, hits, hit_past, opens_again, opened_past, asks_again, asked_past, first_entry}
+use Rattle.coap_model.specs.CacheExamples.{get_for, kept_past, hits, hit_past, opens_again, opened_past, asks_again, asked_past, first_entry}
 use Rattle.coap_model.specs.ForgedHits.{reply, change_told, changed_message, change, changed_past, overtaken_past, keeps_overtaken, opens_two}
 use Rattle.coap_model.specs.Setting.{Setting}
 use Rattle.coap_model.specs.World.{World}
-use Rattle.coap_model.specs.Word.{KeepsItsWord}
+use Rattle.coap_model.specs.Word.{IsFromCache, KeepsItsWord}
 use Rattle.coap_model.specs.Standing.{Open, queued, open_by, open_in, standing_in}
-use Rattle.coap_model.specs.Justified.{IsHit, IsKept, IsOpening, JustifiedBy, AllJustified}
-use Rattle.coap_model.specs.Verdicts.{verdict_of}
+use Rattle.coap_model.specs.Justified.{IsHit, IsKept, IsOpening, JustifiedBy, AllJustified, verdict_on}
+use Rattle.coap_model.specs.Verdicts.{may_ask, verdict_of}
 use Rattle.coap_model.proofs.Cached.{cache-unique}
-use Rattle.coap_model.proofs.CacheExamples.{are-bytes, unsent, first_sent, second_sent, first_unsent, first_asks, second_asks, content_gets, first_gets, first_got, get_read, get_spelled, cache_asked_again}
-use Rattle.coap_model.proofs.Changing.{one-getting, told-stays, told-on, told-contrary}
+use Rattle.coap_model.proofs.CacheExamples.{are-bytes, unsent, second_sent, first_asks, second_asks, content_gets, first_gets, first_got, get_read, get_spelled, cache_asked_again}
+use Rattle.coap_model.proofs.Changing.{one-getting, told-stays, told-on, told-contrary, newest-unchanged}
 use Rattle.coap_model.proofs.Places.{here, same_moves, request-unique}
 
 -- ---- the change
@@ -151,6 +157,106 @@ pub after_a_change : ¬ IsHit setting changed_past (reply 25 9)
 after_a_change hit =
     let same = hit-shows changed_past (reply 25 9) cache_changed hit in
     told-contrary first_entry.asking (subst (λ (c : Cached). Unchanged setting c.key.target c.asking changed_past) (sym same) hit.usable.unchanged) was_changed
+
+-- ---- what is a reply from the cache
+
+-- the first answer was fetched
+first_fetched : IsFetched setting key_of_temp first_entry.asking first_entry.getting
+unfolding token_of target_options target_sent key_sent spelling option_spelling uint_spelling
+first_fetched = record {
+  exchange = 1;
+  gets = first_gets Kept;
+  asking_is = refl;
+  method = refl;
+  asked_key = refl;
+  passed = refl;
+  unchanged = newest-unchanged setting key_of_temp.target (opened ∷ []) asked refl;
+}
+
+-- so it was obtained
+first_obtained : (past : List Deed) → IsPlaceOf past first_entry.asking → IsPlaceOf past first_entry.getting → WasObtained setting past first_entry
+unfolding first_fetched token_of
+first_obtained past was_asked was_got = record { was_asked = was_asked; was_got = was_got; obtained = first_hand first_fetched refl (record { code = refl; age = omega arith }) }
+
+-- what is unchanged is a reply from the cache, before the change and after it
+from_cache_if : (past : List Deed) → IsPlaceOf past first_entry.asking → IsPlaceOf past first_entry.getting → Unchanged setting key_of_temp.target first_entry.asking past → IsFromCache setting past (reply 25 9).entry
+unfolding verdict_of request_target mapped_target
+from_cache_if past was_asked was_got unchanged = record {
+  client = client 4;
+  request = get_read;
+  key = key_of_temp;
+  asked = reply_asked 25 9;
+  method = refl;
+  key_is = refl;
+  cached = first_entry;
+  equal_key = refl;
+  received = first_obtained past was_asked was_got;
+  usable = record { fresh = refl; unchanged = unchanged };
+  id = 4;
+  shows = record { sent = refl; spells = reply_spelled };
+}
+
+pub from_cache : IsFromCache setting asked_past (reply 25 9).entry
+from_cache = from_cache_if asked_past (inr (inr (inr (inr (inl refl))))) (inr (inr (inr (inl refl)))) was_unchanged
+
+pub from_cache_but_for_the_change : Unchanged setting key_of_temp.target first_entry.asking changed_past → IsFromCache setting changed_past (reply 25 9).entry
+from_cache_but_for_the_change = from_cache_if changed_past (inr (inr (inr (inr (inr (inl refl)))))) (inr (inr (inr (inr (inl refl)))))
+
+-- what the change brought can't be kept
+not-of-the-change : {key : CacheKey} {response : Message} {asking : Place} → IsObtained setting key response asking (here asked_past change) → ⊥
+not-of-the-change (first_hand {response = response} fetched is lasting) =
+    let one = one-getting fetched.gets (change_gets asked_past (here opened_past asks_again) (inl refl) second_asks refl refl) in
+    let code : response.code ≡ changed_message.code = ap (λ (m : Message). m.code) is ∙ ap (λ (m : Message). (taken_of true m).code) one.message in
+    let none : tells_age response.code ≡ false = ap tells_age code in
+    absurd (let e = sym lasting.code ∙ none in cc)
+not-of-the-change (validated {old = old} fetched tag obtained behind tagged sent is renewal fit lasting) =
+    let one = one-getting fetched.gets (change_gets asked_past (here opened_past asks_again) (inl refl) second_asks refl refl) in
+    let valid : is_validated old (taken_of true changed_message) ≡ true = subst (λ (m : Message). is_validated old (taken_of true m) ≡ true) one.message is in
+    not-valid (and_parts (is_code old.code CONTENT) false (and_parts (is_code old.code CONTENT && false) (option_map_or (λ (t : List ℕ). has_tag t (taken_of true changed_message)) (tag_of old.options) false) valid).0).1
+  where
+    not-valid : false ≡ true → ⊥
+    not-valid e = absurd cc
+
+-- what the first answer brought was asked for by the first request
+asked-first : {key : CacheKey} {response : Message} {asking : Place} → IsObtained setting key response asking first_entry.getting → asking ≡ first_entry.asking
+asked-first (first_hand fetched is lasting) = sym fetched.asking_is ∙ (one-getting fetched.gets (first_gets Kept)).asking
+asked-first (validated fetched tag obtained behind tagged sent is renewal fit lasting) = sym fetched.asking_is ∙ (one-getting fetched.gets (first_gets Kept)).asking
+
+-- an answer is got at no other place
+got-elsewhere : {key : CacheKey} {response : Message} {asking getting : Place} (p : Place) → takes p.deed.entry.report.outcome ≡ false → p ≡ getting → IsObtained setting key response asking getting → ⊥
+got-elsewhere {key} {response} {asking} {getting} p none same obtained = go (subst (λ (q : Place). IsObtained setting key response asking q) (sym same) obtained)
+  where
+    go : IsObtained setting key response asking p → ⊥
+    go (first_hand fetched is lasting) = absurd (let e = sym fetched.gets.outcome ∙ none in cc)
+    go (validated fetched tag other behind tagged sent is renewal fit lasting) = absurd (let e = sym fetched.gets.outcome ∙ none in cc)
+
+-- so what was obtained was asked for before the change
+obtained-first : {key : CacheKey} {response : Message} {asking getting : Place} → IsPlaceOf changed_past getting → IsObtained setting key response asking getting → asking ≡ first_entry.asking
+obtained-first {key} {response} {asking} {getting} (inl e) o = absurd (not-of-the-change (subst (λ (q : Place). IsObtained setting key response asking q) (sym e) o))
+obtained-first (inr (inl e)) o = absurd (got-elsewhere (here opened_past asks_again) refl e o)
+obtained-first (inr (inr (inl e))) o = absurd (got-elsewhere (here hit_past opens_again) refl e o)
+obtained-first (inr (inr (inr (inl e)))) o = absurd (got-elsewhere (here kept_past hits) refl e o)
+obtained-first {key} {response} {asking} {getting} (inr (inr (inr (inr (inl e))))) o = asked-first (subst (λ (q : Place). IsObtained setting key response asking q) (sym e) o)
+obtained-first (inr (inr (inr (inr (inr (inl e)))))) o = absurd (got-elsewhere (here (opened ∷ []) asked) refl e o)
+obtained-first (inr (inr (inr (inr (inr (inr (inl e))))))) o = absurd (got-elsewhere (here [] opened) refl e o)
+obtained-first (inr (inr (inr (inr (inr (inr (inr none))))))) o = absurd none
+
+-- the request is of the key
+key-asked : (key : CacheKey) → verdict_on setting get_read ≡ may_ask key → key ≡ key_of_temp
+unfolding verdict_of request_target mapped_target
+key-asked key is = let e : may_ask key_of_temp ≡ may_ask key = is in let same : key_of_temp ≡ key = cc in sym same
+
+-- so what was changed is no reply from the cache
+pub not_from_cache : ¬ IsFromCache setting changed_past (reply 25 9).entry
+not_from_cache f =
+    let one = request-unique setting (reply 25 9).entry.event f.client (client 4) f.request get_read f.asked (reply_asked 25 9) in
+    let key : f.cached.key ≡ key_of_temp = f.equal_key ∙ key-asked f.key (subst (λ (m : Message). verdict_on setting m ≡ may_ask f.key) one.1 f.key_is) in
+    let target : f.cached.key.target ≡ key_of_temp.target = ap (λ (k : CacheKey). k.target) key in
+    let asking : f.cached.asking ≡ first_entry.asking = obtained-first f.received.was_got f.received.obtained in
+    let unchanged = subst (λ (t : Target). Unchanged setting t f.cached.asking changed_past) target f.usable.unchanged in
+    told-contrary first_entry.asking (subst (λ (p : Place). Unchanged setting key_of_temp.target p changed_past) asking unchanged) was_changed
+
+-- ---- what is too late, or shown wrongly
 
 -- nor what is stale by a millisecond
 pub too_late : ¬ IsHit setting asked_past (reply 10006 0)

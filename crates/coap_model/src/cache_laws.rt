@@ -27,7 +27,7 @@ ghost use Rattle.coap_limits.specs.Limits.{AreLimits};
 ghost use Rattle.coap_model.specs.World.{World, counts};
 ghost use Rattle.coap_model.specs.Justified.{IsHit, IsKept, IsObtainedHere, entry_here, size_here, JustifiedBy, AllJustified};
 ghost use Rattle.coap_model.specs.Carries.{Carries};
-ghost use Rattle.coap_model.specs.Word.{KeepsItsWord};
+ghost use Rattle.coap_model.specs.Word.{IsFromCache, KeepsItsWord};
 ghost use Rattle.coap_model.specs.Examples.{play, proxy, tick_at};
 ghost use Rattle.coap_model.specs.StoringExamples.{answer_with, answer_in_place, still_delivered};
 ghost use Rattle.coap_model.specs.LimitExamples.{after_ids};
@@ -139,7 +139,8 @@ pub fn examples_of_caches()
 
 /// A reply from the cache that is as it is to be; replies that are right but for one thing, and an
 /// answer that is kept though a change overtook it, are not justified. Nor does a proxy keep its word
-/// that opened two exchanges where there is room for one.
+/// with a reply whose target was changed, which would be one from the cache but for that, or where it
+/// opened two exchanges and there is room for one.
 pub fn forged_hits_are_refused()
     ensures as_it_is { IsHit setting asked_past (reply 25 9) }
     ensures changed { WasChanged setting key_of_temp.target first_entry.asking changed_past }
@@ -147,6 +148,10 @@ pub fn forged_hits_are_refused()
     ensures after_a_change { ¬ IsHit setting changed_past (reply 25 9) }
     ensures too_late { ¬ IsHit setting asked_past (reply 10006 0) }
     ensures as_received { ¬ IsHit setting asked_past (reply 25 10) }
+    ensures from_cache { IsFromCache setting asked_past (reply 25 9).entry }
+    ensures not_from_cache { ¬ IsFromCache setting changed_past (reply 25 9).entry }
+    ensures but_for_the_change { Unchanged setting key_of_temp.target first_entry.asking changed_past
+        → IsFromCache setting changed_past (reply 25 9).entry }
     ensures overtaken { ¬ IsKept setting overtaken_past keeps_overtaken }
     ensures two_exchanges { (w : World)
         → w.setting.limits.exchanges ≡ 1
