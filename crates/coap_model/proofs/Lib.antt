@@ -70,5 +70,6 @@ pub mod Fitting
 pub mod OneStep
 pub mod Ticking
 pub mod Word
+pub mod ForgingClosings
 pub mod ForgingHits
 pub mod Bounding

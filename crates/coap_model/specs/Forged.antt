@@ -4,7 +4,7 @@ use Rattle.coap_endpoint.specs.declared.endpoint.Endpoint.{Endpoint}
 use Rattle.coap_model.specs.declared.report.Outcome.TheVariants.{Opened, Answered, SentRequest, Delivered}
 use Rattle.coap_model.specs.declared.report.Storing.TheVariants.{NotStored}
 use Rattle.coap_model.specs.Setting.{Setting}
-use Rattle.coap_model.specs.Events.{arrival, tick}
+use Rattle.coap_model.specs.Events.{Event, arrival, tick}
 use Rattle.coap_model.specs.Examples.{proxy, origin, client, get_t, get_temp, content, content_for_client, content_in}
 use Rattle.coap_model.specs.History.{Act, admits, moves, serves, Deed}
 
@@ -103,3 +103,7 @@ in_con = delivery (client 1) (content_in 0x40 7) (serves 1)
 -- the same at a datagram in place of a tick
 abbrev pub at_an_arrival : Deed → Deed
 at_an_arrival d = record d { entry = record d.entry { event = arrival (client 1) (get_t []) } }
+
+-- an acknowledgement of a message with this id
+abbrev pub acknowledged : Endpoint → ℕ → Event
+acknowledged source id = arrival source (0x60 ∷ 0 ∷ 0 ∷ id ∷ [])

@@ -92,7 +92,8 @@ pub fn ticks_are_idle_where_nothing_is_due()
 {}
 
 /// A delivery is justified, to a client that asked in a Non-confirmable message and to one that asked
-/// in a Confirmable message; deliveries that are right but for one thing are not.
+/// in a Confirmable message; deliveries that are right but for one thing are not. The answer is
+/// closed by an acknowledgement with its id from its client, and by no other.
 pub fn forged_deliveries_are_refused()
     ensures as_it_is { IsDelivery forged.setting forged.past right }
     ensures in_con { IsDelivery forged.setting forged.past_con forged.in_con }
@@ -113,6 +114,12 @@ pub fn forged_deliveries_are_refused()
         (delivery (client 1) (content_for_client 10) (serves 1)) }
     ensures con_for_non { ¬ IsDelivery forged.setting forged.past forged.in_con }
     ensures non_for_con { ¬ IsDelivery forged.setting forged.past_con right }
+    ensures by_its_id { Closes forged.setting (forged.in_con ∷ forged.past_con) 3000 1
+        (forged.acknowledged (client 1) 2) }
+    ensures by_another_id { ¬ Closes forged.setting (forged.in_con ∷ forged.past_con) 3000 1
+        (forged.acknowledged (client 1) 3) }
+    ensures by_another_client { ¬ Closes forged.setting (forged.in_con ∷ forged.past_con) 3000 1
+        (forged.acknowledged (client 2) 2) }
 {}
 
 /// Each step of a proxy that carries a history leaves a proxy that carries the history with the
