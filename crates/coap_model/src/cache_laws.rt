@@ -138,9 +138,9 @@ pub fn examples_of_caches()
 {}
 
 /// A reply from the cache that is as it is to be; replies that are right but for one thing, and an
-/// answer that is kept though a change overtook it, are not justified. Nor does a proxy keep its word
-/// with a reply whose target was changed, which would be one from the cache but for that, or where it
-/// opened two exchanges and there is room for one.
+/// answer that is kept though a change overtook it, are not justified. A reply whose target was
+/// changed isn't one from the cache, and would be but for that. And a proxy that opened two exchanges
+/// where there is room for one doesn't keep its word.
 pub fn forged_hits_are_refused()
     ensures as_it_is { IsHit setting asked_past (reply 25 9) }
     ensures changed { WasChanged setting key_of_temp.target first_entry.asking changed_past }

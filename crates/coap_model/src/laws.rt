@@ -92,8 +92,9 @@ pub fn ticks_are_idle_where_nothing_is_due()
 {}
 
 /// A delivery is justified, to a client that asked in a Non-confirmable message and to one that asked
-/// in a Confirmable message; deliveries that are right but for one thing are not. The answer is
-/// closed by an acknowledgement with its id from its client, and by no other.
+/// in a Confirmable message; deliveries that are right but for one thing are not. An acknowledgement
+/// with the id of an answer, from its client, closes it; one with another id doesn't, nor does one
+/// from another client.
 pub fn forged_deliveries_are_refused()
     ensures as_it_is { IsDelivery forged.setting forged.past right }
     ensures in_con { IsDelivery forged.setting forged.past_con forged.in_con }
