@@ -22,6 +22,7 @@ use Rattle.coap_exchange.proofs.Tables.{none-least}
 
 -- ---- the first of two kinds
 
+-- the sooner of two firsts is the first of both
 first-both : {P Q : Option Pair → Type 0} (a b : Option Pair) → IsFirst P a → IsFirst Q b → IsFirst (λ x. P x ⊎ Q x) (sooner a b)
 first-both {P} {Q} a b f g =
     record {
@@ -32,6 +33,7 @@ first-both {P} {Q} a b f g =
       ];
     }
 
+-- what meets the same things has the same first
 first-alike : {P Q : Option Pair → Type 0} (o : Option Pair) → ((x : Option Pair) → P x → Q x) → ((x : Option Pair) → Q x → P x) → IsFirst P o → IsFirst Q o
 first-alike o to from f =
     record {
@@ -41,16 +43,20 @@ first-alike o to from f =
 
 -- ---- who waits for one exchange
 
+-- an owner that is found is that one
 owner-some : (e : ℕ) (o : Option ℕ) → is_owner e o ≡ true → o ≡ Some e
 owner-some e None h = absurd cc
 owner-some e (Some x) h = ap (λ (n : ℕ). Some n) (sym (eqb-true e x h))
 
+-- and is found
 some-owner : (e : ℕ) (o : Option ℕ) → o ≡ Some e → is_owner e o ≡ true
 some-owner e o h = rw h (eq-eqb e e refl)
 
+-- at one moment a greater number is not before a smaller
 not_before-number : (moment m n : ℕ) → m ≤ n → is_before (moment, n) (moment, m) ≡ false
 not_before-number moment m n le = grind (arith, nat_tests)
 
+-- nor is a later moment before an earlier
 not_before-moment : (moment m at n : ℕ) → moment < at → is_before (at, n) (moment, m) ≡ false
 not_before-moment moment m at n lt = grind (arith, nat_tests)
 
@@ -59,6 +65,7 @@ module _ (t : Table Waiter) (r : Roll) (is : IsTable t) (roll : IsRollOf awaited
   abbrev IsFor : ℕ → Option Pair → Type 0
   IsFor e x = (n : ℕ) × (owner_at awaited_of (item_at n t.items) ≡ Some e) × (x ≡ Some (moment, n))
 
+  -- who waits has a number
   awaiting-positive : (n e : ℕ) → owner_at awaited_of (item_at n t.items) ≡ Some e → 0 < n
   awaiting-positive n e h = go (leb n 0) refl
     where
@@ -66,12 +73,15 @@ module _ (t : Table Waiter) (r : Roll) (is : IsTable t) (roll : IsRollOf awaited
       go false f = omega (arith, leb-false n 0 f)
       go true f = absurd (let none : item_at n t.items ≡ None = none-least n 0 t.items (leb-true n 0 f) is.rising in let g : owner_at awaited_of None ≡ Some e = rw none at h in cc)
 
+  -- and stands in the roll
   awaiting-in : (n e : ℕ) → owner_at awaited_of (item_at n t.items) ≡ Some e → is_in (e, n) r.pairs ≡ true
   awaiting-in n e h = roll.members e n ∙ some-owner e (owner_at awaited_of (item_at n t.items)) h
 
+  -- who stands in the roll waits
   in-awaiting : (n e : ℕ) → is_in (e, n) r.pairs ≡ true → owner_at awaited_of (item_at n t.items) ≡ Some e
   in-awaiting n e h = owner-some e (owner_at awaited_of (item_at n t.items)) (sym (roll.members e n) ∙ h)
 
+  -- the next of an exchange is the first that waits for it
   next-first : (e : ℕ) (k : Option ℕ) → IsNextOf e 0 r.pairs k → IsFirst (IsFor e) (due_at moment k)
   next-first e None next =
       record {
@@ -147,6 +157,7 @@ answered-waits exchanges w at h = go w.state h
     go (Waiting e) g = (e, refl, g)
     go (Delivering bytes id timer) g = absurd cc
 
+-- what is answered for one that waits is its exchange's
 waits-answered : (exchanges : List (Numbered Exchange)) (w : Waiter) (e : ℕ) → awaited_of w ≡ Some e → answered_of exchanges w ≡ got_in e exchanges
 waits-answered exchanges w e h = go w.state h
   where
@@ -155,6 +166,7 @@ waits-answered exchanges w e h = go w.state h
     go (Delivering bytes id timer) g = absurd cc
 
 module _ (t : Table Waiter) (is : IsTable t) (exchanges : List (Numbered Exchange)) where
+  -- a pair of an answer that has come
   abbrev IsAnswered : Option Pair → Type 0
   IsAnswered x = IsDueIn (answered_of exchanges) t.items x
 
@@ -205,6 +217,7 @@ got-none exchanges none (x ∷ xs) =
 
 -- ---- the exchanges' roll
 
+-- the owner of an exchange is the moment of its answer
 got-owner : (e : ℕ) (exchanges : List (Numbered Exchange)) → owner_at got_of (item_at e exchanges) ≡ got_in e exchanges
 got-owner e exchanges = go (item_at e exchanges)
   where
@@ -213,6 +226,7 @@ got-owner e exchanges = go (item_at e exchanges)
     go (Some x) = refl
 
 module _ (exchanges : List (Numbered Exchange)) (limit : ℕ) (r : Roll) (roll : IsRollOf got_of exchanges limit r) where
+  -- so it stands in the roll at that moment
   got-pair : (moment e : ℕ) → is_in (moment, e) r.pairs ≡ is_owner moment (got_in e exchanges)
   got-pair moment e = roll.members moment e ∙ ap (λ (o : Option ℕ). is_owner moment o) (got-owner e exchanges)
 

@@ -7,27 +7,35 @@ use Rattle.coap_exchange.specs.Due.{is_before}
 use Rattle.coap_exchange.specs.Roll.{Pair, is_pair, is_in, AreRising, IsLeast, IsNextOf}
 use Rattle.coap_exchange.proofs.Sooner.{same_due}
 
+-- the order is transitive
 before_trans : (a b c : Pair) → is_before a b ≡ true → is_before b c ≡ true → is_before a c ≡ true
 before_trans a b c e f = grind (arith, nat_tests)
 
+-- and doesn't turn back
 not_back : (a b c : Pair) → is_before a b ≡ true → is_before c b ≡ false → is_before c a ≡ false
 not_back a b c e f = grind (arith, nat_tests)
 
+-- what is before differs
 before_other : (a b : Pair) → is_before a b ≡ true → is_pair a b ≡ false
 before_other a b e = grind (arith, nat_tests)
 
+-- either way round
 after_other : (a b : Pair) → is_before a b ≡ true → is_pair b a ≡ false
 after_other a b e = grind (arith, nat_tests)
 
+-- nothing is before itself
 not_itself : (a : Pair) → is_before a a ≡ false
 not_itself a = grind (arith, nat_tests)
 
+-- of two that differ one is before the other
 back_if_other : (a b : Pair) → is_before a b ≡ false → is_pair a b ≡ false → is_before b a ≡ true
 back_if_other a b e f = grind (arith, nat_tests)
 
+-- a pair is itself
 pub pair_itself : (a : Pair) → is_pair a a ≡ true
 pair_itself a = grind (arith, nat_tests)
 
+-- equality goes both ways
 pair_back : (a b : Pair) → is_pair a b ≡ true → is_pair b a ≡ true
 pair_back a b e = grind (arith, nat_tests)
 
@@ -37,17 +45,21 @@ pair_only a b e = same_due a b (grind (arith, nat_tests)) (grind (arith, nat_tes
 
 -- ---- halves
 
+-- all of a list are after a pair
 abbrev pub AllAfter : Pair → List Pair → Type 0
 AllAfter p xs = AllByRecursion (λ q. is_before p q ≡ true) xs
 
+-- none is
 abbrev pub NoneAfter : Pair → List Pair → Type 0
 NoneAfter p xs = AllByRecursion (λ q. is_before p q ≡ false) xs
 
+-- what holds of all holds of the one at a place
 all-get : (P : Pair → Type 0) (i : ℕ) (xs : List Pair) (d : Pair) → AllByRecursion P xs → i < length xs → P (get_or xs i d)
 all-get P i [] d all lt = absurd (omega arith)
 all-get P zero (x ∷ xs) d all lt = all.0
 all-get P (suc i) (x ∷ xs) d all lt = all-get P i xs d all.1 (omega arith)
 
+-- what is after the later is after the earlier
 after-after : (p x : Pair) (xs : List Pair) → is_before p x ≡ true → AllAfter x xs → AllAfter p xs
 after-after p x [] e all = tt
 after-after p x (y ∷ ys) e all = (before_trans p x y e all.0, after-after p x ys e all.1)
@@ -66,29 +78,35 @@ below-at p (suc i) (x ∷ xs) d r lt e = (not_back x (get_or xs i d) p (all-get 
 
 -- ---- one is put in
 
+-- the order of a choice doesn't matter
 or_swap : (a b c : Bool) → (a || (b || c)) ≡ (b || (a || c))
 or_swap true true c = refl
 or_swap true false c = refl
 or_swap false b c = refl
 
+-- what is in a list after an insertion
 pub is_in-insert : (q p : Pair) (i : ℕ) (xs : List Pair) → is_in q (insert xs i p) ≡ (is_pair q p || is_in q xs)
 is_in-insert q p zero xs = refl
 is_in-insert q p (suc i) [] = refl
 is_in-insert q p (suc i) (x ∷ xs) = ap (λ (b : Bool). is_pair q x || b) (is_in-insert q p i xs) ∙ or_swap (is_pair q x) (is_pair q p) (is_in q xs)
 
+-- what holds of all and of the new one
 all-insert : (P : Pair → Type 0) (p : Pair) (i : ℕ) (xs : List Pair) → AllByRecursion P xs → P p → AllByRecursion P (insert xs i p)
 all-insert P p zero xs all one = (one, all)
 all-insert P p (suc i) [] all one = (one, tt)
 all-insert P p (suc i) (x ∷ xs) all one = (all.0, all-insert P p i xs all.1 one)
 
+-- neither of two
 or_left : (a b : Bool) → (a || b) ≡ false → a ≡ false
 or_left true b e = absurd cc
 or_left false b e = refl
 
+-- nor the other
 or_right : (a b : Bool) → (a || b) ≡ false → b ≡ false
 or_right true b e = absurd cc
 or_right false b e = e
 
+-- a list stays in order where it is inserted in its place
 pub rising-insert : (p : Pair) (i : ℕ) (xs : List Pair) → AreRising xs → NoneAfter p (take i xs) → AllAfter p (drop i xs) → is_in p xs ≡ false → AreRising (insert xs i p)
 rising-insert p zero xs r below above free = (above, r)
 rising-insert p (suc i) [] r below above free = (tt, tt)
@@ -116,24 +134,28 @@ all-in P q (x ∷ xs) all e = go (is_pair q x) refl e (λ f. all-in P q xs all.1
     go true f h rest = subst P (sym (pair_only q x f)) all.0
     go false f h rest = rest h
 
+-- what holds of all holds of the rest
 all-remove : (P : Pair → Type 0) (i : ℕ) (xs : List Pair) → AllByRecursion P xs → AllByRecursion P (remove xs i)
 all-remove P zero [] all = tt
 all-remove P zero (x ∷ xs) all = all.1
 all-remove P (suc i) [] all = tt
 all-remove P (suc i) (x ∷ xs) all = (all.0, all-remove P i xs all.1)
 
+-- and the rest is in order
 pub rising-remove : (i : ℕ) (xs : List Pair) → AreRising xs → AreRising (remove xs i)
 rising-remove zero [] r = tt
 rising-remove zero (x ∷ xs) r = r.1
 rising-remove (suc i) [] r = tt
 rising-remove (suc i) (x ∷ xs) r = (all-remove (λ q. is_before x q ≡ true) i xs r.0, rising-remove i xs r.1)
 
+-- a choice without one
 not_other : (a b c : Bool) → (b ≡ true → a ≡ false) → (a || (not b && c)) ≡ (not b && (a || c))
 not_other true true c h = absurd (let f = h refl in cc)
 not_other false true c h = refl
 not_other true false c h = refl
 not_other false false c h = refl
 
+-- what is in a list after a removal
 pub is_in-remove : (q p : Pair) (i : ℕ) (xs : List Pair) (d : Pair) → AreRising xs → i < length xs → get_or xs i d ≡ p → is_in q (remove xs i) ≡ (not (is_pair q p) && is_in q xs)
 is_in-remove q p i [] d r lt e = absurd (omega arith)
 is_in-remove q p zero (x ∷ xs) d r lt e = subst (λ (z : Pair). is_in q xs ≡ (not (is_pair q z) && (is_pair q x || is_in q xs))) e (go (is_pair q x) refl)
@@ -159,6 +181,7 @@ stands-last p (suc i) (x ∷ xs) d r lt below above there = stands-last p i xs d
     go [] true f h all none le = absurd (omega arith)
     go (y ∷ ys) true f h all none le = absurd (let e : is_before p y ≡ true = subst (λ (z : Pair). is_before z y ≡ true) (sym (pair_only p x f)) all.0 in let g = none.0 in cc)
 
+-- a pair of the list stands just before what is after it
 pub stands-before : (p : Pair) (i : ℕ) (xs : List Pair) (d : Pair) → AreRising xs → i ≤ length xs → NoneAfter p (take i xs) → AllAfter p (drop i xs) → is_in p xs ≡ true → (0 < i) × (get_or xs (i - 1) d ≡ p)
 stands-before p zero xs d r le below above there = absurd (let none = after-none p xs above in cc)
 stands-before p (suc i) xs d r le below above there =
@@ -175,6 +198,7 @@ first-least p ps r = (rw (pair_itself p) refl, λ q e. go q (is_pair q p) refl e
     go q true f h = subst (λ (y : Pair). is_before y p ≡ false) (sym (pair_only q p f)) (not_itself p)
     go q false f h = let e : is_before p q ≡ true = all-in (λ y. is_before p y ≡ true) q ps r.0 h in grind (arith, nat_tests)
 
+-- the first of a list in order is the least
 pub first-is : (xs : List Pair) (p : Pair) → Some p ≡ slice_get xs 0 → AreRising xs → IsLeast xs (Some p)
 first-is [] p e r = absurd cc
 first-is (x ∷ xs) p e r = let same : x ≡ p = cc in subst (λ (y : Pair). IsLeast (x ∷ xs) (Some y)) same (first-least x xs r)
@@ -187,33 +211,40 @@ is_in-drop p q (suc i) (x ∷ xs) none e =
     let other : is_pair q x ≡ false = (let f = none.0 in grind (arith, nat_tests)) in
     rw other (is_in-drop p q i xs none.1 e)
 
+-- what is behind a place is in order
 rising-drop : (i : ℕ) (xs : List Pair) → AreRising xs → AreRising (drop i xs)
 rising-drop zero xs r = r
 rising-drop (suc i) [] r = tt
 rising-drop (suc i) (x ∷ xs) r = rising-drop i xs r.1
 
+-- a list from a place on begins there
 drop-at : (i : ℕ) (xs : List Pair) (d y : Pair) → i < length xs → get_or xs i d ≡ y → drop i xs ≡ y ∷ drop (suc i) xs
 drop-at i [] d y lt e = absurd (omega arith)
 drop-at zero (x ∷ xs) d y lt e = ap (λ (z : Pair). z ∷ xs) e
 drop-at (suc i) (x ∷ xs) d y lt e = drop-at i xs d y (omega arith) e
 
+-- past its end there is nothing
 drop-end : (i : ℕ) (xs : List Pair) → length xs ≤ i → drop i xs ≡ []
 drop-end zero [] le = refl
 drop-end zero (x ∷ xs) le = absurd (omega arith)
 drop-end (suc i) [] le = refl
 drop-end (suc i) (x ∷ xs) le = drop-end i xs (omega arith)
 
+-- a greater number of one owner is after
 owner_after : (owner after n : ℕ) → after < n → is_before (owner, after) (owner, n) ≡ true
 owner_after owner after n lt = grind (arith, nat_tests)
 
 -- what stands after (owner, after), where it begins at a place: the others are where they were
 module _ (owner after : ℕ) (xs : List Pair) where
+  -- what is behind a place has all that is sought
   abbrev Holds : List Pair → Type 0
   Holds ys = (n : ℕ) → after < n → is_in (owner, n) ys ≡ is_in (owner, n) xs
 
+  -- nothing is behind
   next-none : Holds [] → IsNextOf owner after xs None
   next-none holds = λ n lt. sym (holds n lt)
 
+  -- the next one is the owner's
   next-some : (y : Pair) (ys : List Pair) → AreRising (y ∷ ys) → AllAfter (owner, after) (y ∷ ys) → Holds (y ∷ ys) → y.0 ≡ owner → IsNextOf owner after xs (Some y.1)
   next-some y ys r all holds e =
       let first : is_before (owner, after) y ≡ true = all.0 in
@@ -224,6 +255,7 @@ module _ (owner after : ℕ) (xs : List Pair) where
       least : (n : ℕ) → is_before (owner, n) y ≡ false → y.1 ≤ n
       least n f = grind (arith, nat_tests)
 
+  -- it is another's
   next-other : (y : Pair) (ys : List Pair) → AreRising (y ∷ ys) → AllAfter (owner, after) (y ∷ ys) → Holds (y ∷ ys) → (y.0 ≡ owner → ⊥) → IsNextOf owner after xs None
   next-other y ys r all holds other = λ n lt. sym (holds n lt) ∙ go n (is_in (owner, n) (y ∷ ys)) refl
     where
@@ -234,6 +266,7 @@ module _ (owner after : ℕ) (xs : List Pair) where
           let first : is_before (owner, after) y ≡ true = all.0 in
           absurd (other (grind (arith, nat_tests)))
 
+  -- what is behind the place of a pair has all that is after it
   after-holds : (i : ℕ) → NoneAfter (owner, after) (take i xs) → Holds (drop i xs)
   after-holds i none = λ n lt. is_in-drop (owner, after) (owner, n) i xs none (owner_after owner after n lt)
 
@@ -243,10 +276,12 @@ module _ (owner after : ℕ) (xs : List Pair) where
       let split : drop i xs ≡ y ∷ drop (suc i) xs = drop-at i xs d y lt e in
       next-some y (drop (suc i) xs) (subst AreRising split (rising-drop i xs r)) (subst (AllAfter (owner, after)) split all) (subst Holds split (after-holds i none)) own
 
+  -- where the next is another's there is none
   pub next-past : (i : ℕ) (d y : Pair) → AreRising xs → NoneAfter (owner, after) (take i xs) → AllAfter (owner, after) (drop i xs) → i < length xs → get_or xs i d ≡ y → (y.0 ≡ owner → ⊥) → IsNextOf owner after xs None
   next-past i d y r none all lt e other =
       let split : drop i xs ≡ y ∷ drop (suc i) xs = drop-at i xs d y lt e in
       next-other y (drop (suc i) xs) (subst AreRising split (rising-drop i xs r)) (subst (AllAfter (owner, after)) split all) (subst Holds split (after-holds i none)) other
 
+  -- nor at the end
   pub next-end : (i : ℕ) → NoneAfter (owner, after) (take i xs) → length xs ≤ i → IsNextOf owner after xs None
   next-end i none le = next-none (subst Holds (drop-end i xs le) (after-holds i none))

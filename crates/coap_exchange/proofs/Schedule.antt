@@ -16,6 +16,7 @@ record Tells (draw now : ℕ) (moments : List ℕ) (t : Timer) : Type 0 where
   due : t.due ≡ now + (2000 + draw) * 2 ^ length moments
   few : length moments ≤ 4
 
+-- what is sent again goes on
 again-goes_on : (now : ℕ) (t : Timer) → fire_of now t ≡ Again → goes_on now t ≡ true
 again-goes_on now t e = go (goes_on now t) refl
   where
@@ -23,17 +24,21 @@ again-goes_on now t e = go (goes_on now t) refl
     go true f = f
     go false f = absurd (let g : GiveUp ≡ Again = rw f at e in cc)
 
+-- both of two tests
 and-true : (a b : Bool) → (a && b) ≡ true → (a ≡ true) × (b ≡ true)
 and-true true true e = (refl, refl)
 and-true true false e = absurd cc
 and-true false b e = absurd cc
 
+-- a firing that goes on sends once more
 one_more : (now : ℕ) (u : Timer) → goes_on now u ≡ true → fired now u ≡ sent_again now u
 one_more now u e = rw e refl
 
+-- the timeout is doubled
 twice : (a n : ℕ) → (a * 2 ^ n) * 2 ≡ a * 2 ^ suc n
 twice a n = mul_assoc a (2 ^ n) 2 ∙ ap (λ (k : ℕ). a * k) (sym (pow-suc 2 n))
 
+-- a timer tells its schedule
 tells-schedule : (draw now : ℕ) (moments : List ℕ) (t : Timer) → IsTimerOf draw (now ∷ moments) t → Tells draw now moments t × AreSpaced draw (now ∷ moments)
 tells-schedule draw now [] t is = (rw is (record { sends = refl; began = refl; timeout = omega arith; due = omega arith; few = omega arith }), tt)
 tells-schedule draw now (before ∷ moments) t is =
@@ -61,6 +66,7 @@ tells-schedule draw now (before ∷ moments) t is =
       (due, near, rest.1),
     )
 
+-- so sendings keep to it
 pub schedule-kept : (draw : ℕ) (moments : List ℕ) (t : Timer) → IsTimerOf draw moments t → IsSchedule draw moments
 schedule-kept draw [] t is = absurd is
 schedule-kept draw (now ∷ moments) t is =
@@ -78,6 +84,7 @@ doubled-short timeout (suc (suc (suc zero))) few s = omega arith
 doubled-short timeout (suc (suc (suc (suc zero)))) few s = omega arith
 doubled-short timeout (suc (suc (suc (suc (suc n))))) few s = absurd (omega arith)
 
+-- a timer stays short
 pub fired-short : (now : ℕ) (t : Timer) → IsShort t → IsShort (fired now t)
 fired-short now t s = go (goes_on now t) refl
   where
@@ -85,6 +92,7 @@ fired-short now t s = go (goes_on now t) refl
     go true e = doubled-short t.timeout t.sends (ltb-true t.sends 5 (and-true (nat_lt t.sends 5) (nat_lt (now - t.started) 93000) e).0) s
     go false e = s
 
+-- it is doubled five times at most
 most-times : (n : ℕ) → 2 ^ min n 5 ≤ 2 ^ 5
 most-times n = pow-le-pow_right {n = 2} (omega arith) (min-le_right n 5)
 

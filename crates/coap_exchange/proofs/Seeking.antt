@@ -30,6 +30,7 @@ module _ {A : Type 0} where
       let other : eqb n x.0 ≡ false = ne_eqb n x.0 (λ e. let above = r.0 in omega arith) in
       rw other (none-under n x.0 xs (omega (arith, r.0)) r.1)
 
+  -- what passes has a number above the least
   passes-above : (test : A → Bool) (n least : ℕ) (xs : List (Numbered A)) → IsRising least xs → passes test (item_at n xs) ≡ true → least < n
   passes-above test n least xs r e = go (leb n least) refl
     where
@@ -37,6 +38,7 @@ module _ {A : Type 0} where
       go true f = absurd (let none : item_at n xs ≡ None = none-under n least xs (grind (arith, nat_tests)) r in let gone : passes test (item_at n xs) ≡ false = ap (λ (o : Option A). passes test o) none in cc)
       go false f = grind (arith, nat_tests)
 
+  -- nothing has the number 0
   pub none-zero : (test : A → Bool) (n : ℕ) (xs : List (Numbered A)) → n ≤ 0 → IsRising 0 xs → passes test (item_at n xs) ≡ false
   none-zero test n xs le r = ap (λ (o : Option A). passes test o) (none-under n 0 xs le r)
 
@@ -48,16 +50,20 @@ module _ {A : Type 0} where
       go true f h = ap (λ (o : Option A). passes test o) (none-under m x.0 xs (let same = eqb-true m x.0 f in omega arith) r)
       go false f h = h
 
+  -- the first item is found by its number
   head-at : (test : A → Bool) (x : Numbered A) (xs : List (Numbered A)) → passes test (item_at x.0 (x ∷ xs)) ≡ test x.1
   head-at test x xs = ap (λ (b : Bool). passes test (cond b (Some x.1) (item_at x.0 xs))) (eq-eqb x.0 x.0 refl)
 
+  -- one that doesn't pass is skipped
   skip : (test : A → Bool) (x : Numbered A) (xs : List (Numbered A)) → test x.1 ≡ false → first_that test (x ∷ xs) ≡ first_that test xs
   skip test x xs e = rw e refl
 
+  -- where none passes there is no first
   pub none-that : (test : A → Bool) (least : ℕ) (xs : List (Numbered A)) → IsRising least xs → ((m : ℕ) → passes test (item_at m xs) ≡ false) → first_that test xs ≡ None
   none-that test least [] r none = refl
   none-that test least (x ∷ xs) r none = skip test x xs (sym (head-at test x xs) ∙ none x.0) ∙ none-that test x.0 xs r.1 (λ m. rest-none test x xs r.1 m (none m))
 
+  -- the first that passes is the one with the least number
   pub that-first : (test : A → Bool) (n least : ℕ) (xs : List (Numbered A)) → IsRising least xs → passes test (item_at n xs) ≡ true → ((m : ℕ) → m < n → passes test (item_at m xs) ≡ false) → first_that test xs ≡ Some n
   that-first test n least [] r there none = absurd cc
   that-first test n least (x ∷ xs) r there none = go (eqb n x.0) refl there (that-first test n x.0 xs r.1)
@@ -79,6 +85,7 @@ module _ {A : Type 0} where
       go true e true f = absurd (let none = done m (grind (arith, nat_tests)) in cc)
       go true e false f = absurd (let least : n ≤ m = next.2 m (grind (arith, nat_tests)) (listed m e) in omega arith)
 
+  -- where no number is left in the roll none passes
   pub listed-none : (test : A → Bool) (owner after : ℕ) (xs : List (Numbered A)) (pairs : List Pair) → AreListed test owner xs pairs → IsNextOf owner after pairs None → ((m : ℕ) → m ≤ after → passes test (item_at m xs) ≡ false) → (m : ℕ) → passes test (item_at m xs) ≡ false
   listed-none test owner after xs pairs listed next done m = go (passes test (item_at m xs)) refl (leb m after) refl
     where
@@ -90,13 +97,16 @@ module _ {A : Type 0} where
 -- ---- the first of a roll is due first
 
 module _ {A : Type 0} (owner_of : A → Option ℕ) where
+  -- what is due of each item
   abbrev Rows : List (Numbered A) → List (Option Pair)
   Rows xs = map (due_row owner_of) xs
 
+  -- a pair stands in the roll
   abbrev Tells : List Pair → Option Pair → Type 0
   Tells pairs None = ⊥
   Tells pairs (Some p) = is_in p pairs ≡ true
 
+  -- the least of a roll is its first
   least-first : (pairs : List Pair) (o : Option Pair) → IsLeast pairs o → IsFirst (Tells pairs) o
   least-first pairs None e = record { least = λ x t. nothing x t; there = inl refl }
     where
@@ -109,6 +119,7 @@ module _ {A : Type 0} (owner_of : A → Option ℕ) where
       lower None t = refl
       lower (Some q) t = sooner_left p q (is.1 q t)
 
+  -- an item has its row
   row-in : (n : ℕ) (xs : List (Numbered A)) (a : A) → item_at n xs ≡ Some a → IsIn (as_due n (owner_of a)) (Rows xs)
   row-in n [] a e = absurd cc
   row-in n (x ∷ xs) a e = go (eqb n x.0) refl e (row-in n xs a)
@@ -117,6 +128,7 @@ module _ {A : Type 0} (owner_of : A → Option ℕ) where
       go true f h rest = let same : x.1 ≡ a = cc in inl (ap (λ (m : ℕ). as_due m (owner_of a)) (eqb-true n x.0 f) ∙ ap (λ (b : A). as_due x.0 (owner_of b)) (sym same))
       go false f h rest = inr (rest h)
 
+  -- a row has its item
   in-row : (least : ℕ) (xs : List (Numbered A)) (p : Option Pair) → IsRising least xs → IsIn p (Rows xs) → (n : ℕ) × (a : A) × (item_at n xs ≡ Some a) × (p ≡ as_due n (owner_of a)) × (least < n)
   in-row least [] p r i = absurd i
   in-row least (x ∷ xs) p r i = elim i [ inl e ↦ (x.0, x.1, ap (λ (b : Bool). cond b (Some x.1) (item_at x.0 xs)) (eq-eqb x.0 x.0 refl), e, r.0) | inr e ↦ further (in-row x.0 xs p r.1 e) ]
@@ -127,6 +139,7 @@ module _ {A : Type 0} (owner_of : A → Option ℕ) where
           let lower = r.0 in
           (f.0, f.1, ap (λ (b : Bool). cond b (Some x.1) (item_at f.0 xs)) (ne_eqb f.0 x.0 (λ e. omega arith)) ∙ f.2, f.3, omega arith)
 
+  -- an owner that is found is an item's
   owner-found : (o n : ℕ) (found : Option A) → is_owner o (owner_at owner_of found) ≡ true → (a : A) × (found ≡ Some a) × (owner_of a ≡ Some o)
   owner-found o n None e = absurd cc
   owner-found o n (Some a) e = go (owner_of a) refl e
@@ -135,6 +148,7 @@ module _ {A : Type 0} (owner_of : A → Option ℕ) where
       go None f h = absurd cc
       go (Some q) f h = (a, refl, f ∙ ap (λ (m : ℕ). Some m) (sym (eqb-true o q h)))
 
+  -- so the first of a roll is what is due first
   pub roll-first : (most : ℕ) (xs : List (Numbered A)) (roll : Roll) (o : Option Pair) → IsRising 0 xs → IsRollOf owner_of xs most roll → IsLeast roll.pairs o → o ≡ first_due owner_of xs
   roll-first most xs roll o r is least = same_first_of o (first_due owner_of xs) (λ x t. to x t) (λ x i. from x i) (least-first roll.pairs o least) (first_of-is (Rows xs))
     where
@@ -162,9 +176,11 @@ module _ {A : Type 0} (owner_of : A → Option ℕ) where
 
 -- ---- what is due is a deadline, the end of a timeout, or a turn
 
+-- a moment and a number
 abbrev pair-of : ℕ → ℕ → Option Pair
 pair-of p n = Some (p, n)
 
+-- the earlier of two moments of one number
 earlier : (p q n : ℕ) → q ≤ p → sooner (pair-of p n) (pair-of q n) ≡ pair-of q n
 earlier p q n le = go (is_before (q, n) (p, n)) refl
   where
@@ -172,11 +188,13 @@ earlier p q n le = go (is_before (q, n) (p, n)) refl
     go true e = refl
     go false e = let same : p ≡ q = grind (arith, nat_tests) in ap (λ (m : ℕ). pair-of m n) same
 
+-- the same the other way round
 not-later : (p q n : ℕ) → p < q → sooner (pair-of p n) (pair-of q n) ≡ pair-of p n
 not-later p q n lt =
     let e : is_before (q, n) (p, n) ≡ false = grind (arith, nat_tests) in
     sooner_left (p, n) (q, n) e
 
+-- what is due of one that is sent: its deadline or its timeout
 timer-row : (n last : ℕ) (o : Option Sending) → as_due n (Some (timer_or last o)) ≡ sooner (Some (last, n)) (sooner (as_due n (end_in o)) None)
 timer-row n last None = refl
 timer-row n last (Some s) = go (leb s.timer.due last) refl
@@ -189,6 +207,7 @@ timer-row n last (Some s) = go (leb s.timer.due last) refl
         let least : min s.timer.due last ≡ last = (let le : last < s.timer.due = grind (arith, nat_tests) in omega arith) in
         ap (λ (m : ℕ). pair-of m n) least ∙ sym (not-later last s.timer.due n (grind (arith, nat_tests)))
 
+-- what is due of an exchange, in three
 split-row : (s : ExchangeState) (blocked : Bool) (ms n : ℕ) (x : Exchange) → as_due n (due_in s blocked ms x)
     ≡ sooner (later ms (as_due n (cond (not (is_missing (answer_in_state s))) None (Some x.admitted)))) (sooner (as_due n (cond (is_sent_state s) (end_in x.sending) None)) (as_due n (cond (is_queued_state s && not blocked) (Some x.admitted) None)))
 split-row Queued true ms n x = refl
@@ -197,6 +216,7 @@ split-row Sent blocked ms n x = timer-row n (x.admitted + ms) x.sending
 split-row Acked blocked ms n x = refl
 split-row (Done a) blocked ms n x = refl
 
+-- the order of deadlines is that of admissions
 later-before : (a b : Pair) (ms : ℕ) → is_before (b.0 + ms, b.1) (a.0 + ms, a.1) ≡ is_before b a
 later-before a b ms = go (is_before b a) refl
   where
@@ -204,6 +224,7 @@ later-before a b ms = go (is_before b a) refl
     go true e = grind (arith, nat_tests)
     go false e = grind (arith, nat_tests)
 
+-- so the sooner is the sooner
 later-sooner : (ms : ℕ) (a b : Option Pair) → later ms (sooner a b) ≡ sooner (later ms a) (later ms b)
 later-sooner ms None b = refl
 later-sooner ms (Some a) None = refl
@@ -220,6 +241,7 @@ cross a b c d =
     ∙ ap (λ (o : Option Pair). sooner a o) (sym (sooner_assoc b c d) ∙ ap (λ (o : Option Pair). sooner o d) (sooner_comm b c) ∙ sooner_assoc c b d)
     ∙ sym (sooner_assoc a c (sooner b d))
 
+-- what is due first is the first of three: deadlines, timeouts and turns
 pub split-due : (nstart ms : ℕ) (all xs : List (Numbered Exchange)) → first_due (due_among nstart ms all) xs ≡ sooner (later ms (first_due opening_of xs)) (sooner (first_due end_of xs) (first_due (turn_among nstart all) xs))
 split-due nstart ms all [] = refl
 split-due nstart ms all (x ∷ xs) =

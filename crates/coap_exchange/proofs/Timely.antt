@@ -16,6 +16,7 @@ use Rattle.coap_exchange.proofs.Counts.{one_if, count-push, count-changed_at, co
 abbrev IsTimely : Exchange → Type 0
 IsTimely x = x.admitted ≤ 2 ^ 62
 
+-- a change leaves the moment of admission
 keeps-timely : (ch : Change) (x : Exchange) → IsTimely x → IsTimely (changed_by ch x)
 keeps-timely (change.Send s) x t = t
 keeps-timely (change.Fire now) x t = t
@@ -26,16 +27,19 @@ keeps-timely (change.Answer a) x t = t
 abbrev HasShort : Exchange → Type 0
 HasShort x = IsSendingShort x.sending
 
+-- a firing leaves a timer short
 fired-some : (now : ℕ) (o : Option Sending) → IsSendingShort o → IsSendingShort (fired_option now o)
 fired-some now None s = tt
 fired-some now (Some sending) s = fired-short now sending.timer s
 
+-- so a change does
 keeps-short : (ch : Change) → is_timely ch ≡ true → (x : Exchange) → HasShort x → HasShort (changed_by ch x)
 keeps-short (change.Send s) timely x t = first-short s.timer (leb-true s.timer.timeout 3000 timely)
 keeps-short (change.Fire now) timely x t = fired-some now x.sending t
 keeps-short change.Acknowledge timely x t = t
 keeps-short (change.Answer a) timely x t = t
 
+-- a timer that has ended can fire
 can-fire : (now : ℕ) (o : Option Sending) → HasEnded now o → IsSendingShort o → CanFire now o
 can-fire now None ended s = tt
 can-fire now (Some sending) ended s = (ended, short-bound sending.timer s)
@@ -48,6 +52,7 @@ can-change (change.Fire now) (Some x) timely due s = (leb-true now (2 ^ 62) time
 can-change change.Acknowledge (Some x) timely due s = tt
 can-change (change.Answer a) (Some x) timely due s = tt
 
+-- what may change can
 pub changeable : (n : ℕ) (ch : Change) (xs : List (Numbered Exchange)) (queued : ℕ) → AreExchanges xs queued → is_timely ch ≡ true → IsFireDue ch (item_at n xs) → IfSome (item_at n xs) (CanChange ch)
 changeable n ch xs queued are timely due = can-change ch (item_at n xs) timely due (all-at HasShort n xs are.short)
 
@@ -89,6 +94,7 @@ exchanges-push xs queued x is timely unsent are =
     let short : HasShort x.1 = rw unsent tt in
     record { queued = omega arith; timely = all-push IsTimely xs x are.timely timely; short = all-push HasShort xs x are.short short }
 
+-- a taint leaves what waits
 taint-queued : (target : Target) (x : Exchange) → is_queued (tainted_by target x) ≡ is_queued x
 taint-queued target x = go (is_changed_with target x)
   where
@@ -96,6 +102,7 @@ taint-queued target x = go (is_changed_with target x)
     go true = refl
     go false = refl
 
+-- and the moment of admission
 taint-timely : (target : Target) (x : Exchange) → IsTimely x → IsTimely (tainted_by target x)
 taint-timely target x t = go (is_changed_with target x)
   where
@@ -103,6 +110,7 @@ taint-timely target x t = go (is_changed_with target x)
     go true = t
     go false = t
 
+-- and the timer
 taint-short : (target : Target) (x : Exchange) → HasShort x → HasShort (tainted_by target x)
 taint-short target x t = go (is_changed_with target x)
   where

@@ -18,6 +18,7 @@ pub delivered-off : (bytes : List ℕ) (id : ℕ) (timer : Timer) (o : Option Wa
 delivered-off bytes id timer None = tt
 delivered-off bytes id timer (Some w) = refl
 
+-- a firing leaves who waits
 fired-same : (now : ℕ) (s : WaiterState) → is_waiting_state (fired_state now s) ≡ is_waiting_state s
 fired-same now (Waiting e) = refl
 fired-same now (Delivering bytes id timer) = refl
@@ -35,6 +36,7 @@ passes-awaited e x (Some w) a = go w.state a
     go (Waiting n) b = let same : n ≡ x = cc in rw same refl
     go (Delivering bytes id timer) b = absurd cc
 
+-- who waits for nothing waits not for this
 pub passes-unawaited : (e : ℕ) (o : Option Waiter) → awaited_by o ≡ None → passes (waits_for e) o ≡ false
 passes-unawaited e None a = refl
 passes-unawaited e (Some w) a = go w.state a
@@ -76,6 +78,7 @@ tallied-withdrawn t old new is are fewer = λ e.
     let now = fewer e in
     omega arith
 
+-- who is served waits no more
 delivered-for : (e : ℕ) (bytes : List ℕ) (id : ℕ) (timer : Timer) (o : Option Waiter) → IfSome o (λ w. waits_for e (delivered bytes id timer w) ≡ false)
 delivered-for e bytes id timer None = tt
 delivered-for e bytes id timer (Some w) = refl
@@ -88,6 +91,7 @@ tallied-delivered n bytes id timer t old new is are fewer = λ e.
     let now = fewer e in
     omega arith
 
+-- a firing leaves for what one waits
 fired-for : (e now : ℕ) (w : Waiter) → waits_for e (fired_waiter now w) ≡ waits_for e w
 fired-for e now w = go w.state
   where
@@ -101,28 +105,36 @@ tallied-fired n now xs counts are = λ e. are e ∙ sym (count-kept (waits_for e
 
 -- ---- timeouts are no longer than they come to be
 
+-- its timer is short
 abbrev HasShort : Waiter → Type 0
 HasShort w = IsStateShort w.state
 
+-- timers stay short: of one more
 pub short-push : (xs : List (Numbered Waiter)) (w : Numbered Waiter) (x : ℕ) → w.1.state ≡ Waiting x → AreShort xs → AreShort (xs ++ w ∷ [])
 short-push xs w x s are = let short : HasShort w.1 = rw s tt in all-push HasShort xs w are short
 
+-- of one less
 pub short-without : (n : ℕ) (xs : List (Numbered Waiter)) → AreShort xs → AreShort (without n xs)
 short-without n xs are = all-without HasShort n xs are
 
+-- of one that is withdrawn
 pub short-withdrawn : (t : Table Waiter) → AreShort t.items → AreShort (withdrawn t).items
 short-withdrawn t are = all-withdrawn HasShort t are
 
+-- of one that is served
 pub short-delivered : (n : ℕ) (bytes : List ℕ) (id : ℕ) (timer : Timer) (xs : List (Numbered Waiter)) → timer.timeout ≤ 3000 → AreShort xs → AreShort (changed_at n (delivered bytes id timer) xs)
 short-delivered n bytes id timer xs le are = all-changed_at HasShort n (delivered bytes id timer) xs (λ w h. first-short timer le) are
 
+-- a firing leaves a timer short
 fired-has : (now : ℕ) (s : WaiterState) → IsStateShort s → IsStateShort (fired_state now s)
 fired-has now (Waiting e) h = tt
 fired-has now (Delivering bytes id timer) h = fired-short now timer h
 
+-- of one that fires
 pub short-fired : (n now : ℕ) (xs : List (Numbered Waiter)) → AreShort xs → AreShort (changed_at n (fired_waiter now) xs)
 short-fired n now xs are = all-changed_at HasShort n (fired_waiter now) xs (λ w h. fired-has now w.state h) are
 
+-- a timer that has ended can fire
 can-fire : (now : ℕ) (s : WaiterState) → HasEnded now s → IsStateShort s → CanFire now s
 can-fire now (Waiting e) ended h = tt
 can-fire now (Delivering bytes id timer) ended h = (ended, short-bound timer h)

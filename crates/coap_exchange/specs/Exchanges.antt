@@ -8,6 +8,7 @@ use Rattle.coap_endpoint.specs.Endpoint.{same_endpoint}
 use Rattle.coap_endpoint.specs.Equality.{same_target}
 use Rattle.coap_store.specs.declared.answer.Answer.{Answer}
 use Rattle.coap_store.specs.declared.key.CacheKey.{CacheKey}
+use Rattle.coap_store.specs.declared.stored.Stored.{Stored}
 use Rattle.coap_store.specs.Keys.{same_key}
 use Rattle.coap_exchange.specs.declared.timer.Fire.{Fire}
 use Rattle.coap_exchange.specs.declared.timer.Fire.TheVariants.{GiveUp}
@@ -45,6 +46,20 @@ answer_in_state Queued = None
 answer_in_state Sent = None
 answer_in_state Acked = None
 answer_in_state (Done a) = Some a
+
+-- one that was just opened
+abbrev pub opened : CacheKey → Bool → List ℕ → Option Stored → ℕ → Exchange
+opened key is_get form copy now =
+    record {
+      key = key;
+      is_get = is_get;
+      form = form;
+      copy = copy;
+      admitted = now;
+      sending = None;
+      tainted = false;
+      state = Queued;
+    }
 
 -- its request waits for its turn
 abbrev pub is_queued : Exchange → Bool

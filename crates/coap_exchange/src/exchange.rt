@@ -1,7 +1,7 @@
 //! Exchanges: requests on their way to an origin.
 ghost use Rattle.std.specs.Prelude.{◌≡◌, ◌≤◌, ◌^◌};
 ghost use Rattle.std.specs.Option.{option_copied};
-ghost use Rattle.coap_exchange.specs.Exchanges.{answer_at, changed_by, fire_of_sending, fired_exchange, is_as, is_acked, is_changed_with, is_joinable, is_queued, is_sent, tainted_by, was_sent_as, CanChange, CanFire};
+ghost use Rattle.coap_exchange.specs.Exchanges.{answer_at, changed_by, fire_of_sending, fired_exchange, is_as, is_acked, is_changed_with, is_joinable, is_queued, is_sent, opened, tainted_by, was_sent_as, CanChange, CanFire};
 ghost use Rattle.coap_exchange.specs.Lines.{sends};
 
 use crate::lines::Stage;
@@ -117,6 +117,28 @@ impl Change {
 }
 
 impl Exchange {
+    /// One that was just opened: its request waits for its turn.
+    pub(crate) fn opened(
+        key: CacheKey,
+        is_get: bool,
+        form: Seq<u8>,
+        copy: Option<Stored>,
+        now: u64,
+    ) -> Exchange
+        ensures exact { result ≡ opened key is_get form copy now }
+    {
+        Exchange {
+            key,
+            is_get,
+            form,
+            copy,
+            admitted: now,
+            sending: None,
+            tainted: false,
+            state: ExchangeState::Queued,
+        }
+    }
+
     /// Whether the request waits for its turn.
     pub fn is_queued(&self) -> bool
         ensures exact { result ≡ is_queued self.now }

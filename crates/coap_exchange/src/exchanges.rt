@@ -6,16 +6,15 @@ ghost use Rattle.std.specs.BTreeMap.{get, is_at};
 ghost use Rattle.std.specs.Ordering.{nat_cmp};
 ghost use Rattle.coap_endpoint.specs.declared.endpoint.Endpoint.{Endpoint};
 ghost use Rattle.coap_exchange.specs.Answered.{IsFirstGot, IsNextGot};
-ghost use Rattle.coap_exchange.specs.declared.exchange.ExchangeState.TheVariants.{Queued};
 ghost use Rattle.coap_exchange.specs.declared.table.AdmitError.TheVariants.{Full};
 ghost use Rattle.coap_exchange.specs.Due.{due_row, first_due};
-ghost use Rattle.coap_exchange.specs.Exchanges.{acked, answer_in, answered, changed_by, due_among, fire_at, fired_exchange, is_acked, is_done, is_joinable, is_queued, is_sent, is_sent_to, is_timely, sent, tainted_by, was_sent_as, AreTimely, CanChange, IsDue, IsFireDue};
+ghost use Rattle.coap_exchange.specs.Exchanges.{acked, answer_in, answered, changed_by, due_among, fire_at, fired_exchange, is_acked, is_done, is_joinable, is_queued, is_sent, is_sent_to, is_timely, opened, sent, tainted_by, was_sent_as, AreTimely, CanChange, IsDue, IsFireDue};
 ghost use Rattle.coap_exchange.specs.Index.{turn_among, AreIndexed};
 ghost use Rattle.coap_exchange.specs.Lines.{is_queued_to, is_with, open_in, queued_in, sent_in, AreLined};
 ghost use Rattle.coap_exchange.specs.Table.{empty_table, item_at, admitted_to, without, withdrawn, changed_at, all_changed, count, first_that, passes, IsTable};
 
 use crate::due::{later, sooner};
-use crate::exchange::{Change, Exchange, ExchangeState, Sending};
+use crate::exchange::{Change, Exchange, Sending};
 use crate::index::{Index, Sought, digest_of_key, digest_of_target, first_sought, owners_at};
 use crate::lines::{Line, Stage, close_one, has_turn, line_to, move_one, open_one};
 use crate::table::{AdmitError, Table};
@@ -197,19 +196,7 @@ impl Exchanges {
         requires now { now ≤ 2 ^ 62 }
         ensures number { IfOk result (λ number. number ≡ self.old.admitted + 1) }
         ensures ok { OnOk result
-            (self.new
-            ≡ admitted_to
-            (record {
-              key = key;
-              is_get = is_get;
-              form = form;
-              copy = copy;
-              admitted = now;
-              sending = None;
-              tainted = false;
-              state = Queued;
-            })
-            self.old) }
+            (self.new ≡ admitted_to (opened key is_get form copy now) self.old) }
         ensures full { IfErr result (λ error.
             (error ≡ Full) ↔ (length self.old.items ≡ self.old.limit)) }
         ensures room { OnOk result (length self.old.items < self.old.limit) }
@@ -223,16 +210,7 @@ impl Exchanges {
         let Ok(()) = open_one(&mut self.lines, at) else {
             return Err(AdmitError::OutOfMemory);
         };
-        let exchange = Exchange {
-            key,
-            is_get,
-            form,
-            copy,
-            admitted: now,
-            sending: None,
-            tainted: false,
-            state: ExchangeState::Queued,
-        };
+        let exchange = Exchange::opened(key, is_get, form, copy, now);
         let was = owners_at(&self.table, self.table.admitted() + 1);
         match self.table.admit(exchange) {
             Ok(number) => {
@@ -241,11 +219,7 @@ impl Exchanges {
                 Ok(number)
             }
             Err(error) => {
-                let queued = Stage {
-                    sent: false,
-                    queued: true,
-                };
-                close_one(&mut self.lines, at, queued);
+                close_one(&mut self.lines, at, Stage::QUEUED);
                 Err(error)
             }
         }

@@ -36,32 +36,40 @@ options-count : (before : ℕ) (os : List Opt) → options_size os ≤ options_l
 options-count before [] = omega arith
 options-count before (o ∷ os) = omega (arith, sum_by-cons (λ (o : Opt). value_size o.value) o os, options-count o.number os)
 
+-- options count at most their bytes
 options-kept : (os : List Opt) → options_size os ≤ length (options_spelling 0 os)
 options-kept os = omega (arith, options-count 0 os, options-length 0 os)
 
+-- so does a host
 host-kept : (host : Option (List ℕ)) → host_size host ≤ host_bytes host
 host-kept None = omega arith
 host-kept (Some host) = omega arith
 
+-- a key
 key-kept : (key : CacheKey) → key_size key ≤ key_bytes key
 key-kept key = omega (arith, host-kept key.target.host, values-kept key.target.path, values-kept key.target.query, options-kept key.options)
 
+-- a response
 response-kept : (m : Message) → response_size m ≤ response_bytes m
 response-kept m = omega (arith, options-kept m.options)
 
+-- a copy
 copy-kept : (copy : Option Stored) → copy_size copy ≤ copy_bytes copy
 copy-kept None = omega arith
 copy-kept (Some stored) = response-kept stored.response
 
+-- an answer
 answer-kept : (state : ExchangeState) → answer_size state ≤ state_bytes state
 answer-kept Queued = omega arith
 answer-kept Sent = omega arith
 answer-kept Acked = omega arith
 answer-kept (Done a) = response-kept a.message
 
+-- an exchange
 exchange-kept : (x : Numbered Exchange) → exchange_size x ≤ exchange_bytes x
 exchange-kept x = omega (arith, key-kept x.1.key, copy-kept x.1.copy, answer-kept x.1.state)
 
+-- a client that waits
 waiter-kept : (v : Waiter) (state : WaiterState) → waiter_size v state ≤ length v.token + length (pieces_spelling v.tags) + answer_bytes state
 waiter-kept v (Waiting exchange) = omega (arith, tags-kept v.tags)
 waiter-kept v (Delivering bytes id timer) = omega arith

@@ -22,10 +22,12 @@ use Rattle.coap_model.proofs.Places.{here, one-brought}
 abbrev empty_of : ℕ → Message
 empty_of id = record { kind = Ack; code = EMPTY; id = id; token = []; options = []; payload = [] }
 
+-- an acknowledgement with the id of the answer
 second_spelled : Spells (0x60 ∷ 0 ∷ 0 ∷ 2 ∷ []) (empty_of 2)
 unfolding read_message body_at options_within option_at extended
 second_spelled = read_is (0x60 ∷ 0 ∷ 0 ∷ 2 ∷ []) (empty_of 2) (are-bytes (0x60 ∷ 0 ∷ 0 ∷ 2 ∷ []) refl) refl
 
+-- and one with another
 third_spelled : Spells (0x60 ∷ 0 ∷ 0 ∷ 3 ∷ []) (empty_of 3)
 unfolding read_message body_at options_within option_at extended
 third_spelled = read_is (0x60 ∷ 0 ∷ 0 ∷ 3 ∷ []) (empty_of 3) (are-bytes (0x60 ∷ 0 ∷ 0 ∷ 3 ∷ []) refl) refl
@@ -34,6 +36,7 @@ third_spelled = read_is (0x60 ∷ 0 ∷ 0 ∷ 3 ∷ []) (empty_of 3) (are-bytes 
 abbrev told_to_client : Message
 told_to_client = record { kind = Con; code = CONTENT; id = 2; token = []; options = option_of MAX_AGE (7 ∷ []) ∷ []; payload = codes "21" }
 
+-- the answer as it was sent
 told_spelled : Spells (content_in 0x40 7) told_to_client
 unfolding read_message body_at options_within option_at extended
 told_spelled = read_is (content_in 0x40 7) told_to_client (are-bytes (content_in 0x40 7) refl) refl
@@ -61,6 +64,7 @@ by_its_id = record {
 not-served : (p q : Place) → p ≡ q → (p.deed.entry.report.outcome ≡ Delivered → ⊥) → Serves 1 q → ⊥
 not-served p q same none s = none (ap (λ (r : Place). r.deed.entry.report.outcome) same ∙ s.outcome)
 
+-- the client was served at one place
 served-there : (p : Place) → IsPlaceOf (in_con ∷ past_con) p → Serves 1 p → here past_con in_con ≡ p
 served-there p (inl e) s = e
 served-there p (inr (inl e)) s = absurd (not-served (here (asked ∷ opened_con ∷ []) answered) p e (λ same. cc) s)

@@ -32,8 +32,8 @@ pub invariant_of-self-in-Ok-admit : goal.invariant_of-self-in-Ok-admit
 invariant_of-self-in-Ok-admit c =
     let is = c.is_full.ensures.sound in
     let room = room-there c.self.inside.table is (sym c.is_full.ensures.exact ∙ c.if-is_full.false) in
-    let passed = rw (c.owners_at-was.ensures.exact, c.owners_at.ensures.exact, c.in-Ok-admit.ensures.ok, c.in-Ok-admit.ensures.number, c.admitted.ensures.exact) at c.pass.ensures.exact in
-    rw c.in-Ok-admit.ensures.ok (
+    let passed = rw (c.owners_at-was.ensures.exact, c.owners_at.ensures.exact, c.in-Ok-admit.ensures.ok, c.opened-exchange.ensures.exact, c.in-Ok-admit.ensures.number, c.admitted.ensures.exact) at c.pass.ensures.exact in
+    rw (c.in-Ok-admit.ensures.ok, c.opened-exchange.ensures.exact) (
       exchanges-push c.self.inside.table.items c.self.inside.queued _ refl c.requires.now refl c.self.invariant.0,
       lined-push c.self.inside.table.items c.self.inside.lines c.open_one.new.lines _ _ refl refl c.self.invariant.1 c.in-Ok.ensures.all c.in-Ok.ensures.sent c.in-Ok.ensures.queued,
       all-have-passed (c.self.inside.table.admitted + 1) c.self.inside.table.limit c.self.inside.table.items _ c.self.inside.index c.pass.new.self (moves-admitted c.self.inside.table _ is) c.self.invariant.2 passed (admitted-is c.self.inside.table _ is room).rising,
