@@ -1,5 +1,5 @@
 -- A port in memory.
-use Rattle.std.specs.Prelude.{◌≡◌, ◌⊎◌, ◌==◌, ◌^◌, ℕ, min, max, take, Bool, true, false, List, [], ◌∷◌, ◌++◌, Option, Some, None}
+use Rattle.std.specs.Prelude.{◌≡◌, ◌≢◌, ◌⊎◌, ◌==◌, ◌^◌, ℕ, min, max, take, length, Bool, true, false, List, [], ◌∷◌, ◌++◌, Option, Some, None}
 use Rattle.coap_model.specs.Events.{Event, arrival, tick}
 use Rattle.coap_model.specs.Runs.{Turn}
 use Rattle.coap_endpoint.specs.declared.endpoint.Endpoint.{Endpoint}
@@ -48,8 +48,11 @@ GivesAfter false room p t q = GivesNext room p t q
 abbrev pub Gives : ℕ → Memory → ℕ → Turn → Memory → Type 0
 Gives room p wait = GivesAfter (wait == 0) room p
 
--- what is taken is kept; what isn't leaves what was kept
+-- What is taken is kept, and isn't what it refuses. What isn't taken leaves what was kept: it is what
+-- the port refuses, which it does once, or there was no memory for it.
 abbrev pub Takes : Memory → Endpoint → List ℕ → Bool → Memory → Type 0
-Takes p to bytes true q =
-    q ≡ record p { handed = p.handed ++ (record { to = to; bytes = bytes }) ∷ [] }
-Takes p to bytes false q = (q ≡ p) ⊎ (q ≡ record p { refused = None })
+Takes p to bytes true q = (p.refused ≢ Some (length p.handed))
+    × (q ≡ record p { handed = p.handed ++ (record { to = to; bytes = bytes }) ∷ [] })
+Takes p to bytes false q =
+    ((p.refused ≡ Some (length p.handed)) × (q ≡ record p { refused = None }))
+    ⊎ ((p.refused ≢ Some (length p.handed)) × (q ≡ p))

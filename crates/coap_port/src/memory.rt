@@ -1,6 +1,6 @@
 //! A port in memory.
-ghost use Rattle.std.specs.Prelude.{◌≡◌, ◌∷◌, ◌++◌, [], OnErr, OnOk};
-ghost use Rattle.coap_port.specs.Given.{given_by};
+ghost use Rattle.std.specs.Prelude.{◌≡◌, ◌<◌, ◌+◌, ◌^◌, ◌∷◌, ◌++◌, [], None, IfOk, OnErr, OnOk};
+ghost use Rattle.coap_port.specs.Given.{IsOnward, given_by};
 ghost use Rattle.coap_port.specs.Memory as spec;
 
 use crate::error::PortFault;
@@ -137,7 +137,22 @@ impl Port for MemoryPort {
         self.last
     }
 
-    fn next(&mut self, wait: u64, into: &mut Datagram) -> Result<Turn, PortFault> {
+    /// The next turn of the script, or a tick without a wait; see the trait.
+    ///
+    /// # Errors
+    /// No turn of the script is left. The failure is counted, and nothing else is changed.
+    fn next(&mut self, wait: u64, into: &mut Datagram) -> Result<Turn, PortFault>
+        requires { self.old.failures < 2 ^ 63 }
+        ensures gives { IfOk result (λ turn.
+            Gives into.old.room self.old wait (given_by turn into.new.bytes) self.new) }
+        ensures onward { IfOk result (IsOnward self.old.last self.new.last) }
+        ensures ticks { wait ≡ 0 → IfOk result (λ turn. turn.from ≡ None) }
+        ensures room { into.new.room ≡ into.old.room }
+        ensures works { OnOk result (self.new.failures ≡ self.old.failures) }
+        ensures fails { OnErr result
+            (self.new ≡ record self.old { failures = self.old.failures + 1 }) }
+        ensures ended { OnErr result (self.old.script ≡ []) }
+    {
         into.clear();
         if wait == 0 {
             return Ok(Turn {
