@@ -2,7 +2,7 @@
 use Rattle.std.proofs.Common.{◌≡◌, ℕ, leb, cond, Bool, true, false, List, length, Some, None, Result, Ok, Err, refl, ◌∙◌}
 use Rattle.std.specs.Result.{result_ok}
 use Rattle.std.proofs.lemmas.Option.{same_Some}
-use Rattle.coap_message.specs.declared.error.ReadError.{ReadError}
+use Rattle.coap_message.specs.declared.error.DecodeError.{DecodeError}
 use Rattle.coap_message.specs.Message.{Message}
 use Rattle.coap_message.specs.Reading.{read_message, head_at}
 use Rattle.coap_message.proofs.WholeMessages.{head_read}
@@ -15,10 +15,10 @@ head-of_read : (most : ℕ) (bytes : List ℕ) (m : Message) → message_in most
 unfolding message_in
 head-of_read most bytes m e = go (leb (length bytes) most) (read_message bytes) refl e
   where
-    again : (n : Message) → n ≡ m → ◌≡◌ {A = Result Message ReadError} (Ok n) (Ok m)
+    again : (n : Message) → n ≡ m → ◌≡◌ {A = Result Message DecodeError} (Ok n) (Ok m)
     again n same = cc
 
-    go : (short : Bool) (read : Result Message ReadError) → read_message bytes ≡ read → cond short (result_ok read) None ≡ Some m → head_at bytes ≡ Some (record { kind = m.kind; code = m.code; id = m.id })
+    go : (short : Bool) (read : Result Message DecodeError) → read_message bytes ≡ read → cond short (result_ok read) None ≡ Some m → head_at bytes ≡ Some (record { kind = m.kind; code = m.code; id = m.id })
     go true (Ok n) is f = head_read bytes m (is ∙ again n (same_Some _ _ f))
     go true (Err refused) is f = absurd cc
     go false read is f = absurd cc

@@ -4,9 +4,8 @@ use Rattle.std.specs.Prelude.{◌==◌, ◌||◌, filter, map}
 use Rattle.std.specs.List.{list_any}
 use Rattle.coap_message.specs.declared.options.Opt.{Opt}
 use Rattle.coap_message.specs.Message.{Message}
-use Rattle.coap_target.specs.Request.{first_value, value_of}
+use Rattle.coap_target.specs.Request.{first_value, says_uri, value_of}
 use Rattle.coap_target.specs.Routes.{values_of}
-use Rattle.coap_core.specs.Forms.{says_uri}
 
 -- neither number is there
 none-there : (os : List Opt) → list_any (λ (o : Opt). (o.number == 35) || (o.number == 39)) os ≡ false → (values_of 35 os ≡ []) × (values_of 39 os ≡ [])

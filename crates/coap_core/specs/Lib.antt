@@ -1,3 +1,4 @@
+pub mod Arrivals
 pub mod Events
 pub mod Forms
 pub mod Steps

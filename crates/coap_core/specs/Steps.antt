@@ -1,7 +1,8 @@
 -- What the calls of a core answer and leave.
-use Rattle.std.specs.Prelude.{◌≡◌, ℕ, ◌+◌, ◌<◌, ◌≤◌, ◌^◌, Bool, true, false, List, [], ◌∷◌, Option, Some, None, IfSome, option_map, if◌then◌else◌}
+use Rattle.std.specs.Prelude.{◌≡◌, ℕ, ◌+◌, ◌<◌, ◌≤◌, ◌^◌, Bool, true, false, List, [], ◌∷◌, Option, Some, None, IfSome, IfOk, OnErr, Result, option_map, if◌then◌else◌}
 use Rattle.coap_message.specs.Datagram.{Datagram, holding}
 use Rattle.coap_message.specs.Message.{Message}
+use Rattle.coap_message.specs.declared.error.OutOfMemory.{OutOfMemory}
 use Rattle.coap_message.specs.declared.kind.Kind.{Kind}
 use Rattle.coap_exchange.specs.declared.exchange.Exchange.{Exchange}
 use Rattle.coap_exchange.specs.Exchanges.{is_done, is_sent, answered, due_among, fire_of_sending}
@@ -23,9 +24,9 @@ use Rattle.coap_option.specs.Selection.{tags_of}
 use Rattle.coap_store.specs.declared.key.CacheKey.{CacheKey}
 use Rattle.coap_store.specs.declared.stored.Stored.{Stored}
 use Rattle.coap_store.specs.Entries.{stored_for}
-use Rattle.coap_core.specs.declared.request_target.Asked.{Asked}
+use Rattle.coap_core.specs.declared.request_target.CacheQuery.{CacheQuery}
 use Rattle.coap_model.specs.Events.{Event}
-use Rattle.coap_model.specs.History.{Entry, is_con_datagram}
+use Rattle.coap_model.specs.History.{Entry, grown_of, is_con_datagram}
 use Rattle.coap_model.specs.Memory.{takes_memory}
 use Rattle.coap_model.specs.Carries.{Carries}
 use Rattle.coap_model.specs.Promised.{Promised}
@@ -42,6 +43,23 @@ use Rattle.coap_model.specs.Ticks.{idles, sends, on_fire, on_awaited, on_unheard
 -- the report, the datagram and the tables after it are those of the step
 abbrev pub Does : Step → Report → Datagram → Datagram → World → Type 0
 Does s report old new world = (report ≡ s.report) × (new ≡ holding old s.bytes) × (world ≡ s.world)
+
+-- A step is done, or there was no memory for it and nothing happened. A datagram keeps its room.
+pub record IsDone (s : Step) (result : Result Report OutOfMemory)
+    (out_old out_new : Datagram) (before after : World)
+    : Type 0 where
+  pub exact : IfOk result (λ report. Does s report out_old out_new after)
+  pub err : OnErr result (after ≡ before)
+  pub kept : out_new.room ≡ out_old.room
+
+-- the same of a step that depends on whether what is kept has grown, which the report tells
+pub record IsDoneBy (s : Bool → Step) (result : Result Report OutOfMemory)
+    (out_old out_new : Datagram) (before after : World)
+    : Type 0 where
+  pub exact :
+      IfOk result (λ report. Does (s (grown_of report.outcome)) report out_old out_new after)
+  pub err : OnErr result (after ≡ before)
+  pub kept : out_new.room ≡ out_old.room
 
 -- whether a step may want memory
 abbrev pub wants_memory : Step → Bool
@@ -125,7 +143,7 @@ verdict_seen (RefusedWith code) key = verdicts.refused_with code
 verdict_seen MayAsk key = verdicts.may_ask key
 
 -- a request may be asked for: this is what it asks for
-pub record IsAsked (w : World) (m : Message) (asked : Asked) : Type 0 where
+pub record IsAsked (w : World) (m : Message) (asked : CacheQuery) : Type 0 where
   pub key : verdicts.verdict_of w.setting.routes m ≡ verdicts.may_ask asked.key
   pub tags : asked.tags ≡ tags_of m
 

@@ -4,19 +4,19 @@ ghost use Rattle.std.specs.Prelude.{◌≡◌, IfOk};
 use coap_message::{Message, OutOfMemory};
 use coap_store::Stored;
 
-/// The same message once more.
-pub(crate) fn message_again(message: &Message) -> Result<Message, OutOfMemory>
+/// A copy of a message.
+pub(crate) fn copy_of_message(message: &Message) -> Result<Message, OutOfMemory>
     ensures { IfOk result (λ copy. copy ≡ message.now) }
 {
     Ok(message.clone()?)
 }
 
-/// The same stored response once more.
-pub(crate) fn stored_again(stored: &Stored) -> Result<Stored, OutOfMemory>
+/// A copy of a stored response.
+pub(crate) fn copy_of_stored(stored: &Stored) -> Result<Stored, OutOfMemory>
     ensures { IfOk result (λ copy. copy ≡ stored.now) }
 {
     Ok(Stored {
-        response: message_again(&stored.response)?,
+        response: copy_of_message(&stored.response)?,
         asked: stored.asked,
         got_no: stored.got_no,
         got: stored.got,

@@ -5,8 +5,10 @@ ghost use Rattle.coap_exchange.specs.Table.{item_at};
 ghost use Rattle.coap_forward.specs.Messages.{is_bare, is_rst};
 ghost use Rattle.coap_model.specs.Empties.{acknowledges, closes, on_client, on_exchange, on_empty};
 ghost use Rattle.coap_model.specs.History.{grown_of};
+ghost use Rattle.coap_core.specs.Arrivals.{of_arrival, of_grown};
 ghost use Rattle.coap_core.specs.Steps.{Does, CanGoOn, IsSentAt, resets};
 
+use crate::arrival::Arrival;
 use crate::world::{World, silent};
 use coap_endpoint::Endpoint;
 use coap_forward::bad_gateway;
@@ -15,50 +17,38 @@ use coap_model::{Outcome, Report, Storing};
 use coap_store::Store;
 
 impl<S: Store + Drop> World<S> {
-    pub(crate) fn on_empty(
-        &mut self,
-        now: u64,
-        source: Endpoint,
-        message: &MessageRef<'_>,
-        out: &mut Datagram,
-    ) -> Report
+    pub(crate) fn on_empty(&mut self, arrival: Arrival<'_, '_>, out: &mut Datagram) -> Report
         requires can { CanGoOn self.old }
-        requires bare { is_bare message.now ≡ true }
-        ensures { Does (on_empty self.old now (grown_of result.outcome) source message.now) result
+        requires bare { is_bare arrival.message.now ≡ true }
+        ensures { Does (of_grown (on_empty self.old) arrival.entry (grown_of result.outcome)) result
             out.old out.new self.new }
     {
-        match self.exchanges.sent_as(source, message.id, now) {
-            Some(number) => self.on_sent(now, source, number, message, out),
-            None => self.on_client(now, source, message, out),
+        let id = arrival.message.id();
+        match self.exchanges.sent_as(arrival.from, id, arrival.now) {
+            Some(number) => self.on_sent(arrival, number, out),
+            None => self.on_client(arrival, out),
         }
     }
 
     /// The request of the exchange of this number is acknowledged, or reset. Where it was
     /// acknowledged or answered before, what came is of no request.
-    fn on_sent(
-        &mut self,
-        now: u64,
-        source: Endpoint,
-        number: u64,
-        message: &MessageRef<'_>,
-        out: &mut Datagram,
-    ) -> Report
+    fn on_sent(&mut self, arrival: Arrival<'_, '_>, number: u64, out: &mut Datagram) -> Report
         requires can { CanGoOn self.old }
-        requires bare { is_bare message.now ≡ true }
+        requires bare { is_bare arrival.message.now ≡ true }
         ensures { Does
-            (on_exchange self.old now (grown_of result.outcome) source message.now number
+            (of_grown (on_exchange self.old) arrival.entry (grown_of result.outcome) number
             (item_at number self.old.exchanges))
             result out.old out.new self.new }
     {
         let Some(exchange) = self.exchanges.get(number) else {
-            return self.on_client(now, source, message, out);
+            return self.on_client(arrival, out);
         };
         if !exchange.is_sent() {
-            return self.on_client(now, source, message, out);
+            return self.on_client(arrival, out);
         }
-        match message.kind {
-            Kind::Ack => self.acknowledge(now, number, out),
-            Kind::Con | Kind::Non | Kind::Rst => self.reset(now, number, out),
+        match arrival.message.kind() {
+            Kind::Ack => self.acknowledge(arrival.now, number, out),
+            Kind::Con | Kind::Non | Kind::Rst => self.reset(arrival.now, number, out),
         }
     }
 
@@ -91,19 +81,15 @@ impl<S: Store + Drop> World<S> {
     }
 
     /// An acknowledgement or a Reset of an answer that a client was sent.
-    fn on_client(
-        &mut self,
-        now: u64,
-        source: Endpoint,
-        message: &MessageRef<'_>,
-        out: &mut Datagram,
-    ) -> Report
+    fn on_client(&mut self, arrival: Arrival<'_, '_>, out: &mut Datagram) -> Report
         requires can { CanGoOn self.old }
-        ensures { Does (on_client self.old now source message.now) result out.old out.new self.new }
+        ensures { Does (of_arrival (on_client self.old) arrival.entry) result out.old out.new
+            self.new }
     {
-        match self.waiters.sent_as(source, message.id, now) {
-            Some(number) => self.close_client(now, number, out),
-            None => self.ignore(now, out),
+        let id = arrival.message.id();
+        match self.waiters.sent_as(arrival.from, id, arrival.now) {
+            Some(number) => self.close_client(arrival.now, number, out),
+            None => self.ignore(arrival.now, out),
         }
     }
 

@@ -7,9 +7,11 @@ ghost use Rattle.coap_message.specs.declared.message.Head.{Head};
 ghost use Rattle.coap_forward.specs.Messages.{acknowledgement, reply_kind, reply_id};
 ghost use Rattle.coap_model.specs.World.{next_id, records_of, has_record_room, can_reply, drops, known_of, with_record};
 ghost use Rattle.coap_model.specs.Requests.{replied};
+ghost use Rattle.coap_core.specs.Arrivals.{of_arrival};
 ghost use Rattle.coap_core.specs.Steps.{CanGoOn, CanRemember, Does, IsSaid, repetition_of};
 ghost use Rattle.coap_core.specs.Storing.{taken_up_bytes, taken_up_to};
 
+use crate::arrival::Arrival;
 use crate::world::{World, silent};
 use coap_dedup::{Records, Seen};
 use coap_endpoint::Endpoint;
@@ -52,9 +54,9 @@ pub(crate) fn put_taken_up(
     ensures send { result ≡ taken_up_to to message.now }
     ensures said { out.new ≡ holding out.old (taken_up_bytes message.now) }
 {
-    match message.kind {
+    match message.kind() {
         Kind::Con => {
-            put_acknowledgement(message.id, out);
+            put_acknowledgement(message.id(), out);
             Some(to)
         }
         Kind::Non | Kind::Ack | Kind::Rst => {
@@ -85,29 +87,24 @@ impl<S: Store + Drop> World<S> {
     }
 
     /// What a duplicate is told, if this is one: `out` holds it then, and else what it held.
-    pub(crate) fn repeat(
-        &self,
-        now: u64,
-        source: Endpoint,
-        message: &MessageRef<'_>,
-        out: &mut Datagram,
-    ) -> Option<Report>
-        requires fits { IfSome (repetition_of self.now now source message.now) (λ step.
+    pub(crate) fn repeat(&self, arrival: Arrival<'_, '_>, out: &mut Datagram) -> Option<Report>
+        requires fits { IfSome (of_arrival (repetition_of self.now) arrival) (λ step.
             length step.bytes ≤ out.old.room) }
-        ensures found { is_some result ≡ is_some (known_of self.now now source message.now) }
+        ensures found { is_some result ≡ is_some (of_arrival (known_of self.now) arrival.entry) }
         ensures said { IfSome result (λ report.
-            IfSome (repetition_of self.now now source message.now) (λ step.
+            IfSome (of_arrival (repetition_of self.now) arrival.entry) (λ step.
             IsSaid step report out.old out.new)) }
         ensures kept { out.new.room ≡ out.old.room }
     {
-        let Seen::Again(reply) = self.records(message.kind).seen(source, message.id, now) else {
+        let (kind, id) = (arrival.message.kind(), arrival.message.id());
+        let Seen::Again(reply) = self.records(kind).seen(arrival.from, id, arrival.now) else {
             return None;
         };
         out.clear();
         let send = match reply {
             Some(bytes) => {
                 out.put(bytes);
-                Some(source)
+                Some(arrival.from)
             }
             None => None,
         };
@@ -141,8 +138,8 @@ impl<S: Store + Drop> World<S> {
     pub(crate) fn reply_id(&self, request: &MessageRef<'_>) -> u16
         ensures { result ≡ reply_id request.now (next_id self.now) }
     {
-        match request.kind {
-            Kind::Con => request.id,
+        match request.kind() {
+            Kind::Con => request.id(),
             Kind::Non | Kind::Ack | Kind::Rst => self.next_id(),
         }
     }
@@ -157,7 +154,7 @@ impl<S: Store + Drop> World<S> {
             } }
     {
         Head {
-            kind: reply_kind(request.kind),
+            kind: reply_kind(request.kind()),
             code,
             id: self.reply_id(request),
         }
@@ -166,22 +163,22 @@ impl<S: Store + Drop> World<S> {
     /// Remembers a message that is new, and this as what goes out at once to it.
     pub(crate) fn remember(
         &mut self,
-        now: u64,
-        source: Endpoint,
-        message: &MessageRef<'_>,
+        arrival: Arrival<'_, '_>,
         sent: &[u8],
     ) -> Result<(), OutOfMemory>
-        requires { CanRemember now source message.now self.old }
-        ensures ok { OnOk result (self.new ≡ with_record now source message.now sent.now self.old) }
+        requires { CanRemember arrival.now arrival.from arrival.message.now self.old }
+        ensures ok { OnOk result
+            (self.new ≡ of_arrival with_record arrival.entry sent.now self.old) }
         ensures err { OnErr result (self.new ≡ self.old) }
     {
-        let kept = match message.kind {
+        let kept = match arrival.message.kind() {
             Kind::Con => {
                 let reply = Seq::from_slice(self.alloc, sent)?;
-                self.con_records.keep(source, message.id, now, Some(reply))
+                self.con_records.keep(arrival.from, arrival.message.id(), arrival.now, Some(reply))
             }
             Kind::Non | Kind::Ack | Kind::Rst => {
-                self.non_records.keep(source, message.id, now, None)
+                self.non_records
+                    .keep(arrival.from, arrival.message.id(), arrival.now, None)
             }
         };
         match kept {
@@ -193,30 +190,29 @@ impl<S: Store + Drop> World<S> {
     /// What `out` holds goes out at once in reply to a request that is new, which is remembered.
     pub(crate) fn reply(
         &mut self,
-        now: u64,
-        client: Endpoint,
-        request: &MessageRef<'_>,
+        arrival: Arrival<'_, '_>,
         outcome: Outcome,
         out: &Datagram,
     ) -> Result<Report, OutOfMemory>
         requires can { CanGoOn self.old }
-        requires new { CanRemember now client request.now self.old }
-        requires onward { self.old.last ≤ now }
-        requires ids { can_reply self.old now request.now.kind ≡ true }
+        requires new { CanRemember arrival.now arrival.from arrival.message.now self.old }
+        requires onward { self.old.last ≤ arrival.now }
+        requires ids { can_reply self.old arrival.now arrival.message.now.kind ≡ true }
         ensures report { IfOk result (λ report.
-            report ≡ record { send = Some client; outcome = outcome }) }
+            report ≡ record { send = Some arrival.entry.from; outcome = outcome }) }
         ensures done { OnOk result
             (self.new
-            ≡ with_record now client request.now out.now.bytes (replied self.old now request.now)) }
+            ≡ of_arrival with_record arrival.entry out.now.bytes
+            (replied self.old arrival.entry.now arrival.entry.message.now)) }
         ensures err { OnErr result (self.new ≡ self.old) }
     {
-        self.remember(now, client, request, out.bytes())?;
-        if request.kind != Kind::Con {
-            self.take_id(now);
+        self.remember(arrival, out.bytes())?;
+        if arrival.message.kind() != Kind::Con {
+            self.take_id(arrival.now);
         }
-        self.pass(now);
+        self.pass(arrival.now);
         Ok(Report {
-            send: Some(client),
+            send: Some(arrival.from),
             outcome,
         })
     }

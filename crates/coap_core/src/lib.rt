@@ -1,6 +1,7 @@
 //! The step of a proxy in code: exactly the step of the model, for one event at a time.
 #![tactic(auto)]
 
+mod arrival;
 mod copies;
 mod empties;
 mod event;

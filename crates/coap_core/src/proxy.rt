@@ -65,7 +65,7 @@ impl<S: Store + Drop> Core<S> {
     /// differ from those of its former lives (RFC 7252, 5.3.1).
     ///
     /// # Errors
-    /// Want of memory.
+    /// Out of memory.
     pub fn new(
         alloc: Global,
         seed: S::Seed,
@@ -94,7 +94,7 @@ impl<S: Store + Drop> Core<S> {
     /// has room for `datagram()` bytes; fewer than 2^63 steps were done.
     ///
     /// # Errors
-    /// Want of memory, which changes nothing. It is answered only where a request that is new was
+    /// Out of memory, which changes nothing. It is answered only where a request that is new was
     /// to be remembered, an answer that came to be kept, or one to be given to a client in a
     /// Confirmable message, which is kept until it is acknowledged. A tick that found no memory can
     /// come again: what was due is due still.

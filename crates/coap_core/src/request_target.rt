@@ -1,15 +1,16 @@
 //! What a request asks for: its target, before anything of it is kept, and its key.
-ghost use Rattle.std.specs.Prelude.{◌≡◌, IfOk, OnOk};
+ghost use Rattle.std.specs.Prelude.{◌≡◌, IfOk, OnOk, is_some};
 ghost use Rattle.coap_option.specs.Selection.{tags_of};
 ghost use Rattle.coap_model.specs.Keys.{request_key};
 ghost use Rattle.coap_core.specs.Forms.{seen};
 
 use coap_endpoint::{Endpoint, Ip, Target};
-use coap_message::{MessageRef, OptionList, OutOfMemory, Pieces};
+use coap_message::{MessageRef, OptionList, OutOfMemory, Pieces, Seq};
 use coap_option::{key_options_into, tags_into};
 use coap_store::CacheKey;
 use coap_target::MappedTarget;
 use std::alloc::Global;
+use std::mem;
 
 /// The target of a request.
 #[derive(Drop)]
@@ -20,22 +21,53 @@ pub(crate) enum RequestTarget<'m, 'a> {
     Named(Target),
 }
 
-/// What a request asks for: a response for this key, to a client that holds those with these tags.
-/// It is read of one request after the other, each time in the room that the last one took.
-pub(crate) struct Asked {
-    pub(crate) key: CacheKey,
-    pub(crate) tags: Pieces,
-}
+impl RequestTarget<'_, '_> {
+    /// Whether it has a host, and not only an address.
+    fn has_host(&self) -> bool
+        ensures { result ≡ is_some (seen self.now).host }
+    {
+        match self {
+            RequestTarget::Mapped(target) => target.has_host(),
+            RequestTarget::Named(target) => target.host.is_some(),
+        }
+    }
 
-impl Drop for Asked {
-    fn drop(self) {
-        let Asked { key: _, tags: _ } = self;
+    /// Puts a copy in place of another target, whose room is used again.
+    fn copy_to(&self, target: &mut Target) -> Result<(), OutOfMemory>
+        ensures { OnOk result (target.new ≡ seen self.now) }
+    {
+        match self {
+            RequestTarget::Mapped(mapped) => mapped.copy_to(target),
+            RequestTarget::Named(named) => named.copy_to(target),
+        }
     }
 }
 
-impl Asked {
-    /// Room for what is asked for, which takes no memory yet.
-    pub(crate) fn new(alloc: Global) -> Asked {
+/// What a request asks for: a response for this key, to a client that holds those with these tags.
+/// It is read of one request after the other, each time in room that is made once.
+pub(crate) struct CacheQuery {
+    pub(crate) key: CacheKey,
+    pub(crate) tags: Pieces,
+    /// Room for a host, where the key's target has none.
+    host_room: Option<Seq<u8>>,
+}
+
+impl Drop for CacheQuery {
+    fn drop(self) {
+        let CacheQuery {
+            key: _,
+            tags: _,
+            host_room: _,
+        } = self;
+    }
+}
+
+/// The greatest length of a host, in bytes (RFC 7252, 5.10.1).
+const LONGEST_HOST: usize = 255;
+
+impl CacheQuery {
+    /// No room yet, which takes no memory.
+    pub(crate) fn new(alloc: Global) -> CacheQuery {
         let nowhere = Endpoint {
             ip: Ip::V4([0; 4]),
             port: 0,
@@ -47,44 +79,60 @@ impl Asked {
             query: Pieces::new(alloc),
         };
         let options = OptionList::new(alloc);
-        Asked {
+        CacheQuery {
             key: CacheKey { target, options },
             tags: Pieces::new(alloc),
+            host_room: None,
         }
     }
 
-    /// The same once more, in no more room than it needs.
-    pub(crate) fn copied(&self) -> Result<Asked, OutOfMemory>
-        ensures { IfOk result (λ copy. copy ≡ self.now) }
-    {
-        Ok(Asked {
-            key: self.key.copied()?,
-            tags: self.tags.clone()?,
-        })
+    /// Room for what any request of at most `datagram` bytes asks for, where the path of an origin
+    /// takes `path` bytes at most. None of its lists takes more than the options that it is read of
+    /// do, so that nothing is allocated later.
+    ///
+    /// # Errors
+    /// Out of memory.
+    pub(crate) fn with_room(
+        alloc: Global,
+        datagram: usize,
+        path: usize,
+    ) -> Result<CacheQuery, OutOfMemory> {
+        let mut query = CacheQuery::new(alloc);
+        query.host_room = Some(Seq::with_capacity(alloc, LONGEST_HOST)?);
+        query.key.target.path = Pieces::with_room(alloc, datagram.saturating_add(path))?;
+        query.key.target.query = Pieces::with_room(alloc, datagram)?;
+        query.key.options = OptionList::with_room(alloc, datagram)?;
+        query.tags = Pieces::with_room(alloc, datagram)?;
+        Ok(query)
     }
 
-    /// The key and the tags.
-    pub(crate) fn into_parts(self) -> (CacheKey, Pieces)
-        ensures { result ≡ (self.key, self.tags) }
+    /// The key and the tags, copied, in no more room than they need.
+    ///
+    /// # Errors
+    /// Out of memory.
+    pub(crate) fn copied(&self) -> Result<(CacheKey, Pieces), OutOfMemory>
+        ensures key { IfOk result (λ copy. copy.0 ≡ self.now.key) }
+        ensures tags { IfOk result (λ copy. copy.1 ≡ self.now.tags) }
     {
-        let Asked { key, tags } = self;
-        (key, tags)
+        Ok((self.key.copied()?, self.tags.clone()?))
     }
 
     /// Reads what a request for a target asks for.
+    ///
+    /// # Errors
+    /// Out of memory. Then it holds parts of what this request and the last one ask for.
     pub(crate) fn read(
         &mut self,
-        alloc: Global,
-        target: RequestTarget<'_, '_>,
+        target: &RequestTarget<'_, '_>,
         request: &MessageRef<'_>,
     ) -> Result<(), OutOfMemory>
-        ensures key { OnOk result (self.new.key ≡ request_key (seen target.entry) request.now) }
+        ensures key { OnOk result (self.new.key ≡ request_key (seen target.now) request.now) }
         ensures tags { OnOk result (self.new.tags ≡ tags_of request.now) }
     {
-        match target {
-            RequestTarget::Mapped(target) => target.copy_to(alloc, &mut self.key.target)?,
-            RequestTarget::Named(target) => self.key.target = target,
+        if target.has_host() != self.key.target.host.is_some() {
+            mem::swap(&mut self.key.target.host, &mut self.host_room);
         }
+        target.copy_to(&mut self.key.target)?;
         key_options_into(&mut self.key.options, request)?;
         tags_into(&mut self.tags, request)
     }

@@ -14,23 +14,25 @@ ghost use Rattle.coap_store.specs.Entries.{has_usable};
 ghost use Rattle.coap_message.specs.Datagram.{holding};
 ghost use Rattle.coap_model.specs.Requests.{lacks_id, refuses, overloads, opens, next_token, copy_of, tag_carried, joins, on_key, on_miss, on_wanted, on_new, on_request};
 ghost use Rattle.coap_model.specs.World.{can_reply, later, remembers, takes_up};
-ghost use Rattle.coap_core.specs.Forms.{says_uri, seen};
-ghost use Rattle.coap_core.specs.Steps.{Does, CanGoOn, CanRemember, IsAsked, held_for, joinable_step, verdict_seen, wants_memory};
+ghost use Rattle.coap_core.specs.Arrivals.{of_arrival};
+ghost use Rattle.coap_core.specs.Forms.{seen};
+ghost use Rattle.coap_core.specs.Steps.{Does, IsDone, CanGoOn, CanRemember, IsAsked, held_for, joinable_step, verdict_seen, wants_memory};
 ghost use Rattle.coap_core.specs.Storing.{taken_up_bytes};
 ghost use Rattle.coap_core.specs.declared.requests.Verdict.TheVariants as verdicts;
 
-use crate::copies::stored_again;
+use crate::arrival::Arrival;
+use crate::copies::copy_of_stored;
 use crate::known::{put_taken_up, reply_kind};
-use crate::request_target::{Asked, RequestTarget};
+use crate::request_target::{CacheQuery, RequestTarget};
 use crate::world::{World, silent};
 use coap_endpoint::{Endpoint, Target};
 use coap_forward::{put_bare, put_forwarded, put_stored, put_with_max_age, tag_to_send, token_of};
-use coap_message::{Code, Datagram, MessageRef, OutOfMemory, Pieces, Seq};
+use coap_message::{Code, Datagram, MessageRef, OutOfMemory, Pieces, Seq, Token};
 use coap_model::{Outcome, Report};
-use coap_option::{numbers, screen_request};
+use coap_option::screen_request_ref;
 use coap_store::{CacheKey, Store, Stored};
-use coap_target::TargetError;
 use coap_target::laws::{requests_to_the_proxy_are_mapped, targets_fit_options};
+use coap_target::{TargetError, says_uri};
 
 /// What becomes of a request, leaving length, room and what is stored aside.
 #[derive(Drop)]
@@ -55,75 +57,56 @@ fn is_method(code: Code) -> bool
     code == Code::GET || code == Code::POST || code == Code::PUT || code == Code::DELETE
 }
 
-/// Whether a request says its target by a URI (RFC 7252, 5.10.2).
-fn says_uri(request: &MessageRef<'_>) -> bool
-    ensures { result ≡ says_uri request.now }
-{
-    for option in request.options.iter() {
-        if option.number == numbers::PROXY_URI || option.number == numbers::PROXY_SCHEME {
-            return true;
-        }
-    }
-    false
-}
-
 impl<S: Store + Drop> World<S> {
     /// A duplicate is told again what its request was told; what is new is remembered, with what is
     /// told to it.
     pub(crate) fn on_request(
         &mut self,
-        now: u64,
-        client: Endpoint,
-        request: &MessageRef<'_>,
+        arrival: Arrival<'_, '_>,
         out: &mut Datagram,
     ) -> Result<Report, OutOfMemory>
         requires can { CanGoOn self.old }
-        requires onward { self.old.last ≤ now }
-        requires moment { now ≤ 2 ^ 62 }
+        requires onward { self.old.last ≤ arrival.now }
+        requires moment { arrival.now ≤ 2 ^ 62 }
         requires room { self.old.setting.limits.datagram ≤ out.old.room }
-        requires fits { length (on_request self.old now client request.now).bytes ≤ out.old.room }
-        ensures exact { IfOk result (λ report.
-            Does (on_request self.old now client request.now) report out.old out.new self.new) }
-        ensures err { OnErr result (self.new ≡ self.old) }
-        ensures kept { out.new.room ≡ out.old.room }
+        requires fits { length (of_arrival (on_request self.old) arrival).bytes ≤ out.old.room }
+        ensures done { IsDone
+            (of_arrival (on_request self.old) arrival.entry)
+            result out.old out.new self.old self.new }
         ensures memory { OnErr result
-            (wants_memory (on_request self.old now client request.now) ≡ true) }
+            (wants_memory (of_arrival (on_request self.old) arrival.entry) ≡ true) }
     {
-        if let Some(report) = self.repeat(now, client, request, out) {
-            self.pass(now);
+        if let Some(report) = self.repeat(arrival, out) {
+            self.pass(arrival.now);
             return Ok(report);
         }
-        if !self.has_record_room(now, request.kind) {
-            return Ok(self.drop_message(now, out));
+        if !self.has_record_room(arrival.now, arrival.message.kind()) {
+            return Ok(self.drop_message(arrival.now, out));
         }
-        self.on_new(now, client, request, out)
+        self.on_new(arrival, out)
     }
 
     /// What becomes of a request that is new.
     fn on_new(
         &mut self,
-        now: u64,
-        client: Endpoint,
-        request: &MessageRef<'_>,
+        arrival: Arrival<'_, '_>,
         out: &mut Datagram,
     ) -> Result<Report, OutOfMemory>
         requires can { CanGoOn self.old }
-        requires onward { self.old.last ≤ now }
-        requires moment { now ≤ 2 ^ 62 }
-        requires new { CanRemember now client request.now self.old }
+        requires onward { self.old.last ≤ arrival.now }
+        requires moment { arrival.now ≤ 2 ^ 62 }
+        requires new { CanRemember arrival.now arrival.from arrival.message.now self.old }
         requires room { self.old.setting.limits.datagram ≤ out.old.room }
-        requires fits { length (on_new self.old now client request.now).bytes ≤ out.old.room }
-        ensures exact { IfOk result (λ report.
-            Does (remembers now client request.now (on_new self.old now client request.now))
-            report out.old out.new self.new) }
-        ensures err { OnErr result (self.new ≡ self.old) }
-        ensures kept { out.new.room ≡ out.old.room }
+        requires fits { length (of_arrival (on_new self.old) arrival).bytes ≤ out.old.room }
+        ensures { IsDone
+            (of_arrival remembers arrival.entry (of_arrival (on_new self.old) arrival.entry))
+            result out.old out.new self.old self.new }
     {
-        if !self.can_reply(now, request.kind) {
-            return self.lack_id(now, client, request, out);
+        if !self.can_reply(arrival.now, arrival.message.kind()) {
+            return self.lack_id(arrival, out);
         }
         let mut asked = self.take_room();
-        let done = self.judge(now, client, request, &mut asked, out);
+        let done = self.judge(arrival, &mut asked, out);
         self.give_room(asked);
         done
     }
@@ -132,28 +115,24 @@ impl<S: Store + Drop> World<S> {
     /// for. What it asks for is read into `asked`.
     fn judge(
         &mut self,
-        now: u64,
-        client: Endpoint,
-        request: &MessageRef<'_>,
-        asked: &mut Asked,
+        arrival: Arrival<'_, '_>,
+        asked: &mut CacheQuery,
         out: &mut Datagram,
     ) -> Result<Report, OutOfMemory>
         requires can { CanGoOn self.old }
-        requires onward { self.old.last ≤ now }
-        requires moment { now ≤ 2 ^ 62 }
-        requires new { CanRemember now client request.now self.old }
-        requires ids { can_reply self.old now request.now.kind ≡ true }
+        requires onward { self.old.last ≤ arrival.now }
+        requires moment { arrival.now ≤ 2 ^ 62 }
+        requires new { CanRemember arrival.now arrival.from arrival.message.now self.old }
+        requires ids { can_reply self.old arrival.now arrival.message.now.kind ≡ true }
         requires room { self.old.setting.limits.datagram ≤ out.old.room }
-        requires fits { length (on_new self.old now client request.now).bytes ≤ out.old.room }
-        ensures exact { IfOk result (λ report.
-            Does (remembers now client request.now (on_new self.old now client request.now))
-            report out.old out.new self.new) }
-        ensures err { OnErr result (self.new ≡ self.old) }
-        ensures kept { out.new.room ≡ out.old.room }
+        requires fits { length (of_arrival (on_new self.old) arrival).bytes ≤ out.old.room }
+        ensures { IsDone
+            (of_arrival remembers arrival.entry (of_arrival (on_new self.old) arrival.entry))
+            result out.old out.new self.old self.new }
     {
-        match self.verdict_of(request, asked)? {
-            Verdict::RefusedWith(code) => self.refuse(now, client, request, code, out),
-            Verdict::MayAsk => self.on_key(now, client, request, asked, out),
+        match self.verdict_of(arrival.message, asked)? {
+            Verdict::RefusedWith(code) => self.refuse(arrival, code, out),
+            Verdict::MayAsk => self.on_key(arrival, asked, out),
         }
     }
 
@@ -163,7 +142,7 @@ impl<S: Store + Drop> World<S> {
     fn verdict_of(
         &self,
         request: &MessageRef<'_>,
-        asked: &mut Asked,
+        asked: &mut CacheQuery,
     ) -> Result<Verdict, OutOfMemory>
         requires { CanGoOn self.now }
         ensures exact { IfOk result (λ verdict.
@@ -171,15 +150,15 @@ impl<S: Store + Drop> World<S> {
         ensures tags { IfOk result (λ verdict.
             verdict ≡ verdicts.MayAsk → asked.new.tags ≡ tags_of request.now) }
     {
-        if !is_method(request.code) {
+        if !is_method(request.code()) {
             return Ok(Verdict::RefusedWith(Code::METHOD_NOT_ALLOWED));
         }
-        if screen_request(request).is_err() {
+        if screen_request_ref(request).is_err() {
             return Ok(Verdict::RefusedWith(Code::BAD_OPTION));
         }
         match self.target_of(request) {
             Ok(target) => {
-                asked.read(self.alloc, target, request)?;
+                asked.read(&target, request)?;
                 Ok(Verdict::MayAsk)
             }
             Err(TargetError::BadUri) => Ok(Verdict::RefusedWith(Code::BAD_REQUEST)),
@@ -193,66 +172,55 @@ impl<S: Store + Drop> World<S> {
     /// exchange is wanted.
     fn on_key(
         &mut self,
-        now: u64,
-        client: Endpoint,
-        request: &MessageRef<'_>,
-        asked: &Asked,
+        arrival: Arrival<'_, '_>,
+        asked: &CacheQuery,
         out: &mut Datagram,
     ) -> Result<Report, OutOfMemory>
         requires can { CanGoOn self.old }
-        requires onward { self.old.last ≤ now }
-        requires moment { now ≤ 2 ^ 62 }
-        requires new { CanRemember now client request.now self.old }
-        requires ids { can_reply self.old now request.now.kind ≡ true }
-        requires asked { IsAsked self.old request.now asked.now }
+        requires onward { self.old.last ≤ arrival.now }
+        requires moment { arrival.now ≤ 2 ^ 62 }
+        requires new { CanRemember arrival.now arrival.from arrival.message.now self.old }
+        requires ids { can_reply self.old arrival.now arrival.message.now.kind ≡ true }
+        requires asked { IsAsked self.old arrival.message.now asked.now }
         requires room { self.old.setting.limits.datagram ≤ out.old.room }
-        requires fits { length (on_key self.old now client request.now asked.now.key).bytes
+        requires fits { length (of_arrival (on_key self.old) arrival asked.now.key).bytes
             ≤ out.old.room }
-        ensures exact { IfOk result (λ report.
-            Does
-            (remembers now client request.now
-            (on_key self.old now client request.now asked.now.key))
-            report out.old out.new self.new) }
-        ensures err { OnErr result (self.new ≡ self.old) }
-        ensures kept { out.new.room ≡ out.old.room }
+        ensures { IsDone
+            (of_arrival remembers arrival.entry
+            (of_arrival (on_key self.old) arrival.entry asked.now.key))
+            result out.old out.new self.old self.new }
     {
-        if !is_get(request.code) {
-            return self.on_wanted(now, client, request, asked, out);
+        if !is_get(arrival.message.code()) {
+            return self.on_wanted(arrival, asked, out);
         }
-        if self.put_usable(now, client, request, asked, out) {
-            let report = self.reply(now, client, request, Outcome::Hit, out)?;
+        if self.put_usable(arrival, asked, out) {
+            let report = self.reply(arrival, Outcome::Hit, out)?;
             self.store.touch(&asked.key);
             return Ok(report);
         }
-        self.on_miss(now, client, request, asked, out)
+        self.on_miss(arrival, asked, out)
     }
 
     /// Whether a response is stored for the key that is usable. Then `out` holds what the client is
     /// shown of it.
-    fn put_usable(
-        &self,
-        now: u64,
-        client: Endpoint,
-        request: &MessageRef<'_>,
-        asked: &Asked,
-        out: &mut Datagram,
-    ) -> bool
-        requires get { is_get request.now.code ≡ true }
-        requires ids { can_reply self.now now request.now.kind ≡ true }
-        requires tags { asked.now.tags ≡ tags_of request.now }
-        requires fits { length (on_key self.now now client request.now asked.now.key).bytes
+    fn put_usable(&self, arrival: Arrival<'_, '_>, asked: &CacheQuery, out: &mut Datagram) -> bool
+        requires get { is_get arrival.message.now.code ≡ true }
+        requires ids { can_reply self.now arrival.now arrival.message.now.kind ≡ true }
+        requires tags { asked.now.tags ≡ tags_of arrival.message.now }
+        requires fits { length (of_arrival (on_key self.now) arrival asked.now.key).bytes
             ≤ out.old.room }
-        ensures usable { result ≡ has_usable asked.now.key now self.now.store }
+        ensures usable { result ≡ has_usable asked.now.key arrival.entry.now self.now.store }
         ensures shown { result ≡ true
             → out.new
-            ≡ holding out.old (on_key self.now now client request.now asked.now.key).bytes }
+            ≡ holding out.old (of_arrival (on_key self.now) arrival.entry asked.now.key).bytes }
         ensures kept { out.new.room ≡ out.old.room }
     {
         match self.store.peek(&asked.key) {
-            Some(stored) if stored.is_usable(now) => {
-                let id = self.reply_id(request);
-                let kind = reply_kind(request.kind);
-                put_stored(out, now, stored, kind, id, &request.token, &asked.tags);
+            Some(stored) if stored.is_usable(arrival.now) => {
+                let id = self.reply_id(arrival.message);
+                let kind = reply_kind(arrival.message.kind());
+                let token = Token::new(arrival.message.token());
+                put_stored(out, arrival.now, stored, kind, id, &token, &asked.tags);
                 true
             }
             _ => false,
@@ -263,129 +231,115 @@ impl<S: Store + Drop> World<S> {
     /// under way is joined, or else one is wanted.
     fn on_miss(
         &mut self,
-        now: u64,
-        client: Endpoint,
-        request: &MessageRef<'_>,
-        asked: &Asked,
+        arrival: Arrival<'_, '_>,
+        asked: &CacheQuery,
         out: &mut Datagram,
     ) -> Result<Report, OutOfMemory>
         requires can { CanGoOn self.old }
-        requires onward { self.old.last ≤ now }
-        requires moment { now ≤ 2 ^ 62 }
-        requires new { CanRemember now client request.now self.old }
-        requires ids { can_reply self.old now request.now.kind ≡ true }
-        requires asked { IsAsked self.old request.now asked.now }
+        requires onward { self.old.last ≤ arrival.now }
+        requires moment { arrival.now ≤ 2 ^ 62 }
+        requires new { CanRemember arrival.now arrival.from arrival.message.now self.old }
+        requires ids { can_reply self.old arrival.now arrival.message.now.kind ≡ true }
+        requires asked { IsAsked self.old arrival.message.now asked.now }
         requires room { self.old.setting.limits.datagram ≤ out.old.room }
         requires fits { length
-            (on_miss self.old now client request.now asked.now.key
-            (held_for self.old request.now asked.now.key)).bytes
+            (of_arrival (on_miss self.old) arrival asked.now.key
+            (held_for self.old arrival.message.now asked.now.key)).bytes
             ≤ out.old.room }
-        ensures exact { IfOk result (λ report.
-            Does
-            (remembers now client request.now
-            (on_miss self.old now client request.now asked.now.key
-            (held_for self.old request.now asked.now.key)))
-            report out.old out.new self.new) }
-        ensures err { OnErr result (self.new ≡ self.old) }
-        ensures kept { out.new.room ≡ out.old.room }
+        ensures { IsDone
+            (of_arrival remembers arrival.entry
+            (of_arrival (on_miss self.old) arrival.entry asked.now.key
+            (held_for self.old arrival.entry.message.now asked.now.key)))
+            result out.old out.new self.old self.new }
     {
         match self.exchanges.joinable(&asked.key) {
-            Some(exchange) => self.on_joinable(now, client, request, exchange, asked, out),
-            None => self.on_wanted(now, client, request, asked, out),
+            Some(exchange) => self.on_joinable(arrival, exchange, asked, out),
+            None => self.on_wanted(arrival, asked, out),
         }
     }
 
     /// The exchange of this number is joined, if there is room for the client.
     fn on_joinable(
         &mut self,
-        now: u64,
-        client: Endpoint,
-        request: &MessageRef<'_>,
+        arrival: Arrival<'_, '_>,
         exchange: u64,
-        asked: &Asked,
+        asked: &CacheQuery,
         out: &mut Datagram,
     ) -> Result<Report, OutOfMemory>
         requires can { CanGoOn self.old }
-        requires onward { self.old.last ≤ now }
-        requires new { CanRemember now client request.now self.old }
-        requires ids { can_reply self.old now request.now.kind ≡ true }
-        requires tags { asked.now.tags ≡ tags_of request.now }
-        requires fits { length (joinable_step self.old now client request.now exchange).bytes
+        requires onward { self.old.last ≤ arrival.now }
+        requires new { CanRemember arrival.now arrival.from arrival.message.now self.old }
+        requires ids { can_reply self.old arrival.now arrival.message.now.kind ≡ true }
+        requires tags { asked.now.tags ≡ tags_of arrival.message.now }
+        requires fits { length (of_arrival (joinable_step self.old) arrival exchange).bytes
             ≤ out.old.room }
-        ensures exact { IfOk result (λ report.
-            Does
-            (remembers now client request.now
-            (joinable_step self.old now client request.now exchange))
-            report out.old out.new self.new) }
-        ensures err { OnErr result (self.new ≡ self.old) }
-        ensures kept { out.new.room ≡ out.old.room }
+        ensures { IsDone
+            (of_arrival remembers arrival.entry
+            (of_arrival (joinable_step self.old) arrival.entry exchange))
+            result out.old out.new self.old self.new }
     {
-        if !self.has_room_to_join(now) {
-            return self.overload(now, client, request, out);
+        if !self.has_room_to_join(arrival.now) {
+            return self.overload(arrival, out);
         }
         let tags = asked.tags.clone()?;
-        self.join(now, client, request, exchange, tags, out)
+        self.join(arrival, exchange, tags, out)
     }
 
     /// An exchange is wanted for a key: the length of what is sent on decides, then the room. What a
     /// request asks for is copied where it is opened alone, in no more room than it needs.
     fn on_wanted(
         &mut self,
-        now: u64,
-        client: Endpoint,
-        request: &MessageRef<'_>,
-        asked: &Asked,
+        arrival: Arrival<'_, '_>,
+        asked: &CacheQuery,
         out: &mut Datagram,
     ) -> Result<Report, OutOfMemory>
         requires can { CanGoOn self.old }
-        requires onward { self.old.last ≤ now }
-        requires moment { now ≤ 2 ^ 62 }
-        requires new { CanRemember now client request.now self.old }
-        requires ids { can_reply self.old now request.now.kind ≡ true }
-        requires asked { IsAsked self.old request.now asked.now }
+        requires onward { self.old.last ≤ arrival.now }
+        requires moment { arrival.now ≤ 2 ^ 62 }
+        requires new { CanRemember arrival.now arrival.from arrival.message.now self.old }
+        requires ids { can_reply self.old arrival.now arrival.message.now.kind ≡ true }
+        requires asked { IsAsked self.old arrival.message.now asked.now }
         requires room { self.old.setting.limits.datagram ≤ out.old.room }
         requires fits { length
-            (on_wanted self.old now client request.now asked.now.key
-            (held_for self.old request.now asked.now.key)).bytes
+            (of_arrival (on_wanted self.old) arrival asked.now.key
+            (held_for self.old arrival.message.now asked.now.key)).bytes
             ≤ out.old.room }
-        ensures exact { IfOk result (λ report.
-            Does
-            (remembers now client request.now
-            (on_wanted self.old now client request.now asked.now.key
-            (held_for self.old request.now asked.now.key)))
-            report out.old out.new self.new) }
-        ensures err { OnErr result (self.new ≡ self.old) }
-        ensures kept { out.new.room ≡ out.old.room }
+        ensures { IsDone
+            (of_arrival remembers arrival.entry
+            (of_arrival (on_wanted self.old) arrival.entry asked.now.key
+            (held_for self.old arrival.entry.message.now asked.now.key)))
+            result out.old out.new self.old self.new }
     {
-        if !self.put_request(request, &asked.key.target, None, out) {
+        if !self.put_request(arrival.message, &asked.key.target, None, out) {
             let code = Code::REQUEST_ENTITY_TOO_LARGE;
-            return self.refuse(now, client, request, code, out);
+            return self.refuse(arrival, code, out);
         }
-        if !self.has_room_to_open(now) {
-            return self.overload(now, client, request, out);
+        if !self.has_room_to_open(arrival.now) {
+            return self.overload(arrival, out);
         }
-        let copy = self.put_validating(request, asked, out)?;
-        let asked = asked.copied()?;
-        self.open(now, client, request, asked, copy, out)
+        let copy = self.put_validating(arrival.message, asked, out)?;
+        let (key, tags) = asked.copied()?;
+        self.open(arrival, key, tags, copy, out)
     }
 
     /// What is stored for the key of a request, which is a GET.
     fn held_for(&self, request: &MessageRef<'_>, key: &CacheKey) -> Option<&Stored>
         ensures { option_map (λ stored. stored.now) result ≡ held_for self.now request.now key.now }
     {
-        if is_get(request.code) {
+        if is_get(request.code()) {
             self.store.peek(key)
         } else {
             None
         }
     }
 
-    /// Writes what is sent on, with the tag of what is stored for the key, if it fits with that. Then
-    /// the answer is a copy of what is stored (RFC 7252, 5.6.2).
+    /// Has what is sent on, which `out` holds, carry the tag of what is stored for the key, if
+    /// something with a tag is, and if it fits with that. Then the answer is a copy of what is
+    /// stored (RFC 7252, 5.6.2).
     fn put_validating(
         &self,
         request: &MessageRef<'_>,
-        asked: &Asked,
+        asked: &CacheQuery,
         out: &mut Datagram,
     ) -> Result<Option<Stored>, OutOfMemory>
         requires can { CanGoOn self.now }
@@ -396,6 +350,8 @@ impl<S: Store + Drop> World<S> {
         requires fits { form_fits self.now.setting.limits.datagram asked.now.key.target None
             request.now
             ≡ true }
+        requires written { out.old.bytes
+            ≡ spelling (forwarded (next_token self.now) asked.now.key.target None request.now 0) }
         ensures copy { IfOk result (λ copy.
             copy
             ≡ copy_of self.now.setting.limits.datagram asked.now.key.target request.now
@@ -411,7 +367,6 @@ impl<S: Store + Drop> World<S> {
     {
         let target = &asked.key.target;
         let Some(stored) = self.held_for(request, &asked.key) else {
-            self.put_request(request, target, None, out);
             return Ok(None);
         };
         let most = self.limits.values().datagram as usize;
@@ -420,7 +375,7 @@ impl<S: Store + Drop> World<S> {
         if tag.is_none() {
             return Ok(None);
         }
-        Ok(Some(stored_again(stored)?))
+        Ok(Some(copy_of_stored(stored)?))
     }
 
     /// The target of a request that passed the screening. What is mapped is lent, so that it takes
@@ -441,7 +396,7 @@ impl<S: Store + Drop> World<S> {
         targets_fit_options();
         requests_to_the_proxy_are_mapped();
         if says_uri(request) {
-            let target = self.routes.target_of(self.alloc, request)?;
+            let target = self.routes.target_of_ref(self.alloc, request)?;
             return Ok(RequestTarget::Named(target));
         }
         match self.routes.mapped(request) {
@@ -482,71 +437,61 @@ impl<S: Store + Drop> World<S> {
     /// The client is refused with a code.
     fn refuse(
         &mut self,
-        now: u64,
-        client: Endpoint,
-        request: &MessageRef<'_>,
+        arrival: Arrival<'_, '_>,
         code: Code,
         out: &mut Datagram,
     ) -> Result<Report, OutOfMemory>
         requires can { CanGoOn self.old }
-        requires onward { self.old.last ≤ now }
-        requires new { CanRemember now client request.now self.old }
-        requires ids { can_reply self.old now request.now.kind ≡ true }
-        requires fits { length (refuses self.old now client request.now code).bytes ≤ out.old.room }
-        ensures exact { IfOk result (λ report.
-            Does (remembers now client request.now (refuses self.old now client request.now code))
-            report out.old out.new self.new) }
-        ensures err { OnErr result (self.new ≡ self.old) }
-        ensures kept { out.new.room ≡ out.old.room }
+        requires onward { self.old.last ≤ arrival.now }
+        requires new { CanRemember arrival.now arrival.from arrival.message.now self.old }
+        requires ids { can_reply self.old arrival.now arrival.message.now.kind ≡ true }
+        requires fits { length (of_arrival (refuses self.old) arrival code).bytes ≤ out.old.room }
+        ensures { IsDone
+            (of_arrival remembers arrival.entry (of_arrival (refuses self.old) arrival.entry code))
+            result out.old out.new self.old self.new }
     {
-        let head = self.reply_head(request, code);
-        put_bare(out, head, &request.token);
-        self.reply(now, client, request, Outcome::Refused(code), out)
+        let head = self.reply_head(arrival.message, code);
+        let token = Token::new(arrival.message.token());
+        put_bare(out, head, &token);
+        self.reply(arrival, Outcome::Refused(code), out)
     }
 
     /// There is no room for the client: it may try again later.
     fn overload(
         &mut self,
-        now: u64,
-        client: Endpoint,
-        request: &MessageRef<'_>,
+        arrival: Arrival<'_, '_>,
         out: &mut Datagram,
     ) -> Result<Report, OutOfMemory>
         requires can { CanGoOn self.old }
-        requires onward { self.old.last ≤ now }
-        requires new { CanRemember now client request.now self.old }
-        requires ids { can_reply self.old now request.now.kind ≡ true }
-        requires fits { length (overloads self.old now client request.now).bytes ≤ out.old.room }
-        ensures exact { IfOk result (λ report.
-            Does (remembers now client request.now (overloads self.old now client request.now))
-            report out.old out.new self.new) }
-        ensures err { OnErr result (self.new ≡ self.old) }
-        ensures kept { out.new.room ≡ out.old.room }
+        requires onward { self.old.last ≤ arrival.now }
+        requires new { CanRemember arrival.now arrival.from arrival.message.now self.old }
+        requires ids { can_reply self.old arrival.now arrival.message.now.kind ≡ true }
+        requires fits { length (of_arrival (overloads self.old) arrival).bytes ≤ out.old.room }
+        ensures { IsDone
+            (of_arrival remembers arrival.entry (of_arrival (overloads self.old) arrival.entry))
+            result out.old out.new self.old self.new }
     {
-        let head = self.reply_head(request, Code::SERVICE_UNAVAILABLE);
-        put_with_max_age(out, head, &request.token, self.limits.values().retry_s, &[]);
-        self.reply(now, client, request, Outcome::Overloaded, out)
+        let head = self.reply_head(arrival.message, Code::SERVICE_UNAVAILABLE);
+        let token = Token::new(arrival.message.token());
+        put_with_max_age(out, head, &token, self.limits.values().retry_s, &[]);
+        self.reply(arrival, Outcome::Overloaded, out)
     }
 
     /// No id is free for a reply: silence.
     fn lack_id(
         &mut self,
-        now: u64,
-        client: Endpoint,
-        request: &MessageRef<'_>,
+        arrival: Arrival<'_, '_>,
         out: &mut Datagram,
     ) -> Result<Report, OutOfMemory>
         requires can { CanGoOn self.old }
-        requires new { CanRemember now client request.now self.old }
-        ensures exact { IfOk result (λ report.
-            Does (remembers now client request.now (lacks_id self.old now)) report
-            out.old out.new self.new) }
-        ensures err { OnErr result (self.new ≡ self.old) }
-        ensures kept { out.new.room ≡ out.old.room }
+        requires new { CanRemember arrival.now arrival.from arrival.message.now self.old }
+        ensures { IsDone
+            (of_arrival remembers arrival.entry (lacks_id self.old arrival.entry.now))
+            result out.old out.new self.old self.new }
     {
         out.clear();
-        self.remember(now, client, request, &[])?;
-        self.pass(now);
+        self.remember(arrival, &[])?;
+        self.pass(arrival.now);
         Ok(silent(Outcome::NoId))
     }
 
@@ -554,26 +499,22 @@ impl<S: Store + Drop> World<S> {
     /// remembered (RFC 7252, 4.2 and 5.2.2).
     fn take_up_request(
         &mut self,
-        now: u64,
-        client: Endpoint,
-        request: &MessageRef<'_>,
+        arrival: Arrival<'_, '_>,
         outcome: Outcome,
         out: &mut Datagram,
     ) -> Result<Report, OutOfMemory>
         requires events { self.old.events < 2 ^ 63 }
-        requires new { CanRemember now client request.now self.old }
-        requires fits { length (taken_up_bytes request.now) ≤ out.old.room }
-        ensures exact { IfOk result (λ report.
-            Does
-            (remembers now client request.now
-            (takes_up outcome client request.now (later self.old now)))
-            report out.old out.new self.new) }
-        ensures err { OnErr result (self.new ≡ self.old) }
-        ensures kept { out.new.room ≡ out.old.room }
+        requires new { CanRemember arrival.now arrival.from arrival.message.now self.old }
+        requires fits { length (taken_up_bytes arrival.message.now) ≤ out.old.room }
+        ensures { IsDone
+            (of_arrival remembers arrival.entry
+            (takes_up outcome arrival.entry.from arrival.entry.message.now
+            (later self.old arrival.entry.now)))
+            result out.old out.new self.old self.new }
     {
-        let send = put_taken_up(client, request, out);
-        self.remember(now, client, request, out.bytes())?;
-        self.pass(now);
+        let send = put_taken_up(arrival.from, arrival.message, out);
+        self.remember(arrival, out.bytes())?;
+        self.pass(arrival.now);
         Ok(Report { send, outcome })
     }
 
@@ -581,55 +522,50 @@ impl<S: Store + Drop> World<S> {
     /// `copy` is what that asks to validate.
     fn open(
         &mut self,
-        now: u64,
-        client: Endpoint,
-        request: &MessageRef<'_>,
-        asked: Asked,
+        arrival: Arrival<'_, '_>,
+        key: CacheKey,
+        tags: Pieces,
         copy: Option<Stored>,
         out: &mut Datagram,
     ) -> Result<Report, OutOfMemory>
         requires can { CanGoOn self.old }
-        requires moment { now ≤ 2 ^ 62 }
-        requires new { CanRemember now client request.now self.old }
-        requires tags { asked.tags ≡ tags_of request.now }
+        requires moment { arrival.now ≤ 2 ^ 62 }
+        requires new { CanRemember arrival.now arrival.from arrival.message.now self.old }
+        requires tags { tags ≡ tags_of arrival.message.now }
         requires copy { copy
-            ≡ copy_of self.old.setting.limits.datagram asked.key.target request.now
-            (held_for self.old request.now asked.key) }
+            ≡ copy_of self.old.setting.limits.datagram key.target arrival.message.now
+            (held_for self.old arrival.message.now key) }
         requires form { out.old.bytes
             ≡ spelling
-            (forwarded (next_token self.old) asked.key.target
-            (tag_carried self.old.setting.limits.datagram asked.key.target request.now
-            (held_for self.old request.now asked.key))
-            request.now 0) }
+            (forwarded (next_token self.old) key.target
+            (tag_carried self.old.setting.limits.datagram key.target arrival.message.now
+            (held_for self.old arrival.message.now key))
+            arrival.message.now 0) }
         requires fits { length
-            (opens self.old now client request.now asked.key
-            (held_for self.old request.now asked.key)).bytes
+            (of_arrival (opens self.old) arrival key
+            (held_for self.old arrival.message.now key)).bytes
             ≤ out.old.room }
-        ensures exact { IfOk result (λ report.
-            Does
-            (remembers now client request.now
-            (opens self.old now client request.now asked.key
-            (held_for self.old request.now asked.key)))
-            report out.old out.new self.new) }
-        ensures err { OnErr result (self.new ≡ self.old) }
-        ensures kept { out.new.room ≡ out.old.room }
+        ensures { IsDone
+            (of_arrival remembers arrival.entry
+            (of_arrival (opens self.old) arrival.entry key
+            (held_for self.old arrival.entry.message.now key)))
+            result out.old out.new self.old self.new }
     {
-        let (key, tags) = asked.into_parts();
         let form = Seq::from_slice(self.alloc, out.bytes())?;
-        let to_get = is_get(request.code);
-        let Ok(number) = self.exchanges.admit(key, to_get, form, copy, now) else {
+        let to_get = is_get(arrival.message.code());
+        let Ok(number) = self.exchanges.admit(key, to_get, form, copy, arrival.now) else {
             return Err(OutOfMemory);
         };
-        let (kind, token) = (request.kind, request.token);
+        let (kind, token) = (arrival.message.kind(), Token::new(arrival.message.token()));
         if self
             .waiters
-            .admit(client, kind, token, tags, number)
+            .admit(arrival.from, kind, token, tags, number)
             .is_err()
         {
             self.exchanges.withdraw();
             return Err(OutOfMemory);
         }
-        let done = self.take_up_request(now, client, request, Outcome::Opened, out);
+        let done = self.take_up_request(arrival, Outcome::Opened, out);
         if done.is_err() {
             self.waiters.withdraw();
             self.exchanges.withdraw();
@@ -640,33 +576,30 @@ impl<S: Store + Drop> World<S> {
     /// The client waits for the exchange of this number.
     fn join(
         &mut self,
-        now: u64,
-        client: Endpoint,
-        request: &MessageRef<'_>,
+        arrival: Arrival<'_, '_>,
         exchange: u64,
         tags: Pieces,
         out: &mut Datagram,
     ) -> Result<Report, OutOfMemory>
         requires can { CanGoOn self.old }
-        requires new { CanRemember now client request.now self.old }
-        requires tags { tags ≡ tags_of request.now }
-        requires fits { length (joins self.old now client request.now exchange).bytes
+        requires new { CanRemember arrival.now arrival.from arrival.message.now self.old }
+        requires tags { tags ≡ tags_of arrival.message.now }
+        requires fits { length (of_arrival (joins self.old) arrival exchange).bytes
             ≤ out.old.room }
-        ensures exact { IfOk result (λ report.
-            Does (remembers now client request.now (joins self.old now client request.now exchange))
-            report out.old out.new self.new) }
-        ensures err { OnErr result (self.new ≡ self.old) }
-        ensures kept { out.new.room ≡ out.old.room }
+        ensures { IsDone
+            (of_arrival remembers arrival.entry
+            (of_arrival (joins self.old) arrival.entry exchange))
+            result out.old out.new self.old self.new }
     {
-        let (kind, token) = (request.kind, request.token);
+        let (kind, token) = (arrival.message.kind(), Token::new(arrival.message.token()));
         if self
             .waiters
-            .admit(client, kind, token, tags, exchange)
+            .admit(arrival.from, kind, token, tags, exchange)
             .is_err()
         {
             return Err(OutOfMemory);
         }
-        let done = self.take_up_request(now, client, request, Outcome::Joined, out);
+        let done = self.take_up_request(arrival, Outcome::Joined, out);
         if done.is_err() {
             self.waiters.withdraw();
         }

@@ -9,10 +9,12 @@ ghost use Rattle.coap_model.specs.Answers.{answer_for, asked_of, may_store, with
 ghost use Rattle.coap_model.specs.Responses.{is_in_flight, was_sent_with, has_id, awaiting, on_response};
 ghost use Rattle.coap_exchange.specs.Table.{item_at};
 ghost use Rattle.coap_model.specs.History.{grown_of};
+ghost use Rattle.coap_core.specs.Arrivals.{of_arrival, of_grown};
 ghost use Rattle.coap_core.specs.Storing.{IsKept, answering_at, awaited_step, confirmable_step, separate_step, if_storable, targets_in, taken_up, taken_up_bytes, taken_up_to};
-ghost use Rattle.coap_core.specs.Steps.{Does, CanGoOn, CanRemember, IsOpenAt, wants_memory};
+ghost use Rattle.coap_core.specs.Steps.{Does, IsDoneBy, CanGoOn, CanRemember, IsOpenAt, wants_memory};
 
-use crate::copies::message_again;
+use crate::arrival::Arrival;
+use crate::copies::copy_of_message;
 use crate::known::put_taken_up;
 use crate::world::World;
 use coap_endpoint::{Endpoint, Target};
@@ -45,8 +47,8 @@ fn was_sent_with(id: u16, sending: &Option<Sending>) -> bool
 fn has_id(response: &MessageRef<'_>, sending: &Option<Sending>) -> bool
     ensures { result ≡ has_id response.now sending.now }
 {
-    match response.kind {
-        Kind::Ack => was_sent_with(response.id, sending),
+    match response.kind() {
+        Kind::Ack => was_sent_with(response.id(), sending),
         Kind::Con | Kind::Non | Kind::Rst => true,
     }
 }
@@ -98,13 +100,13 @@ fn changed_by(
 ) -> Result<Option<Changed>, OutOfMemory>
     ensures { IfOk result (λ changed. targets_in changed ≡ changed_by target.now response.now) }
 {
-    if !is_change(response.code) {
+    if !is_change(response.code()) {
         return Ok(None);
     }
-    let target_again = target.copied()?;
+    let same_target = target.copied()?;
     let created = created_by(alloc, target, response)?;
     Ok(Some(Changed {
-        target: target_again,
+        target: same_target,
         created,
     }))
 }
@@ -112,119 +114,96 @@ fn changed_by(
 impl<S: Store + Drop> World<S> {
     pub(crate) fn on_response(
         &mut self,
-        now: u64,
-        source: Endpoint,
-        response: &MessageRef<'_>,
+        arrival: Arrival<'_, '_>,
         out: &mut Datagram,
     ) -> Result<Report, OutOfMemory>
         requires can { CanGoOn self.old }
-        requires onward { self.old.last ≤ now }
+        requires onward { self.old.last ≤ arrival.now }
         requires room { self.old.setting.limits.datagram ≤ out.old.room }
-        requires fits { length (on_response self.old now true source response.now).bytes
+        requires fits { length (of_grown (on_response self.old) arrival true).bytes
             ≤ out.old.room }
-        ensures exact { IfOk result (λ report.
-            Does (on_response self.old now (grown_of report.outcome) source response.now) report
-            out.old out.new self.new) }
-        ensures err { OnErr result (self.new ≡ self.old) }
-        ensures kept { out.new.room ≡ out.old.room }
+        ensures done { IsDoneBy (of_grown (on_response self.old) arrival.entry)
+            result out.old out.new self.old self.new }
         ensures memory { OnErr result
-            (wants_memory (on_response self.old now true source response.now) ≡ true) }
+            (wants_memory (of_grown (on_response self.old) arrival.entry true) ≡ true) }
     {
-        match response.kind {
-            Kind::Con => self.on_confirmable(now, source, response, out),
-            Kind::Non | Kind::Ack | Kind::Rst => self.on_awaited(now, source, response, out),
+        match arrival.message.kind() {
+            Kind::Con => self.on_confirmable(arrival, out),
+            Kind::Non | Kind::Ack | Kind::Rst => self.on_awaited(arrival, out),
         }
     }
 
     /// A response that isn't confirmable.
     fn on_awaited(
         &mut self,
-        now: u64,
-        source: Endpoint,
-        response: &MessageRef<'_>,
+        arrival: Arrival<'_, '_>,
         out: &mut Datagram,
     ) -> Result<Report, OutOfMemory>
         requires can { CanGoOn self.old }
-        requires other { is_con response.now.kind ≡ false }
+        requires other { is_con arrival.message.now.kind ≡ false }
         requires room { self.old.setting.limits.datagram ≤ out.old.room }
-        ensures exact { IfOk result (λ report.
-            Does
-            (awaited_step self.old now (grown_of report.outcome) source response.now)
-            report out.old out.new self.new) }
-        ensures err { OnErr result (self.new ≡ self.old) }
-        ensures kept { out.new.room ≡ out.old.room }
+        ensures done { IsDoneBy (of_grown (awaited_step self.old) arrival.entry)
+            result out.old out.new self.old self.new }
         ensures memory { OnErr result
-            (wants_memory (awaited_step self.old now true source response.now) ≡ true) }
+            (wants_memory (of_grown (awaited_step self.old) arrival.entry true) ≡ true) }
     {
-        match self.awaiting(source, response) {
-            Some(number) => self.answer(now, source, number, response, out),
-            None => Ok(self.ignore(now, out)),
+        match self.awaiting(arrival.from, arrival.message) {
+            Some(number) => self.answer(arrival, number, out),
+            None => Ok(self.ignore(arrival.now, out)),
         }
     }
 
     /// A response that is confirmable: a duplicate is told again what it was told.
     fn on_confirmable(
         &mut self,
-        now: u64,
-        source: Endpoint,
-        response: &MessageRef<'_>,
+        arrival: Arrival<'_, '_>,
         out: &mut Datagram,
     ) -> Result<Report, OutOfMemory>
         requires can { CanGoOn self.old }
-        requires onward { self.old.last ≤ now }
-        requires con { is_con response.now.kind ≡ true }
+        requires onward { self.old.last ≤ arrival.now }
+        requires con { is_con arrival.message.now.kind ≡ true }
         requires room { self.old.setting.limits.datagram ≤ out.old.room }
         requires fits { length
-            (confirmable_step self.old now true source response.now).bytes
+            (of_grown (confirmable_step self.old) arrival true).bytes
             ≤ out.old.room }
-        ensures exact { IfOk result (λ report.
-            Does
-            (confirmable_step self.old now (grown_of report.outcome) source response.now)
-            report out.old out.new self.new) }
-        ensures err { OnErr result (self.new ≡ self.old) }
-        ensures kept { out.new.room ≡ out.old.room }
+        ensures done { IsDoneBy (of_grown (confirmable_step self.old) arrival.entry)
+            result out.old out.new self.old self.new }
         ensures memory { OnErr result
-            (wants_memory (confirmable_step self.old now true source response.now) ≡ true) }
+            (wants_memory (of_grown (confirmable_step self.old) arrival.entry true) ≡ true) }
     {
-        if let Some(report) = self.repeat(now, source, response, out) {
-            self.pass(now);
+        if let Some(report) = self.repeat(arrival, out) {
+            self.pass(arrival.now);
             return Ok(report);
         }
-        self.on_separate(now, source, response, out)
+        self.on_separate(arrival, out)
     }
 
     /// A confirmable response that is new. It is remembered if an exchange awaits it, and so there
     /// has to be room for that.
     fn on_separate(
         &mut self,
-        now: u64,
-        source: Endpoint,
-        response: &MessageRef<'_>,
+        arrival: Arrival<'_, '_>,
         out: &mut Datagram,
     ) -> Result<Report, OutOfMemory>
         requires can { CanGoOn self.old }
-        requires con { is_con response.now.kind ≡ true }
-        requires new { CanRemember now source response.now self.old }
+        requires con { is_con arrival.message.now.kind ≡ true }
+        requires new { CanRemember arrival.now arrival.from arrival.message.now self.old }
         requires room { self.old.setting.limits.datagram ≤ out.old.room }
         requires fits { length
-            (separate_step self.old now true source response.now).bytes
+            (of_grown (separate_step self.old) arrival true).bytes
             ≤ out.old.room }
-        ensures exact { IfOk result (λ report.
-            Does
-            (separate_step self.old now (grown_of report.outcome) source response.now)
-            report out.old out.new self.new) }
-        ensures err { OnErr result (self.new ≡ self.old) }
-        ensures kept { out.new.room ≡ out.old.room }
+        ensures done { IsDoneBy (of_grown (separate_step self.old) arrival.entry)
+            result out.old out.new self.old self.new }
         ensures memory { OnErr result
-            (wants_memory (separate_step self.old now true source response.now) ≡ true) }
+            (wants_memory (of_grown (separate_step self.old) arrival.entry true) ≡ true) }
     {
-        let Some(number) = self.awaiting(source, response) else {
-            return Ok(self.reject(now, source, response.id, out));
+        let Some(number) = self.awaiting(arrival.from, arrival.message) else {
+            return Ok(self.reject(arrival.now, arrival.from, arrival.message.id(), out));
         };
-        if !self.has_record_room(now, response.kind) {
-            return Ok(self.drop_message(now, out));
+        if !self.has_record_room(arrival.now, arrival.message.kind()) {
+            return Ok(self.drop_message(arrival.now, out));
         }
-        self.answer(now, source, number, response, out)
+        self.answer(arrival, number, out)
     }
 
     /// The number of the exchange that awaits this response of this endpoint: by endpoint and token,
@@ -234,7 +213,7 @@ impl<S: Store + Drop> World<S> {
         ensures exact { result ≡ option_map (λ x. x.0) (awaiting self.now source response.now) }
         ensures open { IfSome result (λ number. IsOpenAt number self.now.exchanges) }
     {
-        let number = number_of(self.salt, response.token.as_slice())?;
+        let number = number_of(self.salt, response.token())?;
         let exchange = self.exchanges.get(number)?;
         if awaits(exchange, source, response) {
             Some(number)
@@ -247,34 +226,32 @@ impl<S: Store + Drop> World<S> {
     /// first, and then the answer is stored if it may be.
     fn answer(
         &mut self,
-        now: u64,
-        source: Endpoint,
+        arrival: Arrival<'_, '_>,
         number: u64,
-        response: &MessageRef<'_>,
         out: &mut Datagram,
     ) -> Result<Report, OutOfMemory>
         requires can { CanGoOn self.old }
         requires open { IsOpenAt number self.old.exchanges }
-        requires new { is_con response.now.kind ≡ true
-            → CanRemember now source response.now self.old }
+        requires new { is_con arrival.message.now.kind ≡ true
+            → CanRemember arrival.now arrival.from arrival.message.now self.old }
         requires room { self.old.setting.limits.datagram ≤ out.old.room }
         ensures exact { IfOk result (λ report.
-            IfSome (answering_at self.old now (grown_of report.outcome) source response.now number)
+            IfSome (of_grown (answering_at self.old) arrival.entry (grown_of report.outcome) number)
             (λ step. Does step report out.old out.new self.new)) }
         ensures err { OnErr result (self.new ≡ self.old) }
         ensures kept { out.new.room ≡ out.old.room }
     {
         self.is_wide();
-        let Some(answer) = self.answer_made(now, number, response, out)? else {
-            return Ok(self.ignore(now, out));
+        let Some(answer) = self.answer_made(arrival.now, number, arrival.message, out)? else {
+            return Ok(self.ignore(arrival.now, out));
         };
-        let entry = self.entry_made(now, number, &answer)?;
-        let changed = self.changed_by(number, response)?;
-        let send = self.take_up(now, source, response, out)?;
+        let entry = self.entry_made(arrival.now, number, &answer)?;
+        let changed = self.changed_by(number, arrival.message)?;
+        let send = self.take_up(arrival, out)?;
         self.change_all(&changed);
         let storing = self.keep(entry);
         self.exchanges.answered(number, answer);
-        self.pass(now);
+        self.pass(arrival.now);
         Ok(Report {
             send,
             outcome: Outcome::Answered { storing },
@@ -285,23 +262,23 @@ impl<S: Store + Drop> World<S> {
     /// acknowledged, and remembered (RFC 7252, 4.2 and 5.2.2).
     fn take_up(
         &mut self,
-        now: u64,
-        source: Endpoint,
-        response: &MessageRef<'_>,
+        arrival: Arrival<'_, '_>,
         out: &mut Datagram,
     ) -> Result<Option<Endpoint>, OutOfMemory>
-        requires new { is_con response.now.kind ≡ true
-            → CanRemember now source response.now self.old }
+        requires new { is_con arrival.message.now.kind ≡ true
+            → CanRemember arrival.now arrival.from arrival.message.now self.old }
         requires room { 128 ≤ out.old.room }
-        ensures send { IfOk result (λ send. send ≡ taken_up_to source response.now) }
-        ensures said { OnOk result (out.new ≡ holding out.old (taken_up_bytes response.now)) }
-        ensures done { OnOk result (self.new ≡ taken_up now source response.now self.old) }
+        ensures send { IfOk result (λ send.
+            send ≡ taken_up_to arrival.entry.from arrival.entry.message.now) }
+        ensures said { OnOk result
+            (out.new ≡ holding out.old (taken_up_bytes arrival.entry.message.now)) }
+        ensures done { OnOk result (self.new ≡ of_arrival taken_up arrival.entry self.old) }
         ensures err { OnErr result (self.new ≡ self.old) }
         ensures kept { out.new.room ≡ out.old.room }
     {
-        let send = put_taken_up(source, response, out);
-        if response.kind == Kind::Con {
-            self.remember(now, source, response, out.bytes())?;
+        let send = put_taken_up(arrival.from, arrival.message, out);
+        if arrival.message.kind() == Kind::Con {
+            self.remember(arrival, out.bytes())?;
         }
         Ok(send)
     }
@@ -372,7 +349,7 @@ impl<S: Store + Drop> World<S> {
         }
         let key = exchange.key.copied()?;
         let stored = Stored {
-            response: message_again(&answer.message)?,
+            response: copy_of_message(&answer.message)?,
             asked: asked_of(&exchange.sending),
             got_no: self.events,
             got: now,

@@ -7,9 +7,11 @@ ghost use Rattle.coap_model.specs.History.{grown_of};
 ghost use Rattle.coap_model.specs.World.{ignores, rejects, unprocessed};
 ghost use Rattle.coap_model.specs.Step.{message_in, on_message, on_datagram, step_of};
 ghost use Rattle.coap_model.specs.Ticks.{on_tick};
+ghost use Rattle.coap_core.specs.Arrivals.{of_grown};
 ghost use Rattle.coap_core.specs.Events.{IsUnread, seen};
-ghost use Rattle.coap_core.specs.Steps.{Does, CanGoOn, GivesConfirmable, wants_memory};
+ghost use Rattle.coap_core.specs.Steps.{Does, IsDoneBy, CanGoOn, GivesConfirmable, wants_memory};
 
+use crate::arrival::Arrival;
 use crate::event::Event;
 use crate::world::{World, silent};
 use coap_endpoint::Endpoint;
@@ -68,18 +70,20 @@ impl<S: Store + Drop> World<S> {
         requires room { self.old.setting.limits.datagram ≤ out.old.room }
         requires fits { length (on_datagram self.old now true source bytes.now).bytes
             ≤ out.old.room }
-        ensures exact { IfOk result (λ report.
-            Does (on_datagram self.old now (grown_of report.outcome) source bytes.now) report
-            out.old out.new self.new) }
-        ensures err { OnErr result (self.new ≡ self.old) }
-        ensures kept { out.new.room ≡ out.old.room }
+        ensures done { IsDoneBy (λ grown. on_datagram self.old now grown source bytes.now)
+            result out.old out.new self.old self.new }
         ensures memory { OnErr result
             (wants_memory (on_datagram self.old now true source bytes.now) ≡ true) }
         ensures unread { message_in self.old.setting.limits.datagram bytes.now ≡ None
             → IsOk result }
     {
         if let Some(message) = self.message_in(bytes) {
-            return self.on_message(now, source, &message, out);
+            let arrival = Arrival {
+                now,
+                from: source,
+                message: &message,
+            };
+            return self.on_message(arrival, out);
         }
         match head_of(bytes) {
             Some(head) => Ok(self.unprocessed(now, source, head.kind, head.id, out)),
@@ -101,36 +105,37 @@ impl<S: Store + Drop> World<S> {
     /// A request, a response, or an Empty message; what is none of these isn't processed.
     fn on_message(
         &mut self,
-        now: u64,
-        source: Endpoint,
-        message: &MessageRef<'_>,
+        arrival: Arrival<'_, '_>,
         out: &mut Datagram,
     ) -> Result<Report, OutOfMemory>
         requires can { CanGoOn self.old }
-        requires onward { self.old.last ≤ now }
-        requires moment { now ≤ 2 ^ 62 }
+        requires onward { self.old.last ≤ arrival.now }
+        requires moment { arrival.now ≤ 2 ^ 62 }
         requires room { self.old.setting.limits.datagram ≤ out.old.room }
-        requires fits { length (on_message self.old now true source message.now).bytes
+        requires fits { length (of_grown (on_message self.old) arrival true).bytes
             ≤ out.old.room }
-        ensures exact { IfOk result (λ report.
-            Does (on_message self.old now (grown_of report.outcome) source message.now) report
-            out.old out.new self.new) }
-        ensures err { OnErr result (self.new ≡ self.old) }
-        ensures kept { out.new.room ≡ out.old.room }
+        ensures done { IsDoneBy (of_grown (on_message self.old) arrival.entry)
+            result out.old out.new self.old self.new }
         ensures memory { OnErr result
-            (wants_memory (on_message self.old now true source message.now) ≡ true) }
+            (wants_memory (of_grown (on_message self.old) arrival.entry true) ≡ true) }
     {
-        match message.kind {
-            Kind::Con | Kind::Non if message.code.is_request() => {
-                self.on_request(now, source, message, out)
+        match arrival.message.kind() {
+            Kind::Con | Kind::Non if arrival.message.code().is_request() => {
+                self.on_request(arrival, out)
             }
-            Kind::Con | Kind::Non | Kind::Ack if message.code.is_response() => {
-                self.on_response(now, source, message, out)
+            Kind::Con | Kind::Non | Kind::Ack if arrival.message.code().is_response() => {
+                self.on_response(arrival, out)
             }
-            Kind::Ack | Kind::Rst if message.code == Code::EMPTY => {
-                Ok(self.on_empty(now, source, message, out))
+            Kind::Ack | Kind::Rst if arrival.message.code() == Code::EMPTY => {
+                Ok(self.on_empty(arrival, out))
             }
-            kind => Ok(self.unprocessed(now, source, kind, message.id, out)),
+            kind => Ok(self.unprocessed(
+                arrival.now,
+                arrival.from,
+                kind,
+                arrival.message.id(),
+                out,
+            )),
         }
     }
 

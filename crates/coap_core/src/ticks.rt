@@ -8,7 +8,7 @@ ghost use Rattle.coap_forward.specs.Messages.{is_con};
 ghost use Rattle.coap_model.specs.Ticks.{abandons, item_due, next_due, gives_up, idles, on_exchange, on_waiter, on_tick, without_idle};
 ghost use Rattle.coap_exchange.specs.Waiters as waiters;
 ghost use Rattle.coap_exchange.specs.Waiters.{is_waiting};
-ghost use Rattle.coap_core.specs.Steps.{Does, CanGoOn, GivesConfirmable, IsClientDueAt, IsDueAt, answer_at, delivery_at, firing_at, form_at, sending_at, told_in, unheard_at};
+ghost use Rattle.coap_core.specs.Steps.{Does, IsDone, CanGoOn, GivesConfirmable, IsClientDueAt, IsDueAt, answer_at, delivery_at, firing_at, form_at, sending_at, told_in, unheard_at};
 
 use crate::world::{World, silent};
 use coap_exchange::{Exchange, ExchangeState, Fire, Sending, Timer, WaiterState};
@@ -36,10 +36,8 @@ impl<S: Store + Drop> World<S> {
         requires moment { now ≤ 2 ^ 62 }
         requires draw { draw ≤ 1000 }
         requires fits { length (on_tick self.old now draw).bytes ≤ out.old.room }
-        ensures exact { IfOk result (λ report.
-            Does (on_tick self.old now draw) report out.old out.new self.new) }
-        ensures err { OnErr result (self.new ≡ self.old) }
-        ensures kept { out.new.room ≡ out.old.room }
+        ensures done { IsDone (on_tick self.old now draw)
+            result out.old out.new self.old self.new }
         ensures memory { OnErr result (GivesConfirmable (on_tick self.old now draw)) }
     {
         match self.first_due() {
@@ -230,11 +228,8 @@ impl<S: Store + Drop> World<S> {
         requires fits { length
             (on_waiter self.old now draw number (item_at number self.old.waiters)).bytes
             ≤ out.old.room }
-        ensures exact { IfOk result (λ report.
-            Does (on_waiter self.old now draw number (item_at number self.old.waiters))
-            report out.old out.new self.new) }
-        ensures err { OnErr result (self.new ≡ self.old) }
-        ensures kept { out.new.room ≡ out.old.room }
+        ensures done { IsDone (on_waiter self.old now draw number (item_at number self.old.waiters))
+            result out.old out.new self.old self.new }
         ensures memory { OnErr result (GivesConfirmable
             (on_waiter self.old now draw number (item_at number self.old.waiters))) }
     {
@@ -269,11 +264,8 @@ impl<S: Store + Drop> World<S> {
             v.state ≡ Waiting exchange) }
         requires fits { length (delivery_at self.old now draw number exchange).bytes
             ≤ out.old.room }
-        ensures exact { IfOk result (λ report.
-            Does (delivery_at self.old now draw number exchange) report
-            out.old out.new self.new) }
-        ensures err { OnErr result (self.new ≡ self.old) }
-        ensures kept { out.new.room ≡ out.old.room }
+        ensures done { IsDone (delivery_at self.old now draw number exchange)
+            result out.old out.new self.old self.new }
         ensures memory { OnErr result
             (GivesConfirmable (delivery_at self.old now draw number exchange)) }
     {

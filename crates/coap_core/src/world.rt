@@ -9,7 +9,7 @@ ghost use Rattle.coap_model.specs.Setting.{setting_of};
 ghost use Rattle.coap_model.specs.World.{next_id, later, reserved, has_ids, has_waiter_room, has_room_to_join, has_room_to_open, new_world, counts};
 ghost use Rattle.coap_core.specs.Steps.{CanGoOn};
 
-use crate::request_target::Asked;
+use crate::request_target::CacheQuery;
 use coap_dedup::{EXCHANGE_LIFETIME, NON_LIFETIME, Records};
 use coap_exchange::{Exchanges, Ids, Waiters};
 use coap_message::OutOfMemory;
@@ -29,8 +29,8 @@ pub(crate) struct World<S: Store> {
     pub(crate) exchanges: Exchanges,
     pub(crate) waiters: Waiters,
     pub(crate) store: S,
-    /// Room for what the next request asks for.
-    pub(crate) room: Asked,
+    /// Room for what the next request asks for, which never grows.
+    pub(crate) room: CacheQuery,
     pub(crate) con_records: Records,
     pub(crate) non_records: Records,
     pub(crate) ids: Ids,
@@ -108,6 +108,7 @@ impl<S: Store + Drop> World<S> {
         let store = S::with_limits(alloc, seed, bytes, entries as usize)?;
         let (con_records, non_records) = new_records(alloc, &limits)?;
         let (exchanges, waiters) = new_tables(alloc, &limits)?;
+        let room = new_room(alloc, &limits, &routes)?;
         Ok(World {
             alloc,
             limits,
@@ -116,7 +117,7 @@ impl<S: Store + Drop> World<S> {
             exchanges,
             waiters,
             store,
-            room: Asked::new(alloc),
+            room,
             con_records,
             non_records,
             ids: Ids::new(first_id),
@@ -127,14 +128,14 @@ impl<S: Store + Drop> World<S> {
     }
 
     /// The room for what a request asks for, until it is given back.
-    pub(crate) fn take_room(&mut self) -> Asked
+    pub(crate) fn take_room(&mut self) -> CacheQuery
         ensures { self.new ≡ self.old }
     {
-        mem::replace(&mut self.room, Asked::new(self.alloc))
+        mem::replace(&mut self.room, CacheQuery::new(self.alloc))
     }
 
     /// Gives it back.
-    pub(crate) fn give_room(&mut self, room: Asked)
+    pub(crate) fn give_room(&mut self, room: CacheQuery)
         ensures { self.new ≡ self.old }
     {
         self.room = room;
@@ -227,6 +228,15 @@ impl<S: Store + Drop> World<S> {
             waiters: self.waiters.len() as u64,
         }
     }
+}
+
+/// Room for what any request asks for.
+fn new_room(alloc: Global, limits: &Limits, routes: &Routes) -> Result<CacheQuery, OutOfMemory> {
+    let mut path = 0;
+    for map in routes.maps() {
+        path = path.max(map.origin.path.size());
+    }
+    CacheQuery::with_room(alloc, limits.values().datagram as usize, path)
 }
 
 /// Empty tables of exchanges and of waiters, with room for as many as the limits say.

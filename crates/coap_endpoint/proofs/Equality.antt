@@ -1,11 +1,15 @@
 -- What compares as equal, part by part, is equal.
-use Rattle.std.proofs.Common.{◌≡◌, ◌==◌, ◌&&◌, ℕ, Bool, true, nat_eq, List, [], ◌∷◌, Option, Some, None, refl, ap, subst, ◌↔◌, eq-eqb}
+use Rattle.std.proofs.Common.{◌≡◌, ◌==◌, ◌&&◌, ℕ, Bool, true, nat_eq, List, [], ◌∷◌, Option, Some, None, rules, refl, subst, ◌∙◌, ◌↔◌, eq-eqb}
 use Rattle.std.specs.Cmp.Lexicographic.{pointwise}
 use Rattle.std.proofs.lemmas.Bool.{and_parts, and_from, eqb-true}
+use Rattle.coap_endpoint.specs.contracts.endpoint.EndpointPartialEq.TheImpl as endpoints
+use Rattle.coap_endpoint.specs.contracts.endpoint.IpPartialEq.TheImpl as ips
+use Rattle.coap_endpoint.specs.contracts.target.TargetPartialEq.TheImpl as targets
 use Rattle.coap_endpoint.specs.declared.endpoint.Endpoint.{Endpoint}
 use Rattle.coap_endpoint.specs.declared.endpoint.Ip.{Ip}
 use Rattle.coap_endpoint.specs.declared.endpoint.Ip.TheVariants.{V4, V6}
 use Rattle.coap_endpoint.specs.declared.target.Target.{Target}
+use Rattle.coap_endpoint.specs.Alike.{endpoint_same, ip_same, target_same}
 use Rattle.coap_endpoint.specs.Endpoint.{same_ip, same_endpoint}
 use Rattle.coap_endpoint.specs.Equality.{same_bytes, same_parts, same_name, same_target}
 
@@ -50,42 +54,28 @@ Tells-bytes = Tells-pointwise nat_eq Tells-nat
 pub Tells-parts : Tells same_parts
 Tells-parts = Tells-pointwise same_bytes Tells-bytes
 
--- addresses that compare as equal are equal
-ip-only : (a b : Ip) → same_ip a b ≡ true → a ≡ b
-ip-only (V4 a) (V4 b) e = ap V4 (Tells-bytes.only a b e)
-ip-only (V6 a) (V6 b) e = ap V6 (Tells-bytes.only a b e)
-ip-only (V4 a) (V6 b) e = absurd cc
-ip-only (V6 a) (V4 b) e = absurd cc
+-- what is derived to compare addresses compares them part by part
+ips-alike : (a b : Ip) → ips.ghosts.eq a b ≡ same_ip a b
+ips-alike a b = search rules
 
--- and each is the same as itself
+-- an address is the same as itself
 ip-itself : (a : Ip) → same_ip a a ≡ true
 ip-itself (V4 a) = Tells-bytes.itself a
 ip-itself (V6 a) = Tells-bytes.itself a
 
 -- addresses
 pub Tells-ip : Tells same_ip
-Tells-ip = record { only = ip-only; itself = ip-itself }
+Tells-ip = record { only = λ a b e. ip_same a b (ips-alike a b ∙ e); itself = ip-itself }
 
--- endpoints that compare as equal are equal
-endpoint-only : (a b : Endpoint) → same_endpoint a b ≡ true → a ≡ b
-endpoint-only a b e =
-    let parts = and_parts (same_ip a.ip b.ip) (a.port == b.port) e in
-    let ip : a.ip ≡ b.ip = ip-only a.ip b.ip parts.0 in
-    let port : a.port ≡ b.port = eqb-true a.port b.port parts.1 in
-    λ i. record { ip = ip i; port = port i }
+-- what is derived to compare endpoints does so too
+endpoints-alike : (a b : Endpoint) → endpoints.ghosts.eq a b ≡ same_endpoint a b
+endpoints-alike a b = search rules
 
 -- endpoints
 pub Tells-endpoint : Tells same_endpoint
-Tells-endpoint = record { only = endpoint-only; itself = λ a. and_from (same_ip a.ip a.ip) (a.port == a.port) (ip-itself a.ip) (eq-eqb a.port a.port refl) }
+Tells-endpoint = record { only = λ a b e. endpoint_same a b (endpoints-alike a b ∙ e); itself = λ a. and_from (same_ip a.ip a.ip) (a.port == a.port) (ip-itself a.ip) (eq-eqb a.port a.port refl) }
 
--- names, or none, that compare as equal are equal
-name-only : (a b : Option (List ℕ)) → same_name a b ≡ true → a ≡ b
-name-only None None e = refl
-name-only (Some a) (Some b) e = ap Some (Tells-bytes.only a b e)
-name-only None (Some b) e = absurd cc
-name-only (Some a) None e = absurd cc
-
--- and each is the same as itself
+-- a name, or none, is the same as itself
 name-itself : (a : Option (List ℕ)) → same_name a a ≡ true
 name-itself None = refl
 name-itself (Some a) = Tells-bytes.itself a
@@ -102,16 +92,10 @@ four p q r s e =
 pub of_four : (p q r s : Bool) → p ≡ true → q ≡ true → r ≡ true → s ≡ true → (p && (q && (r && s))) ≡ true
 of_four p q r s a b c d = and_from p (q && (r && s)) a (and_from q (r && s) b (and_from r s c d))
 
--- targets that compare as equal are equal
-target-only : (a b : Target) → same_target a b ≡ true → a ≡ b
-target-only a b e =
-    let parts = four (same_name a.host b.host) (same_endpoint a.at b.at) (same_parts a.path b.path) (same_parts a.query b.query) e in
-    let host : a.host ≡ b.host = name-only a.host b.host parts.0 in
-    let at : a.at ≡ b.at = endpoint-only a.at b.at parts.1 in
-    let path : a.path ≡ b.path = Tells-parts.only a.path b.path parts.2 in
-    let query : a.query ≡ b.query = Tells-parts.only a.query b.query parts.3 in
-    λ i. record { host = host i; at = at i; path = path i; query = query i }
+-- and what is derived to compare targets
+targets-alike : (a b : Target) → targets.ghosts.eq a b ≡ same_target a b
+targets-alike a b = search rules
 
 -- targets
 pub Tells-target : Tells same_target
-Tells-target = record { only = target-only; itself = λ a. of_four (same_name a.host a.host) (same_endpoint a.at a.at) (same_parts a.path a.path) (same_parts a.query a.query) (name-itself a.host) (Tells-endpoint.itself a.at) (Tells-parts.itself a.path) (Tells-parts.itself a.query) }
+Tells-target = record { only = λ a b e. target_same a b (targets-alike a b ∙ e); itself = λ a. of_four (same_name a.host a.host) (same_endpoint a.at a.at) (same_parts a.path a.path) (same_parts a.query a.query) (name-itself a.host) (Tells-endpoint.itself a.at) (Tells-parts.itself a.path) (Tells-parts.itself a.query) }

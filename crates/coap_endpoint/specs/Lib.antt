@@ -1,3 +1,5 @@
 pub mod Endpoint
 pub mod Equality
 pub mod Target
+pub mod Hashing
+pub mod Alike

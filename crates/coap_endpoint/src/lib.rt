@@ -7,4 +7,4 @@ pub mod laws;
 mod target;
 
 pub use endpoint::{Endpoint, Ip};
-pub use target::Target;
+pub use target::{Target, copy_host};

@@ -1,13 +1,16 @@
 //! Targets: the resource of an origin that a request is for (RFC 7252, 5.7.2).
-ghost use Rattle.std.specs.Prelude.{◌≡◌, IfOk};
+ghost use Rattle.std.specs.Prelude.{◌≡◌, IfOk, OnOk};
 ghost use Rattle.coap_endpoint.specs.Equality.{same_target};
+ghost use Rattle.coap_endpoint.specs.Hashing.{fed_target, sizes_word};
+ghost use Rattle.coap_endpoint.specs.Alike.{targets_fed};
 
 use crate::endpoint::Endpoint;
 use coap_message::{OutOfMemory, Pieces, Seq};
+use std::hash::{Hash, Hasher};
 
 /// A resource of an origin: the host by which it is asked for, none for an address; the endpoint;
 /// the segments of its path and the parts of its query, decoded.
-#[derive(Clone, PartialEq, Eq, Hash)]
+#[derive(Clone, PartialEq, Eq)]
 pub struct Target {
     pub host: Option<Seq<u8>>,
     pub at: Endpoint,
@@ -26,6 +29,21 @@ impl Drop for Target {
     }
 }
 
+/// Puts a copy of a host in place of another, whose room is used again.
+///
+/// # Errors
+/// Out of memory. Then the other may hold a part of the host.
+pub fn copy_host(host: &Option<Seq<u8>>, copy: &mut Option<Seq<u8>>) -> Result<(), OutOfMemory>
+    ensures { OnOk result (copy.new ≡ host.now) }
+{
+    if let (Some(name), Some(copy)) = (host, &mut *copy) {
+        copy.clear();
+        return copy.append(name.as_slice());
+    }
+    *copy = host.clone()?;
+    Ok(())
+}
+
 impl Target {
     /// Whether both are one target, part by part.
     pub fn is(&self, other: &Target) -> bool
@@ -34,13 +52,57 @@ impl Target {
         self == other
     }
 
-    /// The same target once more, in no more room than it needs.
+    /// Puts a copy in place of another target, whose room is used again.
     ///
     /// # Errors
-    /// Want of memory.
+    /// Out of memory. Then the other target holds parts of both.
+    pub fn copy_to(&self, target: &mut Target) -> Result<(), OutOfMemory>
+        ensures { OnOk result (target.new ≡ self.now) }
+    {
+        copy_host(&self.host, &mut target.host)?;
+        target.at = self.at;
+        target.path.clear();
+        target.path.append(&self.path.iter())?;
+        target.query.clear();
+        target.query.append(&self.query.iter())
+    }
+
+    /// A copy, in no more room than it needs.
+    ///
+    /// # Errors
+    /// Out of memory.
     pub fn copied(&self) -> Result<Target, OutOfMemory>
         ensures { IfOk result (λ copy. copy ≡ self.now) }
     {
         Ok(self.clone()?)
     }
+}
+
+/// The endpoint, the sizes of the runs of bytes, and each run in one write.
+impl Hash for Target {
+    ghost hash_input = { fed_target };
+
+    ghost respects_eq = { targets_fed };
+
+    fn hash<H: Hasher>(&self, state: &mut H) {
+        self.at.hash(state);
+        match &self.host {
+            Some(host) => {
+                state.write_u64(sizes_word(host.len(), self.path.size(), self.query.size()));
+                state.write(host.as_slice());
+            }
+            None => state.write_u64(sizes_word(0xffff, self.path.size(), self.query.size())),
+        }
+        self.path.hash(state);
+        self.query.hash(state);
+    }
+}
+
+/// The sizes of the host, or 65,535 for none, of the path and of the query in one number. It tells
+/// them apart where the host has less bytes than that and the others less than 2^24, as those of a
+/// request have.
+fn sizes_word(host: usize, path: usize, query: usize) -> u64
+    ensures { result ≡ sizes_word host path query }
+{
+    (host as u64) << 48 ^ (path as u64) << 24 ^ query as u64
 }

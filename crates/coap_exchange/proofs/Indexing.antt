@@ -6,7 +6,7 @@ use Rattle.std.specs.Option.{is_some, option_map}
 use Rattle.std.proofs.lemmas.Bool.{eqb-true, eqb-false, eq-eqb, ne_eqb}
 use Rattle.coap_exchange.specs.declared.exchange.Exchange.{Exchange}
 use Rattle.coap_exchange.specs.declared.index.Index.{Index}
-use Rattle.coap_exchange.specs.Index.{got_of, id_of, opening_of, end_of, key_of, target_of, owner_at, owners_at, AreIndexed, CanPass, CanPassAll, HasPassed, HavePassed, IsRollOf}
+use Rattle.coap_exchange.specs.Index.{got_of, id_of, opening_of, end_of, queue_of, key_of, target_of, owner_at, owners_at, AreIndexed, CanPass, CanPassAll, HasPassed, HavePassed, IsRollOf}
 use Rattle.coap_exchange.specs.Roll.{Roll, empty_roll, is_in, is_owner, one_of}
 use Rattle.coap_exchange.specs.Table.{Numbered, Table, IsRising, IsTable, item_at, admitted_to, without, withdrawn_at, withdrawn, changed_at, count, passes}
 use Rattle.coap_exchange.proofs.Counts.{one_if, count-length, count-push, count-moved, count-without}
@@ -29,7 +29,7 @@ module _ {A : Type 0} where
           i ∙ sym (ap (λ (b : Bool). cond b (Some x.1) (item_at q xs)) other)
       go false f i = ap (λ (o : Option A). cond (eqb q x.0) (Some x.1) o) i
 
-  without-gone : (n : ℕ) (xs : List (Numbered A)) → item_at n (without n xs) ≡ None
+  pub without-gone : (n : ℕ) (xs : List (Numbered A)) → item_at n (without n xs) ≡ None
   without-gone n [] = refl
   without-gone n (x ∷ xs) = go (eqb x.0 n) refl (without-gone n xs)
     where
@@ -62,7 +62,7 @@ module _ {A : Type 0} where
           rw other i
       go false g i = ap (λ (o : Option A). cond (eqb q x.0) (Some x.1) o) i
 
-  changed-at : (n : ℕ) (f : A → A) (xs : List (Numbered A)) → item_at n (changed_at n f xs) ≡ option_map f (item_at n xs)
+  pub changed-at : (n : ℕ) (f : A → A) (xs : List (Numbered A)) → item_at n (changed_at n f xs) ≡ option_map f (item_at n xs)
   changed-at n f [] = refl
   changed-at n f (x ∷ xs) = go (eqb x.0 n) refl (changed-at n f xs)
     where
@@ -72,7 +72,7 @@ module _ {A : Type 0} where
           let other : eqb n x.0 ≡ false = ne_eqb n x.0 (λ h. eqb-false x.0 n g (sym h)) in
           rw other i
 
-  passes-map : (test : A → Bool) (f : A → A) (o : Option A) → passes test (option_map f o) ≡ passes (λ a. test (f a)) o
+  pub passes-map : (test : A → Bool) (f : A → A) (o : Option A) → passes test (option_map f o) ≡ passes (λ a. test (f a)) o
   passes-map test f None = refl
   passes-map test f (Some a) = refl
 
@@ -92,7 +92,7 @@ module _ {A : Type 0} where
       let other : eqb (most + 1) x.0 ≡ false = ne_eqb (most + 1) x.0 (λ e. let le = below.0 in omega arith) in
       rw other (none-above most xs below.1)
 
-  push-at : (n : ℕ) (xs : List (Numbered A)) (a : A) → item_at n xs ≡ None → item_at n (xs ++ (n, a) ∷ []) ≡ Some a
+  pub push-at : (n : ℕ) (xs : List (Numbered A)) (a : A) → item_at n xs ≡ None → item_at n (xs ++ (n, a) ∷ []) ≡ Some a
   push-at n [] a e = rw (eq-eqb n n refl) refl
   push-at n (x ∷ xs) a e = go (eqb n x.0) e (push-at n xs a)
     where
@@ -162,13 +162,14 @@ module _ {A : Type 0} (owner_of : A → Option ℕ) where
 
 -- ---- what an index keeps
 
-pub empty-indexed : (limit : ℕ) (index : Index) → index.ids ≡ empty_roll limit → index.dones ≡ empty_roll limit → index.openings ≡ empty_roll limit → index.ends ≡ empty_roll limit → index.keys ≡ empty_roll limit → index.targets ≡ empty_roll limit → AreIndexed [] limit index
-empty-indexed limit index a z b c d e = record {
+pub empty-indexed : (limit : ℕ) (index : Index) → index.ids ≡ empty_roll limit → index.dones ≡ empty_roll limit → index.openings ≡ empty_roll limit → index.ends ≡ empty_roll limit → index.queues ≡ empty_roll limit → index.keys ≡ empty_roll limit → index.targets ≡ empty_roll limit → AreIndexed [] limit index
+empty-indexed limit index a z b c q d e = record {
   rising = tt;
   ids = rw a (empty-is id_of limit);
   dones = rw z (empty-is got_of limit);
   openings = rw b (empty-is opening_of limit);
   ends = rw c (empty-is end_of limit);
+  queues = rw q (empty-is queue_of limit);
   keys = rw d (empty-is key_of limit);
   targets = rw e (empty-is target_of limit);
 }
@@ -179,6 +180,7 @@ all-can-pass n limit xs ys index moves few is = record {
   dones = can-pass got_of n limit xs ys index.dones moves few is.dones;
   openings = can-pass opening_of n limit xs ys index.openings moves few is.openings;
   ends = can-pass end_of n limit xs ys index.ends moves few is.ends;
+  queues = can-pass queue_of n limit xs ys index.queues moves few is.queues;
   keys = can-pass key_of n limit xs ys index.keys moves few is.keys;
   targets = can-pass target_of n limit xs ys index.targets moves few is.targets;
 }
@@ -190,6 +192,7 @@ all-have-passed n limit xs ys old new moves is have rising = record {
   dones = has-passed got_of n limit xs ys old.dones new.dones moves is.dones have.dones;
   openings = has-passed opening_of n limit xs ys old.openings new.openings moves is.openings have.openings;
   ends = has-passed end_of n limit xs ys old.ends new.ends moves is.ends have.ends;
+  queues = has-passed queue_of n limit xs ys old.queues new.queues moves is.queues have.queues;
   keys = has-passed key_of n limit xs ys old.keys new.keys moves is.keys have.keys;
   targets = has-passed target_of n limit xs ys old.targets new.targets moves is.targets have.targets;
 }

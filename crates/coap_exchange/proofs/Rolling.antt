@@ -1,10 +1,10 @@
 -- Pairs in rising order: where one stands, and what is there once it is put in or taken out.
-use Rattle.std.proofs.Common.{◌≡◌, ℕ, zero, suc, ◌-◌, ◌<◌, ◌≤◌, ◌&&◌, ◌||◌, List, [], ◌∷◌, length, take, drop, get_or, Bool, true, false, cond, Some, None, refl, sym, ap, ◌∙◌, subst, arith}
-use Rattle.std.specs.Prelude.{not}
-use Rattle.std.specs.List.{AllByRecursion, insert, remove, slice_get}
+use Rattle.std.proofs.Common.{◌≡◌, ℕ, zero, suc, ◌-◌, ◌+◌, ◌<◌, ◌≤◌, ◌&&◌, ◌||◌, List, [], ◌∷◌, length, take, drop, get_or, Bool, true, false, Some, None, refl, sym, ap, ◌∙◌, subst, arith}
+use Rattle.std.specs.Prelude.{not, Option, Result, Ok, Err, OnOk, OnErr, OnSome, IsSome}
+use Rattle.std.specs.List.{AllByRecursion, insert, remove}
 use Rattle.std.proofs.lemmas.Bool.Decides.{nat_tests}
 use Rattle.coap_exchange.specs.Due.{is_before}
-use Rattle.coap_exchange.specs.Roll.{Pair, is_pair, is_in, AreRising, IsLeast, IsNextOf}
+use Rattle.coap_exchange.specs.Roll.{Pair, is_pair, is_in, AreRising, IsFirstAfter, IsLeast, IsNextOf}
 use Rattle.coap_exchange.proofs.Sooner.{same_due}
 
 -- the order is transitive
@@ -114,9 +114,15 @@ rising-insert p (suc i) (x ∷ xs) r below above free =
     (all-insert (λ q. is_before x q ≡ true) p i xs r.0 (back_if_other p x below.0 (or_left (is_pair p x) (is_in p xs) free)), rising-insert p i xs r.1 below.1 above (or_right (is_pair p x) (is_in p xs) free))
 
 -- there was room
-pub put-in : (ok : Bool) (xs ys : List Pair) (i : ℕ) (p : Pair) → ok ≡ true → ys ≡ cond ok (insert xs i p) xs → ys ≡ insert xs i p
-put-in true xs ys i p e f = f
-put-in false xs ys i p e f = absurd cc
+pub put-in : {A E : Type 0} {P : Type 0} {full len : ℕ} (r : Result A E) → OnOk r P → OnErr r (full ≤ len) → len < full → P
+put-in (Ok a) p f lt = p
+put-in (Err e) p f lt = absurd (omega arith)
+
+-- there is one more then
+pub length-insert : (i : ℕ) (xs : List Pair) (p : Pair) → length (insert xs i p) ≡ length xs + 1
+length-insert zero xs p = omega arith
+length-insert (suc i) [] p = refl
+length-insert (suc i) (x ∷ xs) p = let rest = length-insert i xs p in omega arith
 
 -- ---- one is taken out
 
@@ -133,6 +139,17 @@ all-in P q (x ∷ xs) all e = go (is_pair q x) refl e (λ f. all-in P q xs all.1
     go : (b : Bool) → is_pair q x ≡ b → (b || is_in q xs) ≡ true → (is_in q xs ≡ true → P q) → P q
     go true f h rest = subst P (sym (pair_only q x f)) all.0
     go false f h rest = rest h
+
+-- there was one at the place
+pub taken : {A P : Type 0} (o : Option A) → IsSome o → OnSome o P → P
+taken None some p = absurd (let e : false ≡ true = some in cc)
+taken (Some a) some p = p
+
+-- there is one less then
+pub length-remove : (i : ℕ) (xs : List Pair) → i < length xs → length (remove xs i) + 1 ≡ length xs
+length-remove i [] lt = absurd (omega arith)
+length-remove zero (x ∷ xs) lt = omega arith
+length-remove (suc i) (x ∷ xs) lt = let rest = length-remove i xs (omega arith) in omega arith
 
 -- what holds of all holds of the rest
 all-remove : (P : Pair → Type 0) (i : ℕ) (xs : List Pair) → AllByRecursion P xs → AllByRecursion P (remove xs i)
@@ -199,9 +216,14 @@ first-least p ps r = (rw (pair_itself p) refl, λ q e. go q (is_pair q p) refl e
     go q false f h = let e : is_before p q ≡ true = all-in (λ y. is_before p y ≡ true) q ps r.0 h in grind (arith, nat_tests)
 
 -- the first of a list in order is the least
-pub first-is : (xs : List Pair) (p : Pair) → Some p ≡ slice_get xs 0 → AreRising xs → IsLeast xs (Some p)
-first-is [] p e r = absurd cc
-first-is (x ∷ xs) p e r = let same : x ≡ p = cc in subst (λ (y : Pair). IsLeast (x ∷ xs) (Some y)) same (first-least x xs r)
+pub first-is : (xs : List Pair) (p : Pair) → 0 < length xs → p ≡ get_or xs 0 p → AreRising xs → IsLeast xs (Some p)
+first-is [] p lt e r = absurd (omega arith)
+first-is (x ∷ xs) p lt e r = subst (λ (y : Pair). IsLeast (x ∷ xs) (Some y)) (sym e) (first-least x xs r)
+
+-- a list that has no first is empty
+pub none-left : (xs : List Pair) → (0 < length xs → ⊥) → xs ≡ []
+none-left [] none = refl
+none-left (x ∷ xs) none = absurd (none (omega arith))
 
 -- none up to here is after it, so what is after it is from here on
 is_in-drop : (p q : Pair) (i : ℕ) (xs : List Pair) → NoneAfter p (take i xs) → is_before p q ≡ true → is_in q (drop i xs) ≡ is_in q xs
@@ -230,58 +252,50 @@ drop-end zero (x ∷ xs) le = absurd (omega arith)
 drop-end (suc i) [] le = refl
 drop-end (suc i) (x ∷ xs) le = drop-end i xs (omega arith)
 
+-- nothing from a place on: nothing is after
+pub after-end : (p : Pair) (i : ℕ) (xs : List Pair) → NoneAfter p (take i xs) → length xs ≤ i → IsFirstAfter p xs None
+after-end p i xs none le = λ q there. go q (is_before p q) refl there
+  where
+    go : (q : Pair) (b : Bool) → is_before p q ≡ b → is_in q xs ≡ true → b ≡ false
+    go q false e there = refl
+    go q true e there = absurd (let gone : is_in q [] ≡ true = subst (λ (l : List Pair). is_in q l ≡ true) (drop-end i xs le) (is_in-drop p q i xs none e ∙ there) in cc)
+
+-- the pair at the place from which on all are after is the first of them
+pub after-here : (p : Pair) (i : ℕ) (xs : List Pair) (d y : Pair) → AreRising xs → NoneAfter p (take i xs) → AllAfter p (drop i xs) → i < length xs → get_or xs i d ≡ y → IsFirstAfter p xs (Some y)
+after-here p i xs d y r none all lt e =
+    let split : drop i xs ≡ y ∷ drop (suc i) xs = drop-at i xs d y lt e in
+    let least = first-least y (drop (suc i) xs) (subst AreRising split (rising-drop i xs r)) in
+    let first : is_before p y ≡ true = (subst (AllAfter p) split all).0 in
+    (sym (is_in-drop p y i xs none first) ∙ ap (is_in y) split ∙ least.0, first, λ q there behind. least.1 q (sym (ap (is_in q) split) ∙ is_in-drop p q i xs none behind ∙ there))
+
 -- a greater number of one owner is after
 owner_after : (owner after n : ℕ) → after < n → is_before (owner, after) (owner, n) ≡ true
 owner_after owner after n lt = grind (arith, nat_tests)
 
--- what stands after (owner, after), where it begins at a place: the others are where they were
-module _ (owner after : ℕ) (xs : List Pair) where
-  -- what is behind a place has all that is sought
-  abbrev Holds : List Pair → Type 0
-  Holds ys = (n : ℕ) → after < n → is_in (owner, n) ys ≡ is_in (owner, n) xs
+-- where nothing is after, no number is
+pub next-none : (owner after : ℕ) (xs : List Pair) → IsFirstAfter (owner, after) xs None → IsNextOf owner after xs None
+next-none owner after xs none = λ n lt. go n lt (is_in (owner, n) xs) refl
+  where
+    go : (n : ℕ) → after < n → (b : Bool) → is_in (owner, n) xs ≡ b → b ≡ false
+    go n lt false e = refl
+    go n lt true e = absurd (let behind = owner_after owner after n lt in let off = none (owner, n) e in cc)
 
-  -- nothing is behind
-  next-none : Holds [] → IsNextOf owner after xs None
-  next-none holds = λ n lt. sym (holds n lt)
+-- the first pair that is after tells the next number, where it is the owner's
+pub next-same : (owner after : ℕ) (xs : List Pair) (y : Pair) → IsFirstAfter (owner, after) xs (Some y) → y.0 ≡ owner → IsNextOf owner after xs (Some y.1)
+next-same owner after xs y first e =
+    let behind : is_before (owner, after) y ≡ true = first.1 in
+    (grind (arith, nat_tests), subst (λ (p : Pair). is_in p xs ≡ true) (same_due y (owner, y.1) e refl) first.0, λ n lt there. least n (first.2 (owner, n) there (owner_after owner after n lt)))
+  where
+    least : (n : ℕ) → is_before (owner, n) y ≡ false → y.1 ≤ n
+    least n f = grind (arith, nat_tests)
 
-  -- the next one is the owner's
-  next-some : (y : Pair) (ys : List Pair) → AreRising (y ∷ ys) → AllAfter (owner, after) (y ∷ ys) → Holds (y ∷ ys) → y.0 ≡ owner → IsNextOf owner after xs (Some y.1)
-  next-some y ys r all holds e =
-      let first : is_before (owner, after) y ≡ true = all.0 in
-      let lt : after < y.1 = grind (arith, nat_tests) in
-      let same : is_pair (owner, y.1) y ≡ true = grind (arith, nat_tests) in
-      (lt, sym (holds y.1 lt) ∙ ap (λ (b : Bool). b || is_in (owner, y.1) ys) same, λ n above there. least n ((first-least y ys r).1 (owner, n) (holds n above ∙ there)))
-    where
-      least : (n : ℕ) → is_before (owner, n) y ≡ false → y.1 ≤ n
-      least n f = grind (arith, nat_tests)
-
-  -- it is another's
-  next-other : (y : Pair) (ys : List Pair) → AreRising (y ∷ ys) → AllAfter (owner, after) (y ∷ ys) → Holds (y ∷ ys) → (y.0 ≡ owner → ⊥) → IsNextOf owner after xs None
-  next-other y ys r all holds other = λ n lt. sym (holds n lt) ∙ go n (is_in (owner, n) (y ∷ ys)) refl
-    where
-      go : (n : ℕ) (b : Bool) → is_in (owner, n) (y ∷ ys) ≡ b → b ≡ false
-      go n false e = refl
-      go n true e =
-          let least : is_before (owner, n) y ≡ false = (first-least y ys r).1 (owner, n) e in
-          let first : is_before (owner, after) y ≡ true = all.0 in
-          absurd (other (grind (arith, nat_tests)))
-
-  -- what is behind the place of a pair has all that is after it
-  after-holds : (i : ℕ) → NoneAfter (owner, after) (take i xs) → Holds (drop i xs)
-  after-holds i none = λ n lt. is_in-drop (owner, after) (owner, n) i xs none (owner_after owner after n lt)
-
-  -- so the pair at the place is the next, where it is the owner's
-  pub next-here : (i : ℕ) (d y : Pair) → AreRising xs → NoneAfter (owner, after) (take i xs) → AllAfter (owner, after) (drop i xs) → i < length xs → get_or xs i d ≡ y → y.0 ≡ owner → IsNextOf owner after xs (Some y.1)
-  next-here i d y r none all lt e own =
-      let split : drop i xs ≡ y ∷ drop (suc i) xs = drop-at i xs d y lt e in
-      next-some y (drop (suc i) xs) (subst AreRising split (rising-drop i xs r)) (subst (AllAfter (owner, after)) split all) (subst Holds split (after-holds i none)) own
-
-  -- where the next is another's there is none
-  pub next-past : (i : ℕ) (d y : Pair) → AreRising xs → NoneAfter (owner, after) (take i xs) → AllAfter (owner, after) (drop i xs) → i < length xs → get_or xs i d ≡ y → (y.0 ≡ owner → ⊥) → IsNextOf owner after xs None
-  next-past i d y r none all lt e other =
-      let split : drop i xs ≡ y ∷ drop (suc i) xs = drop-at i xs d y lt e in
-      next-other y (drop (suc i) xs) (subst AreRising split (rising-drop i xs r)) (subst (AllAfter (owner, after)) split all) (subst Holds split (after-holds i none)) other
-
-  -- nor at the end
-  pub next-end : (i : ℕ) → NoneAfter (owner, after) (take i xs) → length xs ≤ i → IsNextOf owner after xs None
-  next-end i none le = next-none (subst Holds (drop-end i xs le) (after-holds i none))
+-- and where it is another's, the owner has none
+pub next-other : (owner after : ℕ) (xs : List Pair) (y : Pair) → IsFirstAfter (owner, after) xs (Some y) → (y.0 ≡ owner → ⊥) → IsNextOf owner after xs None
+next-other owner after xs y first other = λ n lt. go n lt (is_in (owner, n) xs) refl
+  where
+    go : (n : ℕ) → after < n → (b : Bool) → is_in (owner, n) xs ≡ b → b ≡ false
+    go n lt false e = refl
+    go n lt true e =
+        let least : is_before (owner, n) y ≡ false = first.2 (owner, n) e (owner_after owner after n lt) in
+        let behind : is_before (owner, after) y ≡ true = first.1 in
+        absurd (other (grind (arith, nat_tests)))

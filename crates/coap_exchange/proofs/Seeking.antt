@@ -31,7 +31,7 @@ module _ {A : Type 0} where
       rw other (none-under n x.0 xs (omega (arith, r.0)) r.1)
 
   -- what passes has a number above the least
-  passes-above : (test : A → Bool) (n least : ℕ) (xs : List (Numbered A)) → IsRising least xs → passes test (item_at n xs) ≡ true → least < n
+  pub passes-above : (test : A → Bool) (n least : ℕ) (xs : List (Numbered A)) → IsRising least xs → passes test (item_at n xs) ≡ true → least < n
   passes-above test n least xs r e = go (leb n least) refl
     where
       go : (b : Bool) → leb n least ≡ b → least < n

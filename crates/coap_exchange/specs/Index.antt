@@ -6,15 +6,18 @@ use Rattle.std.specs.List.{fold}
 use Rattle.std.specs.Option.{is_some}
 use Rattle.coap_store.specs.contracts.key.CacheKeyHash.TheImpl as keys
 use Rattle.coap_store.specs.declared.key.CacheKey.{CacheKey}
+use Rattle.coap_endpoint.specs.contracts.endpoint.EndpointHash.TheImpl as endpoints
 use Rattle.coap_endpoint.specs.contracts.target.TargetHash.TheImpl as targets
+use Rattle.coap_endpoint.specs.declared.endpoint.Endpoint.{Endpoint}
 use Rattle.coap_endpoint.specs.declared.target.Target.{Target}
 use Rattle.coap_exchange.specs.declared.exchange.Exchange.{Exchange}
 use Rattle.coap_exchange.specs.declared.exchange.Sending.{Sending}
 use Rattle.coap_exchange.specs.declared.index.Index.{Index}
 use Rattle.coap_exchange.specs.declared.index.Owners.{Owners}
 use Rattle.coap_exchange.specs.declared.index.Sought.{Sought}
-use Rattle.coap_exchange.specs.declared.index.Sought.TheVariants.{SentAs, Joinable}
+use Rattle.coap_exchange.specs.declared.index.Sought.TheVariants.{SentAs, Joinable, Queued}
 use Rattle.coap_exchange.specs.Exchanges.{answer_at, is_acked, is_blocked, is_done, is_joinable, is_missing, is_queued, is_sent, was_sent_as}
+use Rattle.coap_exchange.specs.Lines.{is_queued_to}
 use Rattle.coap_exchange.specs.Roll.{Pair, Roll, is_in, is_owner, one_of, IsOwnerIn, IsPassed}
 use Rattle.coap_exchange.specs.Table.{Numbered, IsRising, count, item_at, passes}
 use Rattle.coap_exchange.specs.Waiters.{moment_of}
@@ -80,6 +83,13 @@ digest_of_key key = digest_of ((keys.ghosts).hash_input key)
 abbrev pub digest_of_target : Target → ℕ
 digest_of_target target = digest_of ((targets.ghosts).hash_input target)
 
+abbrev pub digest_of_endpoint : Endpoint → ℕ
+digest_of_endpoint at = digest_of ((endpoints.ghosts).hash_input at)
+
+-- the digest of its endpoint, while it waits for its turn
+abbrev pub queue_of : Exchange → Option ℕ
+queue_of x = if is_queued x then Some (digest_of_endpoint x.key.target.at) else None
+
 -- the digest of the cache key of a GET, until it is tainted or its answer has come
 abbrev pub key_of : Exchange → Option ℕ
 key_of x =
@@ -98,6 +108,7 @@ owners_at found =
       got = owner_at got_of found;
       opening = owner_at opening_of found;
       end = owner_at end_of found;
+      queue = owner_at queue_of found;
       key = owner_at key_of found;
       target = owner_at target_of found;
     }
@@ -108,6 +119,7 @@ pub record AreIndexed (items : List (Numbered Exchange)) (limit : ℕ) (index : 
   pub dones : IsRollOf got_of items limit index.dones
   pub openings : IsRollOf opening_of items limit index.openings
   pub ends : IsRollOf end_of items limit index.ends
+  pub queues : IsRollOf queue_of items limit index.queues
   pub keys : IsRollOf key_of items limit index.keys
   pub targets : IsRollOf target_of items limit index.targets
 
@@ -116,6 +128,7 @@ pub record CanPassAll (index : Index) (number : ℕ) (was is : Owners) : Type 0 
   pub dones : CanPass index.dones number was.got is.got
   pub openings : CanPass index.openings number was.opening is.opening
   pub ends : CanPass index.ends number was.end is.end
+  pub queues : CanPass index.queues number was.queue is.queue
   pub keys : CanPass index.keys number was.key is.key
   pub targets : CanPass index.targets number was.target is.target
 
@@ -124,6 +137,7 @@ pub record HavePassed (old new : Index) (number : ℕ) (was is : Owners) : Type 
   pub dones : HasPassed old.dones new.dones number was.got is.got
   pub openings : HasPassed old.openings new.openings number was.opening is.opening
   pub ends : HasPassed old.ends new.ends number was.end is.end
+  pub queues : HasPassed old.queues new.queues number was.queue is.queue
   pub keys : HasPassed old.keys new.keys number was.key is.key
   pub targets : HasPassed old.targets new.targets number was.target is.target
 
@@ -132,6 +146,7 @@ pub record HavePassed (old new : Index) (number : ℕ) (was is : Owners) : Type 
 abbrev pub is_met : Sought → Exchange → Bool
 is_met (SentAs at id now) = was_sent_as at id now
 is_met (Joinable key) = is_joinable key.now
+is_met (Queued at) = is_queued_to at
 
 -- the items that pass stand with this owner
 abbrev pub AreListed : {A : Type 0} → (A → Bool) → ℕ → List (Numbered A) → List Pair → Type 0

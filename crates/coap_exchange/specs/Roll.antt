@@ -1,5 +1,5 @@
 -- Rolls: pairs of an owner and a number, each of them at most once.
-use Rattle.std.specs.Prelude.{◌≡◌, ℕ, ◌==◌, ◌<◌, ◌≤◌, ◌&&◌, ◌||◌, Bool, true, false, if◌then◌else◌, List, [], ◌∷◌, Option, Some, None}
+use Rattle.std.specs.Prelude.{◌≡◌, ℕ, ◌==◌, ◌<◌, ◌≤◌, ◌&&◌, ◌||◌, Bool, true, false, not, if◌then◌else◌, List, [], ◌∷◌, Option, Some, None}
 use Rattle.std.specs.List.{AllByRecursion}
 use Rattle.coap_exchange.specs.Due.{is_before}
 
@@ -41,15 +41,23 @@ IsNextOf owner after pairs (Some m) =
     × (is_in (owner, m) pairs ≡ true)
     × ((n : ℕ) → after < n → is_in (owner, n) pairs ≡ true → m ≤ n)
 
+-- the first pair after another
+abbrev pub IsFirstAfter : Pair → List Pair → Option Pair → Type 0
+IsFirstAfter p pairs None = (q : Pair) → is_in q pairs ≡ true → is_before p q ≡ false
+IsFirstAfter p pairs (Some r) =
+    (is_in r pairs ≡ true)
+    × (is_before p r ≡ true)
+    × ((q : Pair) → is_in q pairs ≡ true → is_before p q ≡ true → is_before q r ≡ false)
+
 -- ---- what owner a number has, if it has one
 
 abbrev pub is_owner : ℕ → Option ℕ → Bool
 is_owner owner None = false
 is_owner owner (Some o) = owner == o
 
-abbrev pub one_of : Option ℕ → ℕ
+abbrev pub one_of : {A : Type 0} → Option A → ℕ
 one_of None = 0
-one_of (Some o) = 1
+one_of (Some a) = 1
 
 -- the pairs of a number are those with its owner
 abbrev pub IsOwnerIn : List Pair → ℕ → Option ℕ → Type 0
@@ -59,3 +67,17 @@ IsOwnerIn pairs number owner = (o : ℕ) → is_in (o, number) pairs ≡ is_owne
 abbrev pub IsPassed : List Pair → List Pair → ℕ → Option ℕ → Type 0
 IsPassed old new number owner =
     (o n : ℕ) → is_in (o, n) new ≡ (if n == number then is_owner o owner else is_in (o, n) old)
+
+-- ---- one pair in the place of another
+
+-- there is a pair, and it is this one
+abbrev pub is_some_pair : Pair → Option Pair → Bool
+is_some_pair p None = false
+is_some_pair p (Some q) = is_pair p q
+
+-- the one pair goes, if there is one, and then the other comes
+abbrev pub IsReplaced : List Pair → List Pair → Option Pair → Option Pair → Type 0
+IsReplaced old new was is =
+    (p : Pair)
+    → is_in p new
+    ≡ (is_some_pair p is || (not (is_some_pair p was) && is_in p old))

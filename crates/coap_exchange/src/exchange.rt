@@ -2,7 +2,7 @@
 ghost use Rattle.std.specs.Prelude.{◌≡◌, ◌≤◌, ◌^◌};
 ghost use Rattle.std.specs.Option.{option_copied};
 ghost use Rattle.coap_exchange.specs.Exchanges.{answer_at, changed_by, fire_of_sending, fired_exchange, is_as, is_acked, is_changed_with, is_joinable, is_queued, is_sent, opened, tainted_by, was_sent_as, CanChange, CanFire};
-ghost use Rattle.coap_exchange.specs.Lines.{sends};
+ghost use Rattle.coap_exchange.specs.Lines.{is_queued_to, sends};
 
 use crate::lines::Stage;
 use crate::timer::{Fire, Timer};
@@ -167,6 +167,13 @@ impl Exchange {
             ExchangeState::Acked => true,
             ExchangeState::Queued | ExchangeState::Sent | ExchangeState::Done(_) => false,
         }
+    }
+
+    /// Whether the request waits for its turn with this endpoint.
+    pub(crate) fn is_queued_to(&self, at: Endpoint) -> bool
+        ensures exact { result ≡ is_queued_to at self.now }
+    {
+        self.is_queued() && self.key.target.at.is(&at)
     }
 
     /// What of it is counted for its endpoint.

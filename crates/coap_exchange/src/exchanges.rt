@@ -12,13 +12,16 @@ ghost use Rattle.coap_exchange.specs.Exchanges.{acked, answer_in, answered, chan
 ghost use Rattle.coap_exchange.specs.Index.{turn_among, AreIndexed};
 ghost use Rattle.coap_exchange.specs.Lines.{is_queued_to, is_with, open_in, queued_in, sent_in, AreLined};
 ghost use Rattle.coap_exchange.specs.Table.{empty_table, item_at, admitted_to, without, withdrawn, changed_at, all_changed, count, first_that, passes, IsTable};
+ghost use Rattle.coap_exchange.specs.Turns.{AreTurns};
 
 use crate::due::{later, sooner};
 use crate::exchange::{Change, Exchange, Sending};
-use crate::index::{Index, Sought, digest_of_key, digest_of_target, first_sought, owners_at};
+use crate::index::{Index, Sought, first_sought, owners_at};
 use crate::lines::{Line, Stage, close_one, has_turn, line_to, move_one, open_one};
+use crate::listed::{Listed, digest_of_key, digest_of_target};
 use crate::table::{AdmitError, Table};
 use crate::timer::Fire;
+use crate::turns::{Turns, endpoint_of, head_of};
 use coap_endpoint::{Endpoint, Target};
 use coap_message::{OutOfMemory, Seq};
 use coap_store::{Answer, CacheKey, Stored};
@@ -28,13 +31,15 @@ use std::marker::Model;
 
 /// Exchanges in order of number. A contract sees the table. Only `new` and `admit` take memory.
 pub struct Exchanges {
-    table: Table<Exchange>,
+    table: Table<Listed>,
     /// How many are still to be sent.
     queued: usize,
     /// How many there are with each endpoint.
     lines: BTreeMap<Endpoint, Line>,
     /// What they are found by.
     index: Index,
+    /// What tells whose turn it is.
+    turns: Turns,
 }
 
 impl Drop for Exchanges {
@@ -44,6 +49,7 @@ impl Drop for Exchanges {
             queued: _,
             lines: _,
             index: _,
+            turns: _,
         } = self;
     }
 }
@@ -54,6 +60,7 @@ impl Model for Exchanges {
     ghost use Rattle.coap_exchange.specs.Index.{AreIndexed};
     ghost use Rattle.coap_exchange.specs.Lines.{AreLined};
     ghost use Rattle.coap_exchange.specs.Table.{Table};
+    ghost use Rattle.coap_exchange.specs.Turns.{AreTurns};
 
     ghost Value = { Table Exchange };
 
@@ -62,7 +69,8 @@ impl Model for Exchanges {
     ghost invariant = { λ e.
         AreExchanges e.table.items e.queued
         × AreLined e.table.items e.lines
-        × AreIndexed e.table.items e.table.limit e.index };
+        × AreIndexed e.table.items e.table.limit e.index
+        × AreTurns e.table.items e.turns };
 }
 
 impl Exchanges {
@@ -72,11 +80,13 @@ impl Exchanges {
     {
         let table = Table::new(alloc, limit)?;
         let index = Index::new(alloc, limit)?;
+        let turns = Turns::new(alloc)?;
         Ok(Exchanges {
             table,
             queued: 0,
             lines: BTreeMap::new(alloc),
             index,
+            turns,
         })
     }
 
@@ -106,7 +116,7 @@ impl Exchanges {
         ensures exact { option_copied result ≡ item_at number self.now.items }
         ensures sound { IsTable self.now }
     {
-        self.table.get(number)
+        self.table.exchange(number)
     }
 
     /// The answer of the exchange of this number, if it has come.
@@ -174,7 +184,7 @@ impl Exchanges {
     {
         let deadline = later(self.index.openings.first(), exchange_ms);
         let end = self.index.ends.first();
-        let turn = first_turn(&self.table, &self.lines, self.queued, nstart);
+        let turn = first_turn(&self.table, &self.lines, self.queued, &self.turns, nstart);
         sooner(deadline, sooner(end, turn))
     }
 
@@ -207,15 +217,23 @@ impl Exchanges {
             return Err(AdmitError::Full);
         }
         let at = key.target.at;
+        let listed = Listed::new(Exchange::opened(key, is_get, form, copy, now));
+        let digest = listed.endpoint();
+        let head = head_of(&self.table, &self.index, &self.lines, Some(at), digest);
+        let Ok(()) = self.turns.heads.make_room() else {
+            return Err(AdmitError::OutOfMemory);
+        };
         let Ok(()) = open_one(&mut self.lines, at) else {
             return Err(AdmitError::OutOfMemory);
         };
-        let exchange = Exchange::opened(key, is_get, form, copy, now);
         let was = owners_at(&self.table, self.table.admitted() + 1);
-        match self.table.admit(exchange) {
+        match self.table.admit(listed) {
             Ok(number) => {
                 self.queued += 1;
                 self.index.pass(number, was, owners_at(&self.table, number));
+                let next = head_of(&self.table, &self.index, &self.lines, Some(at), digest);
+                self.turns.heads.replace(head, next);
+                self.turns.note(now);
                 Ok(number)
             }
             Err(error) => {
@@ -235,22 +253,30 @@ impl Exchanges {
             → self.new ≡ before }
     {
         let number = self.table.admitted();
+        let (at, digest) = endpoint_of(&self.table, number);
+        let head = head_of(&self.table, &self.index, &self.lines, at, digest);
         self.queued = queued_without(self.queued, &self.table, number);
         leave(&mut self.lines, &self.table, number);
         let was = owners_at(&self.table, number);
         self.table.withdraw();
         self.index.pass(number, was, owners_at(&self.table, number));
+        let next = head_of(&self.table, &self.index, &self.lines, at, digest);
+        self.turns.heads.replace(head, next);
     }
 
     /// Takes the exchange of this number out, if there is one.
     pub fn close(&mut self, number: u64)
         ensures closed { self.new ≡ record self.old { items = without number self.old.items } }
     {
+        let (at, digest) = endpoint_of(&self.table, number);
+        let head = head_of(&self.table, &self.index, &self.lines, at, digest);
         self.queued = queued_without(self.queued, &self.table, number);
         leave(&mut self.lines, &self.table, number);
         let was = owners_at(&self.table, number);
         self.table.close(number);
         self.index.pass(number, was, owners_at(&self.table, number));
+        let next = head_of(&self.table, &self.index, &self.lines, at, digest);
+        self.turns.heads.replace(head, next);
     }
 
     /// The request of the exchange of this number, which waited for its turn, is sent: its form has
@@ -318,15 +344,19 @@ impl Exchanges {
         ensures { self.new
             ≡ record self.old { items = changed_at number (changed_by change) self.old.items } }
     {
+        let (at, digest) = endpoint_of(&self.table, number);
+        let head = head_of(&self.table, &self.index, &self.lines, at, digest);
         self.queued = queued_without(self.queued, &self.table, number);
         recount(&mut self.lines, &self.table, number, &change);
         let was = owners_at(&self.table, number);
         self.table.change(number, change);
         self.index.pass(number, was, owners_at(&self.table, number));
+        let next = head_of(&self.table, &self.index, &self.lines, at, digest);
+        self.turns.heads.replace(head, next);
     }
 }
 
-impl Table<Exchange> {
+impl Table<Listed> {
     fn change(&mut self, number: u64, change: Change)
         requires { IfSome (item_at number self.old.items) (CanChange change) }
         ensures { self.new
@@ -345,10 +375,45 @@ impl Table<Exchange> {
     }
 }
 
-/// What of the exchanges that wait for their turn is to be sent first. `queued` of them wait. Those
-/// are gone through only where it is the turn of one.
+/// What of the exchanges that wait for their turn is to be sent first. They are gone through only
+/// where they weren't admitted in order.
 fn first_turn(
-    exchanges: &Table<Exchange>,
+    exchanges: &Table<Listed>,
+    lines: &BTreeMap<Endpoint, Line>,
+    queued: usize,
+    turns: &Turns,
+    nstart: usize,
+) -> Option<(u64, u64)>
+    requires queued { queued ≡ count is_queued exchanges.now.items }
+    requires lined { AreLined exchanges.now.items lines.now }
+    requires turns { AreTurns exchanges.now.items turns.now }
+    ensures exact { result
+        ≡ first_due (turn_among nstart exchanges.now.items) exchanges.now.items }
+{
+    if turns.in_order {
+        first_in_order(exchanges, turns, nstart)
+    } else {
+        first_of_all(exchanges, lines, queued, nstart)
+    }
+}
+
+/// The same, where they were admitted in order.
+fn first_in_order(exchanges: &Table<Listed>, turns: &Turns, nstart: usize) -> Option<(u64, u64)>
+    requires turns { AreTurns exchanges.now.items turns.now }
+    requires order { turns.now.in_order ≡ true }
+    ensures exact { result
+        ≡ first_due (turn_among nstart exchanges.now.items) exchanges.now.items }
+{
+    let _sound = exchanges.is_full();
+    let number = turns.first(nstart)?;
+    let exchange = exchanges.exchange(number)?;
+    Some((exchange.admitted, number))
+}
+
+/// The same, in whatever order they were admitted. `queued` of them wait. Those are gone through
+/// only where it is the turn of one.
+fn first_of_all(
+    exchanges: &Table<Listed>,
     lines: &BTreeMap<Endpoint, Line>,
     queued: usize,
     nstart: usize,
@@ -365,14 +430,14 @@ fn first_turn(
     exchanges.first_turn(lines, nstart)
 }
 
-impl Table<Exchange> {
+impl Table<Listed> {
     fn first_turn(&self, lines: &BTreeMap<Endpoint, Line>, nstart: usize) -> Option<(u64, u64)>
         requires lined { AreLined self.now.items lines.now }
         ensures exact { result ≡ first_due (turn_among nstart self.now.items) self.now.items }
     {
         let mut first = None;
-        for (number, exchange) in self.items.iter() {
-            let turn = self.turn_at(lines, *number, exchange, nstart);
+        for (number, listed) in self.items.iter() {
+            let turn = self.turn_at(lines, *number, listed.exchange(), nstart);
             first = sooner(first, turn);
         }
         first
@@ -398,7 +463,7 @@ impl Table<Exchange> {
     }
 }
 
-fn change_under(exchanges: &mut BTreeMap<u64, Exchange>, number: u64, change: Change)
+fn change_under(exchanges: &mut BTreeMap<u64, Listed>, number: u64, change: Change)
     requires { IfSome (get nat_cmp exchanges.old number) (CanChange change) }
     ensures found { IfSome (get nat_cmp exchanges.old number) (λ x.
         exchanges.new.entries
@@ -411,7 +476,7 @@ fn change_under(exchanges: &mut BTreeMap<u64, Exchange>, number: u64, change: Ch
     }
 }
 
-fn taint_under(exchanges: &mut BTreeMap<u64, Exchange>, number: u64, target: &Target)
+fn taint_under(exchanges: &mut BTreeMap<u64, Listed>, number: u64, target: &Target)
     ensures found { IfSome (get nat_cmp exchanges.old number) (λ x.
         exchanges.new.entries
         ≡ set_value (is_at (nat_cmp number)) exchanges.old.entries (tainted_by target.now x)) }
@@ -424,7 +489,7 @@ fn taint_under(exchanges: &mut BTreeMap<u64, Exchange>, number: u64, target: &Ta
 }
 
 /// Taints those that a change of this target reaches: their digests are alike.
-fn taint_all(exchanges: &mut Table<Exchange>, index: &mut Index, target: &Target)
+fn taint_all(exchanges: &mut Table<Listed>, index: &mut Index, target: &Target)
     requires { AreIndexed exchanges.old.items exchanges.old.limit index.old }
     ensures tainted { exchanges.new
         ≡ record exchanges.old {
@@ -441,7 +506,7 @@ fn taint_all(exchanges: &mut Table<Exchange>, index: &mut Index, target: &Target
 }
 
 /// Taints the exchange of this number, if a change of this target reaches it.
-fn taint_one(exchanges: &mut Table<Exchange>, index: &mut Index, number: u64, target: &Target)
+fn taint_one(exchanges: &mut Table<Listed>, index: &mut Index, number: u64, target: &Target)
     requires { AreIndexed exchanges.old.items exchanges.old.limit index.old }
     ensures tainted { exchanges.new
         ≡ record exchanges.old {
@@ -455,21 +520,21 @@ fn taint_one(exchanges: &mut Table<Exchange>, index: &mut Index, number: u64, ta
 }
 
 /// How many are still to be sent, once the exchange of this number no longer is.
-fn queued_without(queued: usize, exchanges: &Table<Exchange>, number: u64) -> usize
+fn queued_without(queued: usize, exchanges: &Table<Listed>, number: u64) -> usize
     requires { queued ≡ count is_queued exchanges.now.items }
     ensures fewer { result
         + (if passes is_queued (item_at number exchanges.now.items) then 1 else 0)
         ≡ queued }
     ensures sound { IsTable exchanges.now }
 {
-    match exchanges.get(number) {
+    match exchanges.exchange(number) {
         Some(exchange) if exchange.is_queued() => queued - 1,
         _ => queued,
     }
 }
 
 /// The exchange of this number is counted no more for its endpoint.
-fn leave(lines: &mut BTreeMap<Endpoint, Line>, exchanges: &Table<Exchange>, number: u64)
+fn leave(lines: &mut BTreeMap<Endpoint, Line>, exchanges: &Table<Listed>, number: u64)
     requires { AreLined exchanges.now.items lines.old }
     ensures all { (e : Endpoint)
         → open_in lines.new e
@@ -485,7 +550,7 @@ fn leave(lines: &mut BTreeMap<Endpoint, Line>, exchanges: &Table<Exchange>, numb
         ≡ queued_in lines.old e }
 {
     let _few = exchanges.len();
-    if let Some(exchange) = exchanges.get(number) {
+    if let Some(exchange) = exchanges.exchange(number) {
         close_one(lines, exchange.key.target.at, exchange.stage());
     }
 }
@@ -494,7 +559,7 @@ fn leave(lines: &mut BTreeMap<Endpoint, Line>, exchanges: &Table<Exchange>, numb
 /// waits for its turn no more.
 fn recount(
     lines: &mut BTreeMap<Endpoint, Line>,
-    exchanges: &Table<Exchange>,
+    exchanges: &Table<Listed>,
     number: u64,
     change: &Change,
 )
@@ -512,7 +577,7 @@ fn recount(
         ≡ queued_in lines.old e }
 {
     let _few = exchanges.len();
-    if let Some(exchange) = exchanges.get(number) {
+    if let Some(exchange) = exchanges.exchange(number) {
         let was = exchange.stage();
         let is = Stage {
             sent: change.sends(was.sent),

@@ -1,17 +1,17 @@
 //! What exchanges are found by, so that none is searched for among all.
-ghost use Rattle.std.specs.Prelude.{◌≡◌, IfOk};
-ghost use Rattle.coap_exchange.specs.Index.{digest_of_key, digest_of_target, end_of, got_of, id_of, key_of, target_of, is_met, opening_of, owners_at, AreListed, CanPassAll, HavePassed};
+ghost use Rattle.std.specs.Prelude.{◌≡◌, Some, IfOk};
+ghost use Rattle.coap_exchange.specs.Index.{queue_of, end_of, got_of, id_of, key_of, target_of, is_met, opening_of, owners_at, AreListed, CanPassAll, HavePassed};
 ghost use Rattle.coap_exchange.specs.Roll.{empty_roll};
 ghost use Rattle.coap_exchange.specs.Table.{first_that, item_at, passes, IsRising, IsTable};
 
 use crate::exchange::Exchange;
+use crate::listed::Listed;
 use crate::roll::Roll;
 use crate::table::Table;
-use coap_endpoint::{Endpoint, Target};
+use coap_endpoint::Endpoint;
 use coap_message::OutOfMemory;
 use coap_store::CacheKey;
 use std::alloc::Global;
-use std::hash::{DefaultHasher, Hash, Hasher};
 
 /// Numbers of exchanges, by what they are found by. Room for all is made at the start.
 #[derive(Drop)]
@@ -24,6 +24,8 @@ pub(crate) struct Index {
     pub(crate) openings: Roll,
     /// By the end of the timeout that runs.
     pub(crate) ends: Roll,
+    /// By the digest of their endpoint, while they wait for their turn.
+    pub(crate) queues: Roll,
     /// GETs by the digest of their cache key, until they are tainted or their answer has come.
     pub(crate) keys: Roll,
     /// By the digest of their target, from their sending on until they are tainted or their answer
@@ -38,6 +40,7 @@ pub(crate) struct Owners {
     pub(crate) got: Option<u64>,
     pub(crate) opening: Option<u64>,
     pub(crate) end: Option<u64>,
+    pub(crate) queue: Option<u64>,
     pub(crate) key: Option<u64>,
     pub(crate) target: Option<u64>,
 }
@@ -50,6 +53,8 @@ pub(crate) enum Sought<'a> {
     SentAs(Endpoint, u16, u64),
     /// One for whose answer a GET of this key may wait.
     Joinable(&'a CacheKey),
+    /// One that waits for its turn with this endpoint.
+    Queued(Endpoint),
 }
 
 impl Sought<'_> {
@@ -59,6 +64,7 @@ impl Sought<'_> {
         match self {
             Sought::SentAs(at, id, now) => exchange.was_sent_as(*at, *id, *now),
             Sought::Joinable(key) => exchange.is_joinable(key),
+            Sought::Queued(at) => exchange.is_queued_to(*at),
         }
     }
 }
@@ -70,6 +76,7 @@ impl Index {
         ensures dones { IfOk result (λ index. index.dones ≡ empty_roll limit) }
         ensures openings { IfOk result (λ index. index.openings ≡ empty_roll limit) }
         ensures ends { IfOk result (λ index. index.ends ≡ empty_roll limit) }
+        ensures queues { IfOk result (λ index. index.queues ≡ empty_roll limit) }
         ensures keys { IfOk result (λ index. index.keys ≡ empty_roll limit) }
         ensures targets { IfOk result (λ index. index.targets ≡ empty_roll limit) }
     {
@@ -78,6 +85,7 @@ impl Index {
             dones: Roll::new(alloc, limit)?,
             openings: Roll::new(alloc, limit)?,
             ends: Roll::new(alloc, limit)?,
+            queues: Roll::new(alloc, limit)?,
             keys: Roll::new(alloc, limit)?,
             targets: Roll::new(alloc, limit)?,
         })
@@ -92,33 +100,43 @@ impl Index {
         self.dones.pass(number, was.got, is.got);
         self.openings.pass(number, was.opening, is.opening);
         self.ends.pass(number, was.end, is.end);
+        self.queues.pass(number, was.queue, is.queue);
         self.keys.pass(number, was.key, is.key);
         self.targets.pass(number, was.target, is.target);
     }
 }
 
 /// What the exchange of this number is found by, if there is one.
-pub(crate) fn owners_at(exchanges: &Table<Exchange>, number: u64) -> Owners
+pub(crate) fn owners_at(exchanges: &Table<Listed>, number: u64) -> Owners
     ensures exact { result ≡ owners_at (item_at number exchanges.now.items) }
     ensures sound { IsTable exchanges.now }
 {
     match exchanges.get(number) {
-        Some(exchange) => Owners {
-            id: id_of(exchange),
-            got: got_of(exchange),
-            opening: opening_of(exchange),
-            end: end_of(exchange),
-            key: key_of(exchange),
-            target: target_of(exchange),
-        },
+        Some(listed) => owners_of(listed),
         None => Owners {
             id: None,
             got: None,
             opening: None,
             end: None,
+            queue: None,
             key: None,
             target: None,
         },
+    }
+}
+
+fn owners_of(listed: &Listed) -> Owners
+    ensures exact { result ≡ owners_at (Some listed.now) }
+{
+    let exchange = listed.exchange();
+    Owners {
+        id: id_of(exchange),
+        got: got_of(exchange),
+        opening: opening_of(exchange),
+        end: end_of(exchange),
+        queue: queue_of(listed),
+        key: key_of(listed),
+        target: target_of(listed),
     }
 }
 
@@ -161,7 +179,7 @@ fn end_of(exchange: &Exchange) -> Option<u64>
 
 /// The number of the first exchange that is sought. All of them stand in the roll, with this owner.
 pub(crate) fn first_sought(
-    exchanges: &Table<Exchange>,
+    exchanges: &Table<Listed>,
     roll: &Roll,
     owner: u64,
     sought: &Sought,
@@ -181,50 +199,45 @@ pub(crate) fn first_sought(
 }
 
 /// Whether the exchange of this number is sought.
-fn is_sought_at(exchanges: &Table<Exchange>, number: u64, sought: &Sought) -> bool
+fn is_sought_at(exchanges: &Table<Listed>, number: u64, sought: &Sought) -> bool
     ensures exact { result
         ≡ passes (is_met sought.now) (item_at number exchanges.now.items) }
 {
-    match exchanges.get(number) {
+    match exchanges.exchange(number) {
         Some(exchange) => sought.is_met(exchange),
         None => false,
     }
 }
 
-fn key_of(exchange: &Exchange) -> Option<u64>
-    ensures exact { result ≡ key_of exchange.now }
+fn queue_of(listed: &Listed) -> Option<u64>
+    ensures exact { result ≡ queue_of listed.now }
 {
+    let exchange = listed.exchange();
+    if exchange.is_queued() {
+        Some(listed.endpoint())
+    } else {
+        None
+    }
+}
+
+fn key_of(listed: &Listed) -> Option<u64>
+    ensures exact { result ≡ key_of listed.now }
+{
+    let exchange = listed.exchange();
     if exchange.is_get && !exchange.tainted && exchange.answer().is_none() {
-        Some(digest_of_key(&exchange.key))
+        Some(listed.key())
     } else {
         None
     }
 }
 
-/// The digest of a cache key. Equal keys have equal digests.
-pub(crate) fn digest_of_key(key: &CacheKey) -> u64
-    ensures exact { result ≡ digest_of_key key.now }
+fn target_of(listed: &Listed) -> Option<u64>
+    ensures exact { result ≡ target_of listed.now }
 {
-    let mut hasher = DefaultHasher::new();
-    key.hash(&mut hasher);
-    hasher.finish()
-}
-
-fn target_of(exchange: &Exchange) -> Option<u64>
-    ensures exact { result ≡ target_of exchange.now }
-{
+    let exchange = listed.exchange();
     if !exchange.tainted && (exchange.is_sent() || exchange.is_acked()) {
-        Some(digest_of_target(&exchange.key.target))
+        Some(listed.target())
     } else {
         None
     }
-}
-
-/// The digest of a target. Equal targets have equal digests.
-pub(crate) fn digest_of_target(target: &Target) -> u64
-    ensures exact { result ≡ digest_of_target target.now }
-{
-    let mut hasher = DefaultHasher::new();
-    target.hash(&mut hasher);
-    hasher.finish()
 }

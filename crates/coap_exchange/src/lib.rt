@@ -10,11 +10,13 @@ mod ids;
 mod index;
 pub mod laws;
 mod lines;
+mod listed;
 mod marks;
 mod roll;
 mod table;
 mod tally;
 mod timer;
+mod turns;
 mod waiter;
 mod waiters;
 

@@ -1,32 +1,39 @@
 //! Rolls: who has which number. They find the first pair, and the numbers of one owner, without a
 //! search through all.
-ghost use Rattle.std.specs.Prelude.{◌≡◌, ◌+◌, ◌<◌, ◌≤◌, ◌||◌, ◌&&◌, ℕ, length, take, drop, true, false, not, None, IfOk};
+ghost use Rattle.std.specs.Prelude.{◌≡◌, ◌+◌, ◌<◌, ◌≤◌, ◌||◌, ◌&&◌, ℕ, length, take, drop, true, false, not, None, Some, IfOk, IfSome, OnOk, OnErr};
 ghost use Rattle.std.specs.List.{AllByRecursion};
+ghost use Rattle.std.specs.VecDeque.{deque_len};
 ghost use Rattle.coap_exchange.specs.Due.{is_before};
-ghost use Rattle.coap_exchange.specs.Roll.{empty_roll, is_in, is_pair, one_of, AreRising, IsLeast, IsNextOf, IsOwnerIn, IsPassed, Pair};
+ghost use Rattle.coap_exchange.specs.Roll.{empty_roll, is_in, is_pair, one_of, AreRising, is_some_pair, IsFirstAfter, IsLeast, IsNextOf, IsOwnerIn, IsPassed, IsReplaced, Pair};
 
 use crate::due::is_before;
 use coap_message::OutOfMemory;
 use std::alloc::Global;
+use std::collections::VecDeque;
 use std::marker::Model;
 
 /// Pairs of an owner and a number, each of them at most once, in rising order. Room for all pairs
-/// is made at the start, and nothing wants memory after that.
+/// is made at the start, or by `make_room`, and nothing else takes memory. A change moves the pairs
+/// before it or those behind it, whichever are fewer.
 #[derive(Drop)]
 pub(crate) struct Roll {
-    pairs: Vec<(u64, u64)>,
+    pairs: VecDeque<(u64, u64)>,
     limit: usize,
 }
 
 impl Model for Roll {
-    ghost use Rattle.std.specs.Prelude.{◌≤◌, vec_capacity};
+    ghost use Rattle.std.specs.Prelude.{◌≡◌, ◌≤◌, length};
+    ghost use Rattle.std.specs.VecDeque.{deque_capacity, deque_len};
     ghost use Rattle.coap_exchange.specs.Roll.{AreRising, Roll};
 
     ghost Value = { Roll };
 
     ghost view = { λ r. record { pairs = r.pairs.items; limit = r.limit } };
 
-    ghost invariant = { λ r. AreRising r.pairs.items × (r.limit ≤ vec_capacity r.pairs) };
+    ghost invariant = { λ r.
+        AreRising r.pairs.items
+        × (r.limit ≤ deque_capacity r.pairs)
+        × (deque_len r.pairs ≡ length r.pairs.items) };
 }
 
 impl Roll {
@@ -35,7 +42,7 @@ impl Roll {
         ensures empty { IfOk result (λ roll. roll ≡ empty_roll limit) }
     {
         Ok(Roll {
-            pairs: Vec::with_capacity(alloc, limit)?,
+            pairs: VecDeque::with_capacity(alloc, limit)?,
             limit,
         })
     }
@@ -44,7 +51,7 @@ impl Roll {
     pub(crate) fn first(&self) -> Option<(u64, u64)>
         ensures exact { IsLeast self.now.pairs result }
     {
-        match self.pairs.first() {
+        match self.pairs.front() {
             Some(pair) => Some(*pair),
             None => None,
         }
@@ -54,12 +61,58 @@ impl Roll {
     pub(crate) fn next_of(&self, owner: u64, after: u64) -> Option<u64>
         ensures exact { IsNextOf owner after self.now.pairs result }
     {
-        let place = place_after(&self.pairs, (owner, after));
+        let pair = self.after((owner, after))?;
+        if pair.0 == owner { Some(pair.1) } else { None }
+    }
+
+    /// The first pair after this one.
+    pub(crate) fn after(&self, pair: (u64, u64)) -> Option<(u64, u64)>
+        ensures exact { IsFirstAfter pair self.now.pairs result }
+    {
+        let place = place_after(&self.pairs, pair);
         if place == self.pairs.len() {
             return None;
         }
-        let pair = self.pairs[place];
-        if pair.0 == owner { Some(pair.1) } else { None }
+        Some(self.pairs[place])
+    }
+
+    /// Makes room for one pair more than there are, unless there is.
+    ///
+    /// # Errors
+    /// Out of memory. Nothing is changed then.
+    pub(crate) fn make_room(&mut self) -> Result<(), OutOfMemory>
+        ensures ok { OnOk result (self.new.pairs ≡ self.old.pairs) }
+        ensures room { OnOk result (length self.new.pairs < self.new.limit) }
+        ensures err { OnErr result (self.new ≡ self.old) }
+    {
+        let len = self.pairs.len();
+        if len < self.limit {
+            return Ok(());
+        }
+        self.pairs.reserve(1)?;
+        self.limit = len + 1;
+        Ok(())
+    }
+
+    /// Where the one pair stands, if any, the other stands from now on, if any. There is room for
+    /// that.
+    pub(crate) fn replace(&mut self, was: Option<(u64, u64)>, is: Option<(u64, u64)>)
+        requires there { IfSome was (λ p. is_in p self.old.pairs ≡ true) }
+        requires free { IfSome is (λ p. is_in p self.old.pairs ≡ true → was ≡ Some p) }
+        requires room { length self.old.pairs + one_of is ≤ self.old.limit + one_of was }
+        ensures limit { self.new.limit ≡ self.old.limit }
+        ensures length { length self.new.pairs + one_of was ≡ length self.old.pairs + one_of is }
+        ensures replaced { IsReplaced self.old.pairs self.new.pairs was is }
+    {
+        if was == is {
+            return;
+        }
+        if let Some((owner, number)) = was {
+            self.take(owner, number);
+        }
+        if let Some((owner, number)) = is {
+            self.put(owner, number);
+        }
     }
 
     /// The number, which was this owner's, if any, comes to be another's, if any. There is room
@@ -126,11 +179,12 @@ impl Roll {
 }
 
 /// The place of the first pair after this one.
-fn place_after(pairs: &[(u64, u64)], pair: (u64, u64)) -> usize
-    requires { AreRising pairs.now }
-    ensures within { result ≤ length pairs.now }
-    ensures below { AllByRecursion (λ p. is_before pair p ≡ false) (take result pairs.now) }
-    ensures above { AllByRecursion (λ p. is_before pair p ≡ true) (drop result pairs.now) }
+fn place_after(pairs: &VecDeque<(u64, u64)>, pair: (u64, u64)) -> usize
+    requires rising { AreRising pairs.now.items }
+    requires len { deque_len pairs.now ≡ length pairs.now.items }
+    ensures within { result ≤ length pairs.now.items }
+    ensures below { AllByRecursion (λ p. is_before pair p ≡ false) (take result pairs.now.items) }
+    ensures above { AllByRecursion (λ p. is_before pair p ≡ true) (drop result pairs.now.items) }
 {
     let mut low = 0;
     let mut high = pairs.len();

@@ -10,7 +10,7 @@ ghost use Rattle.coap_forward.specs.Answers.{is_storable, without_observe, taken
 use coap_message::{
     Code, Datagram, Head, Kind, Message, MessageRef, OptionList, Options, OutOfMemory, Seq, Token,
 };
-use coap_option::{max_age, numbers, screen_response};
+use coap_option::{max_age, numbers, screen_response_ref};
 use coap_store::{Answer, Stored, put_aged, tells_age};
 use coap_validation::{RenewError, renewed};
 use std::alloc::Global;
@@ -52,7 +52,7 @@ fn without_observe(alloc: Global, options: &Options<'_>) -> Result<OptionList, O
 fn validates(to_get: bool, response: &MessageRef<'_>) -> bool
     ensures { result ≡ validates to_get response.now }
 {
-    to_get && response.code == Code::VALID
+    to_get && response.code() == Code::VALID
 }
 
 /// A copy of what is taken of a response: Observe is taken off (RFC 7641, 2), and of one that
@@ -63,14 +63,14 @@ fn taken_of(alloc: Global, to_get: bool, response: &MessageRef<'_>) -> Result<Me
     let payload = if validates(to_get, response) {
         &[]
     } else {
-        response.payload
+        response.payload()
     };
     Ok(Message {
-        kind: response.kind,
-        code: response.code,
-        id: response.id,
-        token: response.token,
-        options: without_observe(alloc, &response.options)?,
+        kind: response.kind(),
+        code: response.code(),
+        id: response.id(),
+        token: Token::new(response.token()),
+        options: without_observe(alloc, &response.option_list())?,
         payload: Seq::from_slice(alloc, payload)?,
     })
 }
@@ -175,7 +175,7 @@ fn validated(
     let Some(stored) = copy else {
         return Ok(bad_gateway(alloc, now));
     };
-    match renewed(alloc, stored, &valid.lent()) {
+    match renewed(alloc, stored, valid) {
         Ok(message) => Ok(answer_if_fits(alloc, most, now, message, out)),
         Err(RenewError::WrongTag) => Ok(bad_gateway(alloc, now)),
         Err(RenewError::OutOfMemory) => Err(OutOfMemory),
@@ -187,7 +187,7 @@ fn validated(
 /// tag the request carried (RFC 7252, 5.6.2). Everything else gives 5.02; a Reset takes no memory.
 ///
 /// # Errors
-/// Want of memory.
+/// Out of memory.
 #[tactic(auto, unfolding(crate::specs::Answers::answer_of))]
 pub fn answer_of(
     alloc: Global,
@@ -206,7 +206,7 @@ pub fn answer_of(
     ensures kept { out.new.room ≡ out.old.room }
     ensures reset { response.now.kind ≡ Kind.Rst → IsOk result }
 {
-    if response.kind == Kind::Rst || screen_response(response).is_err() {
+    if response.kind() == Kind::Rst || screen_response_ref(response).is_err() {
         return Ok(bad_gateway(alloc, now));
     }
     let valid = validates(to_get, response);
@@ -229,7 +229,7 @@ fn left_of(now: u64, answer: &Answer) -> u64
     ensures { result ≡ left_of now answer.now }
 {
     let age = now.saturating_sub(answer.got);
-    u64::from(max_age(&answer.message.lent())).saturating_sub(age.div_ceil(1000))
+    u64::from(max_age(&answer.message)).saturating_sub(age.div_ceil(1000))
 }
 
 /// That is told of what an origin answered to a GET, and not of other answers.
@@ -248,5 +248,5 @@ pub(crate) fn left_told(to_get: bool, now: u64, answer: &Answer) -> Option<u64>
 pub fn is_storable(answer: &Answer) -> bool
     ensures { result ≡ is_storable answer.now }
 {
-    !answer.own && tells_age(answer.message.code) && max_age(&answer.message.lent()) > 0
+    !answer.own && tells_age(answer.message.code) && max_age(&answer.message) > 0
 }

@@ -27,7 +27,7 @@ fn values_at(alloc: Global, response: &MessageRef<'_>, number: u16) -> Result<Pi
     ensures err { OnErr result (values_at number response.now ≢ []) }
 {
     let mut values = Pieces::new(alloc);
-    for option in response.options.iter() {
+    for option in response.options() {
         let length = option.value.len();
         if option.number == number && recognised(Side::Response, number, length, 0) {
             values.push(option.value)?;
@@ -60,7 +60,7 @@ fn located(target: &Target, path: Pieces, query: Pieces) -> Result<Target, OutOf
 /// 7252, 5.8.2 and 5.10.7). Where there is none, it takes no memory.
 ///
 /// # Errors
-/// Want of memory.
+/// Out of memory.
 pub fn created_by(
     alloc: Global,
     target: &Target,
@@ -71,7 +71,7 @@ pub fn created_by(
         (λ other. created_by target.now response.now ≡ other ∷ [])) }
     ensures err { OnErr result (created_by target.now response.now ≢ []) }
 {
-    if response.code != Code::CREATED {
+    if response.code() != Code::CREATED {
         return Ok(None);
     }
     let path = values_at(alloc, response, numbers::LOCATION_PATH)?;

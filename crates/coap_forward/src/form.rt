@@ -106,8 +106,8 @@ fn put_others(
     ensures in_order { AreOptions 0 request.now.options }
 {
     let mut last = before;
-    for option in request.options.iter() {
-        if gap.has(option.number) && goes_on(request.code, option) {
+    for option in request.options() {
+        if gap.has(option.number) && goes_on(request.code(), option) {
             put_option(out, room, last, option.number, option.value)?;
             last = option.number;
         }
@@ -202,8 +202,9 @@ fn put_form_options(
 fn payload_sent<'a>(request: &MessageRef<'a>) -> &'a [u8]
     ensures { result.now ≡ payload_sent request.now }
 {
-    if request.code == Code::POST || request.code == Code::PUT {
-        request.payload
+    let code = request.code();
+    if code == Code::POST || code == Code::PUT {
+        request.payload()
     } else {
         &[]
     }
@@ -238,7 +239,7 @@ pub fn put_forwarded(
 {
     let head = Head {
         kind: Kind::Con,
-        code: request.code,
+        code: request.code(),
         id: 0,
     };
     put_head(out, room, head, token)?;
@@ -265,7 +266,7 @@ pub fn tag_to_send<'a>(
     ensures short { IfSome result (λ tag. length tag.now ≤ 8) }
     ensures kept { out.new.room ≡ out.old.room }
 {
-    if request.code != Code::GET || response.code != Code::CONTENT {
+    if request.code() != Code::GET || response.code != Code::CONTENT {
         return None;
     }
     let tag = tag_of(&response.options.lent())?;

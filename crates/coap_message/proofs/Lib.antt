@@ -13,3 +13,4 @@ pub mod OneForm
 pub mod OptionSpellings
 pub mod Splitting
 pub mod PieceSpellings
+pub mod Runs

@@ -1,13 +1,13 @@
 -- One option: what is read is spelled so, and what is spelled so is read.
 use Rattle.std.proofs.Common.{◌≡◌, ℕ, ◌+◌, ◌*◌, ◌/◌, ◌%◌, ◌<◌, ◌≤◌, Bool, true, false, cond, ltb, List, [], ◌∷◌, ◌++◌, length, take, drop, Option, Some, None, refl, sym, ap, subst, ◌∙◌, append_assoc, arith}
 use Rattle.std.specs.Prelude.{◌||◌}
-use Rattle.std.proofs.lemmas.Bool.{ltb-false, le-ltb}
+use Rattle.std.proofs.lemmas.Bool.{ltb-false, lt-ltb, le-ltb}
 use Rattle.std.proofs.lemmas.List.{take-append-drop, length-append, length-take, take_at, drop_at}
 use Rattle.std.proofs.lemmas.Option.{same_Some}
 use Rattle.coap_message.specs.declared.options.Opt.{Opt}
 use Rattle.coap_message.specs.Uint.{IsBytes}
 use Rattle.coap_message.specs.Spelling.{Extends, SpellsOption}
-use Rattle.coap_message.specs.Reading.{◌>>=◌, extended, option_at}
+use Rattle.coap_message.specs.Reading.{◌>>=◌, extended, option_at, option_cut}
 use Rattle.coap_message.proofs.Extensions.{IsBytes-left, IsBytes-right, extended_is, extended_again, Extends-bits, Extends-within}
 
 -- the value of a step that gave one
@@ -84,3 +84,9 @@ option_again before front o rest small s =
     let long : ltb (length (o.value ++ rest)) (length o.value) ≡ false = le-ltb _ _ (omega (arith, length-append o.value rest)) in
     ap (λ (t : List ℕ). option_at before (t ++ rest)) s.bytes_are
     ∙ rw (grouped, high, low, extended_again s.delta_bits s.delta_more s.delta (s.length_more ++ (o.value ++ rest)) s.delta_is, extended_again s.length_bits s.length_more (length o.value) (o.value ++ rest) s.length_is, fits, long, take_at o.value rest (length o.value) refl, drop_at o.value rest (length o.value) refl, ← s.number) refl
+
+-- an option that extends neither its delta nor its length
+pub option_short : (before first : ℕ) (rest : List ℕ) (delta len : ℕ) → delta ≡ first / 16 → len ≡ first % 16 → delta < 13 → len < 13 → option_at before (first ∷ rest) ≡ option_cut before delta len rest
+unfolding option_at extended
+option_short before first rest delta len is_delta is_len short_delta short_len =
+    rw (← is_delta, ← is_len, lt-ltb delta 13 short_delta, lt-ltb len 13 short_len) refl

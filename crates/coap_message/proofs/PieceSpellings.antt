@@ -109,6 +109,25 @@ pushed bytes p s =
     let more : pieces_spelling (ps ++ p ∷ []) ≡ bytes ++ (length_spelling (length p) ++ p) = spelling-push ps p ∙ ap (λ (l : List ℕ). l ++ (length_spelling (length p) ++ p)) (sym s.bytes_are) in
     record { read = ap pieces_of (sym more) ∙ pieces_of-spelling (ps ++ p ∷ []); spelled = subst SpellPieces more (spelling-spells (ps ++ p ∷ [])) }
 
+-- pieces in two parts are spelled one part after the other
+pub pieces_spelling-append : (ps qs : List (List ℕ)) → pieces_spelling (ps ++ qs) ≡ pieces_spelling ps ++ pieces_spelling qs
+pieces_spelling-append [] qs = refl
+pieces_spelling-append (p ∷ ps) qs =
+    ap (λ (l : List ℕ). length_spelling (length p) ++ (p ++ l)) (pieces_spelling-append ps qs)
+    ∙ ap (λ (l : List ℕ). length_spelling (length p) ++ l) (sym (append_assoc p (pieces_spelling ps) (pieces_spelling qs)))
+    ∙ sym (append_assoc (length_spelling (length p)) (p ++ pieces_spelling ps) (pieces_spelling qs))
+
+-- the bytes with more pieces
+pub record Appended (bytes more : List ℕ) : Type 0 where
+  pub read : pieces_of (bytes ++ more) ≡ pieces_of bytes ++ pieces_of more
+  pub spelled : SpellPieces (bytes ++ more)
+
+-- pieces are added after the others
+pub appended : (bytes more : List ℕ) → SpellPieces bytes → SpellPieces more → Appended bytes more
+appended bytes more s t =
+    let all : pieces_spelling (pieces_of bytes ++ pieces_of more) ≡ bytes ++ more = pieces_spelling-append (pieces_of bytes) (pieces_of more) ∙ ap (λ (l : List ℕ). l ++ pieces_spelling (pieces_of more)) (sym s.bytes_are) ∙ ap (λ (l : List ℕ). bytes ++ l) (sym t.bytes_are) in
+    record { read = ap pieces_of (sym all) ∙ pieces_of-spelling (pieces_of bytes ++ pieces_of more); spelled = subst SpellPieces all (spelling-spells (pieces_of bytes ++ pieces_of more)) }
+
 -- no bytes spell no pieces
 pub none_spelled : SpellPieces []
 none_spelled = spelling-spells []

@@ -7,8 +7,8 @@ use Rattle.std.proofs.lemmas.List.{take-append-drop, length-append, length-take,
 use Rattle.std.proofs.lemmas.Option.{same_Some}
 use Rattle.coap_message.specs.declared.kind.Kind.{Kind}
 use Rattle.coap_message.specs.declared.kind.Kind.TheVariants.{Con, Non, Ack, Rst}
-use Rattle.coap_message.specs.declared.error.ReadError.{ReadError}
-use Rattle.coap_message.specs.declared.error.ReadError.TheVariants as unread
+use Rattle.coap_message.specs.declared.error.DecodeError.{DecodeError}
+use Rattle.coap_message.specs.declared.error.DecodeError.TheVariants as errors
 use Rattle.coap_message.specs.declared.message.Head.{Head}
 use Rattle.coap_message.specs.declared.options.Opt.{Opt}
 use Rattle.coap_message.specs.Kind.{kind_number, kind_of}
@@ -140,7 +140,7 @@ with_header_is head None m e = absurd cc
 with_header_is head (Some body) m e = (body, refl, cc)
 
 -- a message that is read has version 1
-version_is : (b : Bool) (r : Result Message ReadError) (m : Message) → cond b r (Err unread.Version) ≡ Ok m → (b ≡ true) × (r ≡ Ok m)
+version_is : (b : Bool) (r : Result Message DecodeError) (m : Message) → cond b r (Err errors.Version) ≡ Ok m → (b ≡ true) × (r ≡ Ok m)
 version_is true r m e = (refl, e)
 version_is false r m e = absurd cc
 

@@ -15,3 +15,4 @@ pub mod OptRef
 pub mod SameOptions
 pub mod LentMessage
 pub mod Pieces
+pub mod ShortRun

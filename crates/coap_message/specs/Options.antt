@@ -1,5 +1,5 @@
 -- Lists of options (RFC 7252, 3.1).
-use Rattle.std.specs.Prelude.{ℕ, ◌<◌, ◌≤◌, List, [], ◌∷◌, length}
+use Rattle.std.specs.Prelude.{ℕ, ◌<◌, ◌≤◌, ◌==◌, nat_lt, if◌then◌else◌, List, [], ◌∷◌, length, map, filter}
 use Rattle.coap_message.specs.declared.options.Opt.{Opt}
 
 -- an option of this number, with this value
@@ -17,3 +17,12 @@ AreOptions before (o ∷ os) =
 abbrev pub last_number : ℕ → List Opt → ℕ
 last_number before [] = before
 last_number before (o ∷ os) = last_number o.number os
+
+-- the options from the first on whose number is not below
+abbrev pub from_number : ℕ → List Opt → List Opt
+from_number number [] = []
+from_number number (o ∷ os) = if nat_lt o.number number then from_number number os else o ∷ os
+
+-- the values of the options of a number, in order
+abbrev pub values_of : ℕ → List Opt → List (List ℕ)
+values_of number options = map (λ o. o.value) (filter (λ o. o.number == number) options)

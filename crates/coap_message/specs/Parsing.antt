@@ -9,4 +9,4 @@ abbrev pub parsed : Parsed → Opt × List ℕ
 parsed p = (record { number = p.number; value = p.value.now }, p.rest.now)
 
 abbrev pub body_of : BodyRef → Body
-body_of c = record { token = c.token; options = c.options; payload = c.payload.now }
+body_of c = record { token = c.token.now; options = c.options; payload = c.payload.now }

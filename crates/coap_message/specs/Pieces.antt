@@ -4,7 +4,7 @@ use Rattle.std.specs.Option.{option_map_or}
 use Rattle.std.specs.Bool.{Decides}
 use Rattle.std.specs.Cmp.{unsigned_Decides}
 use Rattle.std.specs.Cmp.Lexicographic.{pointwise, pointwise_decides}
-use Rattle.std.specs.Hash.{Alike, same_Alike, slice, u8}
+use Rattle.std.specs.Hash.{HashWrites, Alike, same_Alike}
 
 -- a length: a byte 255 for each 255 in it, and what is left
 abbrev pub length_spelling : ℕ → List ℕ
@@ -43,9 +43,9 @@ pub record SpellPieces (bytes : List ℕ) : Type 0 where
 abbrev pub same_pieces : List (List ℕ) → List (List ℕ) → Bool
 same_pieces = pointwise (pointwise ◌==◌)
 
--- what is hashed of pieces: their bytes
-abbrev pub fed_pieces : List (List ℕ) → List (List ℕ)
-fed_pieces ps = slice u8 (pieces_spelling ps)
+-- what is hashed of pieces: their bytes, in one write
+abbrev pub fed_pieces : List (List ℕ) → HashWrites
+fed_pieces ps = pieces_spelling ps ∷ []
 
 -- the test says whether two lists are one
 pub same_pieces-Decides : (a b : List (List ℕ)) → Decides (same_pieces a b) (a ≡ b)

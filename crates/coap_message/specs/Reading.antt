@@ -2,8 +2,6 @@
 use Rattle.std.specs.Prelude.{◌≡◌, ℕ, zero, suc, ◌+◌, ◌*◌, ◌/◌, ◌%◌, ◌==◌, ◌||◌, nat_lt, if◌then◌else◌, List, [], ◌∷◌, length, take, drop, Option, Some, None, option_map, Bool, false, not, Result, Ok, Err, IsOk}
 use Rattle.coap_message.specs.declared.error.DecodeError.{DecodeError}
 use Rattle.coap_message.specs.declared.error.DecodeError.TheVariants as errors
-use Rattle.coap_message.specs.declared.error.ReadError.{ReadError}
-use Rattle.coap_message.specs.declared.error.ReadError.TheVariants as unread
 use Rattle.coap_message.specs.declared.message.Head.{Head}
 use Rattle.coap_message.specs.declared.options.Opt.{Opt}
 use Rattle.coap_message.specs.Kind.{kind_of}
@@ -33,15 +31,24 @@ extended bits bytes =
     then Some (bits, bytes)
     else (if bits == 13 then one_more bytes else (if bits == 14 then two_more bytes else None))
 
+-- the option of this delta whose value is the next so many bytes, and what stands after it
+abbrev pub option_cut : ℕ → ℕ → ℕ → List ℕ → Option (Opt × List ℕ)
+option_cut before delta len bytes =
+    if nat_lt 65535 (before + delta) || nat_lt (length bytes) len
+    then None
+    else Some (record { number = before + delta; value = take len bytes }, drop len bytes)
+
+-- the option of these four bits for its delta, and these for its length
+abbrev pub option_behind : ℕ → ℕ → ℕ → List ℕ → Option (Opt × List ℕ)
+option_behind before delta_bits length_bits bytes = do
+  delta ← extended delta_bits bytes
+  len ← extended length_bits delta.1
+  option_cut before delta.0 len.0 len.1
+
 -- the option after one of the number `before`, and what stands after it
 unfoldable pub option_at : ℕ → List ℕ → Option (Opt × List ℕ)
 option_at before [] = None
-option_at before (first ∷ rest) = do
-  delta ← extended (first / 16) rest
-  len ← extended (first % 16) delta.1
-  if nat_lt 65535 (before + delta.0) || nat_lt (length len.1) len.0
-      then None
-      else Some (record { number = before + delta.0; value = take len.0 len.1 }, drop len.0 len.1)
+option_at before (first ∷ rest) = option_behind before (first / 16) (first % 16) rest
 
 -- whether an option stands here: neither the end nor the payload marker
 abbrev pub begins_option : List ℕ → Bool
@@ -107,17 +114,17 @@ head_from first code high low =
     }
 
 -- the message of a header and what was read after it
-abbrev pub with_header : Head → Option Body → Result Message ReadError
-with_header head None = Err unread.Format
+abbrev pub with_header : Head → Option Body → Result Message DecodeError
+with_header head None = Err errors.Format
 with_header head (Some body) = Ok (message_of head body.token body.options body.payload)
 
 -- the message that the bytes spell, or why there is none
-unfoldable pub read_message : List ℕ → Result Message ReadError
+unfoldable pub read_message : List ℕ → Result Message DecodeError
 read_message (first ∷ code ∷ high ∷ low ∷ rest) =
     if first / 64 == 1
     then with_header (head_from first code high low) (body_behind code (first % 16) rest)
-    else Err unread.Version
-read_message _ = Err unread.Short
+    else Err errors.Version
+read_message _ = Err errors.Short
 
 -- the same, where the version is 1
 abbrev pub header_at : ℕ → ℕ → ℕ → ℕ → Option Head
@@ -129,16 +136,10 @@ abbrev pub head_at : List ℕ → Option Head
 head_at (first ∷ code ∷ high ∷ low ∷ rest) = header_at first code high low
 head_at _ = None
 
--- a refusal, as a decoder tells it
-abbrev pub decode_error : ReadError → DecodeError
-decode_error unread.Short = errors.Short
-decode_error unread.Version = errors.Version
-decode_error unread.Format = errors.Format
-
 -- What a decoder gave is what reading gives, and memory is missed only by what can be read.
-abbrev pub Decodes : Result Message DecodeError → Result Message ReadError → Type 0
+abbrev pub Decodes : Result Message DecodeError → Result Message DecodeError → Type 0
 Decodes (Ok m) read = read ≡ Ok m
 Decodes (Err errors.OutOfMemory) read = IsOk read
-Decodes (Err errors.Short) read = read ≡ Err unread.Short
-Decodes (Err errors.Version) read = read ≡ Err unread.Version
-Decodes (Err errors.Format) read = read ≡ Err unread.Format
+Decodes (Err errors.Short) read = read ≡ Err errors.Short
+Decodes (Err errors.Version) read = read ≡ Err errors.Version
+Decodes (Err errors.Format) read = read ≡ Err errors.Format

@@ -1,9 +1,9 @@
 -- When options are the same.
-use Rattle.std.specs.Prelude.{◌≡◌, ◌==◌, ℕ, Bool, List, refl}
+use Rattle.std.specs.Prelude.{◌≡◌, ◌==◌, ℕ, Bool, List, [], ◌∷◌, refl}
 use Rattle.std.specs.Bool.{Decides}
 use Rattle.std.specs.Cmp.{first_so, second_so, unsigned_Decides}
 use Rattle.std.specs.Cmp.Lexicographic.{pointwise, pointwise_decides}
-use Rattle.std.specs.Hash.{Alike, same_Alike, slice, u8}
+use Rattle.std.specs.Hash.{HashWrites, Alike, same_Alike}
 use Rattle.std.specs.Ordering.{on, eq_of_both}
 use Rattle.coap_message.specs.declared.options.Opt.{Opt}
 use Rattle.coap_message.specs.Options.{option_of}
@@ -17,9 +17,9 @@ same_option = eq_of_both (on (λ o. o.number) ◌==◌) (on (λ o. o.value) (poi
 abbrev pub same_options : List Opt → List Opt → Bool
 same_options = pointwise same_option
 
--- what is hashed of options: their bytes
-abbrev pub fed_options : List Opt → List (List ℕ)
-fed_options os = slice u8 (options_spelling 0 os)
+-- what is hashed of options: their bytes, in one write
+abbrev pub fed_options : List Opt → HashWrites
+fed_options os = options_spelling 0 os ∷ []
 
 -- options of one number and one value are one
 both : {m n : ℕ} {v w : List ℕ} → m ≡ n → v ≡ w → option_of m v ≡ option_of n w

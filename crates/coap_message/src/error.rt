@@ -1,7 +1,6 @@
 //! What can go wrong.
 ghost use Rattle.std.specs.Prelude.{◌≡◌};
 ghost use Rattle.coap_message.specs.declared.error.DecodeError.TheVariants as errors;
-ghost use Rattle.coap_message.specs.Reading.{decode_error};
 
 use std::alloc::{AllocError, AllocFailed};
 use thiserror::Error;
@@ -23,21 +22,7 @@ impl<T: Drop> From<AllocFailed<T>> for OutOfMemory {
     }
 }
 
-/// Why no message is read in bytes. The first that applies, in this order.
-#[derive(Clone, Copy, Debug, PartialEq, Eq, Error)]
-pub enum ReadError {
-    /// Fewer than four bytes.
-    #[error("fewer than four bytes")]
-    Short,
-    /// The version is not 1 (RFC 7252, 3).
-    #[error("a version other than 1")]
-    Version,
-    /// No message is spelled so.
-    #[error("a message format error")]
-    Format,
-}
-
-/// Why bytes were not read as a message of its own. The first that applies, in this order.
+/// Why bytes were not read as a message. The first that applies, in this order.
 #[derive(Clone, Copy, Debug, PartialEq, Eq, Error)]
 pub enum DecodeError {
     /// Fewer than four bytes.
@@ -49,21 +34,9 @@ pub enum DecodeError {
     /// No message is spelled so.
     #[error("a message format error")]
     Format,
-    /// The bytes spell a message, and the allocator had no memory for it.
+    /// The bytes spell a message, and the allocator had no memory for a copy of it.
     #[error("out of memory")]
     OutOfMemory,
-}
-
-impl From<ReadError> for DecodeError {
-    ghost from_gives = { λ refused e. e ≡ decode_error refused };
-
-    fn from(refused: ReadError) -> DecodeError {
-        match refused {
-            ReadError::Short => DecodeError::Short,
-            ReadError::Version => DecodeError::Version,
-            ReadError::Format => DecodeError::Format,
-        }
-    }
 }
 
 impl From<OutOfMemory> for DecodeError {

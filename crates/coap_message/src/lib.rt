@@ -18,7 +18,7 @@ mod writing;
 
 pub use code::Code;
 pub use datagram::Datagram;
-pub use error::{DecodeError, Full, OutOfMemory, ReadError};
+pub use error::{DecodeError, Full, OutOfMemory};
 pub use integers::{uint, uint_bytes, without_zeros};
 pub use kind::Kind;
 pub use message::{Head, Message, MessageRef};

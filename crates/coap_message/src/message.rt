@@ -1,11 +1,12 @@
 //! Messages (RFC 7252, 3).
-ghost use Rattle.std.specs.Prelude.{◌≡◌, IfOk};
+ghost use Rattle.std.specs.Prelude.{◌≡◌, ◌<◌, ◌≤◌, ◌^◌, length, IfOk};
+ghost use Rattle.coap_message.specs.Options.{AreOptions};
 
 use crate::code::Code;
 use crate::error::OutOfMemory;
 use crate::kind::Kind;
 use crate::option_list::OptionList;
-use crate::options::Options;
+use crate::options::{OptRefs, Options};
 use crate::seq::Seq;
 use crate::token::Token;
 use std::alloc::Global;
@@ -58,16 +59,16 @@ pub struct Head {
     pub id: u16,
 }
 
-/// A message whose options and payload are lent, as they stand in a datagram. A contract sees the
-/// message.
+/// A message whose token, options and payload are lent, as they stand in a datagram. A contract
+/// sees the message.
 #[derive(Drop)]
 pub struct MessageRef<'a> {
-    pub kind: Kind,
-    pub code: Code,
-    pub id: u16,
-    pub token: Token,
-    pub options: Options<'a>,
-    pub payload: &'a [u8],
+    pub(crate) kind: Kind,
+    pub(crate) code: Code,
+    pub(crate) id: u16,
+    pub(crate) token: &'a [u8],
+    pub(crate) options: Options<'a>,
+    pub(crate) payload: &'a [u8],
 }
 
 impl<'a> Model for MessageRef<'a> {
@@ -79,10 +80,68 @@ impl<'a> Model for MessageRef<'a> {
 
     ghost view = { lent };
 
-    ghost invariant = { λ m. IsBareIfEmpty (lent m) };
+    ghost use Rattle.std.specs.Prelude.{◌≤◌, length};
+
+    ghost invariant = { λ m. IsBareIfEmpty (lent m) × (length m.token.now ≤ 8) };
 }
 
 impl<'a> MessageRef<'a> {
+    ghost use Rattle.coap_message.specs.Message.{IsBareIfEmpty};
+
+    /// The type of the message.
+    pub fn kind(&self) -> Kind
+        ensures { result ≡ self.now.kind }
+    {
+        self.kind
+    }
+
+    /// The code: a method, that of a response, or 0.00 of an Empty message, which has nothing after
+    /// its id (RFC 7252, 3 and 4.1).
+    pub fn code(&self) -> Code
+        ensures exact { result ≡ self.now.code }
+        ensures bare { IsBareIfEmpty self.now }
+    {
+        self.code
+    }
+
+    /// The message id.
+    pub fn id(&self) -> u16
+        ensures { result ≡ self.now.id }
+    {
+        self.id
+    }
+
+    /// The token: at most eight bytes.
+    pub fn token(&self) -> &'a [u8]
+        ensures bytes { result.now ≡ self.now.token }
+        ensures within { length result.now ≤ 8 }
+    {
+        self.token
+    }
+
+    /// The options one by one, in order.
+    pub fn options(&self) -> OptRefs<'a>
+        ensures list { result ≡ self.now.options }
+        ensures in_order { AreOptions 0 self.now.options }
+        ensures few { length self.now.options < 2 ^ 64 }
+    {
+        self.options.iter()
+    }
+
+    /// The options as a list, lent.
+    pub fn option_list(&self) -> Options<'a>
+        ensures { result ≡ self.now.options }
+    {
+        self.options.copied()
+    }
+
+    /// The payload: no bytes where there is none.
+    pub fn payload(&self) -> &'a [u8]
+        ensures { result.now ≡ self.now.payload }
+    {
+        self.payload
+    }
+
     /// A copy of the message. Its options and its payload take a block of memory each, of just
     /// their bytes.
     pub fn to_message(&self, alloc: Global) -> Result<Message, OutOfMemory>
@@ -92,7 +151,7 @@ impl<'a> MessageRef<'a> {
             kind: self.kind,
             code: self.code,
             id: self.id,
-            token: self.token,
+            token: Token::new(self.token),
             options: self.options.to_owned(alloc)?,
             payload: Seq::from_slice(alloc, self.payload)?,
         })
@@ -108,7 +167,7 @@ impl Message {
             kind: self.kind,
             code: self.code,
             id: self.id,
-            token: self.token,
+            token: self.token.as_slice(),
             options: self.options.lent(),
             payload: self.payload.as_slice(),
         }

@@ -1,5 +1,5 @@
 //! Options that are kept, as the bytes that spell them (RFC 7252, 3.1), in one block of memory.
-ghost use Rattle.std.specs.Prelude.{◌≡◌, ◌≤◌, ◌<◌, ◌++◌, ◌∷◌, ◌^◌, [], OnOk, OnErr, length, take};
+ghost use Rattle.std.specs.Prelude.{◌≡◌, ◌≤◌, ◌<◌, ◌++◌, ◌∷◌, ◌^◌, [], OnOk, OnErr, IfOk, length, take};
 ghost use Rattle.coap_message.specs.Spelling.{more_of, option_spelling, options_spelling};
 ghost use Rattle.coap_message.specs.Options.{option_of, AreOptions, last_number};
 ghost use Rattle.std.proofs.Common.{rules};
@@ -43,6 +43,19 @@ impl OptionList {
             bytes: Seq::new(alloc),
             last: 0,
         }
+    }
+
+    /// No options, with room for those that so many bytes spell.
+    ///
+    /// # Errors
+    /// Out of memory.
+    pub fn with_room(alloc: Global, bytes: usize) -> Result<OptionList, OutOfMemory>
+        ensures { IfOk result (λ list. list ≡ []) }
+    {
+        Ok(OptionList {
+            bytes: Seq::with_capacity(alloc, bytes)?,
+            last: 0,
+        })
     }
 
     /// The options, lent.
@@ -135,6 +148,17 @@ fn add_option(
     bytes.push(16 * bits(delta) + bits(len))?;
     add_more(bytes, delta)?;
     add_more(bytes, len)?;
+    add_value(bytes, value)
+}
+
+/// Adds the bytes of a value.
+fn add_value(bytes: &mut Seq<u8>, value: &[u8]) -> Result<(), OutOfMemory>
+    ensures ok { OnOk result (bytes.new ≡ bytes.old ++ value.now) }
+    ensures err { OnErr result (bytes.new ≡ bytes.old) }
+{
+    if value.is_empty() {
+        return Ok(());
+    }
     bytes.append(value)
 }
 
@@ -169,6 +193,6 @@ impl Hash for OptionList {
     ghost respects_eq = { same_options-Alike.fed };
 
     fn hash<H: Hasher>(&self, state: &mut H) {
-        self.bytes.hash(state);
+        state.write(self.bytes.as_slice());
     }
 }

@@ -1,12 +1,14 @@
 //! Options, and lists of them in order (RFC 7252, 3.1), lent as the bytes that spell them.
-ghost use Rattle.std.specs.Prelude.{◌≡◌, ◌<◌, ◌^◌, [], ◌↔◌, IsTrue, IfOk, length, option_map};
+ghost use Rattle.std.specs.Prelude.{◌≡◌, ◌<◌, ◌^◌, ◌++◌, [], ◌↔◌, IsTrue, IfOk, IfSome, OnOk, length, option_map};
 ghost use Rattle.coap_message.specs.Spelling.{options_spelling};
 ghost use Rattle.coap_message.specs.Reading.{options_at};
-ghost use Rattle.coap_message.specs.Options.{AreOptions};
+ghost use Rattle.coap_message.specs.Options.{AreOptions, from_number, values_of};
+ghost use Rattle.coap_message.specs.ShortRun.{ShortRun, ShortPiece};
 
 use crate::error::OutOfMemory;
 use crate::option_list::OptionList;
-use crate::reading::{is_option, read_option, read_payload};
+use crate::pieces::Pieces;
+use crate::reading::{EXTENDED, is_option, read_option, read_payload};
 use crate::seq::Seq;
 use std::alloc::Global;
 use std::marker::Model;
@@ -46,14 +48,56 @@ impl<'a> Model for OptRefs<'a> {
 }
 
 impl<'a> OptRefs<'a> {
-    /// The same ones once more.
-    pub fn again(&self) -> OptRefs<'a>
+    /// A copy, which goes on from the same place.
+    pub fn clone(&self) -> OptRefs<'a>
         ensures { result ≡ self.now }
     {
         OptRefs {
             before: self.before,
             rest: self.rest,
         }
+    }
+
+    /// Those from the first on whose number is not below this one.
+    fn from_number(self, number: u16) -> OptRefs<'a>
+        ensures { result ≡ from_number number self.entry }
+    {
+        let mut before = self.before;
+        let mut rest = self.rest;
+        'below: while let Some(option) = read_option(before, rest) {
+            if option.number >= number {
+                return OptRefs { before, rest };
+            }
+            before = option.number;
+            rest = option.rest;
+        }
+        OptRefs { before, rest }
+    }
+
+    /// Adds copies of the values of the options of a number to a list, in order.
+    ///
+    /// # Errors
+    /// Out of memory. Then some of them may have been added.
+    pub fn append_values(self, number: u16, list: &mut Pieces) -> Result<(), OutOfMemory>
+        ensures { OnOk result (list.new ≡ list.old ++ values_of number self.entry) }
+    {
+        let mut before = self.before;
+        let mut rest = self.rest;
+        'options: while let Some(option) = read_option(before, rest) {
+            if option.number > number {
+                return Ok(());
+            }
+            before = option.number;
+            rest = option.rest;
+            if before < number {
+                continue;
+            }
+            list.push(option.value)?;
+            let (run, behind) = split_run(rest);
+            list.append_spelled(run)?;
+            rest = behind;
+        }
+        Ok(())
     }
 }
 
@@ -67,6 +111,7 @@ impl<'a> Iterator for OptRefs<'a> {
 
     ghost remaining = { item_count (λ left. left) };
 
+    #[inline(always)]
     fn next(&mut self) -> Option<OptRef<'a>> {
         let option = read_option(self.before, self.rest)?;
         self.before = option.number;
@@ -109,8 +154,8 @@ impl<'a> Options<'a> {
         }
     }
 
-    /// The same options, lent once more.
-    pub fn again(&self) -> Options<'a>
+    /// The same options, lent by a copy.
+    pub fn copied(&self) -> Options<'a>
         ensures { result ≡ self.now }
     {
         Options {
@@ -130,6 +175,22 @@ impl<'a> Options<'a> {
             before: 0,
             rest: self.bytes,
         }
+    }
+
+    /// The options one by one, from the first on whose number is not below this one.
+    pub fn iter_from(&self, number: u16) -> OptRefs<'a>
+        ensures list { result ≡ from_number number self.now }
+        ensures in_order { AreOptions 0 self.now }
+        ensures few { length self.now < 2 ^ 64 }
+    {
+        let all = self.iter();
+        if self.last < number {
+            return Options::none().iter();
+        }
+        if number == 0 {
+            return all;
+        }
+        all.from_number(number)
     }
 
     /// The bytes that spell the options.
@@ -174,4 +235,29 @@ pub(crate) fn split_options(bytes: &[u8]) -> Option<(Options<'_>, &[u8])>
         last: before,
     };
     Some((options, payload))
+}
+
+/// What stands after a value of fewer than 13 bytes that has its length in front.
+fn after_short(bytes: &[u8]) -> Option<&[u8]>
+    ensures { IfSome result (λ rest. ShortPiece bytes.now rest.now) }
+{
+    let (len, behind) = bytes.split_first()?;
+    let length = usize::from(*len);
+    if *len >= EXTENDED || behind.len() < length {
+        return None;
+    }
+    let (_value, rest) = behind.split_at(length);
+    Some(rest)
+}
+
+/// The bytes after an option that spell those of its number whose values have fewer than 13 bytes,
+/// as far as they follow one another, and what stands after them.
+fn split_run(bytes: &[u8]) -> (&[u8], &[u8])
+    ensures { ShortRun bytes.now result.0.now result.1.now }
+{
+    let mut rest = bytes;
+    'run: while let Some(behind) = after_short(rest) {
+        rest = behind;
+    }
+    bytes.split_at(bytes.len() - rest.len())
 }

@@ -2,7 +2,7 @@
 ghost use Rattle.std.specs.Prelude.{◌≡◌, ◌<◌, ◌++◌, ◌∷◌, ◌≤◌, ◌^◌, [], ◌↔◌, IsTrue, OnOk, OnErr, IfOk, IfSome, option_map, length, take};
 ghost use Rattle.std.proofs.Common.{rules};
 ghost use Rattle.std.specs.Cmp.Rules.{comparing};
-ghost use Rattle.coap_message.specs.Pieces.{length_at, length_spelling, pieces_spelling, same_pieces, fed_pieces, same_pieces-Alike};
+ghost use Rattle.coap_message.specs.Pieces.{length_at, length_spelling, pieces_of, pieces_spelling, same_pieces, SpellPieces, fed_pieces, same_pieces-Alike};
 
 use crate::error::OutOfMemory;
 use crate::seq::Seq;
@@ -29,8 +29,8 @@ impl<'a> Model for PieceRefs<'a> {
 }
 
 impl<'a> PieceRefs<'a> {
-    /// The same ones once more.
-    pub fn again(&self) -> PieceRefs<'a>
+    /// A copy, which goes on from the same place.
+    pub fn clone(&self) -> PieceRefs<'a>
         ensures { result ≡ self.now }
     {
         PieceRefs { rest: self.rest }
@@ -158,6 +158,24 @@ impl Pieces {
         }
         Ok(())
     }
+
+    /// Adds other pieces after them.
+    pub fn append(&mut self, pieces: &PieceRefs<'_>) -> Result<(), OutOfMemory>
+        ensures ok { OnOk result (self.new ≡ self.old ++ pieces.now) }
+        ensures err { OnErr result (self.new ≡ self.old) }
+    {
+        self.append_spelled(pieces.rest)
+    }
+
+    /// Adds the pieces that bytes spell.
+    pub(crate) fn append_spelled(&mut self, bytes: &[u8]) -> Result<(), OutOfMemory>
+        requires { SpellPieces bytes.now }
+        ensures ok { OnOk result (self.new ≡ self.old ++ pieces_of bytes.now) }
+        ensures err { OnErr result (self.new ≡ self.old) }
+    {
+        self.bytes.append(bytes)?;
+        Ok(())
+    }
 }
 
 /// The length that stands here, and the bytes after it, which are as many at least.
@@ -231,6 +249,6 @@ impl Hash for Pieces {
     ghost respects_eq = { same_pieces-Alike.fed };
 
     fn hash<H: Hasher>(&self, state: &mut H) {
-        self.bytes.hash(state);
+        state.write(self.bytes.as_slice());
     }
 }

@@ -1,12 +1,12 @@
 //! Reading a message from bytes (RFC 7252, 3).
-ghost use Rattle.std.specs.Prelude.{◌≡◌, ◌<◌, ◌≤◌, IfSome, IsSome, IfOk, Some, length, option_map, ◌↔◌, MatchResult, Ok, Err};
+ghost use Rattle.std.specs.Prelude.{◌≡◌, ◌≢◌, ◌<◌, ◌≤◌, IfSome, IsSome, IfOk, Some, length, option_map, ◌↔◌, MatchResult, Ok, Err};
 ghost use Rattle.coap_message.specs.Message.{Message};
 ghost use Rattle.coap_message.specs.Spelling.{Spells, SpellsNone, IsVersionOne};
-ghost use Rattle.coap_message.specs.Reading.{extended, option_at, begins_option, payload_at, options_at, body_at, body_behind, read_message, header_at, head_at, Decodes};
+ghost use Rattle.coap_message.specs.Reading.{extended, option_at, option_behind, option_cut, begins_option, payload_at, options_at, body_at, body_behind, read_message, header_at, head_at, Decodes};
 ghost use Rattle.coap_message.specs.Parsing.{parsed, body_of};
 
 use crate::code::Code;
-use crate::error::{DecodeError, ReadError};
+use crate::error::DecodeError;
 use crate::kind::Kind;
 use crate::message::{Head, Message, MessageRef};
 use crate::options::{Options, split_options};
@@ -15,6 +15,9 @@ use std::alloc::Global;
 
 /// The byte between the options and a payload.
 pub(crate) const PAYLOAD_MARKER: u8 = 0xFF;
+
+/// From here on, four bits say how a delta or a length is extended (RFC 7252, 3.1).
+pub(crate) const EXTENDED: u8 = 13;
 
 /// An option in a datagram, and the bytes after it.
 #[derive(Clone, Copy)]
@@ -27,7 +30,7 @@ pub(crate) struct Parsed<'a> {
 /// What stands after the header of a message.
 #[derive(Drop)]
 struct BodyRef<'a> {
-    token: Token,
+    token: &'a [u8],
     options: Options<'a>,
     payload: &'a [u8],
 }
@@ -45,19 +48,51 @@ fn read_extended(bits: u8, bytes: &[u8]) -> Option<(usize, &[u8])>
     }
 }
 
+/// The option after one of the number `before`, and the bytes after it. Most options extend neither
+/// their delta nor their length, and many have the number `before`: those are read where they are
+/// asked for.
+#[inline(always)]
 #[tactic(auto, unfolding(crate::specs::Reading::option_at))]
 pub(crate) fn read_option(before: u16, bytes: &[u8]) -> Option<Parsed<'_>>
     ensures exact { option_map parsed result ≡ option_at before bytes.now }
     ensures within { IfSome result (λ option. length option.value.now ≤ 65804) }
 {
     let (first, rest) = bytes.split_first()?;
-    let (delta, rest) = read_extended(*first >> 4, rest)?;
-    let (len, rest) = read_extended(*first & 0x0f, rest)?;
+    if *first < EXTENDED {
+        return cut_option(before, 0, usize::from(*first), rest);
+    }
+    let delta = *first >> 4;
+    let len = *first & 0x0f;
+    if delta < EXTENDED && len < EXTENDED {
+        return cut_option(before, usize::from(delta), usize::from(len), rest);
+    }
+    read_long_option(before, delta, len, rest)
+}
+
+/// The option of these bits for the delta and the length, and what stands after it.
+#[inline(never)]
+fn read_long_option(before: u16, delta: u8, len: u8, bytes: &[u8]) -> Option<Parsed<'_>>
+    ensures exact { option_map parsed result ≡ option_behind before delta len bytes.now }
+    ensures within { IfSome result (λ option. length option.value.now ≤ 65804) }
+{
+    let (delta, rest) = read_extended(delta, bytes)?;
+    let (len, rest) = read_extended(len, rest)?;
+    cut_option(before, delta, len, rest)
+}
+
+/// The option of this delta whose value is the next so many bytes.
+#[inline(always)]
+fn cut_option(before: u16, delta: usize, len: usize, bytes: &[u8]) -> Option<Parsed<'_>>
+    requires delta { delta ≤ 65804 }
+    requires len { len ≤ 65804 }
+    ensures exact { option_map parsed result ≡ option_cut before delta len bytes.now }
+    ensures within { IfSome result (λ option. length option.value.now ≤ 65804) }
+{
     let number = usize::from(before) + delta;
-    if number > 65535 || rest.len() < len {
+    if number > 65535 || bytes.len() < len {
         return None;
     }
-    let (value, rest) = rest.split_at(len);
+    let (value, rest) = bytes.split_at(len);
     Some(Parsed {
         number: number as u16,
         value,
@@ -86,7 +121,8 @@ pub(crate) fn read_payload(bytes: &[u8]) -> Option<&[u8]>
 
 #[tactic(auto, unfolding(crate::specs::Reading::body_at))]
 fn read_body(token_length: usize, bytes: &[u8]) -> Option<BodyRef<'_>>
-    ensures { option_map body_of result ≡ body_at token_length bytes.now }
+    ensures exact { option_map body_of result ≡ body_at token_length bytes.now }
+    ensures within { IfSome result (λ body. length body.token.now ≤ 8) }
 {
     if token_length > Token::MOST || bytes.len() < token_length {
         return None;
@@ -94,14 +130,15 @@ fn read_body(token_length: usize, bytes: &[u8]) -> Option<BodyRef<'_>>
     let (token, rest) = bytes.split_at(token_length);
     let (options, payload) = split_options(rest)?;
     Some(BodyRef {
-        token: Token::new(token),
+        token,
         options,
         payload,
     })
 }
 
 fn read_content(code: Code, token_length: usize, bytes: &[u8]) -> Option<BodyRef<'_>>
-    ensures { option_map body_of result ≡ body_behind code.0 token_length bytes.now }
+    ensures exact { option_map body_of result ≡ body_behind code.0 token_length bytes.now }
+    ensures within { IfSome result (λ body. length body.token.now ≤ 8) }
 {
     if !code.is_empty() {
         return read_body(token_length, bytes);
@@ -110,7 +147,7 @@ fn read_content(code: Code, token_length: usize, bytes: &[u8]) -> Option<BodyRef
         return None;
     }
     Some(BodyRef {
-        token: Token::empty(),
+        token: bytes,
         options: Options::none(),
         payload: bytes,
     })
@@ -122,17 +159,18 @@ impl<'a> MessageRef<'a> {
     ///
     /// # Errors
     /// 1. `Short`: fewer than four bytes. 2. `Version`: a version other than 1. 3. `Format`: no
-    /// message is spelled so.
-    pub fn read(bytes: &'a [u8]) -> Result<MessageRef<'a>, ReadError>
+    /// message is spelled so. It is never `OutOfMemory`.
+    pub fn read(bytes: &'a [u8]) -> Result<MessageRef<'a>, DecodeError>
         // What is read is spelled so, and what is spelled so is read.
         ensures spelled { (m : Message) → (result ≡ Ok m) ↔ Spells bytes.now m }
 
         // Which refusal it is.
-        ensures short { (result ≡ Err ReadError.Short) ↔ (length bytes.now < 4) }
-        ensures version { (result ≡ Err ReadError.Version)
+        ensures short { (result ≡ Err DecodeError.Short) ↔ (length bytes.now < 4) }
+        ensures version { (result ≡ Err DecodeError.Version)
             ↔ ((4 ≤ length bytes.now) × (IsVersionOne bytes.now → ⊥)) }
-        ensures format { (result ≡ Err ReadError.Format)
+        ensures format { (result ≡ Err DecodeError.Format)
             ↔ ((4 ≤ length bytes.now) × IsVersionOne bytes.now × SpellsNone bytes.now) }
+        ensures memory { result ≢ Err DecodeError.OutOfMemory }
 
         // The same by the function that reads.
         ensures exact { result ≡ read_message bytes.now }
@@ -142,17 +180,17 @@ impl<'a> MessageRef<'a> {
 }
 
 #[tactic(auto, unfolding(crate::specs::Reading::read_message))]
-fn read_lent(bytes: &[u8]) -> Result<MessageRef<'_>, ReadError>
+fn read_lent(bytes: &[u8]) -> Result<MessageRef<'_>, DecodeError>
     ensures { result ≡ read_message bytes.now }
 {
     let [first, code, high, low, rest @ ..] = bytes else {
-        return Err(ReadError::Short);
+        return Err(DecodeError::Short);
     };
     let Some(head) = read_header(*first, *code, *high, *low) else {
-        return Err(ReadError::Version);
+        return Err(DecodeError::Version);
     };
     let Some(body) = read_content(head.code, usize::from(*first & 0x0f), rest) else {
-        return Err(ReadError::Format);
+        return Err(DecodeError::Format);
     };
     Ok(MessageRef {
         kind: head.kind,

@@ -1,7 +1,7 @@
 -- Forged deliveries.
 use Rattle.std.proofs.Common.{◌≡◌, inl, inr, ⊎_elim, ℕ, Bool, true, false, List, [], ◌∷◌, Some, None, Result, Ok, Err, refl, sym, ap, ◌∙◌, subst, length, arith}
 use Rattle.std.proofs.lemmas.Option.{same_Some}
-use Rattle.coap_message.specs.declared.error.ReadError.{ReadError}
+use Rattle.coap_message.specs.declared.error.DecodeError.{DecodeError}
 use Rattle.coap_endpoint.specs.declared.endpoint.Endpoint.{Endpoint}
 use Rattle.coap_message.specs.declared.kind.Kind.TheVariants.{Rst}
 use Rattle.coap_message.specs.Message.{Message}
@@ -148,21 +148,21 @@ out_of_turn s =
         ⊎_elim (λ (same : here past opened_too ≡ p). is ∙ sym (ap (λ (q : Place). q.deed.entry.now) same)) (λ (t : IsPlaceOf past p). is ∙ ap (λ (q : Place). q.deed.entry.now) (one_end p s.to_serve.admitted.exchange t e)) at
 
 -- the Max-Age that a message tells
-abbrev told_by : Result Message ReadError → ℕ
+abbrev told_by : Result Message DecodeError → ℕ
 told_by (Ok m) = max_age_of m
 told_by (Err e) = 0
 
 -- the Max-Age that is to be told of an answer
-abbrev owed_by : ℕ → Message → Result Message ReadError → ℕ
+abbrev owed_by : ℕ → Message → Result Message DecodeError → ℕ
 owed_by id request (Ok m) = max_age_of (shown_as request.kind true 2500 (answer_of 1500 true None 0 m) id request.token (tags_of request))
 owed_by id request (Err e) = 0
 
 -- whether a request is a GET, and its tags
-abbrev get_told : Result Message ReadError → Bool
+abbrev get_told : Result Message DecodeError → Bool
 get_told (Ok m) = is_get m.code
 get_told (Err e) = false
 
-abbrev tags_told : Result Message ReadError → List (List ℕ)
+abbrev tags_told : Result Message DecodeError → List (List ℕ)
 tags_told (Ok m) = tags_of m
 tags_told (Err e) = []
 
@@ -206,7 +206,7 @@ another_age s =
 -- ---- the type of the message that was asked in
 
 -- whether a message is Confirmable
-abbrev con_told : Result Message ReadError → Bool
+abbrev con_told : Result Message DecodeError → Bool
 con_told (Ok m) = is_con m.kind
 con_told (Err e) = false
 
@@ -233,7 +233,7 @@ non_for_con s = let e : true ≡ false = kind_asked opened_con (0x40 ∷ 1 ∷ 0
 -- ---- the key that was asked for
 
 -- the segments that a request tells to its origin
-abbrev segments_sent : Result Message ReadError → ℕ
+abbrev segments_sent : Result Message DecodeError → ℕ
 segments_sent (Ok m) = length (key_sent origin m).target.path
 segments_sent (Err e) = 0
 
@@ -243,7 +243,7 @@ segments_of (may_ask key) = length key.target.path
 segments_of (refused_with code) = 0
 
 -- those of the target of a request
-abbrev segments_aimed : Result Message ReadError → ℕ
+abbrev segments_aimed : Result Message DecodeError → ℕ
 segments_aimed (Ok m) = segments_of (verdict_of setting.routes m)
 segments_aimed (Err e) = 0
 
@@ -306,12 +306,12 @@ not_got_yet o =
     o.was_got
 
 -- the sum of a token's bytes
-abbrev token_told : Result Message ReadError → ℕ
+abbrev token_told : Result Message DecodeError → ℕ
 token_told (Ok m) = sum_by (λ b. b) m.token
 token_told (Err e) = 0
 
 -- whether it is a Reset
-abbrev is_reset : Result Message ReadError → Bool
+abbrev is_reset : Result Message DecodeError → Bool
 is_reset (Ok m) = is_rst m.kind
 is_reset (Err e) = false
 

@@ -5,7 +5,7 @@ use Rattle.std.specs.Prelude.{if◌then◌else◌, get_or, ◌&&◌}
 use Rattle.std.proofs.lemmas.List.{length-append}
 use Rattle.std.proofs.lemmas.Bool.{and_parts}
 use Rattle.std.proofs.lemmas.Option.{same_Some}
-use Rattle.coap_message.specs.declared.error.ReadError.{ReadError}
+use Rattle.coap_message.specs.declared.error.DecodeError.{DecodeError}
 use Rattle.coap_message.specs.declared.code.TheConstants.Code.{CONTENT}
 use Rattle.coap_message.specs.Codes.{is_code}
 use Rattle.coap_message.specs.Message.{Message}
@@ -267,7 +267,7 @@ too_late hit =
     absurd (let e = sym fresh ∙ stale in cc)
 
 -- the Max-Age that a message tells
-abbrev age_told : Result Message ReadError → ℕ
+abbrev age_told : Result Message DecodeError → ℕ
 age_told (Ok m) = max_age_of m
 age_told (Err e) = 0
 

@@ -4,7 +4,7 @@ use Rattle.std.specs.Result.{result_ok}
 use Rattle.std.specs.Int.{w64, to_be_bytes}
 use Rattle.std.proofs.lemmas.Bool.{leb-true, le-leb}
 use Rattle.coap_message.specs.declared.code.Code.{Code}
-use Rattle.coap_message.specs.declared.error.ReadError.{ReadError}
+use Rattle.coap_message.specs.declared.error.DecodeError.{DecodeError}
 use Rattle.coap_message.specs.declared.options.Opt.{Opt}
 use Rattle.coap_message.specs.Uint.{IsBytes, without_zeros, uint_spelling}
 use Rattle.coap_message.specs.Options.{AreOptions}
@@ -62,7 +62,7 @@ pub message_in-is : (most : ℕ) (bytes : List ℕ) (m : Message) → IsBytes by
 unfolding message_in
 message_in-is most bytes m fits e = go (leb (length bytes) most) refl e
   where
-    ok : (r : Result Message ReadError) → result_ok r ≡ Some m → r ≡ Ok m
+    ok : (r : Result Message DecodeError) → result_ok r ≡ Some m → r ≡ Ok m
     ok (Ok n) f = let same : n ≡ m = cc in ap Ok same
     ok (Err d) f = absurd cc
 

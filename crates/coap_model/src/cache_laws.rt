@@ -213,7 +213,7 @@ pub fn what_came_so_may_be_stored()
 {}
 
 /// What was obtained and counts no more than may be kept is kept where its key has an entry: only a
-/// key without one can want memory.
+/// key without one can run out of memory.
 pub fn what_takes_a_place_is_kept()
     ensures { (setting : Setting) (past : List Deed) (d : Deed) (cached : List Cached)
         (entry : Cached) (here : IsObtainedHere setting past d)

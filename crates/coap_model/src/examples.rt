@@ -146,7 +146,7 @@ pub fn forms_and_tables()
     ensures due_at_opening { next_due (after proxy (asks_at 5 1 ∷ [])) ≡ Some 5 }
 {}
 
-/// Which steps may want memory, by their outcomes: those that remember a request that is new, keep an
+/// Which steps may run out of memory, by their outcomes: those that remember a request that is new, keep an
 /// answer, or give one to a client in a Confirmable message; and no other.
 pub fn memory()
     ensures ignored { takes_memory Ignored [] ≡ false }

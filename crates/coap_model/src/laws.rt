@@ -152,7 +152,7 @@ pub fn settings_stay()
 
 /// Whether there was memory for one entry more of the store is the one choice of a step that its
 /// event leaves open, and its report tells it: the step is the one of its own report, and only what
-/// wasn't stored for want of memory tells that there was none.
+/// wasn't stored, since memory ran out, tells that there was none.
 pub fn memory_is_told()
     ensures step { (w : World) (now draw : ℕ) (event : Event) (grown : Bool)
         → step_of w now draw (grown_of (step_of w now draw grown event).report.outcome) event

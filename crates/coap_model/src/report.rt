@@ -22,7 +22,7 @@ pub enum Outcome {
     Ignored,
     /// A confirmable message that can't be processed got a Reset (RFC 7252, 4.2).
     Rejected,
-    /// A duplicate got its kept reply again.
+    /// A duplicate: a Confirmable one got its kept reply again, a Non-confirmable one nothing.
     Again,
     /// There was no room for a duplicate record.
     NoRecordRoom,

@@ -1,11 +1,13 @@
 -- The options of a message in places for which a test holds, one after the other.
-use Rattle.std.proofs.Common.{Result, Ok, Err, OnErr, ◌≡◌, ℕ, ◌+◌, ◌-◌, ◌^◌, ◌<◌, ◌≤◌, ◌==◌, cond, Bool, true, false, Option, Some, None, option_map, List, [], ◌∷◌, ◌++◌, length, find, filter, map, refl, sym, subst, ap, ◌∙◌, append_assoc, arith}
+use Rattle.std.proofs.Common.{Result, Ok, Err, OnErr, ◌≡◌, ℕ, ◌+◌, ◌-◌, ◌^◌, ◌<◌, ◌≤◌, ◌==◌, cond, Bool, true, false, Option, Some, None, option_map, List, [], ◌∷◌, ◌++◌, length, find, filter, map, refl, sym, subst, ap, ◌∙◌, append_assoc, arith, ◌⊎◌, inl, inr}
 use Rattle.std.specs.Prelude.{MatchOption}
 use Rattle.coap_message.specs.declared.options.Opt.{Opt}
-use Rattle.coap_message.specs.Options.{AreOptions, last_number}
+use Rattle.coap_message.specs.Options.{AreOptions, from_number, last_number}
+use Rattle.coap_message.proofs.Runs.{from-below, from-here}
+use Rattle.std.proofs.lemmas.Bool.{cases_lt}
 use Rattle.coap_message.proofs.Counting.{last_number-push}
 use Rattle.coap_option.specs.declared.places.Run.{Run}
-use Rattle.coap_option.specs.Passing.{IsAt, before_of, picked_after, places_after, run_behind}
+use Rattle.coap_option.specs.Passing.{HoldsWithin, IsAt, before_of, picked_after, places_after, run_behind}
 use Rattle.coap_option.specs.Places.{PlacedOption}
 use Rattle.coap_option.specs.Selection.{selected}
 use Rattle.coap_option.proofs.Passing.{places-after}
@@ -39,7 +41,7 @@ pub picked-all : (test : PlacedOption → Bool) (options : List Opt) → AreOpti
 picked-all test options are = ap (λ (ps : List PlacedOption). map (λ p. p.option) (filter test ps)) (sym (places-after options are))
 
 -- options in order are so after a lower number
-AreOptions-from : (a b : ℕ) (xs : List Opt) → a ≤ b → AreOptions b xs → AreOptions a xs
+pub AreOptions-from : (a b : ℕ) (xs : List Opt) → a ≤ b → AreOptions b xs → AreOptions a xs
 AreOptions-from a b [] le are = tt
 AreOptions-from a b (x ∷ xs) le are = (omega (arith, le, are.0), are.1, are.2, are.3)
 
@@ -97,3 +99,61 @@ values-selected (p ∷ ps) = ap (λ vs. p.option.value ∷ vs) (values-selected 
 pub on_err : {T E P : Type 0} (r : Result T E) → P → OnErr r P
 on_err (Ok x) holds = tt
 on_err (Err e) holds = holds
+
+-- ---- the numbers of which a test holds
+
+-- no option was passed
+abbrev pub none_passed : Run
+none_passed = record { number = 0; count = 0 }
+
+-- the places that are picked of an option and those behind it
+abbrev picked_with : (PlacedOption → Bool) → Opt → List Opt → ℕ → List Opt
+picked_with test o os before = map (λ p. p.option) (filter test (record { option = o; before = before } ∷ places_after (record { number = o.number; count = before + 1 }) os))
+
+-- where the test fails, it is those behind it
+picked_with-no : (test : PlacedOption → Bool) (o : Opt) (os : List Opt) (before : ℕ) → test (record { option = o; before = before }) ≡ false → picked_with test o os before ≡ picked_after test (record { number = o.number; count = before + 1 }) os
+picked_with-no test o os before fails = rw fails refl
+
+module _ (test : PlacedOption → Bool) (least greatest : ℕ) (within : HoldsWithin test least greatest) where
+  -- it fails of what is outside
+  outside : (p : PlacedOption) → p.option.number < 65536 → (p.option.number < least) ⊎ (greatest < p.option.number) → test p ≡ false
+  outside p small out = go (test p) refl
+    where
+      go : (b : Bool) → test p ≡ b → test p ≡ false
+      go false is = is
+      go true is =
+          let at = within p small is in
+          elim out [ inl below ↦ absurd (omega (arith, at.0)) | inr above ↦ absurd (omega (arith, at.1)) ]
+
+  -- above the greatest number nothing is picked
+  pub picked-past : (b : ℕ) (run : Run) (left : List Opt) → AreOptions b left → greatest < b → picked_after test run left ≡ []
+  picked-past b run [] are past = refl
+  picked-past b run (o ∷ os) are past =
+      picked_with-no test o os (before_of run o) (outside (record { option = o; before = before_of run o }) are.1 (inr (omega (arith, are.0)))) ∙ picked-past o.number (run_behind run o) os are.3 (omega (arith, are.0))
+
+  -- so it is with an option that is above, whether it was passed or not
+  pub picked-ends : (run : Run) (left rest : List Opt) (x : Opt) → left ≡ x ∷ rest → AreOptions run.number left → greatest < x.number → (picked_after test run left ≡ []) × (picked_after test run rest ≡ [])
+  picked-ends run left rest x next are past =
+      let from = subst (AreOptions run.number) next are in
+      (ap (picked_after test run) next ∙ picked-past x.number run (x ∷ rest) (omega arith, from.1, from.2, from.3) past, picked-past x.number run rest from.3 past)
+
+  -- below the least number nothing is picked
+  pub picked-from : (b : ℕ) (run : Run) (left : List Opt) → AreOptions b left → (run.number < least) ⊎ (run.count ≡ 0) → picked_after test run left ≡ picked_after test none_passed (from_number least left)
+  picked-from b run [] are low = refl
+  picked-from b run (o ∷ os) are low = go (λ below. picked-from o.number (run_behind run o) os are.3 (inl below)) (cases_lt o.number least)
+    where
+      here : least ≤ o.number → before_of run o ≡ before_of none_passed o
+      here above = grind arith
+
+      go : (o.number < least → picked_after test (run_behind run o) os ≡ picked_after test none_passed (from_number least os)) → (o.number < least) ⊎ (least ≤ o.number) → picked_after test run (o ∷ os) ≡ picked_after test none_passed (from_number least (o ∷ os))
+      go others (inl below) =
+          picked_with-no test o os (before_of run o) (outside (record { option = o; before = before_of run o }) are.1 (inl below))
+          ∙ others below
+          ∙ ap (picked_after test none_passed) (sym (from-below least o os below))
+      go others (inr above) = ap (picked_with test o os) (here above) ∙ ap (picked_after test none_passed) (sym (from-here least o os above))
+
+-- an option that is passed over leaves the others in order, and few enough
+pub IsAt-ends : (left rest : List Opt) (x : Opt) (run : Run) → left ≡ x ∷ rest → IsAt left run → IsAt rest run
+IsAt-ends left rest x run next at =
+    let are = subst (AreOptions run.number) next at.in_order in
+    record { in_order = AreOptions-from run.number x.number rest are.0 are.3; within = omega (arith, at.within, ap length next) }

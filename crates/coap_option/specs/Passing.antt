@@ -1,5 +1,5 @@
 -- Options that are left of a message, each in its place, after those that were passed.
-use Rattle.std.specs.Prelude.{ℕ, ◌==◌, ◌+◌, ◌^◌, ◌<◌, Bool, List, [], ◌∷◌, length, map, filter, if◌then◌else◌}
+use Rattle.std.specs.Prelude.{◌≡◌, ℕ, ◌==◌, ◌+◌, ◌^◌, ◌<◌, ◌≤◌, Bool, true, List, [], ◌∷◌, length, map, filter, if◌then◌else◌}
 use Rattle.coap_message.specs.declared.options.Opt.{Opt}
 use Rattle.coap_message.specs.Options.{AreOptions}
 use Rattle.coap_option.specs.declared.places.Run.{Run}
@@ -27,3 +27,11 @@ picked_after test run left = map (λ p. p.option) (filter test (places_after run
 pub record IsAt (left : List Opt) (run : Run) : Type 0 where
   pub in_order : AreOptions run.number left
   pub within : run.count + length left < 2 ^ 64
+
+-- the test holds of no option below the first number, nor of one above the second
+abbrev pub HoldsWithin : (PlacedOption → Bool) → ℕ → ℕ → Type 0
+HoldsWithin test least greatest =
+    (p : PlacedOption)
+    → p.option.number < 65536
+    → test p ≡ true
+    → (least ≤ p.option.number) × (p.option.number ≤ greatest)

@@ -13,6 +13,8 @@ mod table;
 
 pub use classes::{is_critical, is_no_cache_key, is_unsafe};
 pub use recognition::recognised;
-pub use screening::{BadOption, screen_request, screen_response};
+pub use screening::{
+    BadOption, screen_request, screen_request_ref, screen_response, screen_response_ref,
+};
 pub use selection::{forward_options, key_options, key_options_into, max_age, tags, tags_into};
 pub use side::Side;

@@ -1,12 +1,16 @@
 //! One pass over the options of a message, each in its place: with how many of its number stand
-//! before it.
+//! before it. Options come in order of number (RFC 7252, 3.1), so that a pass which looks for
+//! certain numbers begins and ends with those.
 ghost use Rattle.std.specs.Prelude.{◌≡◌, ◌≢◌, ◌==◌, ◌+◌, ◌-◌, ◌^◌, ◌<◌, if◌then◌else◌, filter, find, map, [], IfOk, OnOk, OnErr};
 ghost use Rattle.std.specs.Option.{option_map};
 ghost use Rattle.coap_message.specs.OptRef.{seen};
 ghost use Rattle.coap_message.specs.Options.{AreOptions};
+ghost use Rattle.coap_option.specs.Passing.{HoldsWithin};
 ghost use Rattle.coap_option.specs.Places.{PlacedOption, places};
 ghost use Rattle.coap_option.specs.Selection.{selected};
+ghost use Rattle.coap_option.specs.Table.{row_of};
 
+use crate::table::Row;
 use coap_message::{OptRef, OptRefs, OptionList, Options, OutOfMemory, Pieces};
 use std::alloc::Global;
 use std::marker::Model;
@@ -18,10 +22,16 @@ pub(crate) trait Test {
 
     ghost holds: { Self → PlacedOption → Bool };
 
-    /// Whether it holds of an option after so many of its number.
-    fn holds_of(&self, option: OptRef<'_>, before: usize) -> bool
+    /// Whether it holds of an option after so many of its number, of which the row says what is
+    /// known.
+    fn holds_of(&self, option: OptRef<'_>, before: usize, row: Option<Row>) -> bool
+        requires { row ≡ row_of option.number }
         ensures { result
             ≡ holds self.now (record { option = seen option.entry; before = before }) };
+
+    /// The least and the greatest number of the options of which it can hold.
+    fn numbers(&self) -> (u16, u16)
+        ensures { HoldsWithin (holds self.now) result.0 result.1 };
 }
 
 /// How many options of the last number were passed. Options come in order of number, so those of
@@ -56,25 +66,39 @@ impl Run {
     }
 }
 
+/// What is known of options of a number: what was known of the last option, if it was of it too.
+fn row_after(last: Run, row: Option<Row>, number: u16) -> Option<Row>
+    requires { row ≡ row_of last.number }
+    ensures { result ≡ row_of number }
+{
+    if number == last.number {
+        row
+    } else {
+        Row::of(number)
+    }
+}
+
 /// The options that are left for which a test holds, in order. A contract sees the list.
 #[derive(Drop)]
 pub(crate) struct Picked<'a, 't, T: Test> {
     left: OptRefs<'a>,
     run: Run,
+    row: Option<Row>,
     test: &'t T,
 }
 
 impl<'a, 't, T: Test> Model for Picked<'a, 't, T> {
-    ghost use Rattle.std.specs.Prelude.{List};
+    ghost use Rattle.std.specs.Prelude.{List, ◌≡◌};
     ghost use Rattle.coap_message.specs.declared.options.Opt.{Opt};
 
     ghost Value = { List Opt };
 
     ghost use Rattle.coap_option.specs.Passing.{IsAt, picked_after};
+    ghost use Rattle.coap_option.specs.Table.{row_of};
 
     ghost view = { λ p. picked_after (T.holds p.test.now) p.run p.left };
 
-    ghost invariant = { λ p. IsAt p.left p.run };
+    ghost invariant = { λ p. IsAt p.left p.run × (p.row ≡ row_of p.run.number) };
 }
 
 impl<'a, 't, T: Test> Iterator for Picked<'a, 't, T> {
@@ -89,8 +113,13 @@ impl<'a, 't, T: Test> Iterator for Picked<'a, 't, T> {
 
     fn next(&mut self) -> Option<OptRef<'a>> {
         while let Some(option) = self.left.next() {
+            let (_least, greatest) = self.test.numbers();
+            if option.number > greatest {
+                return None;
+            }
+            self.row = row_after(self.run, self.row, option.number);
             let before = self.run.pass(option.number);
-            if self.test.holds_of(option, before) {
+            if self.test.holds_of(option, before, self.row) {
                 return Some(option);
             }
         }
@@ -104,9 +133,11 @@ impl<'a, 't, T: Test> Picked<'a, 't, T> {
         ensures list { result ≡ selected (T.holds test.now) options.now }
         ensures in_order { AreOptions 0 (selected (T.holds test.now) options.now) }
     {
+        let (least, _greatest) = test.numbers();
         Picked {
-            left: options.iter(),
+            left: options.iter_from(least),
             run: Run::new(),
+            row: None,
             test,
         }
     }

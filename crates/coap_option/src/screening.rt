@@ -6,7 +6,8 @@ use crate::classes::is_unsafe;
 use crate::places::{Test, first};
 use crate::recognition::option_recognised;
 use crate::side::Side;
-use coap_message::{MessageRef, OptRef};
+use crate::table::Row;
+use coap_message::{Message, MessageRef, OptRef, Options};
 use thiserror::Error;
 
 /// The number of an option that is unsafe to forward and not recognised.
@@ -23,37 +24,71 @@ struct Refused(Side);
 impl Test for Refused {
     ghost holds = { λ t p. is_refused t.0 p };
 
-    fn holds_of(&self, option: OptRef<'_>, before: usize) -> bool {
-        is_unsafe(option.number) && !option_recognised(self.0, option, before)
+    fn holds_of(&self, option: OptRef<'_>, before: usize, row: Option<Row>) -> bool {
+        is_unsafe(option.number) && !option_recognised(self.0, option, before, row)
+    }
+
+    fn numbers(&self) -> (u16, u16) {
+        (0, u16::MAX)
     }
 }
 
 /// Refuses a request for its first option that is unsafe and not recognised (RFC 7252, 5.7.1: a
 /// proxy answers it with 4.02).
-pub fn screen_request(message: &MessageRef<'_>) -> Result<(), BadOption>
+///
+/// # Errors
+/// The number of that option.
+pub fn screen_request(message: &Message) -> Result<(), BadOption>
     ensures ok { OnOk result (first_refused Side.Request message.now.options ≡ None) }
     ensures err { IfErr result (λ bad.
         first_refused Side.Request message.now.options ≡ Some bad.number) }
 {
-    screen(Side::Request, message)
+    screen(Side::Request, &message.options.lent())
+}
+
+/// The same of a request that is read where it lies.
+///
+/// # Errors
+/// The number of its first option that is unsafe and not recognised.
+pub fn screen_request_ref(message: &MessageRef<'_>) -> Result<(), BadOption>
+    ensures ok { OnOk result (first_refused Side.Request message.now.options ≡ None) }
+    ensures err { IfErr result (λ bad.
+        first_refused Side.Request message.now.options ≡ Some bad.number) }
+{
+    screen(Side::Request, &message.option_list())
 }
 
 /// Refuses a response for its first option that is unsafe and not recognised (RFC 7252, 5.7.1: a
 /// proxy answers 5.02 in its place).
-pub fn screen_response(message: &MessageRef<'_>) -> Result<(), BadOption>
+///
+/// # Errors
+/// The number of that option.
+pub fn screen_response(message: &Message) -> Result<(), BadOption>
     ensures ok { OnOk result (first_refused Side.Response message.now.options ≡ None) }
     ensures err { IfErr result (λ bad.
         first_refused Side.Response message.now.options ≡ Some bad.number) }
 {
-    screen(Side::Response, message)
+    screen(Side::Response, &message.options.lent())
 }
 
-/// Refuses a message of this side for its first option that is unsafe and not recognised.
-fn screen(side: Side, message: &MessageRef<'_>) -> Result<(), BadOption>
-    ensures ok { OnOk result (first_refused side message.now.options ≡ None) }
-    ensures err { IfErr result (λ bad. first_refused side message.now.options ≡ Some bad.number) }
+/// The same of a response that is read where it lies.
+///
+/// # Errors
+/// The number of its first option that is unsafe and not recognised.
+pub fn screen_response_ref(message: &MessageRef<'_>) -> Result<(), BadOption>
+    ensures ok { OnOk result (first_refused Side.Response message.now.options ≡ None) }
+    ensures err { IfErr result (λ bad.
+        first_refused Side.Response message.now.options ≡ Some bad.number) }
 {
-    match first(&message.options, &Refused(side)) {
+    screen(Side::Response, &message.option_list())
+}
+
+/// Refuses the options of a message of this side for the first that is unsafe and not recognised.
+fn screen(side: Side, options: &Options<'_>) -> Result<(), BadOption>
+    ensures ok { OnOk result (first_refused side options.now ≡ None) }
+    ensures err { IfErr result (λ bad. first_refused side options.now ≡ Some bad.number) }
+{
+    match first(options, &Refused(side)) {
         Some(option) => Err(BadOption {
             number: option.number,
         }),

@@ -8,7 +8,8 @@ use crate::numbers;
 use crate::places::{Test, first, select, select_into, values_into};
 use crate::recognition::option_recognised;
 use crate::side::Side;
-use coap_message::{Code, MessageRef, OptRef, OptionList, OutOfMemory, Pieces, uint};
+use crate::table::Row;
+use coap_message::{Code, Message, MessageRef, OptRef, OptionList, OutOfMemory, Pieces, uint};
 use std::alloc::Global;
 
 /// The Max-Age of a response that has none, in seconds (RFC 7252, 5.10.5).
@@ -21,7 +22,7 @@ struct Forwarded(Code);
 impl Test for Forwarded {
     ghost holds = { λ t p. not (stays t.0 p) };
 
-    fn holds_of(&self, option: OptRef<'_>, before: usize) -> bool {
+    fn holds_of(&self, option: OptRef<'_>, before: usize, row: Option<Row>) -> bool {
         let used_up = match option.number {
             numbers::URI_HOST
             | numbers::OBSERVE
@@ -34,7 +35,11 @@ impl Test for Forwarded {
             numbers::ETAG => self.0 == Code::GET,
             _ => false,
         };
-        !(used_up && option_recognised(Side::Request, option, before))
+        !(used_up && option_recognised(Side::Request, option, before, row))
+    }
+
+    fn numbers(&self) -> (u16, u16) {
+        (0, u16::MAX)
     }
 }
 
@@ -45,8 +50,12 @@ struct InKey(Code);
 impl Test for InKey {
     ghost holds = { λ t p. is_key t.0 p };
 
-    fn holds_of(&self, option: OptRef<'_>, before: usize) -> bool {
-        !is_no_cache_key(option.number) && Forwarded(self.0).holds_of(option, before)
+    fn holds_of(&self, option: OptRef<'_>, before: usize, row: Option<Row>) -> bool {
+        !is_no_cache_key(option.number) && Forwarded(self.0).holds_of(option, before, row)
+    }
+
+    fn numbers(&self) -> (u16, u16) {
+        (0, u16::MAX)
     }
 }
 
@@ -60,76 +69,91 @@ struct OfNumber {
 impl Test for OfNumber {
     ghost holds = { λ t p. is_of t.side t.number p };
 
-    fn holds_of(&self, option: OptRef<'_>, before: usize) -> bool {
-        option.number == self.number && option_recognised(self.side, option, before)
+    fn holds_of(&self, option: OptRef<'_>, before: usize, row: Option<Row>) -> bool {
+        option.number == self.number && option_recognised(self.side, option, before, row)
+    }
+
+    fn numbers(&self) -> (u16, u16) {
+        (self.number, self.number)
     }
 }
 
 /// The options of a request that are sent on, in order: all but the recognised ones of Uri-Host,
 /// Observe, Uri-Port, Uri-Path, Max-Age, Uri-Query, Proxy-Uri and Proxy-Scheme, and in a GET all
-/// but the recognised ETags, too. An `Err` is for want of memory; where no option is sent on, none
-/// is taken.
-pub fn forward_options(alloc: Global, message: &MessageRef<'_>) -> Result<OptionList, OutOfMemory>
+/// but the recognised ETags, too.
+///
+/// # Errors
+/// Out of memory; where no option is sent on, none is taken.
+pub fn forward_options(alloc: Global, message: &Message) -> Result<OptionList, OutOfMemory>
     ensures ok { IfOk result (λ list. list ≡ sent_on message.now) }
     ensures err { OnErr result (sent_on message.now ≢ []) }
 {
-    select(alloc, &message.options, &Forwarded(message.code))
+    select(alloc, &message.options.lent(), &Forwarded(message.code))
 }
 
 /// The options of a request that are part of its cache key, in order: those that are sent on, less
-/// the NoCacheKey ones (RFC 7252, 5.4.2 and 5.6). An `Err` is for want of memory; for an empty key,
-/// none is taken.
-pub fn key_options(alloc: Global, message: &MessageRef<'_>) -> Result<OptionList, OutOfMemory>
+/// the NoCacheKey ones (RFC 7252, 5.4.2 and 5.6).
+///
+/// # Errors
+/// Out of memory; for an empty key, none is taken.
+pub fn key_options(alloc: Global, message: &Message) -> Result<OptionList, OutOfMemory>
     ensures ok { IfOk result (λ list. list ≡ key_of message.now) }
     ensures err { OnErr result (key_of message.now ≢ []) }
 {
-    select(alloc, &message.options, &InKey(message.code))
+    select(alloc, &message.options.lent(), &InKey(message.code))
 }
 
 /// Puts the options of a request that are part of its cache key in place of those of a list, whose
-/// room is used again. An `Err` is for want of memory: then the list holds some of them.
+/// room is used again.
+///
+/// # Errors
+/// Out of memory. Then the list holds some of them.
 pub fn key_options_into(list: &mut OptionList, message: &MessageRef<'_>) -> Result<(), OutOfMemory>
     ensures ok { OnOk result (list.new ≡ key_of message.now) }
     ensures err { OnErr result (key_of message.now ≢ []) }
 {
-    select_into(list, &message.options, &InKey(message.code))
+    select_into(list, &message.option_list(), &InKey(message.code()))
 }
 
 /// The values of the recognised ETags, in order: of a request any number, of a response the first
-/// alone, and that only if its length is in range (RFC 7252, 5.10.6). An `Err` is for want of
-/// memory; without a recognised ETag, none is taken.
-pub fn tags(alloc: Global, message: &MessageRef<'_>) -> Result<Pieces, OutOfMemory>
+/// alone, and that only if its length is in range (RFC 7252, 5.10.6).
+///
+/// # Errors
+/// Out of memory; without a recognised ETag, none is taken.
+pub fn tags(alloc: Global, message: &Message) -> Result<Pieces, OutOfMemory>
     ensures ok { IfOk result (λ tags. tags ≡ tags_of message.now) }
     ensures err { OnErr result (tags_of message.now ≢ []) }
 {
     let mut list = Pieces::new(alloc);
-    tags_into(&mut list, message)?;
+    tags_into(&mut list, &message.lent())?;
     list.shrink_to_fit();
     Ok(list)
 }
 
 /// Puts the values of the recognised ETags in place of those of a list, whose room is used again.
-/// An `Err` is for want of memory: then the list holds some of them.
+///
+/// # Errors
+/// Out of memory. Then the list holds some of them.
 pub fn tags_into(list: &mut Pieces, message: &MessageRef<'_>) -> Result<(), OutOfMemory>
     ensures ok { OnOk result (list.new ≡ tags_of message.now) }
     ensures err { OnErr result (tags_of message.now ≢ []) }
 {
     let tag = OfNumber {
-        side: Side::of(message.code),
+        side: Side::of(message.code()),
         number: numbers::ETAG,
     };
-    values_into(list, &message.options, &tag)
+    values_into(list, &message.option_list(), &tag)
 }
 
 /// The recognised Max-Age of a response, in seconds: 60 where it has none (RFC 7252, 5.10.5).
-pub fn max_age(message: &MessageRef<'_>) -> u32
+pub fn max_age(message: &Message) -> u32
     ensures { result ≡ max_age_of message.now }
 {
     let max_age = OfNumber {
         side: Side::Response,
         number: numbers::MAX_AGE,
     };
-    match first(&message.options, &max_age) {
+    match first(&message.options.lent(), &max_age) {
         Some(option) => uint(option.value) as u32,
         None => DEFAULT_MAX_AGE,
     }

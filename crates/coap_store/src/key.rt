@@ -31,10 +31,10 @@ impl CacheKey {
         self == other
     }
 
-    /// The same key once more, in no more room than it needs.
+    /// A copy, in no more room than it needs.
     ///
     /// # Errors
-    /// Want of memory.
+    /// Out of memory.
     pub fn copied(&self) -> Result<CacheKey, OutOfMemory>
         ensures { IfOk result (λ copy. copy ≡ self.now) }
     {

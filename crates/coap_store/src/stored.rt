@@ -46,7 +46,7 @@ impl Stored {
     pub fn is_fresh(&self, now: u64) -> bool
         ensures { result ≡ is_fresh now self.now }
     {
-        self.age(now) <= 1000 * u64::from(max_age(&self.response.lent()))
+        self.age(now) <= 1000 * u64::from(max_age(&self.response))
     }
 
     /// The seconds for which it will be fresh, 0 where it isn't: its Max-Age less its age, of which
@@ -54,7 +54,7 @@ impl Stored {
     pub fn left(&self, now: u64) -> u64
         ensures { result ≡ left_of now self.now }
     {
-        u64::from(max_age(&self.response.lent())).saturating_sub(self.age(now).div_ceil(1000))
+        u64::from(max_age(&self.response)).saturating_sub(self.age(now).div_ceil(1000))
     }
 
     /// Whether it may answer a request at this moment: it is fresh and not marked.

@@ -69,7 +69,7 @@ fn push_below<'a>(
 {
     let mut left = left;
     'below: loop {
-        let mut ahead = left.again();
+        let mut ahead = left.clone();
         match ahead.next() {
             Some(option) => {
                 if option.number >= number {
@@ -90,7 +90,7 @@ fn above<'a>(left: OptRefs<'a>, number: u16) -> OptRefs<'a>
 {
     let mut left = left;
     'same: loop {
-        let mut ahead = left.again();
+        let mut ahead = left.clone();
         match ahead.next() {
             Some(option) => {
                 if option.number != number {

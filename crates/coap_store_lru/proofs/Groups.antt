@@ -1,24 +1,23 @@
--- The group of a target: its keys are those of the entries of that target, each once.
-use Rattle.std.proofs.Common.{◌≡◌, ◌≢◌, Result, Ok, Err, OnOk, OnErr, ◌&&◌, ◌||◌, Bool, true, false, cond, not, List, [], ◌∷◌, Option, Some, None, map, filter, length, count_by, refl, sym, ap, subst, ◌∙◌}
+-- The keys of a target in the group of its digest are those of the entries of that target, each once.
+use Rattle.std.proofs.Common.{◌≡◌, ◌≢◌, ℕ, nat_eq, eq-eqb, Result, Ok, Err, OnOk, OnErr, ◌&&◌, ◌||◌, Bool, true, false, cond, not, List, [], ◌∷◌, Option, Some, None, map, filter, length, count_by, refl, sym, ap, subst, ◌∙◌}
 use Rattle.std.specs.Cmp.{IsEquivalence}
 use Rattle.std.specs.HashMap.{get}
-use Rattle.std.specs.HashSet.{HashSet, contains, hash_set_len}
 use Rattle.std.specs.List.{list_all, list_any, IsDistinct, AllByRecursion}
 use Rattle.std.specs.Map.{lookup}
-use Rattle.std.specs.Option.{ForSome, option_map_or}
+use Rattle.std.specs.Option.{option_map_or}
 use Rattle.std.specs.Set.{is_member}
-use Rattle.std.proofs.lemmas.Bool.{and_parts, and_from, or_right}
+use Rattle.std.proofs.lemmas.Bool.{and_parts, and_from, eqb-true, or_right}
 use Rattle.std.proofs.lemmas.List.{length-map}
 use Rattle.std.proofs.lemmas.List.Sums.{length-filter}
 use Rattle.std.proofs.lemmas.Map.Keys.{IsDistinct-cons}
 use Rattle.std.proofs.lemmas.Map.Made.{length-from_same_keys}
-use Rattle.coap_message.specs.SameOptions.{same_options}
 use Rattle.coap_endpoint.specs.declared.target.Target.{Target}
 use Rattle.coap_endpoint.specs.Equality.{same_target}
 use Rattle.coap_endpoint.proofs.Equality.{Tells-target}
 use Rattle.coap_store.specs.declared.key.CacheKey.{CacheKey}
 use Rattle.coap_store.specs.Entries.{Entry, entry_key, is_for, marked}
-use Rattle.coap_store_lru.specs.Indexing.{Groups, AreFilled, AreOwn, IsFilled, in_group, is_indexed, is_held, marked_by}
+use Rattle.coap_store_lru.specs.declared.group.Group.{Group}
+use Rattle.coap_store_lru.specs.Indexing.{Groups, AreFilled, IsFilled, digest, has, in_group, is_indexed, is_held, is_of, keys_in, marked_by}
 use Rattle.coap_store.specs.Keys.{same_key}
 use Rattle.coap_store.specs.Lists.{has_other_key, are_distinct}
 use Rattle.coap_store.proofs.Distinct.{distinct-filter}
@@ -71,6 +70,49 @@ held-of target (e ∷ es) q = go (is_for target e) (same_key q e.0) refl refl (h
     go false true of same rest = rw (rest, alike same, of) refl
     go false false of same rest = rest
 
+-- the keys of a target in a list are those of the list that are of the target
+keys-of : (target : Target) (ks : List CacheKey) (q : CacheKey) → is_member same_key (filter (is_of target) ks) q ≡ (is_of target q && is_member same_key ks q)
+keys-of target [] q = go (is_of target q)
+  where
+    go : (b : Bool) → false ≡ (b && false)
+    go true = refl
+    go false = refl
+keys-of target (k ∷ ks) q = go (is_of target k) (same_key q k) refl refl (keys-of target ks q)
+  where
+    alike : same_key q k ≡ true → is_of target q ≡ is_of target k
+    alike same = ap (is_of target) (same_key-only q k same)
+
+    go : (b p : Bool) → is_of target k ≡ b → same_key q k ≡ p → is_member same_key (filter (is_of target) ks) q ≡ (is_of target q && is_member same_key ks q)
+        → is_member same_key (cond b (k ∷ filter (is_of target) ks) (filter (is_of target) ks)) q ≡ (is_of target q && (p || is_member same_key ks q))
+    go true true of same rest = rw (same, alike same, of) refl
+    go true false of same rest = rw (same, rest) refl
+    go false true of same rest = rw (rest, alike same, of) refl
+    go false false of same rest = rest
+
+-- nor where there is one key alone
+pub distinct-one : (key : CacheKey) → IsDistinct same_key (key ∷ [])
+unfolding IsDistinct
+distinct-one key = IsDistinct-cons same_key key [] tt tt
+
+-- what holds of all keys holds of some
+all-filtered : (apart : CacheKey → Type 0) (test : CacheKey → Bool) (ks : List CacheKey) → AllByRecursion apart ks → AllByRecursion apart (filter test ks)
+all-filtered apart test [] all = tt
+all-filtered apart test (k ∷ ks) all = go (test k) (all-filtered apart test ks all.1)
+  where
+    go : (b : Bool) → AllByRecursion apart (filter test ks) → AllByRecursion apart (cond b (k ∷ filter test ks) (filter test ks))
+    go true rest = (all.0, rest)
+    go false rest = rest
+
+-- keys that are distinct stay so without some of them
+distinct-of : (target : Target) (ks : List CacheKey) → IsDistinct same_key ks → IsDistinct same_key (filter (is_of target) ks)
+unfolding IsDistinct
+distinct-of target [] distinct = tt
+distinct-of target (k ∷ ks) distinct = go (is_of target k) (all-filtered (λ y. same_key k y ≡ false) (is_of target) ks distinct.0) (distinct-of target ks distinct.1)
+  where
+    go : (b : Bool) → AllByRecursion (λ y. same_key k y ≡ false) (filter (is_of target) ks) → IsDistinct same_key (filter (is_of target) ks) → IsDistinct same_key (cond b (k ∷ filter (is_of target) ks) (filter (is_of target) ks))
+    go true apart rest = IsDistinct-cons same_key k (filter (is_of target) ks) apart rest
+    go false apart rest = rest
+
 -- each entry's key is held
 all_held : (all es : List Entry) → ((k : CacheKey) → is_held es k ≡ true → is_held all k ≡ true) → list_all (λ (e : Entry). is_held all e.0) es ≡ true
 all_held all [] within = refl
@@ -106,18 +148,18 @@ pub by_result : {T E P Q G : Type 0} (r : Result T E) → OnOk r P → OnErr r Q
 by_result (Ok x) ok err f g = f ok
 by_result (Err e) ok err f g = g err
 
--- a set that has a key has keys
-some-keys : (ks : List CacheKey) (k : CacheKey) → list_any (same_key k) ks ≡ true → length ks ≢ 0
+-- a list that has a key isn't empty
+pub some-keys : (ks : List CacheKey) (k : CacheKey) → list_any (same_key k) ks ≡ true → length ks ≢ 0
 some-keys [] k is = absurd cc
 some-keys (x ∷ ks) k is = λ none. absurd cc
 
--- one without keys has none
+-- an empty one has no key
 pub no-keys : (ks : List CacheKey) → length ks ≡ 0 → (k : CacheKey) → list_any (same_key k) ks ≡ false
 no-keys [] none k = refl
 no-keys (x ∷ ks) none k = absurd cc
 
 -- and with more keys it still has some
-still-keys : (ks more : List CacheKey) (added : CacheKey → Bool) → ((k : CacheKey) → list_any (same_key k) more ≡ (added k || list_any (same_key k) ks)) → length ks ≢ 0 → length more ≢ 0
+pub still-keys : (ks more : List CacheKey) (added : CacheKey → Bool) → ((k : CacheKey) → list_any (same_key k) more ≡ (added k || list_any (same_key k) ks)) → length ks ≢ 0 → length more ≢ 0
 still-keys [] more added changed some = absurd (some refl)
 still-keys (x ∷ ks) more added changed some = some-keys more x (changed x ∙ ap (λ b. added x || (b || list_any (same_key x) ks)) (same_key-itself x) ∙ go (added x))
   where
@@ -125,165 +167,141 @@ still-keys (x ∷ ks) more added changed some = some-keys more x (changed x ∙ 
     go true = refl
     go false = refl
 
--- what holds of a group holds of it where it is found
-pub of_group : {H : Type 0} (keys : HashSet CacheKey H) → hash_set_len keys ≢ 0 → ForSome (Some keys) (λ held. hash_set_len held ≢ 0)
-of_group keys some held is = let same : keys ≡ held = cc in subst (λ (k : HashSet CacheKey _). hash_set_len k ≢ 0) same some
-
--- A group is put, or let go.
-module _ {H : Type 0} (groups new : Groups H) (target : Target) (group : Option (HashSet CacheKey H)) (put : (t : Target) → get same_target new t ≡ cond (same_target target t) group (get same_target groups t)) where
-  -- then the other groups have keys, as before
-  pub others-filled : AreFilled groups → (t : Target) → same_target target t ≡ false → IsFilled new t
-  others-filled filled t other held is = filled t held (sym (put t ∙ ap (λ b. cond b group (get same_target groups t)) other) ∙ is)
-
-  -- and all have where this one has, if it is put
-  pub filled-put : ((t : Target) → same_target target t ≡ false → IsFilled groups t) → ForSome group (λ keys. hash_set_len keys ≢ 0) → AreFilled new
-  filled-put others some t held is = go (same_target target t) refl (sym (put t) ∙ is)
-    where
-      go : (b : Bool) → same_target target t ≡ b → cond b group (get same_target groups t) ≡ Some held → hash_set_len held ≢ 0
-      go true e found = some held found
-      go false e found = others t e held found
-
--- the same groups have keys, as before
-pub filled-along : {H : Type 0} (groups new : Groups H) → new.entries ≡ groups.entries → AreFilled groups → AreFilled new
-filled-along groups new same filled t held is = filled t held (ap (λ (es : List (Target × HashSet CacheKey _)). lookup (same_target t) es) (sym same) ∙ is)
-
--- One group is changed: by a test of keys whether a key is the one that is added or taken out, and whether it was there.
-module _ {H : Type 0} (groups new : Groups H) (key : CacheKey) (keys : HashSet CacheKey H) (change : Bool → Bool → Bool) (keeps : (b : Bool) → change false b ≡ b)
-    (put : (t : Target) → get same_target new t ≡ cond (same_target key.target t) (Some keys) (get same_target groups t)) (changed : (k : CacheKey) → contains same_key keys k ≡ change (same_key key k) (in_group groups key.target k)) where
-  -- then what is indexed changes so
-  pub is_indexed-changed : (k : CacheKey) → is_indexed new k ≡ change (same_key key k) (is_indexed groups k)
-  is_indexed-changed k = go (same_target key.target k.target) refl
-    where
-      go : (b : Bool) → same_target key.target k.target ≡ b → is_indexed new k ≡ change (same_key key k) (is_indexed groups k)
-      go true e =
-          let same : key.target ≡ k.target = Tells-target.only key.target k.target e in
-          ap (λ found. option_map_or (λ held. contains same_key held k) found false) (put k.target ∙ ap (λ c. cond c (Some keys) (get same_target groups k.target)) e)
-          ∙ changed k ∙ ap (λ t. change (same_key key k) (in_group groups t k)) same
-      go false e =
-          let other : same_key key k ≡ false = ap (λ c. c && same_options key.options k.options) e in
-          ap (λ found. option_map_or (λ held. contains same_key held k) found false) (put k.target ∙ ap (λ c. cond c (Some keys) (get same_target groups k.target)) e)
-          ∙ sym (keeps (is_indexed groups k)) ∙ ap (λ c. change c (is_indexed groups k)) (sym other)
-
-  -- and each key is in the group of its own target, as before
-  pub own-changed : AreOwn groups → AreOwn new
-  own-changed own t k is = go (same_target key.target t) refl (same_key key k) refl
-    where
-      go : (b : Bool) → same_target key.target t ≡ b → (p : Bool) → same_key key k ≡ p → k.target ≡ t
-      go true e true f = ap (λ (j : CacheKey). j.target) (sym (same_key-only key k f)) ∙ Tells-target.only key.target t e
-      go true e false f =
-          let here : contains same_key keys k ≡ true = sym (ap (λ found. option_map_or (λ held. contains same_key held k) found false) (put t ∙ ap (λ c. cond c (Some keys) (get same_target groups t)) e)) ∙ is in
-          own key.target k (sym (keeps (in_group groups key.target k)) ∙ ap (λ b. change b (in_group groups key.target k)) (sym f) ∙ sym (changed k) ∙ here) ∙ Tells-target.only key.target t e
-      go false e p f = own t k (sym (ap (λ found. option_map_or (λ held. contains same_key held k) found false) (put t ∙ ap (λ c. cond c (Some keys) (get same_target groups t)) e)) ∙ is)
-
--- what the group of a target has with another key
-another_key : {H : Type 0} (groups : Groups H) (key copy : CacheKey) (held keys : HashSet CacheKey H) (added : Bool) → copy ≡ key → Some held ≡ get same_target groups key.target
-    → ((k : CacheKey) → contains same_key keys k ≡ ((added && same_key copy k) || contains same_key held k))
-    → (k : CacheKey) → contains same_key keys k ≡ ((added && same_key key k) || in_group groups key.target k)
-another_key groups key copy held keys added same was put k =
-    subst (λ (c : CacheKey). contains same_key keys k ≡ ((added && same_key c k) || contains same_key held k)) same (put k)
-    ∙ ap (λ found. (added && same_key key k) || option_map_or (λ h. contains same_key h k) found false) was
-
--- and with its first key
-first_key : {H : Type 0} (groups : Groups H) (key : CacheKey) (keys none : HashSet CacheKey H) → get same_target groups key.target ≡ None → none.keys ≡ []
-    → ((k : CacheKey) → contains same_key keys k ≡ (same_key key k || contains same_key none k))
-    → (k : CacheKey) → contains same_key keys k ≡ (same_key key k || in_group groups key.target k)
-first_key groups key keys none no_group empty put k =
-    put k ∙ ap (λ (l : List CacheKey). same_key key k || list_any (same_key k) l) empty
-    ∙ ap (λ found. same_key key k || option_map_or (λ h. contains same_key h k) found false) (sym no_group)
-
--- after a change of one group
-pub record Changed {H : Type 0} (groups new : Groups H) (key : CacheKey) (change : Bool → Bool → Bool) : Type 0 where
-  pub indexed : (k : CacheKey) → is_indexed new k ≡ change (same_key key k) (is_indexed groups k)
-  pub own : AreOwn new
-  pub filled : AreFilled new
-
 -- no key changes nothing
-none_added : (added b : Bool) → ((added && false) || b) ≡ b
+pub none_added : (added b : Bool) → ((added && false) || b) ≡ b
 none_added true b = refl
 none_added false b = refl
 
--- a key is added to a group that was there, if memory doesn't lack
-pub key-added : {H : Type 0} (groups new : Groups H) (key copy : CacheKey) (held keys : HashSet CacheKey H) (added : Bool) → AreOwn groups → AreFilled groups → copy ≡ key → Some held ≡ get same_target groups key.target
-    → ((t : Target) → get same_target new t ≡ cond (same_target key.target t) (Some keys) (get same_target groups t))
-    → ((k : CacheKey) → contains same_key keys k ≡ ((added && same_key copy k) || contains same_key held k))
-    → Changed groups new key (λ p b. (added && p) || b)
-key-added groups new key copy held keys added own filled same was put adds =
-    let changed = another_key groups key copy held keys added same was adds in
-    record {
-      indexed = is_indexed-changed groups new key keys (λ p b. (added && p) || b) (none_added added) put changed;
-      own = own-changed groups new key keys (λ p b. (added && p) || b) (none_added added) put changed own;
-      filled = filled-put groups new key.target (Some keys) put (λ t other. filled t)
-          (of_group keys (still-keys held.keys keys.keys (λ k. added && same_key copy k) adds (filled key.target held (sym was))));
-    }
-
--- a group is opened for a key
-pub group-opened : {H : Type 0} (groups new : Groups H) (key : CacheKey) (keys none : HashSet CacheKey H) → AreOwn groups → AreFilled groups → get same_target groups key.target ≡ None → none.keys ≡ []
-    → ((k : CacheKey) → contains same_key keys k ≡ (same_key key k || contains same_key none k))
-    → ((t : Target) → get same_target new t ≡ cond (same_target key.target t) (Some keys) (get same_target groups t))
-    → Changed groups new key (λ p b. p || b)
-group-opened groups new key keys none own filled no_group empty adds put =
-    let changed = first_key groups key keys none no_group empty adds in
-    record {
-      indexed = is_indexed-changed groups new key keys (λ p b. p || b) (λ b. refl) put changed;
-      own = own-changed groups new key keys (λ p b. p || b) (λ b. refl) put changed own;
-      filled = filled-put groups new key.target (Some keys) put (λ t other. filled t)
-          (of_group keys (some-keys keys.keys key (changed key ∙ ap (λ b. b || in_group groups key.target key) (same_key-itself key))));
-    }
-
--- without a group for its target a key isn't indexed, and needn't be taken out
-pub none_left : {H : Type 0} (groups : Groups H) (key : CacheKey) → get same_target groups key.target ≡ None → (k : CacheKey) → is_indexed groups k ≡ (not (same_key key k) && is_indexed groups k)
-none_left groups key none k = go (same_key key k) refl
+-- the only key of a group: it is taken out, or another is
+pub only-left : (only key k : CacheKey) → (not (same_key only key) && (same_key k only || false)) ≡ (not (same_key key k) && (same_key k only || false))
+only-left only key k = go (same_key only key) (same_key k only) refl refl
   where
-    go : (p : Bool) → same_key key k ≡ p → is_indexed groups k ≡ (not p && is_indexed groups k)
-    go true e = rw (← same_key-only key k e, none) refl
-    go false e = refl
+    go : (p q : Bool) → same_key only key ≡ p → same_key k only ≡ q → (not p && (q || false)) ≡ (not (same_key key k) && (q || false))
+    go true true e f = let same : same_key key k ≡ true = same_key-flips key k ∙ ap (λ j. same_key j key) (same_key-only k only f) ∙ e in rw same refl
+    go false true e f = let other : same_key key k ≡ false = same_key-flips key k ∙ ap (λ j. same_key j key) (same_key-only k only f) ∙ e in rw other refl
+    go true false e f = go_none (same_key key k)
+      where
+        go_none : (b : Bool) → false ≡ (not b && false)
+        go_none true = refl
+        go_none false = refl
+    go false false e f = go_none (same_key key k)
+      where
+        go_none : (b : Bool) → false ≡ (not b && false)
+        go_none true = refl
+        go_none false = refl
 
--- a target without a group has no key
-pub none-in_group : {H : Type 0} (groups : Groups H) (target : Target) → get same_target groups target ≡ None → (k : CacheKey) → in_group groups target k ≡ false
-none-in_group groups target none k = ap (λ found. option_map_or (λ held. contains same_key held k) found false) none
+-- the keys of a group that is found
+pub in_group-found : {H J S : Type 0} (groups : Groups H J S) (at : ℕ) (group : Option (Group H J)) → group ≡ get nat_eq groups at → (k : CacheKey) → option_map_or (λ held. has held k) group false ≡ in_group groups at k
+in_group-found groups at group is k = ap (λ found. option_map_or (λ held. has held k) found false) is
+
+-- where a group is put, or let go, that is what is found
+module _ {H J S : Type 0} (groups new : Groups H J S) (at : ℕ) (group : Option (Group H J)) (put : (e : ℕ) → get nat_eq new e ≡ cond (nat_eq at e) group (get nat_eq groups e)) where
+  pub put-here : get nat_eq new at ≡ group
+  put-here = put at ∙ ap (λ b. cond b group (get nat_eq groups at)) (eq-eqb at at refl)
+
+  -- and elsewhere what was
+  pub put-elsewhere : (e : ℕ) → nat_eq at e ≡ false → get nat_eq new e ≡ get nat_eq groups e
+  put-elsewhere e other = put e ∙ ap (λ b. cond b group (get nat_eq groups e)) other
+
+-- a group that has keys is filled
+pub filled_by : {H J S : Type 0} (groups : Groups H J S) (at : ℕ) (group : Group H J) → get nat_eq groups at ≡ Some group → length (keys_in group) ≢ 0 → IsFilled groups at
+filled_by groups at group is some held found =
+    let one : Some group ≡ Some held = sym is ∙ found in
+    let same : group ≡ held = cc in
+    subst (λ (g : Group _ _). length (keys_in g) ≢ 0) same some
+
+-- so is one that there isn't
+pub filled_none : {H J S : Type 0} (groups : Groups H J S) (at : ℕ) → get nat_eq groups at ≡ None → IsFilled groups at
+filled_none groups at none held found = let differ : None ≡ Some held = sym none ∙ found in absurd (cc)
+
+-- it has no key either
+pub none-in_group : {H J S : Type 0} (groups : Groups H J S) (at : ℕ) → get nat_eq groups at ≡ None → (k : CacheKey) → in_group groups at k ≡ false
+none-in_group groups at none k = ap (λ found. option_map_or (λ held. has held k) found false) none
+
+-- and needs no key taken out
+pub none_left : {H J S : Type 0} (groups : Groups H J S) (at : ℕ) (key : CacheKey) → get nat_eq groups at ≡ None → (k : CacheKey) → in_group groups at k ≡ (not (same_key key k) && in_group groups at k)
+none_left groups at key none k = none-in_group groups at none k ∙ go (same_key key k) ∙ ap (λ b. not (same_key key k) && b) (sym (none-in_group groups at none k))
+  where
+    go : (b : Bool) → false ≡ (not b && false)
+    go true = refl
+    go false = refl
+
+-- a group of one key has that key
+pub one-key : (ks : List CacheKey) (key : CacheKey) → ks ≡ key ∷ [] → (k : CacheKey) → list_any (same_key k) ks ≡ (same_key key k || false)
+one-key ks key are k = ap (list_any (same_key k)) are ∙ ap (λ b. b || false) (same_key-flips k key)
+
+-- no key passes both a test and none
+pub and_none : (b : Bool) → (b && false) ≡ false
+and_none true = refl
+and_none false = refl
+
+-- a key of a target that isn't the key
+pub none_of : (target : Target) (key : CacheKey) → is_of target key ≡ false → (k : CacheKey) → (is_of target k && same_key k key) ≡ false
+none_of target key other k = go (same_key k key) refl
+  where
+    go : (b : Bool) → same_key k key ≡ b → (is_of target k && b) ≡ false
+    go true same = rw (same_key-only k key same, other) refl
+    go false e = and_none (is_of target k)
+
+-- and one that is
+pub one_of : (target : Target) (key : CacheKey) → is_of target key ≡ true → (k : CacheKey) → (is_of target k && same_key k key) ≡ same_key k key
+one_of target key of k = go (same_key k key) refl
+  where
+    go : (b : Bool) → same_key k key ≡ b → (is_of target k && b) ≡ b
+    go true same = rw (same_key-only k key same, of) refl
+    go false e = and_none (is_of target k)
 
 -- the same groups have the same keys
-pub in_group-along : {H : Type 0} (groups new : Groups H) → new.entries ≡ groups.entries → (t : Target) (k : CacheKey) → in_group new t k ≡ in_group groups t k
-in_group-along groups new same t k = ap (λ (es : List (Target × HashSet CacheKey _)). option_map_or (λ keys. contains same_key keys k) (lookup (same_target t) es) false) same
+pub same_groups : {H J S : Type 0} (groups new : Groups H J S) → new.entries ≡ groups.entries → (e : ℕ) → get nat_eq new e ≡ get nat_eq groups e
+same_groups groups new same e = ap (λ (es : List (ℕ × Group _ _)). lookup (nat_eq e) es) same
 
--- A group without keys is let go, and nothing else changes.
-module _ {H : Type 0} (groups new : Groups H) (target : Target) (let_go : (t : Target) → get same_target new t ≡ cond (same_target target t) None (get same_target groups t)) where
-  in_group-let_go : (t : Target) (k : CacheKey) → in_group new t k ≡ (not (same_target target t) && in_group groups t k)
-  in_group-let_go t k = rw (let_go t) (go (same_target target t))
-    where
-      go : (b : Bool) → option_map_or (λ keys. contains same_key keys k) (cond b None (get same_target groups t)) false ≡ (not b && in_group groups t k)
-      go true = refl
-      go false = refl
+-- and each has a key, as before
+pub filled-along : {H J S : Type 0} (groups new : Groups H J S) → new.entries ≡ groups.entries → AreFilled groups → AreFilled new
+filled-along groups new same filled e held is = filled e held (sym (same_groups groups new same e) ∙ is)
 
-  -- what is indexed stays so
-  pub is_indexed-let_go : ((k : CacheKey) → in_group groups target k ≡ false) → (k : CacheKey) → is_indexed new k ≡ is_indexed groups k
-  is_indexed-let_go none k = in_group-let_go k.target k ∙ go (same_target target k.target) refl
+-- One group is changed, or let go.
+module _ {H J S : Type 0} (groups new : Groups H J S) (at : ℕ) (others : (e : ℕ) → nat_eq at e ≡ false → get nat_eq new e ≡ get nat_eq groups e) where
+  -- then each has a key, where this one has
+  pub filled-but : AreFilled groups → IsFilled new at → AreFilled new
+  filled-but filled here e held is = go (nat_eq at e) refl
     where
-      go : (b : Bool) → same_target target k.target ≡ b → (not b && is_indexed groups k) ≡ is_indexed groups k
-      go true e = subst (λ t. false ≡ in_group groups t k) (Tells-target.only target k.target e) (sym (none k))
+      go : (b : Bool) → nat_eq at e ≡ b → length (keys_in held) ≢ 0
+      go true same = here held (ap (λ n. get nat_eq new n) (eqb-true at e same) ∙ is)
+      go false other = filled e held (sym (others e other) ∙ is)
+
+  -- and what is indexed changes as that group does
+  pub is_indexed-changed : (secret : ℕ) (key : CacheKey) (change : Bool → Bool → Bool) → at ≡ digest secret key.target → ((b : Bool) → change false b ≡ b) → ((k : CacheKey) → in_group new at k ≡ change (same_key key k) (in_group groups at k))
+      → (k : CacheKey) → is_indexed secret new k ≡ change (same_key key k) (is_indexed secret groups k)
+  is_indexed-changed secret key change of keeps changed k = go (nat_eq at (digest secret k.target)) refl
+    where
+      go : (b : Bool) → nat_eq at (digest secret k.target) ≡ b → is_indexed secret new k ≡ change (same_key key k) (is_indexed secret groups k)
+      go true same = subst (λ e. in_group new e k ≡ change (same_key key k) (in_group groups e k)) (eqb-true at (digest secret k.target) same) (changed k)
+      go false other = ap (λ found. option_map_or (λ held. has held k) found false) (others (digest secret k.target) other)
+          ∙ sym (keeps (is_indexed secret groups k)) ∙ ap (λ c. change c (is_indexed secret groups k)) (sym (apart (same_key key k) refl))
+        where
+          apart : (b : Bool) → same_key key k ≡ b → b ≡ false
+          apart true e = let same : nat_eq at (digest secret k.target) ≡ true = eq-eqb at (digest secret k.target) (of ∙ ap (λ (j : CacheKey). digest secret j.target) (same_key-only key k e)) in absurd (cc)
+          apart false e = refl
+
+-- The entries of a store whose keys are indexed.
+module _ {H J S : Type 0} (secret : ℕ) (groups : Groups H J S) (es : List Entry) (target : Target) (indexed : (k : CacheKey) → is_indexed secret groups k ≡ is_held es k) where
+  -- the group of a target's digest has the keys of that target that have entries
+  pub in_group-is : (k : CacheKey) → (is_of target k && in_group groups (digest secret target) k) ≡ (is_of target k && is_held es k)
+  in_group-is k = go (is_of target k) refl
+    where
+      go : (b : Bool) → is_of target k ≡ b → (b && in_group groups (digest secret target) k) ≡ (b && is_held es k)
+      go true e = subst (λ t. in_group groups (digest secret t) k ≡ is_held es k) (Tells-target.only k.target target e) (indexed k)
       go false e = refl
 
-  -- each key stays in the group of its own target
-  pub own-let_go : AreOwn groups → AreOwn new
-  own-let_go own t k is = own t k ((and_parts (not (same_target target t)) (in_group groups t k) (sym (in_group-let_go t k) ∙ is)).1)
+  -- so a mark on each of these is one on each entry of the target
+  pub map-marked_group : map (marked_by (λ k. is_of target k && in_group groups (digest secret target) k)) es ≡ map (marked target) es
+  map-marked_group = map-marked_held (λ k. is_of target k && in_group groups (digest secret target) k) (is_of target) es es in_group-is (all_held es es (λ k h. h))
 
-module _ {H : Type 0} (groups : Groups H) (es : List Entry) (target : Target) (own : AreOwn groups) (indexed : (k : CacheKey) → is_indexed groups k ≡ is_held es k) where
-  -- the group of a target has the keys of that target that have entries
-  pub in_group-is : (k : CacheKey) → in_group groups target k ≡ (same_target k.target target && is_held es k)
-  in_group-is k = go (same_target k.target target) refl (in_group groups target k) refl
-    where
-      go : (b : Bool) → same_target k.target target ≡ b → (g : Bool) → in_group groups target k ≡ g → in_group groups target k ≡ (b && is_held es k)
-      go true e g f = subst (λ t. in_group groups t k ≡ is_held es k) (Tells-target.only k.target target e) (indexed k)
-      go false e true f = let of : same_target k.target target ≡ true = subst (λ t. same_target k.target t ≡ true) (own target k f) (Tells-target.itself k.target) in absurd (cc)
-      go false e false f = f
-
-  -- so a mark on each of its keys is one on each entry of the target
-  pub map-marked_group : map (marked_by (λ k. in_group groups target k)) es ≡ map (marked target) es
-  map-marked_group = map-marked_held (λ k. in_group groups target k) (λ k. same_target k.target target) es es in_group-is (all_held es es (λ k h. h))
-
-  -- and it has as many keys as the target has entries
-  pub length-group : (keys : List CacheKey) → are_distinct entry_key es ≡ true → IsDistinct same_key keys → ((k : CacheKey) → is_member same_key keys k ≡ in_group groups target k) → length keys ≡ count_by (is_for target) es
+  -- and they are as many as the target has entries
+  pub length-group : (keys : List CacheKey) → are_distinct entry_key es ≡ true → IsDistinct same_key keys → ((k : CacheKey) → is_member same_key keys k ≡ in_group groups (digest secret target) k) → count_by (is_of target) keys ≡ count_by (is_for target) es
   length-group keys distinct apart same =
       let of = filter (is_for target) es in
-      length-from_same_keys same_key-equiv keys (map entry_key of) apart (distinct-keys of (distinct-filter entry_key (is_for target) es distinct)) (λ q. same q ∙ in_group-is q ∙ sym (held-of target es q))
+      sym (length-filter (is_of target) keys)
+      ∙ length-from_same_keys same_key-equiv (filter (is_of target) keys) (map entry_key of) (distinct-of target keys apart) (distinct-keys of (distinct-filter entry_key (is_for target) es distinct))
+      (λ q. keys-of target keys q ∙ ap (λ b. is_of target q && b) (same q) ∙ in_group-is q ∙ sym (held-of target es q))
       ∙ length-map of entry_key ∙ length-filter (is_for target) es

@@ -9,7 +9,7 @@ use Rattle.coap_store.specs.declared.stored.Stored.{Stored}
 use Rattle.coap_store.specs.Sizes.{size_of}
 use Rattle.coap_store.specs.Entries.{Entry, entry_key, entry_size, has_usable, marked, stored_for}
 use Rattle.coap_store.specs.Freshness.{is_usable}
-use Rattle.coap_store_lru.specs.Indexing.{AreThoseOf, Groups, is_held, is_indexed}
+use Rattle.coap_store_lru.specs.Indexing.{AreThoseOf, is_held}
 use Rattle.coap_store.specs.Keys.{same_key}
 use Rattle.coap_store.specs.Lists.{are_distinct, has_other_key, of_key, others, total, used}
 use Rattle.coap_store.proofs.Distinct.{distinct-filter, distinct-front, distinct-map, of_key-key}
@@ -17,35 +17,35 @@ use Rattle.coap_store.proofs.Held.{IsStore-used, front-length, map-total, marked
 use Rattle.coap_store.proofs.Keys.{same_key-only}
 use Rattle.coap_store_lru.proofs.Recency.{found-held, held-front, held-others, held-used, none_held, total-others}
 
-module _ {H : Type 0} (entries : List Entry) (bytes : ℕ) (groups : Groups H) (are : AreThoseOf entries bytes groups) where
+module _ (entries : List Entry) (bytes : ℕ) (indexed : CacheKey → Bool) (are : AreThoseOf entries bytes indexed) where
   -- without the entry of a key
-  pub AreThoseOf-others : (k : CacheKey) (x : Entry) (new : Groups H) (left : ℕ) → of_key entry_key k entries ≡ Some x → ((q : CacheKey) → is_indexed new q ≡ (not (same_key k q) && is_indexed groups q)) → left + entry_size x ≡ bytes
+  pub AreThoseOf-others : (k : CacheKey) (x : Entry) (new : CacheKey → Bool) (left : ℕ) → of_key entry_key k entries ≡ Some x → ((q : CacheKey) → new q ≡ (not (same_key k q) && indexed q)) → left + entry_size x ≡ bytes
       → AreThoseOf (others entry_key k entries) left new
   AreThoseOf-others k x new left found less counts = record {
     distinct = distinct-filter entry_key (has_other_key entry_key k) entries are.distinct;
     counted = omega (arith, counts, are.counted, total-others k entries x are.distinct found);
-    indexed = λ q. less q ∙ ap (λ b. not (same_key k q) && b) (are.indexed q) ∙ sym (held-others k entries q);
+    indexed_are = λ q. less q ∙ ap (λ b. not (same_key k q) && b) (are.indexed_are q) ∙ sym (held-others k entries q);
   }
 
   -- with an entry before those of other keys
-  pub AreThoseOf-front : (x : Entry) (new : Groups H) (more : ℕ) → ((q : CacheKey) → is_indexed new q ≡ (same_key x.0 q || is_indexed groups q)) → more ≡ entry_size x + total entry_size (others entry_key x.0 entries)
+  pub AreThoseOf-front : (x : Entry) (new : CacheKey → Bool) (more : ℕ) → ((q : CacheKey) → new q ≡ (same_key x.0 q || indexed q)) → more ≡ entry_size x + total entry_size (others entry_key x.0 entries)
       → AreThoseOf (x ∷ others entry_key x.0 entries) more new
   AreThoseOf-front x new more adds counts = record {
     distinct = distinct-front entry_key x entries are.distinct;
     counted = omega (arith, counts, sum_by-cons entry_size x (others entry_key x.0 entries));
-    indexed = λ q. adds q ∙ ap (λ b. same_key x.0 q || b) (are.indexed q) ∙ sym (held-front x entries q);
+    indexed_are = λ q. adds q ∙ ap (λ b. same_key x.0 q || b) (are.indexed_are q) ∙ sym (held-front x entries q);
   }
 
   -- with the same keys in the groups
-  pub AreThoseOf-along : (new : Groups H) → ((q : CacheKey) → is_indexed new q ≡ is_indexed groups q) → AreThoseOf entries bytes new
-  AreThoseOf-along new same = record { distinct = are.distinct; counted = are.counted; indexed = λ q. same q ∙ are.indexed q }
+  pub AreThoseOf-along : (new : CacheKey → Bool) → ((q : CacheKey) → new q ≡ indexed q) → AreThoseOf entries bytes new
+  AreThoseOf-along new same = record { distinct = are.distinct; counted = are.counted; indexed_are = λ q. same q ∙ are.indexed_are q }
 
   -- with the entry of a key at the front
-  pub AreThoseOf-used : (k : CacheKey) → AreThoseOf (used entry_key k entries) bytes groups
+  pub AreThoseOf-used : (k : CacheKey) → AreThoseOf (used entry_key k entries) bytes indexed
   AreThoseOf-used k = record {
     distinct = used-distinct k;
     counted = are.counted ∙ sym (total-used (of_key entry_key k entries) refl);
-    indexed = λ q. are.indexed q ∙ sym (held-used k entries q);
+    indexed_are = λ q. are.indexed_are q ∙ sym (held-used k entries q);
   }
     where
       used-distinct : (j : CacheKey) → are_distinct entry_key (used entry_key j entries) ≡ true
@@ -56,11 +56,11 @@ module _ {H : Type 0} (entries : List Entry) (bytes : ℕ) (groups : Groups H) (
       total-used (Some x) e = omega (arith, sum_by-cons entry_size x (others entry_key k entries), total-others k entries x are.distinct e)
 
   -- with the entries of a target marked
-  pub AreThoseOf-marked : (target : Target) → AreThoseOf (map (marked target) entries) bytes groups
+  pub AreThoseOf-marked : (target : Target) → AreThoseOf (map (marked target) entries) bytes indexed
   AreThoseOf-marked target = record {
     distinct = distinct-map entry_key (marked target) entries (marked-key target) are.distinct;
     counted = are.counted ∙ sym (map-total entry_size (marked target) entries (marked-size target));
-    indexed = λ q. are.indexed q ∙ ap (λ ks. list_any (same_key q) ks) (sym (keys-marked entries));
+    indexed_are = λ q. are.indexed_are q ∙ ap (λ ks. list_any (same_key q) ks) (sym (keys-marked entries));
   }
     where
       keys-marked : (es : List Entry) → map entry_key (map (marked target) es) ≡ map entry_key es
@@ -76,20 +76,20 @@ length-used k es = go (of_key entry_key k es) refl
     go (Some x) e = front-length entry_key k es x e
 
 -- a key that is added and taken out again, and wasn't there before, changes nothing
-pub put_back : {H : Type 0} (groups between new : Groups H) (entries : List Entry) (k : CacheKey) → ((q : CacheKey) → is_indexed groups q ≡ is_held entries q) → of_key entry_key k entries ≡ None
-    → ((q : CacheKey) → is_indexed between q ≡ (same_key k q || is_indexed groups q)) → ((q : CacheKey) → is_indexed new q ≡ (not (same_key k q) && is_indexed between q)) → (q : CacheKey) → is_indexed new q ≡ is_indexed groups q
-put_back groups between new entries k indexed none adds takes q = takes q ∙ ap (λ b. not (same_key k q) && b) (adds q) ∙ go (same_key k q) refl
+pub put_back : (indexed between new : CacheKey → Bool) (entries : List Entry) (k : CacheKey) → ((q : CacheKey) → indexed q ≡ is_held entries q) → of_key entry_key k entries ≡ None
+    → ((q : CacheKey) → between q ≡ (same_key k q || indexed q)) → ((q : CacheKey) → new q ≡ (not (same_key k q) && between q)) → (q : CacheKey) → new q ≡ indexed q
+put_back indexed between new entries k are none adds takes q = takes q ∙ ap (λ b. not (same_key k q) && b) (adds q) ∙ go (same_key k q) refl
   where
-    go : (p : Bool) → same_key k q ≡ p → (not p && (p || is_indexed groups q)) ≡ is_indexed groups q
-    go true e = sym (subst (λ j. is_indexed groups j ≡ false) (same_key-only k q e) (indexed k ∙ none_held k entries none))
+    go : (p : Bool) → same_key k q ≡ p → (not p && (p || indexed q)) ≡ indexed q
+    go true e = sym (subst (λ j. indexed j ≡ false) (same_key-only k q e) (are k ∙ none_held k entries none))
     go false e = refl
 
 -- a key with an entry is in its group already
-pub held_already : {H : Type 0} (groups : Groups H) (entries : List Entry) (k : CacheKey) (x : Entry) → ((q : CacheKey) → is_indexed groups q ≡ is_held entries q) → of_key entry_key k entries ≡ Some x → (q : CacheKey) → is_indexed groups q ≡ (same_key k q || is_indexed groups q)
-held_already groups entries k x indexed found q = go (same_key k q) refl
+pub held_already : (indexed : CacheKey → Bool) (entries : List Entry) (k : CacheKey) (x : Entry) → ((q : CacheKey) → indexed q ≡ is_held entries q) → of_key entry_key k entries ≡ Some x → (q : CacheKey) → indexed q ≡ (same_key k q || indexed q)
+held_already indexed entries k x are found q = go (same_key k q) refl
   where
-    go : (p : Bool) → same_key k q ≡ p → is_indexed groups q ≡ (p || is_indexed groups q)
-    go true e = subst (λ j. is_indexed groups j ≡ true) (same_key-only k q e) (indexed k ∙ found-held k entries x found)
+    go : (p : Bool) → same_key k q ≡ p → indexed q ≡ (p || indexed q)
+    go true e = subst (λ j. indexed j ≡ true) (same_key-only k q e) (are k ∙ found-held k entries x found)
     go false e = refl
 
 -- what may be used of an entry, by what is stored for its key

@@ -1,5 +1,5 @@
 -- Entries that are marked by key, one key after the other.
-use Rattle.std.proofs.Common.{◌≡◌, ◌||◌, Bool, true, false, cond, not, List, [], ◌∷◌, Some, None, map, refl, sym, ap, subst, ◌∙◌}
+use Rattle.std.proofs.Common.{◌≡◌, ◌&&◌, ◌||◌, Bool, true, false, cond, not, List, [], ◌∷◌, Some, None, map, refl, sym, ap, subst, ◌∙◌}
 use Rattle.std.specs.List.{list_all}
 use Rattle.std.specs.Map.{lookup, set_value}
 use Rattle.std.proofs.lemmas.Bool.{and_parts}
@@ -103,6 +103,11 @@ marked-written k es s distinct found = set_marked k es s distinct found ∙ from
 -- where nothing is written, none is marked
 pub unmarked-unwritten : (k : CacheKey) (es : List Entry) → lookup (same_key k) es ≡ None → es ≡ map (marked_by (λ j. same_key j k)) es
 unmarked-unwritten k es none = sym (none_marked k es none) ∙ from_behind k es
+
+-- either of two tests beside a third
+pub either : (p a b : Bool) → ((p && a) || (p && b)) ≡ (p && (a || b))
+either true a b = refl
+either false a b = refl
 
 -- marks by no key
 pub marked_by_none : (es : List Entry) → es ≡ map (marked_by (λ k. false)) es

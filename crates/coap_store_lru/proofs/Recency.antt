@@ -1,5 +1,5 @@
 -- Entries as a recency map has them: it compares a key from the other side, and takes out the first entry that it finds.
-use Rattle.std.proofs.Common.{◌≡◌, ◌+◌, ◌-◌, ◌≤◌, is_some, length, take, ◌&&◌, ◌||◌, Bool, true, false, cond, not, List, [], ◌∷◌, Option, Some, None, refl, sym, ap, subst, ◌∙◌, arith}
+use Rattle.std.proofs.Common.{◌≡◌, ◌+◌, ◌-◌, ◌≤◌, is_some, length, take, slice_get, ◌&&◌, ◌||◌, Bool, true, false, cond, not, List, [], ◌∷◌, Option, Some, None, refl, sym, ap, subst, ◌∙◌, arith}
 use Rattle.std.specs.List.{list_all}
 use Rattle.std.specs.Map.{lookup, lookup_entry, remove_entry}
 use Rattle.std.specs.Option.{option_map, option_map_or}
@@ -49,6 +49,14 @@ module _ (k : CacheKey) where
   rest-others e es is distinct =
       let parts = and_parts (list_all (has_other_key entry_key e.0) es) (are_distinct entry_key es) distinct in
       filter-all (has_other_key entry_key k) es (subst (λ q. list_all (has_other_key entry_key q) es ≡ true) (same_key-only e.0 k is) parts.0)
+
+  -- a use of the first entry leaves all as they are
+  pub first-used : (es : List Entry) (x : Entry) → are_distinct entry_key es ≡ true → slice_get es 0 ≡ Some x → same_key x.0 k ≡ true → used entry_key k es ≡ es
+  first-used [] x distinct first is = absurd cc
+  first-used (e ∷ es) x distinct first is =
+      let one : e ≡ x = cc in
+      let same : same_key e.0 k ≡ true = ap (λ (y : Entry). same_key y.0 k) one ∙ is in
+      rw same (ap (λ l. e ∷ l) (rest-others e es same distinct))
 
   -- what is left without it is the others
   pub remove_entry-is : (es : List Entry) → are_distinct entry_key es ≡ true → remove_entry (same_key k) es ≡ others entry_key k es

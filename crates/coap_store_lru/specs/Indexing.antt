@@ -1,41 +1,57 @@
--- The keys of a store's entries, in groups by their targets.
-use Rattle.std.specs.Prelude.{◌≡◌, ◌≢◌, ℕ, Bool, true, false, if◌then◌else◌, List, map}
-use Rattle.std.specs.List.{list_any}
+-- The keys of a store's entries, in groups by digests of their targets.
+use Rattle.std.specs.Prelude.{◌≡◌, ◌≢◌, ℕ, Bool, true, false, if◌then◌else◌, nat_eq, List, [], ◌∷◌, ◌++◌, length, map}
+use Rattle.std.specs.Hash.{u64}
+use Rattle.std.specs.Hash.DefaultHasher as sip
+use Rattle.std.specs.List.{fold, list_any}
 use Rattle.std.specs.Option.{ForSome, option_map_or}
 use Rattle.std.specs.HashMap.{HashMap, get}
-use Rattle.std.specs.HashSet.{HashSet, contains, hash_set_len}
+use Rattle.coap_endpoint.specs.contracts.target.TargetHash.TheImpl as targets
 use Rattle.coap_endpoint.specs.declared.target.Target.{Target}
 use Rattle.coap_endpoint.specs.Equality.{same_target}
 use Rattle.coap_store.specs.declared.key.CacheKey.{CacheKey}
 use Rattle.coap_store.specs.Entries.{Entry, entry_key, entry_size}
 use Rattle.coap_store.specs.Keys.{same_key}
 use Rattle.coap_store.specs.Lists.{are_distinct, total}
+use Rattle.coap_store_lru.specs.declared.group.Group.{Group}
+use Rattle.coap_store_lru.specs.declared.group.Group.TheVariants.{One, Several}
 
--- groups of keys, by their targets
-abbrev pub Groups : Type 0 → Type 0
-Groups H = HashMap Target (HashSet CacheKey H) H
+-- the digest of a target, hashed behind a number that strangers don't know
+unfoldable pub digest : ℕ → Target → ℕ
+digest secret target =
+    sip.finish (fold sip.write sip.initial (u64 secret ++ (targets.ghosts).hash_input target))
 
--- the group of a target has this key
-abbrev pub in_group : {H : Type 0} → Groups H → Target → CacheKey → Bool
-in_group groups target key =
-    option_map_or (λ keys. contains same_key keys key) (get same_target groups target) false
+-- the keys of a group, over a hasher H that makes a J for each key
+abbrev pub keys_in : {H J : Type 0} → Group H J → List CacheKey
+keys_in (One key) = key.value ∷ []
+keys_in (Several keys) = keys.value.keys
 
--- the group of its own target has the key
-abbrev pub is_indexed : {H : Type 0} → Groups H → CacheKey → Bool
-is_indexed groups key = in_group groups key.target key
+-- a group has this key
+abbrev pub has : {H J : Type 0} → Group H J → CacheKey → Bool
+has group key = list_any (same_key key) (keys_in group)
 
--- the keys of a group are of its target
-abbrev pub AreOwn : {H : Type 0} → Groups H → Type 0
-AreOwn groups =
-    (target : Target) (key : CacheKey) → in_group groups target key ≡ true → key.target ≡ target
+-- groups of keys, by digests
+abbrev pub Groups : Type 0 → Type 0 → Type 0 → Type 0
+Groups H J S = HashMap ℕ (Group H J) S
 
--- the group of a target has a key, if there is one
-abbrev pub IsFilled : {H : Type 0} → Groups H → Target → Type 0
-IsFilled groups target = ForSome (get same_target groups target) (λ keys. hash_set_len keys ≢ 0)
+-- the group of a digest has this key
+abbrev pub in_group : {H J S : Type 0} → Groups H J S → ℕ → CacheKey → Bool
+in_group groups at key = option_map_or (λ group. has group key) (get nat_eq groups at) false
+
+-- the group of its own target's digest has the key
+abbrev pub is_indexed : {H J S : Type 0} → ℕ → Groups H J S → CacheKey → Bool
+is_indexed secret groups key = in_group groups (digest secret key.target) key
+
+-- the group of a digest has a key, if there is one
+abbrev pub IsFilled : {H J S : Type 0} → Groups H J S → ℕ → Type 0
+IsFilled groups at = ForSome (get nat_eq groups at) (λ group. length (keys_in group) ≢ 0)
 
 -- every group has a key: with its last key a group is let go
-abbrev pub AreFilled : {H : Type 0} → Groups H → Type 0
-AreFilled groups = (target : Target) → IsFilled groups target
+abbrev pub AreFilled : {H J S : Type 0} → Groups H J S → Type 0
+AreFilled groups = (at : ℕ) → IsFilled groups at
+
+-- the key is of this target
+abbrev pub is_of : Target → CacheKey → Bool
+is_of target key = same_target key.target target
 
 -- there is an entry of the key
 abbrev pub is_held : List Entry → CacheKey → Bool
@@ -45,10 +61,10 @@ is_held entries key = list_any (same_key key) (map entry_key entries)
 abbrev pub marked_by : (CacheKey → Bool) → Entry → Entry
 marked_by test entry = if test entry.0 then (entry.0, record entry.1 { marked = true }) else entry
 
--- The total and the groups are those of the entries: each key that has an entry is in the group of
--- its target, and no other key is.
-pub record AreThoseOf {H : Type 0} (entries : List Entry) (bytes : ℕ) (groups : Groups H)
+-- The total and the indexed keys are those of the entries: each key that has an entry is indexed,
+-- and no other key is.
+pub record AreThoseOf (entries : List Entry) (bytes : ℕ) (indexed : CacheKey → Bool)
     : Type 0 where
   pub distinct : are_distinct entry_key entries ≡ true
   pub counted : bytes ≡ total entry_size entries
-  pub indexed : (key : CacheKey) → is_indexed groups key ≡ is_held entries key
+  pub indexed_are : (key : CacheKey) → indexed key ≡ is_held entries key

@@ -1,6 +1,7 @@
 //! A store of responses as a recency map, with the contracts of `coap_store`'s `Store`.
 #![tactic(auto)]
 
+mod group;
 mod lru_store;
 mod target_index;
 

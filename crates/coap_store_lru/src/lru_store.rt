@@ -1,14 +1,15 @@
 //! A store as a recency map.
-ghost use Rattle.std.specs.Prelude.{◌≡◌, ◌+◌, ◌<◌, ◌≤◌, ◌^◌, ◌-◌, ◌∷◌, None, Ok, true, is_some, OnOk, OnErr, length, take, map, nat_lt, ◌||◌};
+ghost use Rattle.std.specs.Prelude.{◌≡◌, ◌+◌, ◌<◌, ◌≤◌, ◌^◌, ◌-◌, ◌∷◌, None, Ok, true, is_some, IsTrue, OnOk, OnErr, length, take, map, nat_lt, ◌||◌, ◌&&◌, count_by, if◌then◌else◌};
 ghost use Rattle.std.specs.HashSet.{contains};
 ghost use Rattle.std.specs.List.{IsDistinct};
 ghost use Rattle.lru.specs.LruCache.{lru_cache};
 ghost use Rattle.coap_store.specs.Entries.{entry_key, entry_size, stored_for};
-ghost use Rattle.coap_store_lru.specs.Indexing.{AreThoseOf, marked_by};
+ghost use Rattle.coap_store_lru.specs.Indexing.{AreThoseOf, has, is_indexed, is_of, keys_in, marked_by};
 ghost use Rattle.coap_store.specs.Keys.{same_key};
-ghost use Rattle.coap_store.specs.Lists.{are_distinct, cut, of_key, others};
+ghost use Rattle.coap_store.specs.Lists.{are_distinct, cut, of_key, others, used};
 ghost use Rattle.coap_store.specs.Sizes.{size_of};
 
+use crate::group::Group;
 use crate::target_index::TargetIndex;
 use coap_endpoint::Target;
 use coap_message::OutOfMemory;
@@ -18,7 +19,7 @@ use std::alloc::Global;
 use std::collections::HashSet;
 use std::hash::BuildHasher;
 
-/// A store that finds an entry by the hash of its key, and the keys of a target by the hash of
+/// A store that finds an entry by the hash of its key, and the keys of a target by a digest of
 /// that. Strangers choose both, so that the hasher is to have keys drawn at random, as
 /// `RandomState` has.
 pub struct LruStore<H: BuildHasher> {
@@ -27,7 +28,7 @@ pub struct LruStore<H: BuildHasher> {
     index: TargetIndex<H>,
     most_bytes: u64,
     most_entries: usize,
-    ghost are_those: { AreThoseOf recent.entries total index.groups },
+    ghost are_those: { AreThoseOf recent.entries total (is_indexed index.secret index.groups) },
     ghost unlimited: { recent.cap ≡ 2 ^ 64 - 1 },
     ghost within_bytes: { total ≤ most_bytes },
     ghost within_entries: { length recent.entries ≤ most_entries },
@@ -69,7 +70,9 @@ impl<H: BuildHasher + Copy> Store for LruStore<H> {
     }
 
     fn touch(&mut self, key: &CacheKey) {
-        self.recent.promote(key);
+        if !is_first(&self.recent, key) {
+            self.recent.promote(key);
+        }
     }
 
     fn peek(&self, key: &CacheKey) -> Option<&Stored> {
@@ -103,8 +106,8 @@ impl<H: BuildHasher + Copy> Store for LruStore<H> {
     }
 
     fn mark(&mut self, target: &Target) -> usize {
-        match self.index.keys_of(target) {
-            Some(keys) => mark_keys(&mut self.recent, keys),
+        match self.index.group_of(target) {
+            Some(group) => mark_group(&mut self.recent, group, target),
             None => 0,
         }
     }
@@ -122,6 +125,17 @@ impl<H: BuildHasher + Copy> Store for LruStore<H> {
     }
 }
 
+/// Whether the entry of a key is the most recently used, which needs no hash of the key.
+fn is_first<H: BuildHasher>(recent: &LruCache<CacheKey, Stored, H>, key: &CacheKey) -> bool
+    requires { are_distinct entry_key recent.now.entries ≡ true }
+    ensures { IsTrue result → used entry_key key.now recent.now.entries ≡ recent.now.entries }
+{
+    match recent.peek_mru() {
+        Some((first, _)) => first.is(key),
+        None => false,
+    }
+}
+
 /// Takes out the entry of a key and lets it go. Says whether there was one.
 fn take_out<H: BuildHasher + Copy>(
     recent: &mut LruCache<CacheKey, Stored, H>,
@@ -129,11 +143,13 @@ fn take_out<H: BuildHasher + Copy>(
     index: &mut TargetIndex<H>,
     key: &CacheKey,
 ) -> bool
-    requires { AreThoseOf recent.old.entries total.old index.old.groups }
+    requires { AreThoseOf recent.old.entries total.old
+        (is_indexed index.old.secret index.old.groups) }
     ensures found { result ≡ is_some (of_key entry_key key.now recent.old.entries) }
     ensures others { recent.new
         ≡ lru_cache (others entry_key key.now recent.old.entries) recent.old.cap }
-    ensures those { AreThoseOf recent.new.entries total.new index.new.groups }
+    ensures those { AreThoseOf recent.new.entries total.new
+        (is_indexed index.new.secret index.new.groups) }
 {
     match recent.pop_entry(key) {
         Some((of, stored)) => {
@@ -153,7 +169,8 @@ fn put_first<H: BuildHasher + Copy>(
     key: CacheKey,
     stored: Stored,
 ) -> Result<(), OutOfMemory>
-    requires those { AreThoseOf recent.old.entries total.old index.old.groups }
+    requires those { AreThoseOf recent.old.entries total.old
+        (is_indexed index.old.secret index.old.groups) }
     requires few { total.old < 2 ^ 63 }
     requires small { size_of key stored < 2 ^ 63 }
     requires unlimited { recent.old.cap ≡ 2 ^ 64 - 1 }
@@ -163,7 +180,8 @@ fn put_first<H: BuildHasher + Copy>(
     ensures err { OnErr result (recent.new ≡ recent.old) }
     ensures err_total { OnErr result (total.new ≡ total.old) }
     ensures err_new { OnErr result (of_key entry_key key recent.old.entries ≡ None) }
-    ensures those { AreThoseOf recent.new.entries total.new index.new.groups }
+    ensures those { AreThoseOf recent.new.entries total.new
+        (is_indexed index.new.secret index.new.groups) }
 {
     match recent.peek(&key) {
         Some(former) => {
@@ -206,7 +224,8 @@ fn put_new<H: BuildHasher + Copy>(
     key: CacheKey,
     stored: Stored,
 ) -> Result<(), OutOfMemory>
-    requires those { AreThoseOf recent.old.entries total.old index.old.groups }
+    requires those { AreThoseOf recent.old.entries total.old
+        (is_indexed index.old.secret index.old.groups) }
     requires new { stored_for key recent.old.entries ≡ None }
     requires few { total.old < 2 ^ 63 }
     requires small { size_of key stored < 2 ^ 63 }
@@ -215,7 +234,8 @@ fn put_new<H: BuildHasher + Copy>(
         (recent.new ≡ lru_cache ((key, stored) ∷ recent.old.entries) recent.old.cap) }
     ensures err { OnErr result (recent.new ≡ recent.old) }
     ensures err_total { OnErr result (total.new ≡ total.old) }
-    ensures those { AreThoseOf recent.new.entries total.new index.new.groups }
+    ensures those { AreThoseOf recent.new.entries total.new
+        (is_indexed index.new.secret index.new.groups) }
 {
     let _few = recent.len();
     let size = bytes_of(&key, &stored);
@@ -240,10 +260,12 @@ fn cut_to<H: BuildHasher + Copy>(
     bytes: u64,
     most: usize,
 )
-    requires { AreThoseOf recent.old.entries total.old index.old.groups }
+    requires { AreThoseOf recent.old.entries total.old
+        (is_indexed index.old.secret index.old.groups) }
     ensures kept { recent.new
         ≡ lru_cache (cut entry_size bytes most recent.old.entries) recent.old.cap }
-    ensures those { AreThoseOf recent.new.entries total.new index.new.groups }
+    ensures those { AreThoseOf recent.new.entries total.new
+        (is_indexed index.new.secret index.new.groups) }
 {
     'over: while is_over(recent, *total, bytes, most) {
         take_last(recent, total, index);
@@ -268,10 +290,12 @@ fn take_last<H: BuildHasher + Copy>(
     total: &mut u64,
     index: &mut TargetIndex<H>,
 )
-    requires { AreThoseOf recent.old.entries total.old index.old.groups }
+    requires { AreThoseOf recent.old.entries total.old
+        (is_indexed index.old.secret index.old.groups) }
     ensures left { recent.new
         ≡ lru_cache (take (length recent.old.entries - 1) recent.old.entries) recent.old.cap }
-    ensures those { AreThoseOf recent.new.entries total.new index.new.groups }
+    ensures those { AreThoseOf recent.new.entries total.new
+        (is_indexed index.new.secret index.new.groups) }
 {
     match recent.pop_lru() {
         Some((key, stored)) => {
@@ -282,22 +306,67 @@ fn take_last<H: BuildHasher + Copy>(
     }
 }
 
-/// Marks the entries of some keys, and counts the keys.
-fn mark_keys<H: BuildHasher>(
+/// Marks the entries of those keys of a group that are of a target, and counts these keys.
+fn mark_group<H: BuildHasher>(
     recent: &mut LruCache<CacheKey, Stored, H>,
-    keys: &HashSet<CacheKey, H>,
+    group: &Group<H>,
+    target: &Target,
 ) -> usize
     requires { are_distinct entry_key recent.old.entries ≡ true }
     ensures marked { recent.new
-        ≡ lru_cache (map (marked_by (contains same_key keys.now)) recent.old.entries)
+        ≡ lru_cache
+        (map (marked_by (λ k. is_of target.now k && has group.now k)) recent.old.entries)
         recent.old.cap }
-    ensures counted { result ≡ length keys.now.keys }
+    ensures counted { result ≡ count_by (is_of target.now) (keys_in group.now) }
+    ensures distinct { IsDistinct same_key (keys_in group.now) }
+{
+    match group {
+        Group::One(key) => mark_of(recent, key, target),
+        Group::Several(keys) => mark_keys(recent, keys, target),
+    }
+}
+
+/// The same for a set of keys.
+fn mark_keys<H: BuildHasher>(
+    recent: &mut LruCache<CacheKey, Stored, H>,
+    keys: &HashSet<CacheKey, H>,
+    target: &Target,
+) -> usize
+    requires { are_distinct entry_key recent.old.entries ≡ true }
+    ensures marked { recent.new
+        ≡ lru_cache
+        (map (marked_by (λ k. is_of target.now k && contains same_key keys.now k))
+        recent.old.entries) recent.old.cap }
+    ensures counted { result ≡ count_by (is_of target.now) keys.now.keys }
     ensures distinct { IsDistinct same_key keys.now.keys }
 {
+    let _few = keys.len();
+    let mut count = 0;
     for key in keys {
-        mark_key(recent, key);
+        count += mark_of(recent, key, target);
     }
-    keys.len()
+    count
+}
+
+/// Marks the entry of a key, if the key is of a target, and counts it then.
+fn mark_of<H: BuildHasher>(
+    recent: &mut LruCache<CacheKey, Stored, H>,
+    key: &CacheKey,
+    target: &Target,
+) -> usize
+    requires { are_distinct entry_key recent.old.entries ≡ true }
+    ensures marked { recent.new
+        ≡ lru_cache
+        (map (marked_by (λ k. is_of target.now k && same_key k key.now)) recent.old.entries)
+        recent.old.cap }
+    ensures counted { result ≡ (if is_of target.now key.now then 1 else 0) }
+{
+    if key.target.is(target) {
+        mark_key(recent, key);
+        1
+    } else {
+        0
+    }
 }
 
 /// Marks the entry of a key, if there is one.

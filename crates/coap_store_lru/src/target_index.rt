@@ -1,26 +1,29 @@
 //! Which keys there are, by their targets.
-ghost use Rattle.std.specs.Prelude.{◌≡◌, ◌↔◌, ◌&&◌, ◌||◌, None, false, not, is_ok, IsTrue, IsFalse};
+ghost use Rattle.std.specs.Prelude.{◌≡◌, ◌&&◌, ◌||◌, ℕ, None, false, nat_eq, not, is_ok, IsFalse};
 ghost use Rattle.std.specs.Option.{option_copied};
 ghost use Rattle.std.specs.HashMap.{get};
-ghost use Rattle.std.specs.HashSet.{contains, hash_set_len};
-ghost use Rattle.coap_endpoint.specs.declared.target.Target.{Target};
-ghost use Rattle.coap_endpoint.specs.Equality.{same_target};
 ghost use Rattle.coap_store.specs.declared.key.CacheKey.{CacheKey};
-ghost use Rattle.coap_store_lru.specs.Indexing.{AreFilled, AreOwn, IsFilled, in_group, is_indexed};
 ghost use Rattle.coap_store.specs.Keys.{same_key};
+ghost use Rattle.coap_store_lru.specs.Indexing.{AreFilled, digest, in_group, is_indexed};
 
+use crate::group::Group;
 use coap_endpoint::Target;
 use coap_message::OutOfMemory;
 use coap_store::CacheKey;
 use std::alloc::Global;
-use std::collections::{HashMap, HashSet};
-use std::hash::BuildHasher;
+use std::collections::HashMap;
+use std::hash::{BuildHasher, DefaultHasher, Hash, Hasher};
 
-/// Keys in groups, one for each target.
+/// Keys in groups, one for each digest of a target, so that no target is held beside those of the
+/// keys.
 pub(crate) struct TargetIndex<H: BuildHasher> {
-    pub(crate) groups: HashMap<Target, HashSet<CacheKey, H>, H>,
+    /// By digests, which strangers can't aim at, so that any hasher will do.
+    pub(crate) groups: HashMap<u64, Group<H>>,
+    /// What stands before each target that is digested. The hasher makes it, whose own keys are to
+    /// be drawn at random, since strangers choose targets.
+    pub(crate) secret: u64,
+    hasher: H,
     alloc: Global,
-    ghost own: { AreOwn groups },
     ghost filled: { AreFilled groups },
 }
 
@@ -28,6 +31,8 @@ impl<H: BuildHasher + Drop> Drop for TargetIndex<H> {
     fn drop(self) {
         let TargetIndex {
             groups: _,
+            secret: _,
+            hasher: _,
             alloc: _,
         } = self;
     }
@@ -36,98 +41,93 @@ impl<H: BuildHasher + Drop> Drop for TargetIndex<H> {
 impl<H: BuildHasher + Copy> TargetIndex<H> {
     /// No keys.
     pub(crate) fn new(alloc: Global, hasher: H) -> TargetIndex<H>
-        ensures { (k : CacheKey) → is_indexed result.groups k ≡ false }
+        ensures { (k : CacheKey) → is_indexed result.secret result.groups k ≡ false }
     {
         TargetIndex {
-            groups: HashMap::with_hasher(alloc, hasher),
+            groups: HashMap::new(alloc),
+            secret: hasher.hash_one(0u64),
+            hasher,
             alloc,
         }
     }
 
-    /// The keys of a target.
-    pub(crate) fn keys_of(&self, target: &Target) -> Option<&HashSet<CacheKey, H>>
-        ensures { option_copied result ≡ get same_target self.now.groups target.now }
+    /// The keys of a target, and of others only where these have its digest.
+    pub(crate) fn group_of(&self, target: &Target) -> Option<&Group<H>>
+        ensures { option_copied result
+            ≡ get nat_eq self.now.groups (digest self.now.secret target.now) }
     {
-        self.groups.get(target)
+        self.groups.get(&digest_of(self.secret, target))
     }
 
     /// Adds a key. Where there is no memory, the keys stay as they are.
     pub(crate) fn insert(&mut self, key: &CacheKey) -> Result<(), OutOfMemory>
         ensures { (k : CacheKey)
-            → is_indexed self.new.groups k
-            ≡ ((is_ok result && same_key key.now k) || is_indexed self.old.groups k) }
+            → is_indexed self.new.secret self.new.groups k
+            ≡ ((is_ok result && same_key key.now k)
+            || is_indexed self.old.secret self.old.groups k) }
     {
         let copy = key.copied()?;
-        match self.groups.get_mut(&key.target) {
-            Some(keys) => add(keys, copy),
-            None => self.open(copy),
+        let at = digest_of(self.secret, &key.target);
+        let (alloc, hasher) = (self.alloc, self.hasher);
+        match self.groups.get_mut(&at) {
+            Some(group) => group.add(alloc, hasher, copy),
+            None => self.open(at, copy),
         }
     }
 
-    /// Adds the first key of a target.
-    fn open(&mut self, key: CacheKey) -> Result<(), OutOfMemory>
-        requires { get same_target self.old.groups key.target ≡ None }
+    /// Adds the first key of a digest.
+    fn open(&mut self, at: u64, key: CacheKey) -> Result<(), OutOfMemory>
+        requires at { at ≡ digest self.old.secret key.target }
+        requires new { get nat_eq self.old.groups at ≡ None }
         ensures { (k : CacheKey)
-            → is_indexed self.new.groups k
-            ≡ ((is_ok result && same_key key k) || is_indexed self.old.groups k) }
+            → is_indexed self.new.secret self.new.groups k
+            ≡ ((is_ok result && same_key key k) || is_indexed self.old.secret self.old.groups k) }
     {
-        let target = key.target.copied()?;
-        let mut keys = HashSet::with_hasher(self.alloc, *self.groups.hasher());
-        add(&mut keys, key)?;
-        self.groups.insert(target, keys)?;
+        let group = Group::of(self.alloc, key)?;
+        self.groups.insert(at, group)?;
         Ok(())
     }
 
-    /// Takes out a key, and with the last key of a target its group. It takes no memory.
+    /// Takes out a key, and with the last key of a digest its group. It takes no memory.
     pub(crate) fn remove(&mut self, key: &CacheKey)
-        ensures { (k : CacheKey) → is_indexed self.new.groups k
-            ≡ (not (same_key key.now k) && is_indexed self.old.groups k) }
+        ensures { (k : CacheKey) → is_indexed self.new.secret self.new.groups k
+            ≡ (not (same_key key.now k) && is_indexed self.old.secret self.old.groups k) }
     {
-        if leave(&mut self.groups, key) {
-            self.groups.remove(&key.target);
+        let at = digest_of(self.secret, &key.target);
+        if leave(&mut self.groups, at, key) {
+            self.groups.remove(&at);
         }
     }
 }
 
-/// Takes a key out of its group, and says whether that has no key any more.
-fn leave<H: BuildHasher>(
-    groups: &mut HashMap<Target, HashSet<CacheKey, H>, H>,
+/// Takes a key out of the group of a digest, and says whether no other is left in it: then the
+/// group is to be let go.
+fn leave<H: BuildHasher + Copy>(
+    groups: &mut HashMap<u64, Group<H>>,
+    at: u64,
     key: &CacheKey,
 ) -> bool
-    requires own { AreOwn groups.old }
-    requires filled { AreFilled groups.old }
-    ensures left { (k : CacheKey) → is_indexed groups.new k
-        ≡ (not (same_key key.now k) && is_indexed groups.old k) }
-    ensures own { AreOwn groups.new }
-    ensures empty { IsTrue result → (k : CacheKey) → in_group groups.new key.now.target k ≡ false }
+    requires { AreFilled groups.old }
+    ensures left { (k : CacheKey) → (not result && in_group groups.new at k)
+        ≡ (not (same_key key.now k) && in_group groups.old at k) }
+    ensures others { (e : ℕ)
+        → nat_eq at e ≡ false
+        → get nat_eq groups.new e ≡ get nat_eq groups.old e }
     ensures filled { IsFalse result → AreFilled groups.new }
-    ensures others_filled { (target : Target)
-        → same_target key.now.target target ≡ false
-        → IsFilled groups.new target }
 {
-    match groups.get_mut(&key.target) {
-        Some(keys) => delete(keys, key),
+    match groups.get_mut(&at) {
+        Some(group) => group.leave(key),
         None => false,
     }
 }
 
-/// Adds a key to a group.
-fn add<H: BuildHasher>(keys: &mut HashSet<CacheKey, H>, key: CacheKey) -> Result<(), OutOfMemory>
-    ensures { (k : CacheKey)
-        → contains same_key keys.new k
-        ≡ ((is_ok result && same_key key k) || contains same_key keys.old k) }
+/// The digest of a target.
+#[tactic(auto, unfolding(crate::specs::Indexing::digest))]
+fn digest_of(secret: u64, target: &Target) -> u64
+    ensures { result ≡ digest secret target.now }
 {
-    keys.insert(key)?;
-    Ok(())
-}
-
-/// Takes a key out of a group, and says whether that has no key any more.
-fn delete<H: BuildHasher>(keys: &mut HashSet<CacheKey, H>, key: &CacheKey) -> bool
-    ensures left { (k : CacheKey)
-        → contains same_key keys.new k
-        ≡ (not (same_key key.now k) && contains same_key keys.old k) }
-    ensures empty { IsTrue result ↔ (hash_set_len keys.new ≡ 0) }
-{
-    keys.remove(key);
-    keys.is_empty()
+    let mut hasher = DefaultHasher::new();
+    hasher.write_u64(secret);
+    target.hash(&mut hasher);
+    hasher.finish()
 }

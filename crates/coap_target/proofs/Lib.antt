@@ -1,6 +1,7 @@
 pub mod Dropping
 pub mod Gathering
 pub mod MapSearch
+pub mod OneNumber
 pub mod Origins
 pub mod Requests
 pub mod Screened

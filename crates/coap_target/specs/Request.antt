@@ -1,8 +1,10 @@
 -- The target of a request at a proxy (RFC 7252, 5.7.2, 5.7.3, 5.10.1 and 5.10.2), or why it has
 -- none.
-use Rattle.std.specs.Prelude.{ℕ, Bool, ◌==◌, List, [], ◌∷◌, map, codes, bytes_eq, Option, Some, None, ok_or, Result, Ok, Err, if◌then◌else◌}
+use Rattle.std.specs.Prelude.{ℕ, Bool, ◌==◌, ◌||◌, List, [], ◌∷◌, map, codes, bytes_eq, Option, Some, None, ok_or, Result, Ok, Err, if◌then◌else◌}
 use Rattle.std.specs.Char.{to_ascii_lowercase}
+use Rattle.std.specs.List.{list_any}
 use Rattle.std.specs.Str.{is_utf8}
+use Rattle.coap_message.specs.declared.options.Opt.{Opt}
 use Rattle.coap_message.specs.Message.{Message}
 use Rattle.coap_message.specs.Uint.{uint_of}
 use Rattle.coap_option.specs.declared.numbers.TheConstants.{URI_HOST, URI_PORT, PROXY_URI, PROXY_SCHEME}
@@ -28,6 +30,14 @@ first_value (value ∷ values) = Some value
 
 abbrev pub value_of : ℕ → Message → Option (List ℕ)
 value_of number m = first_value (values_of number m.options)
+
+-- there is a Proxy-Uri or a Proxy-Scheme among the options
+abbrev pub say_uri : List Opt → Bool
+say_uri options = list_any (λ o. o.number == PROXY_URI || o.number == PROXY_SCHEME) options
+
+-- the request says its target by a URI (RFC 7252, 5.10.2)
+abbrev pub says_uri : Message → Bool
+says_uri m = say_uri m.options
 
 -- The port that Uri-Port says. Without one it is that of the scheme (RFC 7252, 6.1), not the one
 -- that the request came to (5.10.1).

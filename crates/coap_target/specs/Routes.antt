@@ -1,18 +1,14 @@
 -- The target of a request to the proxy itself: its path is mapped to an origin (RFC 7252, 5.7.3).
-use Rattle.std.specs.Prelude.{ℕ, Bool, true, false, ◌==◌, ◌&&◌, nat_eq, nat_lt, if◌then◌else◌, List, [], ◌∷◌, ◌++◌, map, filter, length, drop, Option, Some, None, option_map}
+use Rattle.std.specs.Prelude.{ℕ, Bool, true, false, ◌&&◌, nat_eq, nat_lt, if◌then◌else◌, List, [], ◌∷◌, ◌++◌, length, drop, Option, Some, None, option_map}
 use Rattle.std.specs.Cmp.Lexicographic.{pointwise}
-use Rattle.coap_message.specs.declared.options.Opt.{Opt}
 use Rattle.coap_message.specs.Message.{Message}
+pub use Rattle.coap_message.specs.Options.{values_of}
 use Rattle.coap_option.specs.declared.numbers.TheConstants.{URI_PATH, URI_QUERY}
 use Rattle.coap_endpoint.specs.declared.endpoint.Ip.TheVariants.{V4}
 use Rattle.coap_endpoint.specs.declared.target.Target.{Target}
 use Rattle.coap_target.specs.declared.map.Map.{Map}
 use Rattle.coap_target.specs.declared.routes.Routes.{Routes}
 use Rattle.coap_target.specs.RouteLists.{HaveTargets}
-
--- the values of the options of a number, in order
-abbrev pub values_of : ℕ → List Opt → List (List ℕ)
-values_of number options = map (λ o. o.value) (filter (λ o. o.number == number) options)
 
 -- the segments of a request's path: its Uri-Path options (RFC 7252, 5.10.1)
 abbrev pub path_of : Message → List (List ℕ)

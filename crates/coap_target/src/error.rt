@@ -32,7 +32,7 @@ impl From<OutOfMemory> for TargetError {
     }
 }
 
-/// Why texts are no routes: of `Unreadable` and `TooMany` the first that applies. Want of memory
+/// Why texts are no routes: of `Unreadable` and `TooMany` the first that applies. Running out of memory
 /// may be answered in place of either.
 #[derive(Clone, Copy, Debug, PartialEq, Eq, Error)]
 pub enum RouteError {

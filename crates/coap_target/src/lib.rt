@@ -20,6 +20,7 @@ pub use error::{RouteError, TargetError};
 pub use map::{KnownHost, Map};
 pub use mapped::MappedTarget;
 pub use options::Values;
+pub use request::says_uri;
 pub use route_texts::is_name;
 pub use routes::Routes;
 pub use segment::Segments;

@@ -1,7 +1,8 @@
-//! The options of one number.
-ghost use Rattle.std.specs.Prelude.{◌≡◌};
+//! The options of one number. They are neighbours (RFC 7252, 3.1), so that those of lower numbers are
+//! passed once, and those of greater ones never.
+ghost use Rattle.std.specs.Prelude.{◌≡◌, ◌++◌, OnOk};
 
-use coap_message::{OptRefs, Options};
+use coap_message::{OptRefs, Options, OutOfMemory, Pieces};
 use std::marker::Model;
 
 /// The values that are left of the options of a number. A contract sees the list.
@@ -16,9 +17,12 @@ impl<'a> Model for Values<'a> {
 
     ghost Value = { List (List ℕ) };
 
+    ghost use Rattle.coap_message.specs.Options.{AreOptions};
     ghost use Rattle.coap_target.specs.Routes.{values_of};
 
     ghost view = { λ v. values_of v.number v.left };
+
+    ghost invariant = { λ v. AreOptions 0 v.left };
 }
 
 impl<'a> Iterator for Values<'a> {
@@ -30,8 +34,12 @@ impl<'a> Iterator for Values<'a> {
 
     ghost remaining = { item_count (λ left. left) };
 
+    #[inline(always)]
     fn next(&mut self) -> Option<&'a [u8]> {
         while let Some(option) = self.left.next() {
+            if option.number > self.number {
+                return None;
+            }
             if option.number == self.number {
                 return Some(option.value);
             }
@@ -43,13 +51,13 @@ impl<'a> Iterator for Values<'a> {
 impl<'a> Values<'a> {
     ghost use Rattle.coap_target.specs.Routes.{values_of};
 
-    /// The same ones once more.
-    pub(crate) fn again(&self) -> Values<'a>
+    /// A copy, which goes on from the same place.
+    pub(crate) fn clone(&self) -> Values<'a>
         ensures { result ≡ self.now }
     {
         Values {
             number: self.number,
-            left: self.left.again(),
+            left: self.left.clone(),
         }
     }
 
@@ -59,7 +67,15 @@ impl<'a> Values<'a> {
     {
         Values {
             number,
-            left: options.iter(),
+            left: options.iter_from(number),
         }
+    }
+
+    /// Adds copies of the values to a list. An `Err` means that memory ran out: then some of them may
+    /// have been added.
+    pub(crate) fn append_to(self, list: &mut Pieces) -> Result<(), OutOfMemory>
+        ensures { OnOk result (list.new ≡ list.old ++ self.entry) }
+    {
+        self.left.append_values(self.number, list)
     }
 }

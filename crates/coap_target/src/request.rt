@@ -1,5 +1,5 @@
 //! The target of a request (RFC 7252, 5.7.2, 5.7.3, 5.10.1 and 5.10.2).
-ghost use Rattle.std.specs.Prelude.{◌≡◌, None, IfOk, OnOk, option_map};
+ghost use Rattle.std.specs.Prelude.{◌≡◌, None, IfOk, OnOk, is_some, option_map};
 ghost use Rattle.std.specs.Option.{option_copied};
 ghost use Rattle.coap_option.specs.declared.side.Side.{Side};
 ghost use Rattle.coap_option.specs.Screening.{first_refused};
@@ -15,9 +15,9 @@ use crate::map::{KnownHost, Map};
 use crate::mapped::MappedTarget;
 use crate::options::Values;
 use crate::routes::{Routes, map_of};
-use crate::segment::{Segments, append, copies, joined, skip};
-use coap_endpoint::{Endpoint, Ip, Target};
-use coap_message::{MessageRef, OutOfMemory, Seq, uint};
+use crate::segment::{Segments, copies, joined, skip};
+use coap_endpoint::{Endpoint, Ip, Target, copy_host};
+use coap_message::{Message, MessageRef, Options, OutOfMemory, Seq, uint};
 use coap_option::numbers;
 use coap_uri::{DEFAULT_PORT, HostPart, UriError, UriParts, read_host, split_uri};
 use std::alloc::Global;
@@ -26,7 +26,7 @@ use std::alloc::Global;
 fn value_of<'a>(request: &MessageRef<'a>, number: u16) -> Option<&'a [u8]>
     ensures { option_copied result ≡ spec.value_of number request.now }
 {
-    let mut values = Values::of(&request.options, number);
+    let mut values = Values::of(&request.option_list(), number);
     values.next()
 }
 
@@ -38,22 +38,6 @@ fn copy_of(alloc: Global, host: &Option<Seq<u8>>) -> Result<Option<Seq<u8>>, Out
         Some(name) => Ok(Some(Seq::from_slice(alloc, name.as_slice())?)),
         None => Ok(None),
     }
-}
-
-/// Puts a copy of a host in place of another.
-fn copy_host(
-    alloc: Global,
-    host: &Option<Seq<u8>>,
-    copy: &mut Option<Seq<u8>>,
-) -> Result<(), OutOfMemory>
-    ensures { OnOk result (copy.new ≡ host.now) }
-{
-    if let (Some(name), Some(copy)) = (host, &mut *copy) {
-        copy.clear();
-        return copy.append(name.as_slice());
-    }
-    *copy = copy_of(alloc, host)?;
-    Ok(())
 }
 
 /// The origin's path followed by what stands after the map's prefix, and the query.
@@ -77,18 +61,27 @@ fn mapped<'a, P: Segments<'a>>(
 }
 
 impl MappedTarget<'_, '_> {
-    /// Puts a copy in place of a target, whose room is used again. An `Err` is for want of memory:
-    /// then the target holds parts of both.
-    pub fn copy_to(&self, alloc: Global, target: &mut Target) -> Result<(), OutOfMemory>
+    /// Whether the origin has a host, and not only an address.
+    pub fn has_host(&self) -> bool
+        ensures { result ≡ is_some (seen self.now).host }
+    {
+        self.origin.host.is_some()
+    }
+
+    /// Puts a copy in place of a target, whose room is used again.
+    ///
+    /// # Errors
+    /// Out of memory. Then the target holds parts of both.
+    pub fn copy_to(&self, target: &mut Target) -> Result<(), OutOfMemory>
         ensures { OnOk result (target.new ≡ seen self.now) }
     {
-        copy_host(alloc, &self.origin.host, &mut target.host)?;
+        copy_host(&self.origin.host, &mut target.host)?;
         target.at = self.origin.at;
         target.path.clear();
-        append(&mut target.path, self.origin.path.iter())?;
-        append(&mut target.path, self.rest.again())?;
+        target.path.append(&self.origin.path.iter())?;
+        self.rest.clone().append_to(&mut target.path)?;
         target.query.clear();
-        append(&mut target.query, self.query.again())
+        self.query.clone().append_to(&mut target.query)
     }
 }
 
@@ -142,14 +135,34 @@ pub(crate) fn remote(hosts: &[KnownHost], uri: UriParts) -> Result<Target, Targe
 fn path_of<'a>(request: &MessageRef<'a>) -> Values<'a>
     ensures { result ≡ path_of request.now }
 {
-    Values::of(&request.options, numbers::URI_PATH)
+    Values::of(&request.option_list(), numbers::URI_PATH)
 }
 
 /// The Uri-Query options of a request (RFC 7252, 5.10.1).
 fn query_of<'a>(request: &MessageRef<'a>) -> Values<'a>
     ensures { result ≡ query_of request.now }
 {
-    Values::of(&request.options, numbers::URI_QUERY)
+    Values::of(&request.option_list(), numbers::URI_QUERY)
+}
+
+/// Whether a request says its target by a URI, in a Proxy-Uri or by a Proxy-Scheme (RFC 7252,
+/// 5.10.2).
+pub fn says_uri(request: &MessageRef<'_>) -> bool
+    ensures { result ≡ spec.says_uri request.now }
+{
+    say_uri(&request.option_list())
+}
+
+/// Whether there is a Proxy-Uri or a Proxy-Scheme among options.
+fn say_uri(options: &Options<'_>) -> bool
+    ensures { result ≡ spec.say_uri options.now }
+{
+    for option in options.iter_from(numbers::PROXY_URI) {
+        if option.number == numbers::PROXY_URI || option.number == numbers::PROXY_SCHEME {
+            return true;
+        }
+    }
+    false
 }
 
 /// Whether a scheme is `coap`, in either case (RFC 3986, 3.1).
@@ -262,11 +275,27 @@ impl Routes {
     /// else by its Proxy-Scheme and its Uri options, else by the maps. A host that is an own name
     /// makes it a request to the proxy itself, which is mapped too.
     ///
-    /// `BadUri` where the Proxy-Uri is no URI that can be carried, or the Uri-Port is 0;
-    /// `NotProxied` where there are no own names, or the scheme or the host is not served;
-    /// `NotFound` where no map has the path of a request to the proxy itself.
+    /// # Errors
+    /// 1. `BadUri`: the Proxy-Uri is no URI that can be carried, or the Uri-Port is 0. 2.
+    ///    `NotProxied`: there are no own names, or the scheme or the host is not served.
+    /// 3. `NotFound`: no map has the path of a request to the proxy itself. 4. `OutOfMemory`.
+    pub fn target_of(&self, alloc: Global, request: &Message) -> Result<Target, TargetError>
+        requires { first_refused Side.Request request.now.options ≡ None }
+        ensures { Answers errors.OutOfMemory result (spec.request_target self.now request.now) }
+    {
+        self.target_of_ref(alloc, &request.lent())
+    }
+
+    /// The same of a request that is read where it lies.
+    ///
+    /// # Errors
+    /// As those of `target_of`.
     #[tactic(auto, unfolding(crate::specs::Request::request_target))]
-    pub fn target_of(&self, alloc: Global, request: &MessageRef<'_>) -> Result<Target, TargetError>
+    pub fn target_of_ref(
+        &self,
+        alloc: Global,
+        request: &MessageRef<'_>,
+    ) -> Result<Target, TargetError>
         requires { first_refused Side.Request request.now.options ≡ None }
         ensures { Answers errors.OutOfMemory result (spec.request_target self.now request.now) }
     {

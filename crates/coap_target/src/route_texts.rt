@@ -268,7 +268,7 @@ impl Routes {
     ///
     /// # Errors
     /// `Unreadable` where a text is none of these, or a host stands twice; else `TooMany` for a
-    /// list with more names (64), hosts (256) or maps (64) than fit. Want of memory may come in
+    /// list with more names (64), hosts (256) or maps (64) than fit. Running out of memory may come in
     /// place of either.
     #[tactic(auto, unfolding(crate::specs::RouteTexts::routes_of))]
     pub fn new(

@@ -91,7 +91,7 @@ pub(crate) fn map_of<'m, 'a, P: Segments<'a>>(maps: &'m [Map], path: &P) -> Opti
 {
     let mut best: Option<&Map> = None;
     for map in maps {
-        if is_longer(map, best) && begins(&map.prefix, path.again()) {
+        if is_longer(map, best) && begins(&map.prefix, path.clone()) {
             best = Some(map);
         }
     }

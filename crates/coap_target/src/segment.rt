@@ -17,9 +17,14 @@ pub trait Segments<'a>: Drop {
         ensures { MatchOption result ((left self.old ≡ []) × (left self.new ≡ [])) (λ s.
             left self.old ≡ s.now ∷ left self.new) };
 
-    /// The same ones once more.
-    fn again(&self) -> Self
+    /// A copy, which goes on from the same place.
+    fn clone(&self) -> Self
         ensures { left result ≡ left self.now };
+
+    /// Adds copies of them at the end of a list. An `Err` means that memory ran out: then some of them
+    /// may have been added.
+    fn append_to(self, list: &mut Pieces) -> Result<(), OutOfMemory>
+        ensures { OnOk result (list.new ≡ list.old ++ left self) };
 }
 
 impl<'a> Segments<'a> for PieceRefs<'a> {
@@ -29,8 +34,12 @@ impl<'a> Segments<'a> for PieceRefs<'a> {
         self.next()
     }
 
-    fn again(&self) -> PieceRefs<'a> {
-        self.again()
+    fn clone(&self) -> PieceRefs<'a> {
+        self.clone()
+    }
+
+    fn append_to(self, list: &mut Pieces) -> Result<(), OutOfMemory> {
+        list.append(&self)
     }
 }
 
@@ -38,12 +47,17 @@ impl<'a> Segments<'a> for PieceRefs<'a> {
 impl<'a> Segments<'a> for Values<'a> {
     ghost left = { λ values. values };
 
+    #[inline(always)]
     fn next_segment(&mut self) -> Option<&'a [u8]> {
         self.next()
     }
 
-    fn again(&self) -> Values<'a> {
-        self.again()
+    fn clone(&self) -> Values<'a> {
+        self.clone()
+    }
+
+    fn append_to(self, list: &mut Pieces) -> Result<(), OutOfMemory> {
+        self.append_to(list)
     }
 }
 
@@ -73,17 +87,6 @@ pub(crate) fn skip<'a, P: Segments<'a>>(path: &mut P, count: usize)
     }
 }
 
-/// Adds copies of segments at the end.
-pub(crate) fn append<'a, P: Segments<'a>>(list: &mut Pieces, segments: P) -> Result<(), OutOfMemory>
-    ensures { OnOk result (list.new ≡ list.old ++ P.left segments) }
-{
-    let mut segments = segments;
-    'segments: while let Some(segment) = segments.next_segment() {
-        list.push(segment)?;
-    }
-    Ok(())
-}
-
 /// How many bytes copies of segments take, as `Pieces` keeps them.
 fn size_of<'a, P: Segments<'a>>(segments: P) -> usize {
     let mut segments = segments;
@@ -98,8 +101,8 @@ fn size_of<'a, P: Segments<'a>>(segments: P) -> usize {
 pub(crate) fn copies<'a, P: Segments<'a>>(alloc: Global, segments: P) -> Result<Pieces, OutOfMemory>
     ensures { IfOk result (λ copies. copies ≡ P.left segments) }
 {
-    let mut copies = Pieces::with_room(alloc, size_of(segments.again()))?;
-    append(&mut copies, segments)?;
+    let mut copies = Pieces::with_room(alloc, size_of(segments.clone()))?;
+    segments.append_to(&mut copies)?;
     Ok(copies)
 }
 
@@ -111,9 +114,9 @@ pub(crate) fn joined<'a, P: Segments<'a>>(
 ) -> Result<Pieces, OutOfMemory>
     ensures { IfOk result (λ list. list ≡ front.now ++ P.left behind) }
 {
-    let size = front.size().saturating_add(size_of(behind.again()));
+    let size = front.size().saturating_add(size_of(behind.clone()));
     let mut list = Pieces::with_room(alloc, size)?;
-    append(&mut list, front.iter())?;
-    append(&mut list, behind)?;
+    front.iter().append_to(&mut list)?;
+    behind.append_to(&mut list)?;
     Ok(list)
 }

@@ -3,7 +3,7 @@ ghost use Rattle.std.specs.Prelude.{◌≡◌, ◌↔◌, false, IfOk, Err};
 ghost use Rattle.coap_store.specs.Renewing.{is_validated, news_of, renewed, safe_options};
 
 use crate::error::RenewError;
-use coap_message::{Code, Message, MessageRef, OptionList, Options, OutOfMemory};
+use coap_message::{Code, Message, OptionList, Options, OutOfMemory};
 use coap_option::{is_unsafe, max_age};
 use coap_store::{Stored, tag_of, updated, with_max_age};
 use std::alloc::Global;
@@ -16,11 +16,7 @@ use std::alloc::Global;
 /// 1. `WrongTag`: the stored one isn't a 2.05, or the other isn't a 2.03, or their ETags differ, or
 ///    one of them has none that is recognised.
 /// 2. `OutOfMemory`.
-pub fn renewed(
-    alloc: Global,
-    stored: &Stored,
-    valid: &MessageRef<'_>,
-) -> Result<Message, RenewError>
+pub fn renewed(alloc: Global, stored: &Stored, valid: &Message) -> Result<Message, RenewError>
     ensures ok { IfOk result (λ message. message ≡ renewed stored.now.response valid.now) }
     ensures wrong_tag { (result ≡ Err RenewError.WrongTag)
         ↔ (is_validated stored.now.response valid.now ≡ false) }
@@ -35,14 +31,14 @@ pub fn renewed(
 }
 
 /// Whether the stored response is a 2.05 and the other a 2.03 with its ETag.
-fn is_validated(response: &Message, valid: &MessageRef<'_>) -> bool
+fn is_validated(response: &Message, valid: &Message) -> bool
     ensures { result ≡ is_validated response.now valid.now }
 {
     if response.code != Code::CONTENT || valid.code != Code::VALID {
         return false;
     }
     match tag_of(&response.options.lent()) {
-        Some(tag) => match tag_of(&valid.options) {
+        Some(tag) => match tag_of(&valid.options.lent()) {
             Some(other) => tag == other,
             None => false,
         },
@@ -51,7 +47,7 @@ fn is_validated(response: &Message, valid: &MessageRef<'_>) -> bool
 }
 
 /// A stored 2.05 with the options that a 2.03 renews.
-fn renew(alloc: Global, response: &Message, valid: &MessageRef<'_>) -> Result<Message, OutOfMemory>
+fn renew(alloc: Global, response: &Message, valid: &Message) -> Result<Message, OutOfMemory>
     requires { response.now.code ≡ Code.CONTENT }
     ensures { IfOk result (λ message. message ≡ renewed response.now valid.now) }
 {
@@ -78,10 +74,10 @@ fn with_options(response: &Message, options: OptionList) -> Result<Message, OutO
 }
 
 /// What a 2.03 renews: its safe options, with its Max-Age.
-fn news_of(alloc: Global, valid: &MessageRef<'_>) -> Result<OptionList, OutOfMemory>
+fn news_of(alloc: Global, valid: &Message) -> Result<OptionList, OutOfMemory>
     ensures { IfOk result (λ list. list ≡ news_of valid.now) }
 {
-    let safe = safe_options(alloc, &valid.options)?;
+    let safe = safe_options(alloc, &valid.options.lent())?;
     with_max_age(alloc, u64::from(max_age(valid)), &safe.lent())
 }
 

@@ -52,7 +52,7 @@ impl KeyName {
 }
 
 /// Why a text is no configuration: the first fault, in this order, and among those of one kind the
-/// first in the order of `read_config`. Want of memory may be answered in place of a later fault.
+/// first in the order of `read_config`. Running out of memory may be answered in place of a later fault.
 #[derive(Debug, Drop)]
 pub enum ConfigError {
     /// It isn't UTF-8, or no TOML.

@@ -7,7 +7,7 @@ use coap_message::OutOfMemory;
 use std::alloc::{AllocError, AllocFailed};
 use thiserror::Error;
 
-/// Why the value of `-P` was refused: the first that applies, in this order. Want of memory may be
+/// Why the value of `-P` was refused: the first that applies, in this order. Running out of memory may be
 /// answered in place of `BadName`.
 #[derive(Clone, Copy, Debug, PartialEq, Eq, Error)]
 pub enum ProxyOptionError {

@@ -21,7 +21,7 @@ fn words(rt: &HostRuntime) -> Result<Vec<String>, Fault> {
         .map_err(|_| Fault::OutOfMemory)
 }
 
-/// The fault of an error of the system: want of memory, or else this one.
+/// The fault of an error of the system: running out of memory, or else this one.
 fn fault_of(error: &io::Error, other: Fault) -> Fault {
     if error.kind() == ErrorKind::OutOfMemory {
         Fault::OutOfMemory

@@ -1,7 +1,7 @@
 -- Datagrams whose reading and spelling are computed on the definitions.
 use Rattle.std.specs.Prelude.{◌≡◌, ℕ, List, [], ◌∷◌, codes, Err}
-use Rattle.coap_message.specs.declared.error.ReadError.{ReadError}
-use Rattle.coap_message.specs.declared.error.ReadError.TheVariants.{Format}
+use Rattle.coap_message.specs.declared.error.DecodeError.{DecodeError}
+use Rattle.coap_message.specs.declared.error.DecodeError.TheVariants.{Format}
 use Rattle.coap_message.specs.declared.kind.Kind.{Kind}
 use Rattle.coap_message.specs.declared.kind.Kind.TheVariants.{Con, Non, Ack}
 use Rattle.coap_message.specs.declared.message.Head.{Head}
@@ -64,7 +64,7 @@ abbrev pub longest_token_message : Message
 longest_token_message =
     message_of (head Non 1 7) (1 ∷ 2 ∷ 3 ∷ 4 ∷ 5 ∷ 6 ∷ 7 ∷ 8 ∷ []) [] []
 
-abbrev pub refused : List ℕ → ReadError → Type 0
+abbrev pub refused : List ℕ → DecodeError → Type 0
 refused bytes error = read_message bytes ≡ Err error
 
 -- fewer than four bytes, and version 0

@@ -1,7 +1,7 @@
 //! Messages, computed on the definitions of `coap_message`.
 ghost use Rattle.std.specs.Prelude.{◌≡◌, ◌-◌, ◌^◌, [], ◌∷◌, None, Ok, Some, filter, replicate};
 ghost use Rattle.std.specs.List.{range_with_len};
-ghost use Rattle.coap_message.specs.declared.error.ReadError.TheVariants.{Short, Version};
+ghost use Rattle.coap_message.specs.declared.error.DecodeError.TheVariants.{Short, Version};
 ghost use Rattle.coap_message.specs.declared.kind.Kind.TheVariants.{Ack, Rst};
 ghost use Rattle.coap_message.specs.Codes.{code_of, is_request, is_response};
 ghost use Rattle.coap_message.specs.Reading.{head_at, read_message};

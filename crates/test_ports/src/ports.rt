@@ -144,7 +144,7 @@ fn a_core_is_driven_over_a_port(rt: HostRuntime) -> Result<(), Fail> {
     Ok(())
 }
 
-// ---- want of memory
+// ---- out of memory
 
 /// A port that gives a request twice, and its answer twice.
 fn port_that_repeats(alloc: Global) -> Result<MemoryPort, OutOfMemory> {

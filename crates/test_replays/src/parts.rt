@@ -3,10 +3,12 @@
 //! and what a client is shown of it.
 use coap_cache::{RenewError, Stored, renewed, shown};
 use coap_message::{
-    Datagram, DecodeError, Message, MessageRef, OutOfMemory, Pieces, decode, encode_into,
-    uint_bytes,
+    Code, Datagram, DecodeError, Kind, Message, MessageRef, OutOfMemory, Pieces, decode,
+    encode_into, uint_bytes,
 };
-use coap_option::{forward_options, key_options, tags};
+use coap_option::{
+    forward_options, key_options, max_age as max_age_of, screen_request, screen_response, tags,
+};
 use std::alloc::Global;
 use std::process::Abort;
 use std::test::*;
@@ -30,9 +32,9 @@ fn is_written(alloc: Global, number: u64, bytes: &[u8]) -> Result<bool, OutOfMem
 #[test]
 fn messages_options_and_numbers_are_copied(rt: HostRuntime) -> Result<(), Fail> {
     let alloc = rt.alloc();
-    let request = MessageRef::read(REQUEST)?;
-    let copy = decode(alloc, REQUEST)?;
-    assert_eq!(rt; written(alloc, &copy)?.bytes(), REQUEST);
+    let request = decode(alloc, REQUEST)?;
+    assert_eq!(rt; written(alloc, &request)?.bytes(), REQUEST);
+    assert!(rt; screen_request(&request).is_ok());
     // the Accept and the Size1, and the Accept alone
     let sent = forward_options(alloc, &request)?;
     assert_eq!(rt; sent.lent().bytes(), b"\xD1\x04\x3C\xD1\x1E\x05".as_slice());
@@ -45,6 +47,28 @@ fn messages_options_and_numbers_are_copied(rt: HostRuntime) -> Result<(), Fail> 
         (Some(b"\x07".as_slice()), None)
     );
     assert!(rt; is_written(alloc, 65536, b"\x01\x00\x00")?);
+    Ok(())
+}
+
+/// A 2.05 in a Non-confirmable message: its token is AB, its Max-Age 10 s, its payload 21.
+const RESPONSE: &[u8] = b"\x51\x45\x01\x02\xAB\xD1\x01\x0A\xFF21";
+
+#[test]
+fn a_message_is_read_where_it_lies(rt: HostRuntime) -> Result<(), Fail> {
+    let response = MessageRef::read(RESPONSE)?;
+    assert!(rt; response.kind() == Kind::Non && response.code() == Code::CONTENT);
+    assert_eq!(rt; response.id(), 0x0102);
+    assert_eq!(rt; response.token(), b"\xAB".as_slice());
+    assert_eq!(rt; response.payload(), b"21".as_slice());
+    let mut options = response.options();
+    let max_age = options.next();
+    assert!(rt;
+        max_age.is_some_and(|option| option.number == 14 && option.value == b"\x0A".as_slice())
+    );
+    assert!(rt; options.next().is_none());
+    let copy = response.to_message(rt.alloc())?;
+    assert_eq!(rt; max_age_of(&copy), 10);
+    assert!(rt; screen_response(&copy).is_ok());
     Ok(())
 }
 
@@ -106,11 +130,11 @@ fn stored(alloc: Global) -> Result<Stored, Fail> {
 fn a_stored_response_is_renewed_by_its_tag_alone(rt: HostRuntime) -> Result<(), Fail> {
     let alloc = rt.alloc();
     let stored = stored(alloc)?;
-    match renewed(alloc, &stored, &MessageRef::read(OTHER)?) {
+    match renewed(alloc, &stored, &decode(alloc, OTHER)?) {
         Ok(_) => assert!(rt; false),
         Err(error) => assert_eq!(rt; error, RenewError::WrongTag),
     }
-    let message = renewed(alloc, &stored, &MessageRef::read(VALID)?)?;
+    let message = renewed(alloc, &stored, &decode(alloc, VALID)?)?;
     // fresh for a minute, as the 2.03 says nothing else
     let bytes = b"\x68\x45\x00\x01\x00\x00\x00\x00\x00\x00\x00\x01\x41\xAB\x81\x32\x21\x3C\xFF21";
     assert_eq!(rt; written(alloc, &message)?.bytes(), bytes.as_slice());

@@ -97,7 +97,7 @@ fn insist(
 
 /// A core, made again where there was no memory for it.
 fn insist_on_new(alloc: Global) -> Result<Run, Fail> {
-    // Nothing is stored, so that no want of memory is met but by the whole event.
+    // Nothing is stored, so that memory can run out for the whole event alone.
     let limits = Limits::new(LimitValues {
         cache_bytes: 0,
         ..LimitValues::default()

@@ -1,4 +1,5 @@
-use Rattle.std.proofs.Common.{◌≡◌, refl, arith}
+use Rattle.std.proofs.Common.{◌≡◌, refl, arith, rules}
+use Rattle.std.proofs.lemmas.Grind.{common_steps}
 use Rattle.coap_message.specs.Options.{AreOptions, last_number}
 use Rattle.coap_forward.specs.Gaps.{others_in}
 use Rattle.coap_forward.proofs.Gaps.{AreOptions-others, last-others}
@@ -7,8 +8,8 @@ use Rattle.coap_forward.proofs.form.put_others.Goals as goal
 pub loop-option-init : goal.loop-option-init
 loop-option-init c =
     let m = c.args.request.now in
-    let list : c.iter-option-items.result ≡ m.options = rw (← c.request.view_is) c.iter-option-items.ensures.list in
-    let in_order : AreOptions 0 m.options = rw (← c.request.view_is) c.iter-option-items.ensures.in_order in
+    let list : c.options-option-items.result ≡ m.options = c.options-option-items.ensures.list in
+    let in_order : AreOptions 0 m.options = c.options-option-items.ensures.in_order in
     rw (c.into_iter-option-iterator.ensures.into_iter_gives, list) (record {
       room = refl;
       longer = omega arith;
@@ -22,5 +23,10 @@ pub returns-clause-below : goal.returns-clause-below
 returns-clause-below c =
     let m = c.args.request.now in
     let last : c.loop-option.last ≡ last_number c.args.before (others_in m.code c.args.gap m.options) = rw c.in-None.ensures.steps.0 at c.loop-option.invariant.behind in
-    let in_order : AreOptions 0 m.options = rw (← c.request.view_is) c.iter-option-items.ensures.in_order in
+    let in_order : AreOptions 0 m.options = c.options-option-items.ensures.in_order in
     omega (arith, last, last-others m.code c.args.gap c.args.before m.options in_order c.requires.above)
+
+pub returns-in_err-put_option-clause-written : goal.returns-in_err-put_option-clause-written
+returns-in_err-put_option-clause-written c =
+    let on = rw c.code.ensures.exact at c.if-goes_on.ensures in
+    grind (arith, common_steps)

@@ -6,10 +6,10 @@ use Rattle.coap_option.proofs.MaxAges.{length-first_max_age}
 use Rattle.coap_option.proofs.selection.max_age.Goals as goal
 
 pub uint-requires : goal.uint-requires
-uint-requires c = omega (arith, length-first_max_age (places c.message.inside.options) (seen c.in-Some.option) (sym c.in-Some.ensures))
+uint-requires c = omega (arith, length-first_max_age (places c.lent.result) (seen c.in-Some.option) (sym c.in-Some.ensures))
 
 pub overflow_cast-result : goal.overflow_cast-result
 overflow_cast-result c =
-    let short : length c.in-Some.option.value.now ≤ 4 = length-first_max_age (places c.message.inside.options) (seen c.in-Some.option) (sym c.in-Some.ensures) in
+    let short : length c.in-Some.option.value.now ≤ 4 = length-first_max_age (places c.lent.result) (seen c.in-Some.option) (sym c.in-Some.ensures) in
     let most : 256 ^ length c.in-Some.option.value.now ≤ 256 ^ 4 = pow-le-pow_right {n = 256} (omega arith) {i = length c.in-Some.option.value.now} {j = 4} short in
     omega (arith, c.uint.ensures.below, most)

@@ -5,4 +5,4 @@ use Rattle.coap_store.proofs.updating.above.Goals as goal
 
 pub returns-then-option-number : goal.returns-then-option-number
 returns-then-option-number c =
-    sym (stops-above _ _ (seen c.in-Some.option) (sym c.again-ahead.ensures ∙ c.in-Some.ensures.steps) c.args.number c.if-option-number.true c.same.invariant.in_order) ∙ c.same.invariant.rest
+    sym (stops-above _ _ (seen c.in-Some.option) (sym c.clone-ahead.ensures ∙ c.in-Some.ensures.steps) c.args.number c.if-option-number.true c.same.invariant.in_order) ∙ c.same.invariant.rest

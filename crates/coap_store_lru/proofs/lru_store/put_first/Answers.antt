@@ -2,7 +2,7 @@ use Rattle.std.proofs.Common.{◌≡◌, ◌∷◌, OnOk, is_some, sym, ap, subs
 use Rattle.lru.specs.LruCache.{lru_cache}
 use Rattle.coap_option.proofs.Picking.{on_err}
 use Rattle.coap_store.specs.Entries.{Entry, entry_key}
-use Rattle.coap_store_lru.specs.Indexing.{AreThoseOf}
+use Rattle.coap_store_lru.specs.Indexing.{AreThoseOf, is_indexed}
 use Rattle.coap_store.specs.Lists.{others}
 use Rattle.coap_store.proofs.Found.{others-none}
 use Rattle.coap_store_lru.proofs.Kept.{AreThoseOf-front, former-size, held_already}
@@ -26,12 +26,12 @@ pub returns-in-Some-clause-those : goal.returns-in-Some-clause-those
 returns-in-Some-clause-those g c =
     let k = c.args.key in
     let es = c.args.recent.now.entries in
-    let groups = c.args.index.now.groups in
+    let indexed = is_indexed c.args.index.now.secret c.args.index.now.groups in
     let x : Entry = (k, c.args.stored) in
     let found = some_stored k es c.in-Some.former.now (sym (c.in-Some.ensures ∙ peeked k es)) in
     let are : c.replace.new.recent.entries ≡ x ∷ others entry_key k es = ap (λ m. m.entries) c.replace.ensures.ok in
-    subst (λ l. AreThoseOf l c.replace.new.total groups) (sym are)
-    (AreThoseOf-front es c.args.total.now groups c.requires.those x groups c.replace.new.total (held_already groups es k found.0 c.requires.those.indexed found.1)
+    subst (λ l. AreThoseOf l c.replace.new.total indexed) (sym are)
+    (AreThoseOf-front es c.args.total.now indexed c.requires.those x indexed c.replace.new.total (held_already indexed es k found.0 c.requires.those.indexed_are found.1)
     (omega (arith, c.replace.ensures.counted, c.bytes_of-former.ensures, c.requires.few, c.requires.those.counted, total-others k es found.0 c.requires.those.distinct found.1, former-size k es found.0 c.in-Some.former.now found.1 found.2)))
 
 pub returns-in-None-clause-ok : goal.returns-in-None-clause-ok

@@ -1,7 +1,7 @@
 use Rattle.std.proofs.Common.{◌≡◌, ◌-◌, Some, None, is_some, sym, ap, subst, arith, ◌∙◌}
 use Rattle.lru.specs.LruCache.{lru_cache}
 use Rattle.coap_store.specs.Entries.{Entry, entry_key}
-use Rattle.coap_store_lru.specs.Indexing.{AreThoseOf}
+use Rattle.coap_store_lru.specs.Indexing.{AreThoseOf, is_indexed}
 use Rattle.coap_store.specs.Lists.{of_key, others}
 use Rattle.coap_store.proofs.Found.{others-none}
 use Rattle.coap_store_lru.proofs.Kept.{AreThoseOf-others}
@@ -26,8 +26,8 @@ returns-in-Some g c =
     record {
       found = ap is_some value;
       others = left;
-      those = subst (λ l. AreThoseOf l (c.args.total.now - c.bytes_of.result) c.remove.new.self.groups) (sym (ap (λ m. m.entries) left))
-          (AreThoseOf-others es c.args.total.now c.args.index.now.groups c.requires k x c.remove.new.self.groups (c.args.total.now - c.bytes_of.result) (sym value) c.remove.ensures (omega (arith, c.bytes_of.ensures, c.requires.counted, total-others k es x c.requires.distinct (sym value))));
+      those = subst (λ l. AreThoseOf l (c.args.total.now - c.bytes_of.result) (is_indexed c.remove.new.self.secret c.remove.new.self.groups)) (sym (ap (λ m. m.entries) left))
+          (AreThoseOf-others es c.args.total.now (is_indexed c.args.index.now.secret c.args.index.now.groups) c.requires k x (is_indexed c.remove.new.self.secret c.remove.new.self.groups) (c.args.total.now - c.bytes_of.result) (sym value) c.remove.ensures (omega (arith, c.bytes_of.ensures, c.requires.counted, total-others k es x c.requires.distinct (sym value))));
     }
 
 pub returns-in-None : goal.returns-in-None
@@ -39,5 +39,5 @@ returns-in-None g c =
     record {
       found = ap is_some value;
       others = left;
-      those = subst (λ l. AreThoseOf l c.args.total.now c.args.index.now.groups) (sym (ap (λ m. m.entries) left ∙ others-none entry_key k es (sym value))) c.requires;
+      those = subst (λ l. AreThoseOf l c.args.total.now (is_indexed c.args.index.now.secret c.args.index.now.groups)) (sym (ap (λ m. m.entries) left ∙ others-none entry_key k es (sym value))) c.requires;
     }

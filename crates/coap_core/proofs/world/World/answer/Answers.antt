@@ -8,20 +8,20 @@ use Rattle.coap_core.proofs.world.World.answer.Goals as goal
 pub answered-requires : goal.answered-requires
 answered-requires g c =
     let kept = rw (c.change_all.ensures, c.in_ok-send.ensures.done) at c.keep-storing.ensures in
-    let still = left-open c.args.self.now c.keep-storing.new.self c.args.now c.args.number c.args.source c.args.response.now (targets_in c.in_ok-changed.changed) c.in_ok-entry.entry c.keep-storing.result kept c.requires.open in
+    let still = left-open c.args.self.now c.keep-storing.new.self c.args.arrival.now c.args.number c.args.arrival.from c.args.arrival.message.now (targets_in c.in_ok-changed.changed) c.in_ok-entry.entry c.keep-storing.result kept c.requires.open in
     record { «open» = rw (← c.self.view_is) at still }
 
 pub pass-requires : goal.pass-requires
 pass-requires g c =
     let kept = rw (c.change_all.ensures, c.in_ok-send.ensures.done) at c.keep-storing.ensures in
-    let same = left-events c.args.self.now c.keep-storing.new.self c.args.now c.args.number c.args.source c.args.response.now (targets_in c.in_ok-changed.changed) c.in_ok-entry.entry c.keep-storing.result kept in
+    let same = left-events c.args.self.now c.keep-storing.new.self c.args.arrival.now c.args.number c.args.arrival.from c.args.arrival.message.now (targets_in c.in_ok-changed.changed) c.in_ok-entry.entry c.keep-storing.result kept in
     let few = c.requires.can.events in
     let low : c.keep-storing.new.self.events < 9223372036854775808 = omega (arith, same, few) in
     rw (← c.self.view_is) at low
 
 pub returns-clause-exact : goal.returns-clause-exact
 returns-clause-exact g c =
-    answer-does c.args.self.now c.keep-storing.new.self c.args.now c.args.number c.args.source c.args.response.now c.in_ok-entry.entry (targets_in c.in_ok-changed.changed) c.keep-storing.result (record { send = c.in_ok-send.send; outcome = Answered c.keep-storing.result }) c.args.out.now c.take_up.new.out c.pass.new.self c.in-Some.answer
+    answer-does c.args.self.now c.keep-storing.new.self c.args.arrival.now c.args.number c.args.arrival.from c.args.arrival.message.now c.in_ok-entry.entry (targets_in c.in_ok-changed.changed) c.keep-storing.result (record { send = c.in_ok-send.send; outcome = Answered c.keep-storing.result }) c.args.out.now c.take_up.new.out c.pass.new.self c.in-Some.answer
     (sym c.in-Some.is ∙ c.in_ok-answer.ensures.exact) c.in_ok-entry.ensures c.in_ok-changed.ensures (rw (c.change_all.ensures, c.in_ok-send.ensures.done) at c.keep-storing.ensures) (λ i. record { send = c.in_ok-send.ensures.send i; outcome = Answered c.keep-storing.result })
     (c.in_ok-send.ensures.said ∙ held-same c.answer_made.new.out c.args.out.now _ c.in_ok-answer.ensures.kept)
     (rw (← c.self.view_is) (rw c.answered.ensures.answered at c.pass.ensures))

@@ -12,12 +12,12 @@ use Rattle.coap_core.proofs.world.World.awaiting.Goals as goal
 pub returns-in_err-number-clause-exact : goal.returns-in_err-number-clause-exact
 returns-in_err-number-clause-exact g c =
     let m = c.args.response.now in
-    let short : length m.token ≢ 8 = rw (← c.response.view_is, ← c.as_slice.ensures.bytes) c.in_err-number.ensures.missing in
+    let short : length m.token ≢ 8 = rw (← c.token.ensures.bytes) c.in_err-number.ensures.missing in
     rw (← c.self.view_is) (c.from_residual.ensures ∙ ap (option_map {T = Numbered Exchange} (λ x. x.0)) (sym (nobody-awaits c.self.inside.salt c.args.source m c.self.inside.exchanges.items short)))
 
 -- the response has the token of the exchange of that number
 token : (g : Over) (c : After-get g) → token_of c.self.inside.salt c.in_ok-number.number ≡ c.args.response.now.token
-token g c = rw (← c.response.view_is, ← c.as_slice.ensures.bytes) c.in_ok-number.ensures.found
+token g c = rw (← c.token.ensures.bytes) c.in_ok-number.ensures.found
 
 -- the numbers that were given fit eight bytes
 few : (g : Over) (c : After-get g) → c.self.inside.exchanges.admitted < 2 ^ 64

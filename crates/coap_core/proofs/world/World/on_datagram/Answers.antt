@@ -1,4 +1,4 @@
-use Rattle.std.proofs.Common.{◌≡◌, ◌≤◌, Bool, OnErr, true, length, sym, subst}
+use Rattle.std.proofs.Common.{rules, ◌≡◌, ◌≤◌, Bool, OnErr, true, length, sym, subst}
 use Rattle.std.proofs.lemmas.Result.{IfOk-weaker}
 use Rattle.coap_model.specs.declared.report.Report.{Report}
 use Rattle.coap_model.specs.History.{grown_of}
@@ -17,15 +17,19 @@ same g grown c = on_read-message c.args.self.now c.args.now grown c.args.source 
 pub on_message-requires-clause-fits : goal.on_message-requires-clause-fits
 on_message-requires-clause-fits g c = subst (λ (s : Step). length s.bytes ≤ c.args.out.now.room) (same g true (goal.at.on_message-requires-clause-fits g c).In-Some) c.requires.fits
 
-pub returns-in-Some-clause-exact : goal.returns-in-Some-clause-exact
-returns-in-Some-clause-exact g c =
-    let k = (goal.at.returns-in-Some-clause-exact g c).In-Some in
+pub returns-in-Some-clause-done : goal.returns-in-Some-clause-done
+returns-in-Some-clause-done g c =
+    let k = (goal.at.returns-in-Some-clause-done g c).In-Some in
     let m = c.in-Some.message in
     let left : Step → Report → Type 0 = λ s report. Does s report c.args.out.now c.on_message.new.out c.on_message.new.self in
-    IfOk-weaker c.on_message.result
-    (λ report. left (on_message c.args.self.now c.args.now (grown_of report.outcome) c.args.source m) report)
-    (λ report. left (on_datagram c.args.self.now c.args.now (grown_of report.outcome) c.args.source c.args.bytes.now) report)
-    (λ report does. subst (λ (s : Step). left s report) (sym (same g (grown_of report.outcome) k)) does) c.on_message.ensures.exact
+    record {
+      exact = IfOk-weaker c.on_message.result
+          (λ report. left (on_message c.args.self.now c.args.now (grown_of report.outcome) c.args.source m) report)
+          (λ report. left (on_datagram c.args.self.now c.args.now (grown_of report.outcome) c.args.source c.args.bytes.now) report)
+          (λ report does. subst (λ (s : Step). left s report) (sym (same g (grown_of report.outcome) k)) does) c.on_message.ensures.done.exact;
+      err = search rules;
+      kept = search rules;
+    }
 
 pub returns-in-Some-clause-memory : goal.returns-in-Some-clause-memory
 returns-in-Some-clause-memory g c =

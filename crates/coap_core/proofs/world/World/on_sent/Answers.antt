@@ -11,11 +11,11 @@ use Rattle.coap_core.proofs.world.World.on_sent.Goals as goal
 pub returns-in-Con : goal.returns-in-Con
 returns-in-Con g c =
     let w = c.args.self.now in
-    let m = c.args.message.now in
+    let m = c.args.arrival.message.now in
     let x = c.in-Some.exchange.now in
     let found : item_at c.args.number w.exchanges ≡ Some x = rw (← c.self.view_is) (sym c.in-Some.ensures.exact) in
     let sent : is_sent x ≡ true = sym c.if-not-is_sent.ensures.exact in
-    let other : is_ack m.kind ≡ false = rw (← c.message.view_is) (no-ack c.message.inside.kind c.in-Con.is) in
+    let other : is_ack m.kind ≡ false = rw (← c.kind.ensures) (no-ack c.kind.result c.in-Con.is) in
     subst (λ (s : Step). Does s c.reset.result c.args.out.now c.reset.new.out c.reset.new.self)
-    (sym (reset-step w c.args.now (grown_of c.reset.result.outcome) c.args.source m c.args.number x found sent c.requires.bare other))
+    (sym (reset-step w c.args.arrival.now (grown_of c.reset.result.outcome) c.args.arrival.from m c.args.number x found sent c.requires.bare other))
     c.reset.ensures

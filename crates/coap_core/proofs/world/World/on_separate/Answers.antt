@@ -1,4 +1,4 @@
-use Rattle.std.proofs.Common.{◌≡◌, true, OnErr, sym}
+use Rattle.std.proofs.Common.{rules, ◌≡◌, true, OnErr, sym}
 use Rattle.std.specs.Prelude.{IfSome}
 use Rattle.std.proofs.lemmas.Result.{IfOk-weaker}
 use Rattle.coap_option.proofs.Picking.{on_err}
@@ -12,22 +12,26 @@ use Rattle.coap_core.proofs.Awaiting.{awaited}
 use Rattle.coap_core.proofs.Puts.{answer-takes, separate-does}
 use Rattle.coap_core.proofs.world.World.on_separate.Goals as goal
 
-pub returns-clause-exact : goal.returns-clause-exact
-returns-clause-exact g c =
+pub returns-clause-done : goal.returns-clause-done
+returns-clause-done g c =
     let w = c.args.self.now in
-    let m = c.args.response.now in
-    let room : has_record_room w c.args.now m.kind ≡ true = rw (← c.response.view_is) (sym c.if-not-has_record_room.ensures) in
+    let m = c.args.arrival.message.now in
+    let room : has_record_room w c.args.arrival.now m.kind ≡ true = rw (← c.kind.ensures) (sym c.if-not-has_record_room.ensures) in
     let left : Step → Report → Type 0 = λ s report. Does s report c.args.out.now c.answer.new.out c.answer.new.self in
-    IfOk-weaker c.answer.result
-    (λ report. IfSome (answering_at w c.args.now (grown_of report.outcome) c.args.source m c.in-Some.number) (λ s. left s report))
-    (λ report. left (separate_step w c.args.now (grown_of report.outcome) c.args.source m) report)
-    (λ report does. separate-does w c.args.now (grown_of report.outcome) c.args.source m c.in-Some.number (λ s. left s report) c.requires.can.exchanges c.in-Some.ensures.exact c.requires.con room does)
-    c.answer.ensures.exact
+    record {
+      exact = IfOk-weaker c.answer.result
+          (λ report. IfSome (answering_at w c.args.arrival.now (grown_of report.outcome) c.args.arrival.from m c.in-Some.number) (λ s. left s report))
+          (λ report. left (separate_step w c.args.arrival.now (grown_of report.outcome) c.args.arrival.from m) report)
+          (λ report does. separate-does w c.args.arrival.now (grown_of report.outcome) c.args.arrival.from m c.in-Some.number (λ s. left s report) c.requires.can.exchanges c.in-Some.ensures.exact c.requires.con room does)
+          c.answer.ensures.exact;
+      err = search rules;
+      kept = search rules;
+    }
 
 pub returns-clause-memory : goal.returns-clause-memory
 returns-clause-memory g c =
     let w = c.args.self.now in
-    let m = c.args.response.now in
-    let room : has_record_room w c.args.now m.kind ≡ true = rw (← c.response.view_is) (sym c.if-not-has_record_room.ensures) in
-    awaited w c.args.source m c.in-Some.number (λ o. OnErr c.answer.result (wants_memory (on_separate w c.args.now true c.args.source m o) ≡ true)) c.requires.can.exchanges c.in-Some.ensures.exact
-    (λ x found. on_err c.answer.result (rw room (answer-takes w c.args.now true c.args.source m (c.in-Some.number, x))))
+    let m = c.args.arrival.message.now in
+    let room : has_record_room w c.args.arrival.now m.kind ≡ true = rw (← c.kind.ensures) (sym c.if-not-has_record_room.ensures) in
+    awaited w c.args.arrival.from m c.in-Some.number (λ o. OnErr c.answer.result (wants_memory (on_separate w c.args.arrival.now true c.args.arrival.from m o) ≡ true)) c.requires.can.exchanges c.in-Some.ensures.exact
+    (λ x found. on_err c.answer.result (rw room (answer-takes w c.args.arrival.now true c.args.arrival.from m (c.in-Some.number, x))))

@@ -1,4 +1,4 @@
-use Rattle.std.proofs.Common.{◌≡◌, ◌≤◌, Some, length, IfOk, OnErr, sym, subst}
+use Rattle.std.proofs.Common.{rules, ◌≡◌, ◌≤◌, Some, length, IfOk, OnErr, sym, subst}
 use Rattle.coap_exchange.specs.Table.{item_at}
 use Rattle.coap_model.specs.declared.due.DueItem.TheVariants.{OfExchange, OfWaiter}
 use Rattle.coap_model.specs.World.{Step}
@@ -28,11 +28,15 @@ on_exchange-requires-clause-fits g c =
     subst (λ (s : Step). length s.bytes ≤ c.args.out.now.room)
     (of-exchange c.args.self.now c.args.now c.args.draw c.in-Some-OfExchange.at c.in-Some-OfExchange.number (exchange g k) c.if-at-now.true) c.requires.fits
 
-pub returns-in-Some-OfExchange-clause-exact : goal.returns-in-Some-OfExchange-clause-exact
-returns-in-Some-OfExchange-clause-exact g c =
-    let k = (goal.at.returns-in-Some-OfExchange-clause-exact g c).In-Some-OfExchange in
-    subst (λ (s : Step). Does s c.on_exchange.result c.args.out.now c.on_exchange.new.out c.on_exchange.new.self)
-    (sym (of-exchange c.args.self.now c.args.now c.args.draw c.in-Some-OfExchange.at c.in-Some-OfExchange.number (exchange g k) c.if-at-now.true)) c.on_exchange.ensures
+pub returns-in-Some-OfExchange-clause-done : goal.returns-in-Some-OfExchange-clause-done
+returns-in-Some-OfExchange-clause-done g c =
+    let k = (goal.at.returns-in-Some-OfExchange-clause-done g c).In-Some-OfExchange in
+    record {
+      exact = subst (λ (s : Step). Does s c.on_exchange.result c.args.out.now c.on_exchange.new.out c.on_exchange.new.self)
+          (sym (of-exchange c.args.self.now c.args.now c.args.draw c.in-Some-OfExchange.at c.in-Some-OfExchange.number (exchange g k) c.if-at-now.true)) c.on_exchange.ensures;
+      err = search rules;
+      kept = search rules;
+    }
 
 pub on_waiter-requires-clause-fits : goal.on_waiter-requires-clause-fits
 on_waiter-requires-clause-fits g c =
@@ -49,11 +53,15 @@ on_waiter-requires-clause-due g c =
     let k = (goal.at.on_waiter-requires-clause-due g c).In-Some-OfWaiter in
     client-due-at c.args.self.now c.args.now c.in-Some-OfWaiter.at c.in-Some-OfWaiter.number c.requires.can.waiters (waiter g k) c.if-at-now-2.true
 
-pub returns-in-Some-OfWaiter-clause-exact : goal.returns-in-Some-OfWaiter-clause-exact
-returns-in-Some-OfWaiter-clause-exact g c =
-    let k = (goal.at.returns-in-Some-OfWaiter-clause-exact g c).In-Some-OfWaiter in
-    subst (λ (s : Step). IfOk c.on_waiter.result (λ report. Does s report c.args.out.now c.on_waiter.new.out c.on_waiter.new.self))
-    (step g k c.if-at-now-2.true) c.on_waiter.ensures.exact
+pub returns-in-Some-OfWaiter-clause-done : goal.returns-in-Some-OfWaiter-clause-done
+returns-in-Some-OfWaiter-clause-done g c =
+    let k = (goal.at.returns-in-Some-OfWaiter-clause-done g c).In-Some-OfWaiter in
+    record {
+      exact = subst (λ (s : Step). IfOk c.on_waiter.result (λ report. Does s report c.args.out.now c.on_waiter.new.out c.on_waiter.new.self))
+          (step g k c.if-at-now-2.true) c.on_waiter.ensures.done.exact;
+      err = search rules;
+      kept = search rules;
+    }
 
 pub returns-in-Some-OfWaiter-clause-memory : goal.returns-in-Some-OfWaiter-clause-memory
 returns-in-Some-OfWaiter-clause-memory g c =

@@ -1,27 +1,35 @@
-use Rattle.std.proofs.Common.{◌≡◌, ◌<◌, ◌∙◌, ◌||◌, List, false, ap, sym, subst, take, drop, length, arith}
+use Rattle.std.proofs.Common.{◌≡◌, ◌<◌, ◌∙◌, ◌||◌, ◌+◌, List, false, ap, sym, subst, length, arith}
 use Rattle.std.specs.List.{insert}
-use Rattle.std.specs.Result.{is_ok}
-use Rattle.std.specs.Vec.{vec_len, vec_capacity}
+use Rattle.std.specs.VecDeque.{deque_len, deque_capacity}
 use Rattle.coap_exchange.specs.Roll.{Pair, Roll, is_in, is_pair}
-use Rattle.coap_exchange.proofs.Rolling.{AllAfter, NoneAfter, is_in-insert, put-in, rising-insert}
+use Rattle.coap_exchange.proofs.Rolling.{is_in-insert, length-insert, put-in, rising-insert}
 use Rattle.coap_exchange.proofs.roll.Roll.put.Goals as goal
 
-written : (c : goal.After-insert) → c.insert.new.self.items ≡ insert c.self.inside.pairs.items c.place_after-place.result (c.args.owner, c.args.number)
-written c =
+room : (c : goal.After-insert) → deque_len c.self.inside.pairs < deque_capacity c.self.inside.pairs
+room c =
     let room : length c.self.inside.pairs.items < c.self.inside.limit = subst (λ (r : Roll). length r.pairs < r.limit) (sym c.self.view_is) c.requires.room in
-    let len : length c.self.inside.pairs.items ≡ vec_len c.self.inside.pairs = rw (c.deref.ensures.value) at c.deref.ensures.len in
     let fits = c.self.invariant.1 in
-    let lt : vec_len c.self.inside.pairs < vec_capacity c.self.inside.pairs = omega arith in
-    put-in (is_ok c.insert.result) c.self.inside.pairs.items c.insert.new.self.items c.place_after-place.result (c.args.owner, c.args.number) (c.insert.ensures.succeeds lt) c.insert.ensures.items
+    let same = c.self.invariant.2 in
+    omega arith
+
+written : (c : goal.After-insert) → c.insert.new.self.items ≡ insert c.self.inside.pairs.items c.place_after-place.result (c.args.owner, c.args.number)
+written c = put-in c.insert.result c.insert.ensures.items c.insert.ensures.full (room c)
 
 pub invariant_of-self : goal.invariant_of-self
 invariant_of-self c =
-    let below = subst (λ (l : List Pair). NoneAfter (c.args.owner, c.args.number) (take c.place_after-place.result l)) c.deref.ensures.value c.place_after-place.ensures.below in
-    let above = subst (λ (l : List Pair). AllAfter (c.args.owner, c.args.number) (drop c.place_after-place.result l)) c.deref.ensures.value c.place_after-place.ensures.above in
     let free : is_in (c.args.owner, c.args.number) c.self.inside.pairs.items ≡ false = subst (λ (r : Roll). is_in (c.args.owner, c.args.number) r.pairs ≡ false) (sym c.self.view_is) c.requires.absent in
     let fits = c.self.invariant.1 in
+    let same = c.self.invariant.2 in
     let wider = c.insert.ensures.capacity in
-    (rw (written c) (rising-insert (c.args.owner, c.args.number) c.place_after-place.result c.self.inside.pairs.items c.self.invariant.0 below above free), omega arith)
+    let more = put-in c.insert.result c.insert.ensures.len c.insert.ensures.full (room c) in
+    let counted = length-insert c.place_after-place.result c.self.inside.pairs.items (c.args.owner, c.args.number) in
+    (rw (written c) (rising-insert (c.args.owner, c.args.number) c.place_after-place.result c.self.inside.pairs.items c.self.invariant.0 c.place_after-place.ensures.below c.place_after-place.ensures.above free), omega arith, rw (written c) (omega arith))
+
+pub returns-clause-length : goal.returns-clause-length
+returns-clause-length c =
+    ap length (written c)
+    ∙ length-insert c.place_after-place.result c.self.inside.pairs.items (c.args.owner, c.args.number)
+    ∙ ap (λ (r : Roll). length r.pairs + 1) c.self.view_is
 
 pub returns-clause-more : goal.returns-clause-more
 returns-clause-more c = λ p.

@@ -1,6 +1,6 @@
 use Rattle.std.proofs.Common.{◌≡◌, length, [], refl, sym, ap, subst, arith}
 use Rattle.std.proofs.Math.Nat.{min-le_right}
-use Rattle.coap_store_lru.specs.Indexing.{AreThoseOf}
+use Rattle.coap_store_lru.specs.Indexing.{AreThoseOf, is_indexed}
 use Rattle.coap_store_lru.proofs.lru_store.LruStoreStore.with_limits.Goals as goal
 
 pub invariant_of-result : goal.invariant_of-result
@@ -8,7 +8,7 @@ invariant_of-result g c =
     let made = c.in_ok-unbounded_with_hasher.ensures in
     let none : c.in_ok-unbounded_with_hasher.field-0.entries ≡ [] = ap (λ m. m.entries) made in
     record {
-      are_those = subst (λ es. AreThoseOf es 0 c.new.result.groups) (sym none) (record { distinct = refl; counted = refl; indexed = c.new.ensures });
+      are_those = subst (λ es. AreThoseOf es 0 (is_indexed c.new.result.secret c.new.result.groups)) (sym none) (record { distinct = refl; counted = refl; indexed_are = c.new.ensures });
       unlimited = ap (λ m. m.cap) made;
       within_bytes = omega arith;
       within_entries = omega (arith, ap length none);

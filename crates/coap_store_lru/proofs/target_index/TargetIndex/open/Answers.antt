@@ -1,31 +1,20 @@
-use Rattle.std.proofs.Common.{◌≡◌, cond, Some, sym, subst, ◌∙◌}
+use Rattle.std.proofs.Common.{◌≡◌, ◌||◌, ℕ, nat_eq, cond, Some, refl, sym, ap, ◌∙◌}
 use Rattle.std.specs.HashMap.{get}
-use Rattle.coap_endpoint.specs.declared.target.Target.{Target}
-use Rattle.coap_endpoint.specs.Equality.{same_target}
-use Rattle.coap_store_lru.specs.Indexing.{AreFilled, AreOwn}
-use Rattle.coap_store_lru.proofs.Alike.{put-alike}
-use Rattle.coap_store_lru.proofs.Groups.{by_result, filled-along, group-opened, in_group-along}
+use Rattle.coap_store.specs.declared.key.CacheKey.{CacheKey}
+use Rattle.coap_store.specs.Keys.{same_key}
+use Rattle.coap_store_lru.specs.Indexing.{in_group, keys_in}
+use Rattle.coap_store_lru.proofs.Groups.{in_group-found, is_indexed-changed, none-in_group, one-key, put-elsewhere, put-here}
 use Rattle.coap_store_lru.proofs.target_index.TargetIndex.open.Goals as goal
-
-pub invariant_of-self : goal.invariant_of-self
-invariant_of-self g c =
-    let self = c.args.self.now in
-    let new = c.insert.new.self in
-    let key = c.args.key in
-    let keys = c.add.new.keys in
-    let kept : AreOwn new × AreFilled new =
-    by_result c.insert.result c.insert.ensures.updates c.insert.ensures.err
-    (λ updates.
-    let changed = group-opened self.groups new key keys c.with_hasher-keys.result self.own self.filled c.requires c.with_hasher-keys.ensures.empty c.in_ok-add.ensures
-    (subst (λ (x : Target). (t : Target) → get same_target new t ≡ cond (same_target x t) (Some keys) (get same_target self.groups t)) c.in_ok-target.ensures (put-alike self.groups new c.in_ok-target.target (Some keys) updates.0)) in
-    (changed.own, changed.filled))
-    (λ same. ((λ t k is. self.own t k (sym (in_group-along self.groups new same t k) ∙ is)), filled-along self.groups new same self.filled)) in
-    record { own = kept.0; filled = kept.1 }
 
 pub returns : goal.returns
 returns g c =
     let self = c.args.self.now in
+    let key = c.args.key in
+    let at = c.args.at in
+    let group = c.in_ok-group.group in
     let new = c.insert.new.self in
-    let keys = c.add.new.keys in
-    (group-opened self.groups new c.args.key keys c.with_hasher-keys.result self.own self.filled c.requires c.with_hasher-keys.ensures.empty c.in_ok-add.ensures
-    (subst (λ (x : Target). (t : Target) → get same_target new t ≡ cond (same_target x t) (Some keys) (get same_target self.groups t)) c.in_ok-target.ensures (put-alike self.groups new c.in_ok-target.target (Some keys) c.in_ok-insert.ensures.updates.0))).indexed
+    let put : (e : ℕ) → get nat_eq new e ≡ cond (nat_eq at e) (Some group) (get nat_eq self.groups e) = c.in_ok-insert.ensures.updates.0 in
+    let is = put-here self.groups new at (Some group) put in
+    let changed : (k : CacheKey) → in_group new at k ≡ (same_key key k || in_group self.groups at k) =
+    λ k. sym (in_group-found new at (Some group) (sym is) k) ∙ one-key (keys_in group) key c.in_ok-group.ensures k ∙ ap (λ b. same_key key k || b) (sym (none-in_group self.groups at c.requires.new k)) in
+    is_indexed-changed self.groups new at (put-elsewhere self.groups new at (Some group) put) self.secret key (λ p b. p || b) c.requires.at (λ b. refl) changed

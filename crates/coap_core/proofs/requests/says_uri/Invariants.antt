@@ -1,9 +1,0 @@
-use Rattle.std.proofs.Common.{◌≡◌}
-use Rattle.std.specs.Prelude.{◌==◌, ◌||◌}
-use Rattle.std.specs.List.{list_any}
-use Rattle.coap_message.specs.declared.options.Opt.{Opt}
-use Rattle.coap_core.proofs.requests.says_uri.Given as goal
-
-abbrev pub invariant-loop-option : goal.invariant-loop-option
-invariant-loop-option l =
-    list_any (λ (o : Opt). (o.number == 35) || (o.number == 39)) l.request.options ≡ list_any (λ (o : Opt). (o.number == 35) || (o.number == 39)) l.option-iterator

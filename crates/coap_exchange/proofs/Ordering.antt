@@ -1,0 +1,378 @@
+-- Exchanges that were admitted in order, and whose turn comes first then.
+use Rattle.std.proofs.Common.{◌≡◌, ℕ, ◌+◌, ◌<◌, ◌≤◌, ◌&&◌, List, [], ◌∷◌, length, max, Bool, true, false, cond, eqb, leb, Option, Some, None, refl, sym, ap, ◌∙◌, subst, arith, inl, inr}
+use Rattle.std.specs.Prelude.{◌⊎◌, IfSome}
+use Rattle.std.specs.List.{AllByRecursion}
+use Rattle.std.specs.Option.{option_map}
+use Rattle.std.proofs.lemmas.Bool.{eqb-true, eqb-false}
+use Rattle.std.proofs.lemmas.Bool.Decides.{nat_tests}
+use Rattle.coap_endpoint.specs.declared.endpoint.Endpoint.{Endpoint}
+use Rattle.coap_endpoint.specs.declared.target.Target.{Target}
+use Rattle.coap_exchange.specs.declared.exchange.Exchange.{Exchange}
+use Rattle.coap_exchange.specs.declared.exchange.Change.{Change}
+use Rattle.coap_exchange.specs.declared.exchange.Change.TheVariants as change
+use Rattle.coap_exchange.specs.declared.turns.Turns.{Turns}
+use Rattle.coap_exchange.specs.Due.{is_before, sooner, as_due, first_due}
+use Rattle.coap_exchange.specs.Exchanges.{changed_by, is_changed_with, is_queued, is_sent_to, tainted_by}
+use Rattle.coap_exchange.specs.Index.{turn_among}
+use Rattle.coap_exchange.specs.Lines.{is_queued_to}
+use Rattle.coap_exchange.specs.Roll.{Pair, Roll, is_in, one_of, IsReplaced}
+use Rattle.coap_exchange.specs.Table.{Numbered, Table, IsRising, IsTable, admitted_to, all_changed, changed_at, count, item_at, passes, withdrawn, withdrawn_at, without}
+use Rattle.coap_exchange.specs.Turns.{head_at, head_in, endpoint_in, noted, AreInOrder, AreHeads, AreTurns, IsLowestUnder}
+use Rattle.coap_exchange.proofs.Counts.{count-all_changed}
+use Rattle.coap_exchange.proofs.Dues.{IsDueIn, first_due-is}
+use Rattle.coap_exchange.proofs.Heads.{IsAt, head-is, head-there, heads-moved, heads-same, replaced-fewer, replaced-free, replaced-there, that-same}
+use Rattle.coap_exchange.proofs.Indexing.{Moves, changed-at, moves-admitted, push-at, without-gone}
+use Rattle.coap_exchange.proofs.Lining.{queued-taint, sent-taint}
+use Rattle.coap_exchange.proofs.Sooner.{same_first, sooner_left}
+use Rattle.coap_exchange.proofs.Tables.{admitted-is, item_at-fresh}
+use Rattle.coap_exchange.proofs.Changes.{IsRising-all_changed}
+
+-- ---- the order of admissions, as exchanges come, change and go
+
+-- what is there was there, and was admitted at the same moment
+abbrev pub AreKept : List (Numbered Exchange) → List (Numbered Exchange) → Type 0
+AreKept xs ys = (q : ℕ) (y : Exchange) → item_at q ys ≡ Some y → (x : Exchange) × (item_at q xs ≡ Some x) × (x.admitted ≡ y.admitted)
+
+-- so it stays in order
+pub order-kept : (xs ys : List (Numbered Exchange)) (latest : ℕ) → AreKept xs ys → AreInOrder xs latest → AreInOrder ys latest
+order-kept xs ys latest kept are = record {
+  early = λ n y f. (let (x, there, same) = kept n y f in subst (λ (m : ℕ). m ≤ latest) same (are.early n x there));
+  order = λ n m y z f g lt. (
+      let (x, there, same) = kept n y f in
+      let (w, at, alike) = kept m z g in
+      let le = are.order n m x w there at lt in
+      omega arith
+      );
+}
+
+-- where one item changes, the others are kept
+moved-kept : (n : ℕ) (xs ys : List (Numbered Exchange)) → Moves n xs ys → ((y : Exchange) → item_at n ys ≡ Some y → (x : Exchange) × (item_at n xs ≡ Some x) × (x.admitted ≡ y.admitted)) → AreKept xs ys
+moved-kept n xs ys moves here = λ q y f. go q y f (eqb q n) refl
+  where
+    go : (q : ℕ) (y : Exchange) → item_at q ys ≡ Some y → (b : Bool) → eqb q n ≡ b → (x : Exchange) × (item_at q xs ≡ Some x) × (x.admitted ≡ y.admitted)
+    go q y f true e = subst (λ (m : ℕ). (x : Exchange) × (item_at m xs ≡ Some x) × (x.admitted ≡ y.admitted)) (sym (eqb-true q n e)) (here y (subst (λ (m : ℕ). item_at m ys ≡ Some y) (eqb-true q n e) f))
+    go q y f false e = (y, sym (moves.others q e) ∙ f, refl)
+
+-- one goes
+pub kept-without : (n : ℕ) (xs : List (Numbered Exchange)) → Moves n xs (without n xs) → AreKept xs (without n xs)
+kept-without n xs moves = moved-kept n xs (without n xs) moves (λ y f. absurd (let gone = without-gone n xs in cc))
+
+-- the last is withdrawn
+pub kept-withdrawn : (t : Table Exchange) → Moves t.admitted t.items (withdrawn t).items → AreKept t.items (withdrawn t).items
+kept-withdrawn t moves = go (item_at t.admitted t.items) moves
+  where
+    go : (o : Option Exchange) → Moves t.admitted t.items (withdrawn_at o t).items → AreKept t.items (withdrawn_at o t).items
+    go None m = λ q y f. (y, f, refl)
+    go (Some a) m = kept-without t.admitted t.items m
+
+-- what is made of an item is of one
+made-of : (f : Exchange → Exchange) → ((x : Exchange) → (f x).admitted ≡ x.admitted) → (o : Option Exchange) (y : Exchange) → option_map f o ≡ Some y → (x : Exchange) × (o ≡ Some x) × (x.admitted ≡ y.admitted)
+made-of f same None y e = absurd cc
+made-of f same (Some x) y e = (x, refl, let g : f x ≡ y = cc in sym (same x) ∙ ap (λ (z : Exchange). z.admitted) g)
+
+-- one changes
+pub kept-changed : (n : ℕ) (f : Exchange → Exchange) (xs : List (Numbered Exchange)) → ((x : Exchange) → (f x).admitted ≡ x.admitted) → Moves n xs (changed_at n f xs) → AreKept xs (changed_at n f xs)
+kept-changed n f xs same moves = moved-kept n xs (changed_at n f xs) moves (λ y g. made-of f same (item_at n xs) y (sym (changed-at n f xs) ∙ g))
+
+-- a change leaves the moment of the admission
+pub admitted-after : (ch : Change) (x : Exchange) → (changed_by ch x).admitted ≡ x.admitted
+admitted-after (change.Send s) x = refl
+admitted-after (change.Fire now) x = refl
+admitted-after change.Acknowledge x = refl
+admitted-after (change.Answer a) x = refl
+
+-- and so does a taint
+admitted-tainted : (target : Target) (x : Exchange) → (tainted_by target x).admitted ≡ x.admitted
+admitted-tainted target x = go (is_changed_with target x)
+  where
+    go : (b : Bool) → (cond b (record x { tainted = true }) x).admitted ≡ x.admitted
+    go true = refl
+    go false = refl
+
+-- a taint leaves the key
+pub key-tainted : (target : Target) (x : Exchange) → (tainted_by target x).key ≡ x.key
+key-tainted target x = go (is_changed_with target x)
+  where
+    go : (b : Bool) → (cond b (record x { tainted = true }) x).key ≡ x.key
+    go true = refl
+    go false = refl
+
+-- all change
+at-all_changed : (f : Exchange → Exchange) (q : ℕ) (xs : List (Numbered Exchange)) → item_at q (all_changed f xs) ≡ option_map f (item_at q xs)
+at-all_changed f q [] = refl
+at-all_changed f q (x ∷ xs) = go (eqb q x.0) (at-all_changed f q xs)
+  where
+    go : (b : Bool) → item_at q (all_changed f xs) ≡ option_map f (item_at q xs) → cond b (Some (f x.1)) (item_at q (all_changed f xs)) ≡ option_map f (cond b (Some x.1) (item_at q xs))
+    go true e = refl
+    go false e = e
+
+-- ---- what tells whose turn it is
+
+-- a taint leaves it
+pub turns-tainted : (target : Target) (xs : List (Numbered Exchange)) (turns : Turns) → IsRising 0 xs → AreTurns xs turns → AreTurns (all_changed (tainted_by target) xs) turns
+turns-tainted target xs turns r are = record {
+  heads = heads-same xs (all_changed (tainted_by target) xs) turns.heads same are.heads;
+  order = λ e. order-kept xs (all_changed (tainted_by target) xs) turns.latest (λ q y f. made-of (tainted_by target) (admitted-tainted target) (item_at q xs) y (sym (at-all_changed (tainted_by target) q xs) ∙ f)) (are.order e);
+}
+  where
+    queued : (e : Endpoint) (o : Option Exchange) → passes (is_queued_to e) (option_map (tainted_by target) o) ≡ passes (is_queued_to e) o
+    queued e None = refl
+    queued e (Some x) = queued-taint target e x
+
+    same : (e : Endpoint) → head_at (all_changed (tainted_by target) xs) e ≡ head_at xs e
+    same e = rw (count-all_changed (is_sent_to e) (tainted_by target) xs (sent-taint target e), that-same (is_queued_to e) xs (all_changed (tainted_by target) xs) r (IsRising-all_changed (tainted_by target) 0 xs r) (λ m. ap (passes (is_queued_to e)) (at-all_changed (tainted_by target) m xs) ∙ queued e (item_at m xs))) refl
+
+-- nothing has a number that wasn't given yet
+none-past : (most n : ℕ) (ys : List (Numbered Exchange)) → AllByRecursion (λ z. z.0 ≤ most) ys → most < n → item_at n ys ≡ None
+none-past most n [] all lt = refl
+none-past most n (z ∷ ys) all lt = go (eqb n z.0) refl (none-past most n ys all.1 lt)
+  where
+    go : (b : Bool) → eqb n z.0 ≡ b → item_at n ys ≡ None → cond b (Some z.1) (item_at n ys) ≡ None
+    go true h rest = absurd (let one = eqb-true n z.0 h in let le = all.0 in omega arith)
+    go false h rest = rest
+
+-- one is admitted in order, where it is no earlier than the latest
+order-admitted : (t : Table Exchange) (latest now : ℕ) (x : Exchange) → IsTable t → x.admitted ≡ now → latest ≤ now → AreInOrder t.items latest → AreInOrder (admitted_to x t).items now
+order-admitted t latest now x is e le are = record {
+  early = λ n y f. early n y f (eqb n (t.admitted + 1)) refl;
+  order = λ n m y z f g lt. order n m y z f g lt (eqb n (t.admitted + 1)) refl (eqb m (t.admitted + 1)) refl;
+}
+  where
+    moves : Moves (t.admitted + 1) t.items (admitted_to x t).items
+    moves = moves-admitted t x is
+
+    new : (y : Exchange) → item_at (t.admitted + 1) (admitted_to x t).items ≡ Some y → x ≡ y
+    new y f = let there = push-at (t.admitted + 1) t.items x (item_at-fresh t is) in cc
+
+    low : (q : ℕ) (y : Exchange) → item_at q t.items ≡ Some y → (b : Bool) → leb q t.admitted ≡ b → q ≤ t.admitted
+    low q y f true g = grind (arith, nat_tests)
+    low q y f false g = absurd (let none = none-past t.admitted q t.items is.below (grind (arith, nat_tests)) in cc)
+
+    early : (n : ℕ) (y : Exchange) → item_at n (admitted_to x t).items ≡ Some y → (b : Bool) → eqb n (t.admitted + 1) ≡ b → y.admitted ≤ now
+    early n y f true g =
+        let same = new y (subst (λ (m : ℕ). item_at m (admitted_to x t).items ≡ Some y) (eqb-true n (t.admitted + 1) g) f) in
+        let moment : x.admitted ≡ y.admitted = ap (λ (z : Exchange). z.admitted) same in
+        omega arith
+    early n y f false g = let before = are.early n y (sym (moves.others n g) ∙ f) in omega arith
+
+    order : (n m : ℕ) (y z : Exchange) → item_at n (admitted_to x t).items ≡ Some y → item_at m (admitted_to x t).items ≡ Some z → n < m → (b : Bool) → eqb n (t.admitted + 1) ≡ b → (c : Bool) → eqb m (t.admitted + 1) ≡ c → y.admitted ≤ z.admitted
+    order n m y z f g lt false h false k = are.order n m y z (sym (moves.others n h) ∙ f) (sym (moves.others m k) ∙ g) lt
+    order n m y z f g lt false h true k =
+        let same = new z (subst (λ (q : ℕ). item_at q (admitted_to x t).items ≡ Some z) (eqb-true m (t.admitted + 1) k) g) in
+        let moment : x.admitted ≡ z.admitted = ap (λ (w : Exchange). w.admitted) same in
+        let before = are.early n y (sym (moves.others n h) ∙ f) in
+        omega arith
+    order n m y z f g lt true h false k =
+        let few = low m z (sym (moves.others m k) ∙ g) (leb m t.admitted) refl in
+        let one = eqb-true n (t.admitted + 1) h in
+        absurd (omega arith)
+    order n m y z f g lt true h true k =
+        let one = eqb-true n (t.admitted + 1) h in
+        let other = eqb-true m (t.admitted + 1) k in
+        absurd (omega arith)
+
+-- one is admitted
+pub turns-admitted : (t : Table Exchange) (x : Exchange) (now : ℕ) (turns new : Turns) → IsTable t → x.admitted ≡ now → AreTurns t.items turns → AreHeads (admitted_to x t).items new.heads → new.in_order ≡ (turns.in_order && leb turns.latest now) → new.latest ≡ max turns.latest now → AreTurns (admitted_to x t).items new
+turns-admitted t x now turns new is e are heads flag latest = record {
+  heads = heads;
+  order = λ f. go turns.in_order refl (leb turns.latest now) refl (sym flag ∙ f);
+}
+  where
+    go : (b : Bool) → turns.in_order ≡ b → (c : Bool) → leb turns.latest now ≡ c → (b && c) ≡ true → AreInOrder (admitted_to x t).items new.latest
+    go true f true g h =
+        let le : turns.latest ≤ now = grind (arith, nat_tests) in
+        let last : new.latest ≡ now = omega arith in
+        subst (AreInOrder (admitted_to x t).items) (sym last) (order-admitted t turns.latest now x is e le (are.order f))
+    go true f false g h = absurd cc
+    go false f c g h = absurd cc
+
+-- ---- whose turn comes first
+
+module _ (nstart : ℕ) (xs : List (Numbered Exchange)) (turns : Turns) (r : IsRising 0 xs) (are : AreTurns xs turns) (on : turns.in_order ≡ true) where
+  -- when it is the turn of an exchange
+  turn : Exchange → Option ℕ
+  turn x = turn_among nstart xs x
+
+  -- it is the turn of one that waits, where fewer are sent to its endpoint
+  turn-on : (x : Exchange) → is_queued x ≡ true → count (is_sent_to x.key.target.at) xs < nstart → turn_among nstart xs x ≡ Some x.admitted
+  turn-on x q lt = let free : leb nstart (count (is_sent_to x.key.target.at) xs) ≡ false = grind (arith, nat_tests) in rw (q, free) refl
+
+  -- and of no other
+  turn-only : (x : Exchange) → (turn_among nstart xs x ≡ None) ⊎ ((turn_among nstart xs x ≡ Some x.admitted) × (is_queued x ≡ true) × (count (is_sent_to x.key.target.at) xs < nstart))
+  turn-only x = go (is_queued x) refl (leb nstart (count (is_sent_to x.key.target.at) xs)) refl
+    where
+      go : (b : Bool) → is_queued x ≡ b → (c : Bool) → leb nstart (count (is_sent_to x.key.target.at) xs) ≡ c → (turn_among nstart xs x ≡ None) ⊎ ((turn_among nstart xs x ≡ Some x.admitted) × (is_queued x ≡ true) × (count (is_sent_to x.key.target.at) xs < nstart))
+      go true e false f = inr (turn-on x e (grind (arith, nat_tests)), e, grind (arith, nat_tests))
+      go true e true f = inl (rw (e, f) refl)
+      go false e c f = inl (rw e refl)
+
+  -- the head of its endpoint stands in the roll
+  head-in : (m : ℕ) (y : Exchange) → item_at m xs ≡ Some y → is_queued y ≡ true → (h : ℕ) × (is_in (count (is_sent_to y.key.target.at) xs, h) turns.heads.pairs ≡ true) × (h ≤ m)
+  head-in m y there q =
+      let (h, e, le) = head-there xs r m y there q in
+      (h, are.heads.all y.key.target.at (count (is_sent_to y.key.target.at) xs, h) e, le)
+
+  -- what stands there waits, and as many are sent to its endpoint
+  in-head : (c n : ℕ) → is_in (c, n) turns.heads.pairs ≡ true → (x : Exchange) × (item_at n xs ≡ Some x) × (is_queued x ≡ true) × (count (is_sent_to x.key.target.at) xs ≡ c)
+  in-head c n there =
+      let (e, h) = are.heads.only (c, n) there in
+      let (x, at, q, same, many) = head-is xs r e (c, n) h in
+      (x, at, q, ap (λ (d : Endpoint). count (is_sent_to d) xs) same ∙ many)
+
+  -- where none stands under fewer than `nstart`, it is nobody's turn
+  pub turn-none : IsLowestUnder nstart turns.heads.pairs None → None ≡ first_due (turn_among nstart xs) xs
+  turn-none none = same_first {P = IsDueIn (turn_among nstart xs) xs} {Q = IsDueIn (turn_among nstart xs) xs} None (first_due (turn_among nstart xs) xs) (λ x d. d) (λ x d. d) (record { least = λ x d. (let (m, y, there, e) = d in nothing x m y there e (turn-only y)); there = inl refl }) (first_due-is (turn_among nstart xs) 0 xs r)
+    where
+      nothing : (x : Option Pair) (m : ℕ) (y : Exchange) → item_at m xs ≡ Some y → x ≡ as_due m (turn_among nstart xs y) → (turn_among nstart xs y ≡ None) ⊎ ((turn_among nstart xs y ≡ Some y.admitted) × (is_queued y ≡ true) × (count (is_sent_to y.key.target.at) xs < nstart)) → sooner None x ≡ None
+      nothing x m y there e (inl f) = e ∙ ap (as_due m) f
+      nothing x m y there e (inr f) =
+          let (h, i, le) = head-in m y there f.1 in
+          let many : nstart ≤ count (is_sent_to y.key.target.at) xs = none (count (is_sent_to y.key.target.at) xs, h) i in
+          let few : count (is_sent_to y.key.target.at) xs < nstart = f.2 in
+          absurd (omega arith)
+
+  -- what stands there has an exchange
+  pub turn-there : (n : ℕ) → IsLowestUnder nstart turns.heads.pairs (Some n) → item_at n xs ≡ None → ⊥
+  turn-there n lowest none =
+      let (c, lt, i) = lowest.0 in
+      let (x, there, q, many) = in-head c n i in
+      let a = there in cc
+
+  -- of those that stand under fewer than `nstart` it is the turn of the least
+  pub turn-some : (n : ℕ) (x : Exchange) → IsLowestUnder nstart turns.heads.pairs (Some n) → item_at n xs ≡ Some x → Some (x.admitted, n) ≡ first_due (turn_among nstart xs) xs
+  turn-some n x lowest there = same_first {P = IsDueIn (turn_among nstart xs) xs} {Q = IsDueIn (turn_among nstart xs) xs} (Some (x.admitted, n)) (first_due (turn_among nstart xs) xs) (λ y d. d) (λ y d. d) (record { least = λ z d. (let (m, y, at, e) = d in later z m y at e (turn-only y)); there = inr here }) (first_due-is (turn_among nstart xs) 0 xs r)
+    where
+      here : IsDueIn (turn_among nstart xs) xs (Some (x.admitted, n))
+      here =
+          let (c, lt, i) = lowest.0 in
+          let (y, at, q, many) = in-head c n i in
+          let same : y ≡ x = (let a = at in cc) in
+          let few : count (is_sent_to y.key.target.at) xs < nstart = omega arith in
+          (n, x, there, sym (ap (as_due n) (subst (λ (z : Exchange). turn_among nstart xs z ≡ Some z.admitted) same (turn-on y q few))))
+
+      before : (m : ℕ) (y : Exchange) → item_at m xs ≡ Some y → n ≤ m → is_before (y.admitted, m) (x.admitted, n) ≡ false
+      before m y at le = go (eqb n m) refl
+        where
+          go : (b : Bool) → eqb n m ≡ b → is_before (y.admitted, m) (x.admitted, n) ≡ false
+          go true e =
+              let one : n ≡ m = eqb-true n m e in
+              let same : x ≡ y = (let a = subst (λ (q : ℕ). item_at q xs ≡ Some x) one there in cc) in
+              let moment : x.admitted ≡ y.admitted = ap (λ (z : Exchange). z.admitted) same in
+              grind (arith, nat_tests)
+          go false e =
+              let other = eqb-false n m e in
+              let lt : n < m = omega (arith, other) in
+              let order : x.admitted ≤ y.admitted = (are.order on).order n m x y there at lt in
+              grind (arith, nat_tests)
+
+      later : (z : Option Pair) (m : ℕ) (y : Exchange) → item_at m xs ≡ Some y → z ≡ as_due m (turn_among nstart xs y) → (turn_among nstart xs y ≡ None) ⊎ ((turn_among nstart xs y ≡ Some y.admitted) × (is_queued y ≡ true) × (count (is_sent_to y.key.target.at) xs < nstart)) → sooner (Some (x.admitted, n)) z ≡ Some (x.admitted, n)
+      later z m y at e (inl f) = rw (e, f) refl
+      later z m y at e (inr f) =
+          let (h, i, le) = head-in m y at f.1 in
+          let least : n ≤ h = lowest.1 (count (is_sent_to y.key.target.at) xs, h) i f.2 in
+          rw (e, f.0) (sooner_left (x.admitted, n) (y.admitted, m) (before m y at (omega arith)))
+
+-- ---- one exchange comes, changes or goes
+
+-- where it changes, it stays with its endpoint
+pub at-changed : (n : ℕ) (f : Exchange → Exchange) (xs : List (Numbered Exchange)) → ((x : Exchange) → (f x).key.target.at ≡ x.key.target.at) → IsAt (endpoint_in (item_at n xs)) (item_at n (changed_at n f xs))
+at-changed n f xs same = subst (IsAt (endpoint_in (item_at n xs))) (sym (changed-at n f xs)) (go (item_at n xs))
+  where
+    go : (o : Option Exchange) → IsAt (endpoint_in o) (option_map f o)
+    go None = tt
+    go (Some x) = ap (λ (e : Endpoint). Some e) (sym (same x))
+
+-- a change leaves the endpoint
+pub endpoint-after : (ch : Change) (x : Exchange) → (changed_by ch x).key.target.at ≡ x.key.target.at
+endpoint-after (change.Send s) x = refl
+endpoint-after (change.Fire now) x = refl
+endpoint-after change.Acknowledge x = refl
+endpoint-after (change.Answer a) x = refl
+
+-- and an exchange that is changed doesn't wait for its turn
+pub changed-off : (n : ℕ) (f : Exchange → Exchange) (xs : List (Numbered Exchange)) → IfSome (item_at n xs) (λ x. is_queued (f x) ≡ false) → passes is_queued (item_at n (changed_at n f xs)) ≡ false
+changed-off n f xs off = ap (passes is_queued) (changed-at n f xs) ∙ go (item_at n xs) off
+  where
+    go : (o : Option Exchange) → IfSome o (λ x. is_queued (f x) ≡ false) → passes is_queued (option_map f o) ≡ false
+    go None e = refl
+    go (Some x) e = e
+
+-- what is gone is with no endpoint
+pub at-without : (n : ℕ) (xs : List (Numbered Exchange)) (at : Option Endpoint) → IsAt at (item_at n (without n xs))
+at-without n xs at = subst (IsAt at) (sym (without-gone n xs)) tt
+
+-- and doesn't wait
+pub without-off : (n : ℕ) (xs : List (Numbered Exchange)) → passes is_queued (item_at n (without n xs)) ≡ false
+without-off n xs = ap (passes is_queued) (without-gone n xs)
+
+-- the last that was withdrawn is gone
+pub withdrawn-gone : (t : Table Exchange) → item_at t.admitted (withdrawn t).items ≡ None
+withdrawn-gone t = go (item_at t.admitted t.items) refl
+  where
+    go : (o : Option Exchange) → item_at t.admitted t.items ≡ o → item_at t.admitted (withdrawn_at o t).items ≡ None
+    go None e = e
+    go (Some a) e = without-gone t.admitted t.items
+
+module _ (n : ℕ) (xs ys : List (Numbered Exchange)) (at : Option Endpoint) (moves : Moves n xs ys) (rx : IsRising 0 xs) (ry : IsRising 0 ys) (wx : IsAt at (item_at n xs)) (wy : IsAt at (item_at n ys)) (turns : Turns) (are : AreTurns xs turns) where
+  -- the head that comes doesn't stand in the roll, unless it was there
+  pub turns-free : IfSome (head_in ys at) (λ p. is_in p turns.heads.pairs ≡ true → head_in xs at ≡ Some p)
+  turns-free = replaced-free n xs ys at moves rx ry wx wy turns.heads are.heads
+
+  -- the one that was does
+  pub turns-there : IfSome (head_in xs at) (λ p. is_in p turns.heads.pairs ≡ true)
+  turns-there = replaced-there n xs ys at moves rx ry wx wy turns.heads are.heads
+
+  -- there is room for it
+  pub turns-room : passes is_queued (item_at n ys) ≡ false → length turns.heads.pairs + one_of (head_in ys at) ≤ turns.heads.limit + one_of (head_in xs at)
+  turns-room off =
+      let fewer = replaced-fewer n xs ys at moves rx ry wx wy turns.heads are.heads off in
+      let room = are.heads.room in
+      omega arith
+
+  -- and then it tells whose turn it is
+  pub turns-moved : AreKept xs ys → passes is_queued (item_at n ys) ≡ false → (new : Roll) → new.limit ≡ turns.heads.limit → length new.pairs + one_of (head_in xs at) ≡ length turns.heads.pairs + one_of (head_in ys at) → IsReplaced turns.heads.pairs new.pairs (head_in xs at) (head_in ys at) → AreTurns ys (record turns { heads = new })
+  turns-moved kept off new limit len replaced = record {
+    heads = heads-moved n xs ys at moves rx ry wx wy turns.heads are.heads new replaced (let room = turns-room off in omega arith);
+    order = λ e. order-kept xs ys turns.latest kept (are.order e);
+  }
+
+-- ---- one is admitted
+
+-- there is one at most
+one-most : (o : Option Pair) → one_of o ≤ 1
+one-most None = omega arith
+one-most (Some p) = omega arith
+
+module _ (xs : List (Numbered Exchange)) (turns : Turns) (are : AreTurns xs turns) (heads : Roll) (same : heads.pairs ≡ turns.heads.pairs) (room : length heads.pairs < heads.limit) where
+  -- the heads stand in a roll with more room
+  roomier : AreHeads xs heads
+  roomier = record {
+    only = λ p there. are.heads.only p (subst (λ (l : List Pair). is_in p l ≡ true) same there);
+    all = λ e p h. subst (λ (l : List Pair). is_in p l ≡ true) (sym same) (are.heads.all e p h);
+    room = omega arith;
+  }
+
+  -- so it tells whose turn it is as before
+  pub turns-roomier : AreTurns xs (record turns { heads = heads })
+  turns-roomier = record { heads = roomier; order = are.order }
+
+module _ (t : Table Exchange) (x : Exchange) (is : IsTable t) (little : length t.items < t.limit) (turns : Turns) (are : AreTurns t.items turns) (heads : Roll) (same : heads.pairs ≡ turns.heads.pairs) (room : length heads.pairs < heads.limit) where
+  -- there was none with its number
+  at-fresh : IsAt (Some x.key.target.at) (item_at (t.admitted + 1) t.items)
+  at-fresh = subst (IsAt (Some x.key.target.at)) (sym (item_at-fresh t is)) tt
+
+  -- then it is there
+  at-new : IsAt (Some x.key.target.at) (item_at (t.admitted + 1) (admitted_to x t).items)
+  at-new = subst (IsAt (Some x.key.target.at)) (sym (push-at (t.admitted + 1) t.items x (item_at-fresh t is))) refl
+
+  -- the head that comes doesn't stand in the roll, unless it was there
+  pub admitted-free : IfSome (head_at (admitted_to x t).items x.key.target.at) (λ p. is_in p heads.pairs ≡ true → head_at t.items x.key.target.at ≡ Some p)
+  admitted-free = replaced-free (t.admitted + 1) t.items (admitted_to x t).items (Some x.key.target.at) (moves-admitted t x is) is.rising (admitted-is t x is little).rising at-fresh at-new heads (roomier t.items turns are heads same room)
+
+  -- and then it tells whose turn it is
+  pub turns-more : (new : Roll) → new.limit ≡ heads.limit → length new.pairs + one_of (head_at t.items x.key.target.at) ≡ length heads.pairs + one_of (head_at (admitted_to x t).items x.key.target.at) → IsReplaced heads.pairs new.pairs (head_at t.items x.key.target.at) (head_at (admitted_to x t).items x.key.target.at) → AreTurns (admitted_to x t).items (noted x.admitted (record turns { heads = new }))
+  turns-more new limit len replaced =
+      let one = one-most (head_at (admitted_to x t).items x.key.target.at) in
+      turns-admitted t x x.admitted turns (noted x.admitted (record turns { heads = new })) is refl are
+      (heads-moved (t.admitted + 1) t.items (admitted_to x t).items (Some x.key.target.at) (moves-admitted t x is) is.rising (admitted-is t x is little).rising at-fresh at-new heads (roomier t.items turns are heads same room) new replaced (omega arith))
+      refl refl

@@ -1,0 +1,106 @@
+//! Whose turn it is to be sent.
+ghost use Rattle.std.specs.Prelude.{◌≡◌, ◌+◌, ◌<◌, ◌≤◌, [], true, length, IfOk, IfSome, OnOk, OnErr};
+ghost use Rattle.coap_exchange.specs.Index.{digest_of_endpoint, AreIndexed};
+ghost use Rattle.coap_exchange.specs.Lines.{AreLined};
+ghost use Rattle.coap_exchange.specs.Table.{item_at};
+ghost use Rattle.coap_exchange.specs.Turns.{endpoint_in, head_in, lower, noted, AreTurns, IsLowestUnder};
+
+use crate::index::{Index, Sought, first_sought};
+use crate::lines::{Line, line_to};
+use crate::listed::Listed;
+use crate::roll::Roll;
+use crate::table::Table;
+use coap_endpoint::Endpoint;
+use coap_message::OutOfMemory;
+use std::alloc::Global;
+use std::collections::BTreeMap;
+
+/// What tells whose turn it is, so that neither exchanges nor endpoints are gone through.
+#[derive(Drop)]
+pub(crate) struct Turns {
+    /// The first that waits with each endpoint, by how many are sent to that.
+    pub(crate) heads: Roll,
+    /// The latest moment of an admission, in milliseconds.
+    pub(crate) latest: u64,
+    /// Whether exchanges were admitted in the order of their moments, so that the lower of two
+    /// numbers comes first.
+    pub(crate) in_order: bool,
+}
+
+impl Turns {
+    /// Those of an empty table.
+    pub(crate) fn new(alloc: Global) -> Result<Turns, OutOfMemory>
+        ensures empty { IfOk result (λ turns. AreTurns [] turns) }
+    {
+        Ok(Turns {
+            heads: Roll::new(alloc, 0)?,
+            latest: 0,
+            in_order: true,
+        })
+    }
+
+    /// An exchange is admitted at this moment, after all others.
+    pub(crate) fn note(&mut self, now: u64)
+        ensures exact { self.new ≡ noted now self.old }
+    {
+        self.in_order = self.in_order && self.latest <= now;
+        self.latest = self.latest.max(now);
+    }
+
+    /// The least number of those whose turn it is, where they were admitted in order: with their
+    /// endpoints fewer than `nstart` are sent.
+    pub(crate) fn first(&self, nstart: usize) -> Option<u64>
+        ensures exact { IsLowestUnder nstart self.now.heads.pairs result }
+    {
+        let mut first = None;
+        let mut next = self.heads.first();
+        while let Some((sent, number)) = next {
+            if sent >= nstart as u64 {
+                return first;
+            }
+            first = lower(first, number);
+            next = self.heads.after((sent, u64::MAX));
+        }
+        first
+    }
+}
+
+/// The lower of two numbers, if there is a first.
+fn lower(first: Option<u64>, number: u64) -> Option<u64>
+    ensures { result ≡ lower first number }
+{
+    match first {
+        Some(least) if least < number => first,
+        _ => Some(number),
+    }
+}
+
+/// The endpoint of the exchange of this number, and its digest.
+pub(crate) fn endpoint_of(exchanges: &Table<Listed>, number: u64) -> (Option<Endpoint>, u64)
+    ensures at { result.0 ≡ endpoint_in (item_at number exchanges.now.items) }
+    ensures digest { IfSome result.0 (λ at. result.1 ≡ digest_of_endpoint at) }
+{
+    match exchanges.get(number) {
+        Some(listed) => (Some(listed.exchange().key.target.at), listed.endpoint()),
+        None => (None, 0),
+    }
+}
+
+/// How many are sent to an endpoint, which has this digest, and the first that waits for its turn
+/// with it, if one does.
+pub(crate) fn head_of(
+    exchanges: &Table<Listed>,
+    index: &Index,
+    lines: &BTreeMap<Endpoint, Line>,
+    at: Option<Endpoint>,
+    digest: u64,
+) -> Option<(u64, u64)>
+    requires digest { IfSome at (λ e. digest ≡ digest_of_endpoint e) }
+    requires indexed { AreIndexed exchanges.now.items exchanges.now.limit index.now }
+    requires lined { AreLined exchanges.now.items lines.now }
+    ensures exact { result ≡ head_in exchanges.now.items at }
+{
+    let at = at?;
+    let number = first_sought(exchanges, &index.queues, digest, &Sought::Queued(at))?;
+    Some((line_to(lines, at).sent as u64, number))
+}

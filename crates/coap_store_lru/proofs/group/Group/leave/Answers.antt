@@ -1,0 +1,15 @@
+use Rattle.std.proofs.Common.{◌≡◌, ◌&&◌, ◌||◌, false, not, rules, sym, ap, ◌∙◌}
+use Rattle.coap_store.specs.Keys.{same_key}
+use Rattle.coap_store_lru.specs.declared.group.Group.{Group}
+use Rattle.coap_store_lru.specs.Indexing.{has}
+use Rattle.coap_store_lru.proofs.Groups.{only-left}
+use Rattle.coap_store_lru.proofs.group.Group.leave.Goals as goal
+
+pub returns-in-One-clause-left : goal.returns-in-One-clause-left
+returns-in-One-clause-left g c =
+    let key = c.args.key.now in
+    let only = c.in-One.only.value in
+    let is : c.is.result ≡ same_key only key = search rules in
+    λ k. ap (λ b. not b && (same_key k only || false)) is
+    ∙ only-left only key k
+    ∙ ap (λ (held : Group _ _). not (same_key key k) && has held k) (sym c.in-One.is)

@@ -1,0 +1,103 @@
+//! Groups of cache keys.
+ghost use Rattle.std.specs.Prelude.{◌≡◌, ◌≢◌, ◌↔◌, ◌&&◌, ◌||◌, ◌∷◌, [], false, IfOk, not, is_ok, length, IsTrue, IsFalse};
+ghost use Rattle.std.specs.HashSet.{contains, hash_set_len};
+ghost use Rattle.coap_store.specs.declared.key.CacheKey.{CacheKey};
+ghost use Rattle.coap_store.specs.Keys.{same_key};
+ghost use Rattle.coap_store_lru.specs.Indexing.{has, keys_in};
+
+use coap_message::OutOfMemory;
+use coap_store::CacheKey;
+use std::alloc::Global;
+use std::collections::HashSet;
+use std::hash::BuildHasher;
+
+/// Keys whose targets have one digest, as those of one target have. A key alone has no set, which
+/// would take many times its room.
+pub(crate) enum Group<H: BuildHasher> {
+    One(Box<CacheKey>),
+    Several(Box<HashSet<CacheKey, H>>),
+}
+
+impl<H: BuildHasher + Drop> Drop for Group<H> {
+    fn drop(self) {
+        match self {
+            Group::One(_) => {}
+            Group::Several(_) => {}
+        }
+    }
+}
+
+impl<H: BuildHasher + Copy> Group<H> {
+    /// The group of one key.
+    pub(crate) fn of(alloc: Global, key: CacheKey) -> Result<Group<H>, OutOfMemory>
+        ensures { IfOk result (λ group. keys_in group ≡ key ∷ []) }
+    {
+        Ok(Group::One(Box::new(alloc, key)?))
+    }
+
+    /// Adds a key. Where there is no memory, the keys stay as they are.
+    pub(crate) fn add(&mut self, alloc: Global, hasher: H, key: CacheKey) -> Result<(), OutOfMemory>
+        ensures { (k : CacheKey)
+            → has self.new k ≡ ((is_ok result && same_key key k) || has self.old k) }
+    {
+        let first = match self {
+            Group::One(first) => first.copied()?,
+            Group::Several(keys) => return add(keys, key),
+        };
+        *self = Group::Several(Box::new(alloc, both(alloc, hasher, first, key)?)?);
+        Ok(())
+    }
+
+    /// Takes a key out of the group, and says whether no other is left: then the group is to be let
+    /// go, and may still have this one. It takes no memory.
+    pub(crate) fn leave(&mut self, key: &CacheKey) -> bool
+        ensures left { (k : CacheKey) → (not result && has self.new k)
+            ≡ (not (same_key key.now k) && has self.old k) }
+        ensures filled { IsFalse result → length (keys_in self.new) ≢ 0 }
+    {
+        match self {
+            Group::One(only) => only.is(key),
+            Group::Several(keys) => delete(keys, key),
+        }
+    }
+}
+
+/// A set of two keys.
+fn both<H: BuildHasher>(
+    alloc: Global,
+    hasher: H,
+    first: CacheKey,
+    second: CacheKey,
+) -> Result<HashSet<CacheKey, H>, OutOfMemory>
+where
+    H: Drop,
+    ensures { IfOk result
+        (λ keys. (k : CacheKey)
+        → contains same_key keys k ≡ (same_key second k || (same_key first k || false))) }
+{
+    let mut keys = HashSet::with_hasher(alloc, hasher);
+    add(&mut keys, first)?;
+    add(&mut keys, second)?;
+    Ok(keys)
+}
+
+/// Adds a key to a set.
+fn add<H: BuildHasher>(keys: &mut HashSet<CacheKey, H>, key: CacheKey) -> Result<(), OutOfMemory>
+    ensures { (k : CacheKey)
+        → contains same_key keys.new k
+        ≡ ((is_ok result && same_key key k) || contains same_key keys.old k) }
+{
+    keys.insert(key)?;
+    Ok(())
+}
+
+/// Takes a key out of a set, and says whether that has no key any more.
+fn delete<H: BuildHasher>(keys: &mut HashSet<CacheKey, H>, key: &CacheKey) -> bool
+    ensures left { (k : CacheKey)
+        → contains same_key keys.new k
+        ≡ (not (same_key key.now k) && contains same_key keys.old k) }
+    ensures empty { IsTrue result ↔ (hash_set_len keys.new ≡ 0) }
+{
+    keys.remove(key);
+    keys.is_empty()
+}
