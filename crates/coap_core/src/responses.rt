@@ -61,7 +61,7 @@ fn awaits(exchange: &Exchange, source: Endpoint, response: &MessageRef<'_>) -> b
 {
     is_in_flight(exchange)
         && has_id(response, &exchange.sending)
-        && exchange.key.target.at.is(&source)
+        && exchange.key.target.at == source
 }
 
 /// The number of the event in which the request of an exchange was sent.

@@ -231,7 +231,7 @@ fn release_first(
     if let Some(record) = ring.pop_front() {
         *first = first.wrapping_add(1);
         let key = record.key();
-        if !key.is(&new.key()) {
+        if key != new.key() {
             index.remove(&key);
         }
     }

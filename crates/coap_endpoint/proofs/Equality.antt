@@ -1,17 +1,10 @@
 -- What compares as equal, part by part, is equal.
-use Rattle.std.proofs.Common.{◌≡◌, ◌==◌, ◌&&◌, ℕ, Bool, true, nat_eq, List, [], ◌∷◌, Option, Some, None, rules, refl, subst, ◌∙◌, ◌↔◌, eq-eqb}
+use Rattle.std.proofs.Common.{◌≡◌, ◌&&◌, Bool, true, nat_eq, List, [], ◌∷◌, refl, subst, ◌↔◌, eq-eqb}
 use Rattle.std.specs.Cmp.Lexicographic.{pointwise}
 use Rattle.std.proofs.lemmas.Bool.{and_parts, and_from, eqb-true}
-use Rattle.coap_endpoint.specs.contracts.endpoint.EndpointPartialEq.TheImpl as endpoints
-use Rattle.coap_endpoint.specs.contracts.endpoint.IpPartialEq.TheImpl as ips
-use Rattle.coap_endpoint.specs.contracts.target.TargetPartialEq.TheImpl as targets
-use Rattle.coap_endpoint.specs.declared.endpoint.Endpoint.{Endpoint}
-use Rattle.coap_endpoint.specs.declared.endpoint.Ip.{Ip}
-use Rattle.coap_endpoint.specs.declared.endpoint.Ip.TheVariants.{V4, V6}
-use Rattle.coap_endpoint.specs.declared.target.Target.{Target}
-use Rattle.coap_endpoint.specs.Alike.{endpoint_same, ip_same, target_same}
+use Rattle.coap_endpoint.specs.Alike.{endpoint_itself, endpoint_same, ip_itself, ip_same, target_itself, target_same}
 use Rattle.coap_endpoint.specs.Endpoint.{same_ip, same_endpoint}
-use Rattle.coap_endpoint.specs.Equality.{same_bytes, same_parts, same_name, same_target}
+use Rattle.coap_endpoint.specs.Equality.{same_bytes, same_parts, same_target}
 
 -- a test that holds of equals, and of nothing else
 pub record Tells {A : Type 0} (same : A → A → Bool) : Type 0 where
@@ -54,31 +47,13 @@ Tells-bytes = Tells-pointwise nat_eq Tells-nat
 pub Tells-parts : Tells same_parts
 Tells-parts = Tells-pointwise same_bytes Tells-bytes
 
--- what is derived to compare addresses compares them part by part
-ips-alike : (a b : Ip) → ips.ghosts.eq a b ≡ same_ip a b
-ips-alike a b = search rules
-
--- an address is the same as itself
-ip-itself : (a : Ip) → same_ip a a ≡ true
-ip-itself (V4 a) = Tells-bytes.itself a
-ip-itself (V6 a) = Tells-bytes.itself a
-
 -- addresses
 pub Tells-ip : Tells same_ip
-Tells-ip = record { only = λ a b e. ip_same a b (ips-alike a b ∙ e); itself = ip-itself }
-
--- what is derived to compare endpoints does so too
-endpoints-alike : (a b : Endpoint) → endpoints.ghosts.eq a b ≡ same_endpoint a b
-endpoints-alike a b = search rules
+Tells-ip = record { only = ip_same; itself = ip_itself }
 
 -- endpoints
 pub Tells-endpoint : Tells same_endpoint
-Tells-endpoint = record { only = λ a b e. endpoint_same a b (endpoints-alike a b ∙ e); itself = λ a. and_from (same_ip a.ip a.ip) (a.port == a.port) (ip-itself a.ip) (eq-eqb a.port a.port refl) }
-
--- a name, or none, is the same as itself
-name-itself : (a : Option (List ℕ)) → same_name a a ≡ true
-name-itself None = refl
-name-itself (Some a) = Tells-bytes.itself a
+Tells-endpoint = record { only = endpoint_same; itself = endpoint_itself }
 
 -- four parts, each told
 pub four : (p q r s : Bool) → (p && (q && (r && s))) ≡ true → (p ≡ true) × (q ≡ true) × (r ≡ true) × (s ≡ true)
@@ -92,10 +67,6 @@ four p q r s e =
 pub of_four : (p q r s : Bool) → p ≡ true → q ≡ true → r ≡ true → s ≡ true → (p && (q && (r && s))) ≡ true
 of_four p q r s a b c d = and_from p (q && (r && s)) a (and_from q (r && s) b (and_from r s c d))
 
--- and what is derived to compare targets
-targets-alike : (a b : Target) → targets.ghosts.eq a b ≡ same_target a b
-targets-alike a b = search rules
-
 -- targets
 pub Tells-target : Tells same_target
-Tells-target = record { only = λ a b e. target_same a b (targets-alike a b ∙ e); itself = λ a. of_four (same_name a.host a.host) (same_endpoint a.at a.at) (same_parts a.path a.path) (same_parts a.query a.query) (name-itself a.host) (Tells-endpoint.itself a.at) (Tells-parts.itself a.path) (Tells-parts.itself a.query) }
+Tells-target = record { only = target_same; itself = target_itself }

@@ -1,8 +1,8 @@
 //! Endpoints: an address and a port of UDP (RFC 7252, 1.2).
-ghost use Rattle.std.specs.Prelude.{◌≡◌};
-ghost use Rattle.coap_endpoint.specs.Endpoint.{same_endpoint, same_ip};
+ghost use Rattle.std.specs.Cmp.{partial_equiv_from_equiv};
+ghost use Rattle.coap_endpoint.specs.Endpoint.{same_endpoint};
 ghost use Rattle.coap_endpoint.specs.Hashing.{fed_endpoint};
-ghost use Rattle.coap_endpoint.specs.Alike.{endpoints_fed};
+ghost use Rattle.coap_endpoint.specs.Alike.{endpoints_equiv, endpoints_fed};
 
 use std::hash::{Hash, Hasher};
 
@@ -13,28 +13,24 @@ pub enum Ip {
     V6([u8; 16]),
 }
 
-impl Ip {
-    /// Whether both are one address.
-    pub fn is(&self, other: &Ip) -> bool
-        ensures { result ≡ same_ip self.now other.now }
-    {
-        *self == *other
-    }
-}
-
 /// An address and a port: where a datagram came from, or goes to.
-#[derive(Clone, Copy, Debug, PartialEq, Eq, PartialOrd, Ord)]
+#[derive(Clone, Copy, Debug, PartialOrd, Ord)]
 pub struct Endpoint {
     pub ip: Ip,
     pub port: u16,
 }
 
-impl Endpoint {
-    /// Whether both are one endpoint.
-    pub fn is(&self, other: &Endpoint) -> bool
-        ensures { result ≡ same_endpoint self.now other.now }
-    {
-        self == other
+impl Eq for Endpoint {
+    ghost laws = { endpoints_equiv };
+}
+
+impl PartialEq for Endpoint {
+    ghost eq = { same_endpoint };
+
+    ghost laws = { partial_equiv_from_equiv endpoints_equiv };
+
+    fn eq(&self, other: &Endpoint) -> bool {
+        self.ip == other.ip && self.port == other.port
     }
 }
 

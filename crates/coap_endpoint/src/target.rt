@@ -1,8 +1,9 @@
 //! Targets: the resource of an origin that a request is for (RFC 7252, 5.7.2).
 ghost use Rattle.std.specs.Prelude.{◌≡◌, IfOk, OnOk};
+ghost use Rattle.std.specs.Cmp.{partial_equiv_from_equiv};
 ghost use Rattle.coap_endpoint.specs.Equality.{same_target};
 ghost use Rattle.coap_endpoint.specs.Hashing.{fed_target, sizes_word};
-ghost use Rattle.coap_endpoint.specs.Alike.{targets_fed};
+ghost use Rattle.coap_endpoint.specs.Alike.{targets_equiv, targets_fed};
 
 use crate::endpoint::Endpoint;
 use coap_message::{OutOfMemory, Pieces, Seq};
@@ -10,7 +11,7 @@ use std::hash::{Hash, Hasher};
 
 /// A resource of an origin: the host by which it is asked for, none for an address; the endpoint;
 /// the segments of its path and the parts of its query, decoded.
-#[derive(Clone, PartialEq, Eq)]
+#[derive(Clone)]
 pub struct Target {
     pub host: Option<Seq<u8>>,
     pub at: Endpoint,
@@ -44,14 +45,25 @@ pub fn copy_host(host: &Option<Seq<u8>>, copy: &mut Option<Seq<u8>>) -> Result<(
     Ok(())
 }
 
-impl Target {
-    /// Whether both are one target, part by part.
-    pub fn is(&self, other: &Target) -> bool
-        ensures { result ≡ same_target self.now other.now }
-    {
-        self == other
-    }
+impl Eq for Target {
+    ghost laws = { targets_equiv };
+}
 
+/// Part by part.
+impl PartialEq for Target {
+    ghost eq = { same_target };
+
+    ghost laws = { partial_equiv_from_equiv targets_equiv };
+
+    fn eq(&self, other: &Target) -> bool {
+        self.host == other.host
+            && self.at == other.at
+            && self.path == other.path
+            && self.query == other.query
+    }
+}
+
+impl Target {
     /// Puts a copy in place of another target, whose room is used again.
     ///
     /// # Errors

@@ -173,7 +173,7 @@ impl Exchange {
     pub(crate) fn is_queued_to(&self, at: Endpoint) -> bool
         ensures exact { result ≡ is_queued_to at self.now }
     {
-        self.is_queued() && self.key.target.at.is(&at)
+        self.is_queued() && self.key.target.at == at
     }
 
     /// What of it is counted for its endpoint.
@@ -202,7 +202,7 @@ impl Exchange {
     pub fn is_joinable(&self, key: &CacheKey) -> bool
         ensures exact { result ≡ is_joinable key.now self.now }
     {
-        self.is_get && !self.tainted && self.answer().is_none() && self.key.is(key)
+        self.is_get && !self.tainted && self.answer().is_none() && self.key == *key
     }
 
     /// Whether its request was sent to this endpoint with this message id, less than 247,000
@@ -211,7 +211,7 @@ impl Exchange {
         ensures exact { result ≡ was_sent_as at id now self.now }
     {
         match &self.sending {
-            Some(sending) => self.key.target.at.is(&at) && sending.is_as(id, now),
+            Some(sending) => self.key.target.at == at && sending.is_as(id, now),
             None => false,
         }
     }
@@ -221,7 +221,7 @@ impl Exchange {
     pub(crate) fn is_changed_with(&self, target: &Target) -> bool
         ensures exact { result ≡ is_changed_with target.now self.now }
     {
-        (self.is_sent() || self.is_acked()) && self.key.target.is(target)
+        (self.is_sent() || self.is_acked()) && self.key.target == *target
     }
 
     /// What its timer says, now that it is due.

@@ -112,7 +112,7 @@ impl Waiter {
                 id: other,
                 timer,
             } => {
-                self.client.is(&at) && *other == id && now.saturating_sub(timer.started) < LIFETIME
+                self.client == at && *other == id && now.saturating_sub(timer.started) < LIFETIME
             }
         }
     }

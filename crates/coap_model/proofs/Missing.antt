@@ -8,7 +8,7 @@ use Rattle.coap_message.specs.Message.{Message}
 use Rattle.coap_store.specs.declared.key.CacheKey.{CacheKey}
 use Rattle.coap_store.specs.Freshness.{is_fresh}
 use Rattle.coap_store.specs.Keys.{same_key}
-use Rattle.coap_store.proofs.Keys.{same_key-only, same_key-itself}
+use Rattle.coap_store.specs.Alike.{same_key-only, same_key-itself}
 use Rattle.coap_endpoint.proofs.Lists.{none-found}
 use Rattle.coap_exchange.specs.declared.exchange.Exchange.{Exchange}
 use Rattle.coap_exchange.specs.declared.exchange.ExchangeState.{ExchangeState}

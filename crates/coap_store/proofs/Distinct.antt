@@ -5,7 +5,7 @@ use Rattle.std.proofs.lemmas.Bool.{and_parts, and_from}
 use Rattle.coap_store.specs.declared.key.CacheKey.{CacheKey}
 use Rattle.coap_store.specs.Keys.{same_key}
 use Rattle.coap_store.specs.Lists.{has_other_key, of_key, others, are_distinct, cut}
-use Rattle.coap_store.proofs.Keys.{same_key-only}
+use Rattle.coap_store.specs.Alike.{same_key-only}
 
 -- what each element of a list passes, each of those kept passes
 all-filter : {X : Type 0} (p q : X → Bool) (xs : List X) → list_all p xs ≡ true → list_all p (filter q xs) ≡ true

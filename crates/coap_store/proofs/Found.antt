@@ -6,7 +6,7 @@ use Rattle.std.proofs.lemmas.List.Quantifiers.{position-Some}
 use Rattle.coap_store.specs.declared.key.CacheKey.{CacheKey}
 use Rattle.coap_store.specs.Keys.{same_key}
 use Rattle.coap_store.specs.Lists.{has_key, has_other_key, of_key, others, are_distinct}
-use Rattle.coap_store.proofs.Keys.{same_key-only}
+use Rattle.coap_store.specs.Alike.{same_key-only}
 
 -- a list of which each element passes is kept whole
 pub filter-all : {X : Type 0} (p : X → Bool) (xs : List X) → list_all p xs ≡ true → filter p xs ≡ xs

@@ -1,10 +1,11 @@
 -- What compares as equal, part by part, is equal.
-use Rattle.std.proofs.Common.{◌≡◌, true, refl}
+use Rattle.std.proofs.Common.{◌≡◌, true}
 use Rattle.std.proofs.lemmas.Bool.{and_parts, and_from}
 use Rattle.coap_message.specs.SameOptions.{same_options, same_options-Decides}
 use Rattle.coap_endpoint.specs.Equality.{same_target}
 use Rattle.coap_endpoint.proofs.Equality.{Tells, Tells-target, Tells-both}
 use Rattle.coap_store.specs.declared.key.CacheKey.{CacheKey}
+use Rattle.coap_store.specs.Alike.{same_key-itself, same_key-only}
 use Rattle.coap_store.specs.Keys.{same_key}
 
 -- two keys that compare as equal have equal parts
@@ -18,16 +19,6 @@ pub parts-same_key : (a b : CacheKey) → (a.target ≡ b.target) × (a.options 
 parts-same_key a b e =
     and_from (same_target a.target b.target) (same_options a.options b.options) ((Tells-both same_target Tells-target a.target b.target).1 e.0)
     ((same_options-Decides a.options b.options).1 e.1)
-
--- a key compares as equal to itself
-pub same_key-itself : (a : CacheKey) → same_key a a ≡ true
-same_key-itself a = parts-same_key a a (refl, refl)
-
--- what compares as equal is equal
-pub same_key-only : (a b : CacheKey) → same_key a b ≡ true → a ≡ b
-same_key-only a b e =
-    let parts = same_key-parts a b e in
-    λ i. record { target = parts.0 i; options = parts.1 i }
 
 -- so comparing keys tells whether they are equal
 pub Tells-key : Tells same_key

@@ -1,3 +1,4 @@
+pub mod Alike
 pub mod Keys
 pub mod Freshness
 pub mod Sizes

@@ -1,12 +1,15 @@
 //! Cache keys (RFC 7252, 5.6).
 ghost use Rattle.std.specs.Prelude.{◌≡◌, IfOk};
+ghost use Rattle.std.specs.Cmp.{partial_equiv_from_equiv};
+ghost use Rattle.coap_store.specs.Alike.{fed_key, keys_equiv, keys_fed};
+ghost use Rattle.coap_store.specs.Keys.{same_key};
 
 use coap_endpoint::Target;
 use coap_message::{OptionList, OutOfMemory};
+use std::hash::{Hash, Hasher};
 
 /// What a request and one whose response was stored have in common where that response answers
 /// both: the target, and the options that take part in the cache key (RFC 7252, 5.4.2 and 5.6).
-#[derive(PartialEq, Eq, Hash)]
 pub struct CacheKey {
     pub target: Target,
     pub options: OptionList,
@@ -21,16 +24,34 @@ impl Drop for CacheKey {
     }
 }
 
-impl CacheKey {
-    ghost use Rattle.coap_store.specs.Keys.{same_key};
+impl Eq for CacheKey {
+    ghost laws = { keys_equiv };
+}
 
-    /// Whether both are one key.
-    pub fn is(&self, other: &CacheKey) -> bool
-        ensures { result ≡ same_key self.now other.now }
-    {
-        self == other
+/// Part by part.
+impl PartialEq for CacheKey {
+    ghost eq = { same_key };
+
+    ghost laws = { partial_equiv_from_equiv keys_equiv };
+
+    fn eq(&self, other: &CacheKey) -> bool {
+        self.target == other.target && self.options == other.options
     }
+}
 
+/// The target, and then the options.
+impl Hash for CacheKey {
+    ghost hash_input = { fed_key };
+
+    ghost respects_eq = { keys_fed };
+
+    fn hash<H: Hasher>(&self, state: &mut H) {
+        self.target.hash(state);
+        self.options.hash(state);
+    }
+}
+
+impl CacheKey {
     /// A copy, in no more room than it needs.
     ///
     /// # Errors

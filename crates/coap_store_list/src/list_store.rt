@@ -96,7 +96,7 @@ impl Store for ListStore {
 fn place_of(entries: &[(CacheKey, Stored)], key: &CacheKey) -> Option<usize>
     ensures { result ≡ position (has_key entry_key key.now) entries.now }
 {
-    entries.iter().position(|entry| entry.0.is(key))
+    entries.iter().position(|entry| entry.0 == *key)
 }
 
 /// Takes out the entry of a key. There is room for another then.
@@ -196,7 +196,7 @@ fn mark_entry(entry: &mut (CacheKey, Stored), target: &Target) -> bool
     ensures answer { result ≡ is_for target.now entry.old }
     ensures marked { entry.new ≡ marked target.now entry.old }
 {
-    let is_for = entry.0.target.is(target);
+    let is_for = entry.0.target == *target;
     if is_for {
         entry.1.marked = true;
     }

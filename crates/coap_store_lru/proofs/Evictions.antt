@@ -8,7 +8,7 @@ use Rattle.coap_store.specs.Entries.{Entry, entry_key, entry_size}
 use Rattle.coap_store.specs.Keys.{same_key}
 use Rattle.coap_store.specs.Lists.{has_other_key, of_key, others, are_distinct, total, cut}
 use Rattle.coap_store.proofs.Cuts.{cut-fits}
-use Rattle.coap_store.proofs.Keys.{same_key-itself}
+use Rattle.coap_store.specs.Alike.{same_key-itself}
 use Rattle.coap_store_lru.proofs.Recency.{same_key-flips}
 
 -- the last one stands after those before it

@@ -21,7 +21,7 @@ use Rattle.coap_store_lru.specs.Indexing.{Groups, AreFilled, IsFilled, digest, h
 use Rattle.coap_store.specs.Keys.{same_key}
 use Rattle.coap_store.specs.Lists.{has_other_key, are_distinct}
 use Rattle.coap_store.proofs.Distinct.{distinct-filter}
-use Rattle.coap_store.proofs.Keys.{same_key-itself, same_key-only}
+use Rattle.coap_store.specs.Alike.{same_key-itself, same_key-only}
 use Rattle.coap_store_lru.proofs.Recency.{same_key-flips}
 
 -- comparing keys is an equivalence

@@ -14,7 +14,7 @@ use Rattle.coap_store.specs.Keys.{same_key}
 use Rattle.coap_store.specs.Lists.{are_distinct, has_other_key, of_key, others, total, used}
 use Rattle.coap_store.proofs.Distinct.{distinct-filter, distinct-front, distinct-map, of_key-key}
 use Rattle.coap_store.proofs.Held.{IsStore-used, front-length, map-total, marked-key, marked-size}
-use Rattle.coap_store.proofs.Keys.{same_key-only}
+use Rattle.coap_store.specs.Alike.{same_key-only}
 use Rattle.coap_store_lru.proofs.Recency.{found-held, held-front, held-others, held-used, none_held, total-others}
 
 module _ (entries : List Entry) (bytes : ℕ) (indexed : CacheKey → Bool) (are : AreThoseOf entries bytes indexed) where

@@ -10,7 +10,7 @@ use Rattle.coap_store_lru.specs.Indexing.{marked_by}
 use Rattle.coap_store.specs.Keys.{same_key}
 use Rattle.coap_store.specs.Lists.{has_other_key, are_distinct}
 use Rattle.coap_store.proofs.Distinct.{distinct-map}
-use Rattle.coap_store.proofs.Keys.{same_key-only}
+use Rattle.coap_store.specs.Alike.{same_key-only}
 use Rattle.coap_store_lru.proofs.Recency.{same_key-flips}
 
 -- a mark keeps the key

@@ -17,7 +17,7 @@ use Rattle.coap_store.specs.Lists.{has_other_key, of_key, others, used, are_dist
 use Rattle.coap_store_lru.proofs.Alike.{key_eq}
 use Rattle.coap_store.proofs.Distinct.{of_key-key}
 use Rattle.coap_store.proofs.Found.{filter-all}
-use Rattle.coap_store.proofs.Keys.{same_key-itself, same_key-only}
+use Rattle.coap_store.specs.Alike.{same_key-itself, same_key-only}
 
 -- two keys compare alike from either side
 pub same_key-flips : (a b : CacheKey) → same_key a b ≡ same_key b a

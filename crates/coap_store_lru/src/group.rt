@@ -56,7 +56,7 @@ impl<H: BuildHasher + Copy> Group<H> {
         ensures filled { IsFalse result → length (keys_in self.new) ≢ 0 }
     {
         match self {
-            Group::One(only) => only.is(key),
+            Group::One(only) => **only == *key,
             Group::Several(keys) => delete(keys, key),
         }
     }

@@ -131,7 +131,7 @@ fn is_first<H: BuildHasher>(recent: &LruCache<CacheKey, Stored, H>, key: &CacheK
     ensures { IsTrue result → used entry_key key.now recent.now.entries ≡ recent.now.entries }
 {
     match recent.peek_mru() {
-        Some((first, _)) => first.is(key),
+        Some((first, _)) => *first == *key,
         None => false,
     }
 }
@@ -361,7 +361,7 @@ fn mark_of<H: BuildHasher>(
         recent.old.cap }
     ensures counted { result ≡ (if is_of target.now key.now then 1 else 0) }
 {
-    if key.target.is(target) {
+    if key.target == *target {
         mark_key(recent, key);
         1
     } else {

@@ -210,7 +210,7 @@ impl Routes {
     fn is_own(&self, host: &HostPart) -> bool
         ensures { result ≡ names.is_own self.now.names host.now }
     {
-        self.names.as_slice().iter().any(|name| name.is(host))
+        self.names.as_slice().iter().any(|name| *name == *host)
     }
 
     /// The target of a request for a URI.

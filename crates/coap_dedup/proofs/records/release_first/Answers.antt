@@ -1,4 +1,4 @@
-use Rattle.std.proofs.Common.{◌≡◌, ◌+◌, ◌%◌, ◌^◌, [], ◌∷◌, ◌++◌, None, cond, true, false, sym, ap, subst, ◌∙◌}
+use Rattle.std.proofs.Common.{◌≡◌, ◌+◌, ◌%◌, ◌^◌, [], ◌∷◌, ◌++◌, None, Bool, cond, not, true, false, refl, sym, ap, subst, ◌∙◌}
 use Rattle.std.specs.BTreeMap.{get}
 use Rattle.std.specs.Ordering.{is_eq}
 use Rattle.circular_buffer.specs.Buffer.{Buffer}
@@ -9,12 +9,20 @@ use Rattle.coap_dedup.specs.Keys.{key_of, same_key}
 use Rattle.coap_dedup.proofs.Numbers.{first-goes, first-stays}
 use Rattle.coap_dedup.proofs.records.release_first.Goals as goal
 
-pub returns-then-not-is-clause-numbered : goal.returns-then-not-is-clause-numbered
-returns-then-not-is-clause-numbered c =
+not-true : (b : Bool) → not b ≡ true → b ≡ false
+not-true true e = sym e
+not-true false e = refl
+
+not-false : (b : Bool) → not b ≡ false → b ≡ true
+not-false true e = refl
+not-false false e = sym e
+
+pub returns-then-ne-clause-numbered : goal.returns-then-ne-clause-numbered
+returns-then-ne-clause-numbered c =
     let r = c.in-Some.record in
     let x = c.args.new.now in
     let other : same_key (key_of r) (key_of x) ≡ false =
-    ap (λ k. same_key (key_of r) k) (sym c.key.ensures) ∙ ap (λ k. same_key k c.key.result) (sym c.key-key.ensures) ∙ sym c.is.ensures ∙ c.if-not-is.true in
+    ap (λ k. same_key (key_of r) k) (sym c.key.ensures) ∙ ap (λ k. same_key k c.key.result) (sym c.key-key.ensures) ∙ not-true (same_key c.key-key.result c.key.result) (sym c.ne.ensures ∙ c.if-ne.true) in
     let takes = subst (λ j. (k : Key) → get key_cmp c.remove.new.self k ≡ cond (is_eq (key_cmp j k)) None (get key_cmp c.args.index.now k)) c.key-key.ensures c.remove.ensures.updates.0 in
     subst (λ (b : Buffer Record). AreNumbered ((c.args.first.now + 1) % 2 ^ 64) c.remove.new.self (b.items ++ x ∷ [])) (sym c.in-Some.ensures.items)
     (first-goes c.args.first.now c.args.index.now c.args.ring.now.items r x c.requires.apart c.in-Some.ensures.value c.requires.numbered c.remove.new.self other takes)
@@ -24,6 +32,6 @@ returns-in-Some-clause-numbered c =
     let r = c.in-Some.record in
     let x = c.args.new.now in
     let same : same_key (key_of r) (key_of x) ≡ true =
-    ap (λ k. same_key (key_of r) k) (sym c.key.ensures) ∙ ap (λ k. same_key k c.key.result) (sym c.key-key.ensures) ∙ sym c.is.ensures ∙ c.if-not-is.false in
+    ap (λ k. same_key (key_of r) k) (sym c.key.ensures) ∙ ap (λ k. same_key k c.key.result) (sym c.key-key.ensures) ∙ not-false (same_key c.key-key.result c.key.result) (sym c.ne.ensures ∙ c.if-ne.false) in
     subst (λ (b : Buffer Record). AreNumbered ((c.args.first.now + 1) % 2 ^ 64) c.args.index.now (b.items ++ x ∷ [])) (sym c.in-Some.ensures.items)
     (first-stays c.args.first.now c.args.index.now c.args.ring.now.items r x c.requires.apart c.in-Some.ensures.value c.requires.numbered same)

@@ -6,15 +6,15 @@ use Rattle.coap_store_lru.proofs.Groups.{none_of, one_of}
 use Rattle.coap_store_lru.proofs.Marks.{map-same_marks, marked_by_none}
 use Rattle.coap_store_lru.proofs.lru_store.mark_of.Goals as goal
 
-pub returns-then-is-clause-marked : goal.returns-then-is-clause-marked
-returns-then-is-clause-marked g c =
+pub returns-then-eq-clause-marked : goal.returns-then-eq-clause-marked
+returns-then-eq-clause-marked g c =
     let key = c.args.key.now in
     let target = c.args.target.now in
     let of : is_of target key ≡ true = search rules in
     c.mark_key.ensures ∙ ap (λ l. lru_cache l c.args.recent.now.cap) (map-same_marks (λ k. same_key k key) (λ k. is_of target k && same_key k key) c.args.recent.now.entries (λ k. sym (one_of target key of k)))
 
-pub returns-else-is-clause-marked : goal.returns-else-is-clause-marked
-returns-else-is-clause-marked g c =
+pub returns-else-eq-clause-marked : goal.returns-else-eq-clause-marked
+returns-else-eq-clause-marked g c =
     let key = c.args.key.now in
     let target = c.args.target.now in
     let es = c.args.recent.now.entries in

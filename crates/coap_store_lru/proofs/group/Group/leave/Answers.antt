@@ -9,7 +9,7 @@ pub returns-in-One-clause-left : goal.returns-in-One-clause-left
 returns-in-One-clause-left g c =
     let key = c.args.key.now in
     let only = c.in-One.only.value in
-    let is : c.is.result ≡ same_key only key = search rules in
+    let is : c.eq.result ≡ same_key only key = search rules in
     λ k. ap (λ b. not b && (same_key k only || false)) is
     ∙ only-left only key k
     ∙ ap (λ (held : Group _ _). not (same_key key k) && has held k) (sym c.in-One.is)
