@@ -5,6 +5,7 @@ mod address;
 mod error;
 pub mod laws;
 mod parts;
+mod plain;
 mod uri;
 
 pub use address::{read_address, read_host, read_ip, read_ipv4};

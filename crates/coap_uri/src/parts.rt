@@ -1,28 +1,39 @@
 //! Parts of a URI's text between separators, percent-decoded (RFC 3986, 2.1; RFC 7252, 6.4).
 ghost use Rattle.std.specs.Prelude.{◌≡◌, ◌==◌, ◌<◌, ◌∷◌, IfOk, IfSome, length, position};
 ghost use Rattle.std.specs.List.{list_all, slice_split};
+ghost use Rattle.std.specs.Cow.{cow_slice_items};
 ghost use Rattle.std.specs.Option.{option_copied};
+ghost use Rattle.percent_encoding.specs.Cow.{IsBorrowedSlice};
 ghost use Rattle.percent_encoding.specs.Percent as spec;
 ghost use Rattle.coap_uri.specs.Uri.{decoded_parts, is_short, parts_left};
 
-use coap_message::{OutOfMemory, Pieces, Seq};
+use coap_message::{OutOfMemory, Pieces};
 use percent_encoding::percent_decode;
 use std::alloc::Global;
+use std::borrow::CowSlice;
 
 /// The longest host, segment of a path or part of a query, in bytes (RFC 7252, 5.10).
 pub const LONGEST: usize = 255;
 
-/// A text with its escapes decoded. A `%` that begins no escape is an ordinary byte.
-pub(crate) fn decoded(alloc: Global, text: &[u8]) -> Result<Seq<u8>, OutOfMemory>
-    ensures { IfOk result (λ bytes. bytes ≡ spec.percent_decode text.now) }
+/// A text with its escapes decoded, which is lent where it has none. A `%` that begins no escape is
+/// an ordinary byte.
+#[tactic(auto, using(crate::proofs::Escapes::percent_decode_plain))]
+pub(crate) fn decoded(alloc: Global, text: &[u8]) -> Result<CowSlice<'_, u8>, OutOfMemory>
+    ensures value { IfOk result (λ bytes. cow_slice_items bytes ≡ spec.percent_decode text.now) }
+    ensures same { IfOk result
+        (λ bytes. IsBorrowedSlice bytes → cow_slice_items bytes ≡ text.now) }
 {
-    let mut bytes = Vec::new(alloc);
+    if !text.contains(&b'%') {
+        return Ok(CowSlice::Borrowed(text));
+    }
+    let mut bytes = Vec::with_capacity(alloc, text.len())?;
     percent_decode(text).append_to(&mut bytes)?;
     bytes.shrink_to_fit();
-    Ok(Seq::from_vec(bytes))
+    Ok(CowSlice::Owned(bytes))
 }
 
-/// Each part of a text between separators, decoded.
+/// Each part of a text between separators, decoded. They lie in a block of just their length, which
+/// is made at once.
 pub(crate) fn split_decoded(
     alloc: Global,
     text: &[u8],
@@ -30,7 +41,7 @@ pub(crate) fn split_decoded(
 ) -> Result<Pieces, OutOfMemory>
     ensures { IfOk result (λ parts. parts ≡ decoded_parts separator text.now) }
 {
-    let mut parts = Pieces::new(alloc);
+    let mut parts = Pieces::with_room(alloc, text.len() + 1)?;
     let mut rest = Some(text);
     while let Some(text) = rest {
         let (part, after) = first_part(text, separator);

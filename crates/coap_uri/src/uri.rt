@@ -1,21 +1,24 @@
 //! `coap` URIs (RFC 7252, 6).
-ghost use Rattle.std.specs.Prelude.{◌≡◌, IfOk, map};
+ghost use Rattle.std.specs.Prelude.{◌≡◌, IfOk, Some, map};
 ghost use Rattle.std.specs.Char.{to_ascii_lowercase};
 ghost use Rattle.std.specs.Option.{option_copied};
 ghost use Rattle.percent_encoding.specs.Percent.{percent_decode};
 ghost use Rattle.url.specs.Host.{borrowed_host};
+ghost use Rattle.url.specs.declared.host.Host.TheVariants.{Domain};
 ghost use Rattle.coap_uri.specs.Address.{ipv4_of};
 ghost use Rattle.coap_uri.specs.Answer.{Answers};
-ghost use Rattle.coap_uri.specs.Uris.{same_host, same_uri};
+ghost use Rattle.coap_uri.specs.Plain.{url_of};
 ghost use Rattle.coap_uri.specs.Uri as spec;
 ghost use Rattle.coap_uri.specs.declared.error.UriError.TheVariants as errors;
 
 use crate::address::{read_ipv4, read_url};
 use crate::error::UriError;
 use crate::parts::{LONGEST, all_short, decoded, split_decoded};
+use crate::plain::{Plain, read_plain};
 use coap_endpoint::Ip;
 use coap_message::{OutOfMemory, Pieces, Seq};
 use std::alloc::Global;
+use std::borrow::CowSlice;
 use url::{Host, Url};
 
 /// The port of a URI without one (RFC 7252, 6.1).
@@ -26,15 +29,6 @@ pub const DEFAULT_PORT: u16 = 5683;
 pub enum HostPart {
     Name(Seq<u8>),
     Addr(Ip),
-}
-
-impl HostPart {
-    /// Whether both are one host.
-    pub fn is(&self, other: &HostPart) -> bool
-        ensures { result ≡ same_host self.now other.now }
-    {
-        *self == *other
-    }
 }
 
 /// The parts of a `coap` URI, decoded. A name of a host is in ASCII lower case but for what its
@@ -48,13 +42,6 @@ pub struct UriParts {
 }
 
 impl UriParts {
-    /// Whether both are one URI, part by part.
-    pub fn is(&self, other: &UriParts) -> bool
-        ensures { result ≡ same_uri self.now other.now }
-    {
-        self == other
-    }
-
     /// Whether host, segments and parts of the query have at most 255 bytes each.
     fn are_short(&self) -> bool
         ensures { result ≡ spec.are_short self.now }
@@ -72,8 +59,37 @@ impl UriParts {
 /// `Bad` is what it refuses, and a URI without host, with a user name, a password or a fragment
 /// (RFC 7252, 6.1), with port 0, or with a part of more than 255 bytes. A URI of another scheme is
 /// `Scheme`, whatever its other parts are.
-#[tactic(auto, unfolding(crate::specs::Uri::uri_of))]
+#[tactic(auto, using(crate::proofs::PlainUrls::plain_read))]
 pub fn split_uri(alloc: Global, text: &str) -> Result<UriParts, UriError>
+    ensures { Answers errors.OutOfMemory result (spec.uri_of text.now) }
+{
+    match read_plain(text.as_bytes()) {
+        Some(plain) => split_plain(alloc, plain),
+        None => split_any(alloc, text),
+    }
+}
+
+/// The parts of a URI that stand in its text as they are read.
+fn split_plain(alloc: Global, plain: Plain<'_>) -> Result<UriParts, UriError>
+    ensures { Answers errors.OutOfMemory result
+        (spec.with_host (url_of plain.entry) (Some (Domain plain.entry.host.now))) }
+{
+    let parts = UriParts {
+        host: named(alloc, plain.host)?,
+        port: plain.port.unwrap_or(DEFAULT_PORT),
+        path: path_parts(alloc, plain.path)?,
+        query: query_parts(alloc, plain.query)?,
+    };
+    if parts.port != 0 && parts.are_short() {
+        Ok(parts)
+    } else {
+        Err(UriError::Bad)
+    }
+}
+
+/// The parts of the URI that any text is, by what `url` reads in it.
+#[tactic(auto, unfolding(crate::specs::Uri::uri_of))]
+fn split_any(alloc: Global, text: &str) -> Result<UriParts, UriError>
     ensures { Answers errors.OutOfMemory result (spec.uri_of text.now) }
 {
     let url = read_url(alloc, text)?;
@@ -99,7 +115,7 @@ fn parts_of(alloc: Global, url: &Url, host: Host<&str>) -> Result<UriParts, OutO
         host: host_part(alloc, host)?,
         port: url.port().unwrap_or(DEFAULT_PORT),
         path: path_parts(alloc, url.path().as_bytes())?,
-        query: query_parts(alloc, url.query())?,
+        query: query_parts(alloc, query_of(url))?,
     })
 }
 
@@ -115,28 +131,31 @@ fn host_part(alloc: Global, host: Host<&str>) -> Result<HostPart, OutOfMemory>
     ensures { IfOk result (λ part. part ≡ spec.host_part (borrowed_host host.entry)) }
 {
     match host {
-        Host::Domain(text) => named(alloc, text),
+        Host::Domain(text) => named(alloc, text.as_bytes()),
         Host::Ipv4(address) => Ok(HostPart::Addr(Ip::V4(address.octets()))),
         Host::Ipv6(address) => Ok(HostPart::Addr(Ip::V6(address.octets()))),
     }
 }
 
 /// The address that a host's text is, or else the name.
-fn named(alloc: Global, text: &str) -> Result<HostPart, OutOfMemory>
+fn named(alloc: Global, text: &[u8]) -> Result<HostPart, OutOfMemory>
     ensures { IfOk result (λ part. part ≡ spec.name_or (ipv4_of text.now) text.now) }
 {
-    match read_ipv4(text.as_bytes()) {
+    match read_ipv4(text) {
         Some(octets) => Ok(HostPart::Addr(Ip::V4(octets))),
         None => Ok(HostPart::Name(name_of(alloc, text)?)),
     }
 }
 
 /// The name that a text is: in ASCII lower case, then decoded.
-fn name_of(alloc: Global, text: &str) -> Result<Seq<u8>, OutOfMemory>
+fn name_of(alloc: Global, text: &[u8]) -> Result<Seq<u8>, OutOfMemory>
     ensures { IfOk result (λ name. name ≡ percent_decode (map to_ascii_lowercase text.now)) }
 {
     let lower = text.to_ascii_lowercase(alloc)?;
-    decoded(alloc, lower.as_bytes())
+    match decoded(alloc, lower.as_slice())? {
+        CowSlice::Owned(name) => Ok(Seq::from_vec(name)),
+        CowSlice::Borrowed(_) => Ok(Seq::from_vec(lower)),
+    }
 }
 
 /// The segments after the first slash of a path; none where nothing stands there.
@@ -149,12 +168,19 @@ pub fn path_parts(alloc: Global, path: &[u8]) -> Result<Pieces, OutOfMemory>
     }
 }
 
+/// The query of a URL, if it has one.
+fn query_of(url: &Url) -> Option<&[u8]>
+    ensures { option_copied result ≡ url.now.query }
+{
+    Some(url.query()?.as_bytes())
+}
+
 /// The parts of a query between `&`; none without a query.
-fn query_parts(alloc: Global, query: Option<&str>) -> Result<Pieces, OutOfMemory>
+fn query_parts(alloc: Global, query: Option<&[u8]>) -> Result<Pieces, OutOfMemory>
     ensures { IfOk result (λ parts. parts ≡ spec.query_parts (option_copied query.entry)) }
 {
     match query {
-        Some(query) => split_decoded(alloc, query.as_bytes(), b'&'),
+        Some(query) => split_decoded(alloc, query, b'&'),
         None => Ok(Pieces::new(alloc)),
     }
 }
