@@ -11,7 +11,7 @@ use coap_message::{
     Code, Datagram, Head, Kind, Message, MessageRef, OptionList, Options, OutOfMemory, Seq, Token,
 };
 use coap_option::{max_age, numbers, screen_response_ref};
-use coap_store::{Answer, Stored, put_aged, tells_age};
+use coap_store::{Answer, Stored, left_at, put_aged, tells_age};
 use coap_validation::{RenewError, renewed};
 use std::alloc::Global;
 
@@ -225,15 +225,14 @@ pub fn answer_of(
 }
 
 /// For how many seconds an answer still is fresh (RFC 7252, 5.7.1).
-fn left_of(now: u64, answer: &Answer) -> u64
+fn left_of(now: u64, answer: &Answer) -> u32
     ensures { result ≡ left_of now answer.now }
 {
-    let age = now.saturating_sub(answer.got);
-    u64::from(max_age(&answer.message)).saturating_sub(age.div_ceil(1000))
+    left_at(&answer.message, now.saturating_sub(answer.got))
 }
 
 /// That is told of what an origin answered to a GET, and not of other answers.
-pub(crate) fn left_told(to_get: bool, now: u64, answer: &Answer) -> Option<u64>
+pub(crate) fn left_told(to_get: bool, now: u64, answer: &Answer) -> Option<u32>
     ensures { result ≡ left_told to_get now answer.now }
 {
     if to_get && !answer.own {

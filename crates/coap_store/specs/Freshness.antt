@@ -2,6 +2,7 @@
 -- milliseconds, a Max-Age is in seconds.
 use Rattle.std.specs.Prelude.{ℕ, ◌-◌, ◌*◌, ◌&&◌, Bool, not, nat_le}
 use Rattle.std.specs.Int.{div_ceil}
+use Rattle.coap_message.specs.Message.{Message}
 use Rattle.coap_option.specs.Selection.{max_age_of}
 use Rattle.coap_store.specs.declared.stored.Stored.{Stored}
 
@@ -13,9 +14,13 @@ age_of now stored = now - stored.got
 abbrev pub is_fresh : ℕ → Stored → Bool
 is_fresh now stored = nat_le (age_of now stored) (1000 * max_age_of stored.response)
 
--- for how many seconds it will be fresh: a second that has begun is gone
+-- for how many seconds a response of this age will be fresh: a second that has begun is gone
+abbrev pub left_at : ℕ → Message → ℕ
+left_at age response = max_age_of response - div_ceil age 1000
+
+-- and one that is stored
 abbrev pub left_of : ℕ → Stored → ℕ
-left_of now stored = max_age_of stored.response - div_ceil (age_of now stored) 1000
+left_of now stored = left_at (age_of now stored) stored.response
 
 -- it may answer a request: it is fresh, and its resource wasn't changed since it was asked for
 abbrev pub is_usable : ℕ → Stored → Bool

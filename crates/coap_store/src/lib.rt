@@ -19,6 +19,6 @@ pub use show::{put_aged, put_max_age, show_into, tells_age};
 pub use showing::shown;
 pub use size::bytes_of;
 pub use store::{Put, Store};
-pub use stored::Stored;
+pub use stored::{Stored, left_at};
 pub use tag::tag_of;
 pub use updating::{updated, with_max_age};

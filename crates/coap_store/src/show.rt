@@ -32,7 +32,7 @@ pub fn show_into(
     kind: Kind,
     id: u16,
     token: &Token,
-    left: Option<u64>,
+    left: Option<u32>,
     tags: &Pieces,
     out: &mut Datagram,
     room: usize,
@@ -52,7 +52,7 @@ pub fn show_into(
         code: message.code,
         id,
     };
-    if let Err(full) = put_shown(message, head, token, left, tags, out, room) {
+    if let Err(full) = write_shown(message, head, token, left, tags, out, room) {
         out.clear();
         return Err(full);
     }
@@ -67,11 +67,11 @@ pub fn tells_age(code: Code) -> bool
 }
 
 /// Writes what is shown, if it is at most `room` bytes.
-fn put_shown(
+fn write_shown(
     message: &Message,
     head: Head,
     token: &Token,
-    left: Option<u64>,
+    left: Option<u32>,
     tags: &Pieces,
     out: &mut Datagram,
     room: usize,
@@ -84,7 +84,7 @@ fn put_shown(
 {
     match left {
         Some(left) if tells_age(head.code) => {
-            put_told(message, head, token, left, tags, out, room)
+            put_told(message, head, token, u64::from(left), tags, out, room)
         }
         _ => {
             let options = message.options.lent();
@@ -180,12 +180,12 @@ pub fn put_aged(
         result }
 {
     put_head(out, room, head, token)?;
-    put_with_max_age(out, room, &message.options.lent(), left)?;
+    put_aged_options(out, room, &message.options.lent(), left)?;
     put_payload(out, room, message.payload.as_slice())
 }
 
 /// Adds the options of a response, with one Max-Age in place of its own.
-fn put_with_max_age(
+fn put_aged_options(
     out: &mut Datagram,
     room: usize,
     options: &Options<'_>,

@@ -1,5 +1,6 @@
 //! Stored responses (RFC 7252, 5.6).
 ghost use Rattle.std.specs.Prelude.{◌≡◌};
+ghost use Rattle.coap_store.specs.Freshness.{left_at};
 
 use coap_message::Message;
 use coap_option::max_age;
@@ -51,10 +52,10 @@ impl Stored {
 
     /// The seconds for which it will be fresh, 0 where it isn't: its Max-Age less its age, of which
     /// a second that has begun is gone (RFC 7252, 5.7.1).
-    pub fn left(&self, now: u64) -> u64
+    pub fn left(&self, now: u64) -> u32
         ensures { result ≡ left_of now self.now }
     {
-        u64::from(max_age(&self.response)).saturating_sub(self.age(now).div_ceil(1000))
+        left_at(&self.response, self.age(now))
     }
 
     /// Whether it may answer a request at this moment: it is fresh and not marked.
@@ -63,4 +64,13 @@ impl Stored {
     {
         self.is_fresh(now) && !self.marked
     }
+}
+
+/// The seconds for which a response of this age in milliseconds will be fresh, 0 where it isn't: its
+/// Max-Age less its age, of which a second that has begun is gone (RFC 7252, 5.7.1).
+pub fn left_at(response: &Message, age: u64) -> u32
+    ensures { result ≡ left_at age response.now }
+{
+    let left = u64::from(max_age(response)).saturating_sub(age.div_ceil(1000));
+    left as u32
 }

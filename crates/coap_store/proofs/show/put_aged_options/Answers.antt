@@ -7,7 +7,7 @@ use Rattle.coap_store.specs.declared.show.Part.TheVariants.{Before}
 use Rattle.coap_store.specs.Renewing.{max_age_option}
 use Rattle.coap_store.specs.Writing.{part_of}
 use Rattle.coap_store.proofs.AroundMaxAge.{full-before, full-between, last-before, written-after}
-use Rattle.coap_store.proofs.show.put_with_max_age.Goals as goal
+use Rattle.coap_store.proofs.show.put_aged_options.Goals as goal
 
 pub returns-in_err-before : goal.returns-in_err-before
 returns-in_err-before c =
