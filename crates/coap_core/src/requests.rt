@@ -1,5 +1,5 @@
 //! The step of a request (RFC 7252, 5.7.3).
-ghost use Rattle.std.specs.Prelude.{◌≡◌, ◌⊎◌, ◌+◌, ◌<◌, ◌≤◌, ◌^◌, true, length, option_map, None, Ok, Err, IfOk, IfErr, IfSome, OnOk, OnErr};
+ghost use Rattle.std.specs.Prelude.{◌≡◌, ◌⊎◌, ◌+◌, ◌<◌, ◌≤◌, ◌^◌, true, length, option_map, None, Ok, Err, is_ok, IfOk, IfErr, IfSome, OnOk, OnErr};
 ghost use Rattle.coap_message.specs.Spelling.{spelling};
 ghost use Rattle.coap_option.specs.declared.side.Side.{Side};
 ghost use Rattle.coap_option.specs.Screening.{first_refused};
@@ -27,7 +27,7 @@ use crate::request_target::{CacheQuery, RequestTarget};
 use crate::world::{World, silent};
 use coap_endpoint::{Endpoint, Target};
 use coap_forward::{put_bare, put_forwarded, put_stored, put_with_max_age, tag_to_send, token_of};
-use coap_message::{Code, Datagram, MessageRef, OutOfMemory, Pieces, Seq, Token};
+use coap_message::{Code, Datagram, Full, MessageRef, OutOfMemory, Pieces, Seq, Token};
 use coap_model::{Outcome, Report};
 use coap_option::screen_request_ref;
 use coap_store::{CacheKey, Store, Stored};
@@ -310,7 +310,11 @@ impl<S: Store + Drop> World<S> {
             (held_for self.old arrival.entry.message.now asked.now.key)))
             result out.old out.new self.old self.new }
     {
-        if !self.put_request(arrival.message, &asked.key.target, None, out) {
+        let target = &asked.key.target;
+        if self
+            .put_request(arrival.message, target, None, out)
+            .is_err()
+        {
             let code = Code::REQUEST_ENTITY_TOO_LARGE;
             return self.refuse(arrival, code, out);
         }
@@ -371,7 +375,9 @@ impl<S: Store + Drop> World<S> {
         };
         let most = self.limits.values().datagram as usize;
         let tag = tag_to_send(most, request, target, &stored.response, out);
-        self.put_request(request, target, tag, out);
+        if self.put_request(request, target, tag, out).is_err() {
+            unreachable!();
+        }
         if tag.is_none() {
             return Ok(None);
         }
@@ -405,33 +411,36 @@ impl<S: Store + Drop> World<S> {
         }
     }
 
-    /// Writes what is sent on, with this tag, if it fits a datagram. The answer is whether it does.
+    /// Writes what is sent on, with this tag.
+    ///
+    /// # Errors
+    /// `Full`, exactly where it doesn't fit a datagram. Then a part of it may have been written.
     fn put_request(
         &self,
         request: &MessageRef<'_>,
         target: &Target,
         tag: Option<&[u8]>,
         out: &mut Datagram,
-    ) -> bool
+    ) -> Result<(), Full>
         requires can { CanGoOn self.now }
         requires room { self.now.setting.limits.datagram ≤ out.old.room }
         requires method { is_method request.now.code ≡ true }
         requires screened { first_refused Side.Request request.now.options ≡ None }
         requires target { IsTarget target.now }
         requires short { IfSome tag (λ tag. length tag.now ≤ 8) }
-        ensures exact { result
+        ensures exact { is_ok result
             ≡ form_fits self.now.setting.limits.datagram target.now
             (option_map (λ tag. tag.now) tag.entry) request.now }
-        ensures form { result ≡ true
-            → out.new.bytes
+        ensures form { OnOk result
+            (out.new.bytes
             ≡ spelling
             (forwarded (next_token self.now) target.now (option_map (λ tag. tag.now) tag.entry)
-            request.now 0) }
+            request.now 0)) }
         ensures kept { out.new.room ≡ out.old.room }
     {
         let token = token_of(self.salt, self.exchanges.admitted() + 1);
         let room = self.limits.values().datagram as usize;
-        put_forwarded(out, room, &token, request, target, tag).is_ok()
+        put_forwarded(out, room, &token, request, target, tag)
     }
 
     /// The client is refused with a code.

@@ -31,16 +31,16 @@ refuse-requires-clause-fits g c =
     let m = c.args.arrival.message.now in
     let refused : Step = refuses w c.args.arrival.now c.args.arrival.from m REQUEST_ENTITY_TOO_LARGE in
     let missed : Step = on_wanted w c.args.arrival.now c.args.arrival.from m c.args.asked.now.key (held_for w m c.args.asked.now.key) in
-    let long : missed ≡ refused = too-long w c.args.arrival.now c.args.arrival.from m c.args.asked.now.key (held_for w m c.args.asked.now.key) c.requires.ids (sym c.if-not-put_request.ensures.exact) in
+    let long : missed ≡ refused = too-long w c.args.arrival.now c.args.arrival.from m c.args.asked.now.key (held_for w m c.args.asked.now.key) c.requires.ids (sym c.put_request.ensures.exact ∙ c.if-is_err.ensures.negation) in
     fits-as refused missed c.args.out.now.room c.put_request.new.out.room long c.put_request.ensures.kept c.requires.fits
 
-pub returns-then-not-put_request : goal.returns-then-not-put_request
-returns-then-not-put_request g c =
+pub returns-then-is_err : goal.returns-then-is_err
+returns-then-is_err g c =
     let w = c.args.self.now in
     let m = c.args.arrival.message.now in
     let refused : Step = refuses w c.args.arrival.now c.args.arrival.from m REQUEST_ENTITY_TOO_LARGE in
     let missed : Step = on_wanted w c.args.arrival.now c.args.arrival.from m c.args.asked.now.key (held_for w m c.args.asked.now.key) in
-    let long : missed ≡ refused = too-long w c.args.arrival.now c.args.arrival.from m c.args.asked.now.key (held_for w m c.args.asked.now.key) c.requires.ids (sym c.if-not-put_request.ensures.exact) in
+    let long : missed ≡ refused = too-long w c.args.arrival.now c.args.arrival.from m c.args.asked.now.key (held_for w m c.args.asked.now.key) c.requires.ids (sym c.put_request.ensures.exact ∙ c.if-is_err.ensures.negation) in
     record {
       exact = does-as (remembers c.args.arrival.now c.args.arrival.from m refused) (remembers c.args.arrival.now c.args.arrival.from m missed) c.refuse.result c.args.out.now c.put_request.new.out c.refuse.new.out c.refuse.new.self (ap (remembers c.args.arrival.now c.args.arrival.from m) long) c.put_request.ensures.kept c.refuse.ensures.exact;
       err = search rules;
@@ -54,7 +54,7 @@ overload-requires-clause-fits g c =
     let busy : Step = overloads w c.args.arrival.now c.args.arrival.from m in
     let missed : Step = on_wanted w c.args.arrival.now c.args.arrival.from m c.args.asked.now.key (held_for w m c.args.asked.now.key) in
     let closed : has_room_to_open w c.args.arrival.now ≡ false = sym c.if-not-has_room_to_open.ensures in
-    let away : missed ≡ busy = turned-away w c.args.arrival.now c.args.arrival.from m c.args.asked.now.key (held_for w m c.args.asked.now.key) c.requires.ids (sym c.if-not-put_request.ensures.exact) closed in
+    let away : missed ≡ busy = turned-away w c.args.arrival.now c.args.arrival.from m c.args.asked.now.key (held_for w m c.args.asked.now.key) c.requires.ids (sym c.put_request.ensures.exact ∙ c.if-is_err.ensures.negation) closed in
     fits-as busy missed c.args.out.now.room c.put_request.new.out.room away c.put_request.ensures.kept c.requires.fits
 
 pub returns-then-not-has_room_to_open : goal.returns-then-not-has_room_to_open
@@ -64,7 +64,7 @@ returns-then-not-has_room_to_open g c =
     let busy : Step = overloads w c.args.arrival.now c.args.arrival.from m in
     let missed : Step = on_wanted w c.args.arrival.now c.args.arrival.from m c.args.asked.now.key (held_for w m c.args.asked.now.key) in
     let closed : has_room_to_open w c.args.arrival.now ≡ false = sym c.if-not-has_room_to_open.ensures in
-    let away : missed ≡ busy = turned-away w c.args.arrival.now c.args.arrival.from m c.args.asked.now.key (held_for w m c.args.asked.now.key) c.requires.ids (sym c.if-not-put_request.ensures.exact) closed in
+    let away : missed ≡ busy = turned-away w c.args.arrival.now c.args.arrival.from m c.args.asked.now.key (held_for w m c.args.asked.now.key) c.requires.ids (sym c.put_request.ensures.exact ∙ c.if-is_err.ensures.negation) closed in
     record {
       exact = does-as (remembers c.args.arrival.now c.args.arrival.from m busy) (remembers c.args.arrival.now c.args.arrival.from m missed) c.overload.result c.args.out.now c.put_request.new.out c.overload.new.out c.overload.new.self (ap (remembers c.args.arrival.now c.args.arrival.from m) away) c.put_request.ensures.kept c.overload.ensures.exact;
       err = search rules;
@@ -79,7 +79,7 @@ returns g c =
     let asked : Step = opens w c.args.arrival.now c.args.arrival.from m key (held_for w m key) in
     let missed : Step = on_wanted w c.args.arrival.now c.args.arrival.from m key (held_for w m key) in
     let free : has_room_to_open w c.args.arrival.now ≡ true = sym c.if-not-has_room_to_open.ensures in
-    let is : missed ≡ asked = opened w c.args.arrival.now c.args.arrival.from m key (held_for w m key) (sym c.if-not-put_request.ensures.exact) free in
+    let is : missed ≡ asked = opened w c.args.arrival.now c.args.arrival.from m key (held_for w m key) (sym c.put_request.ensures.exact ∙ c.if-is_err.ensures.negation) free in
     record {
       exact = does-as (remembers c.args.arrival.now c.args.arrival.from m asked) (remembers c.args.arrival.now c.args.arrival.from m missed) c.open.result c.args.out.now c.put_validating.new.out c.open.new.out c.open.new.self (ap (remembers c.args.arrival.now c.args.arrival.from m) is) (c.in_ok-copy.ensures.kept ∙ c.put_request.ensures.kept) (rw c.in_ok-key.ensures.key at c.open.ensures.exact);
       err = search rules;
@@ -94,5 +94,5 @@ open-requires-clause-fits g c =
     let asked : Step = opens w c.args.arrival.now c.args.arrival.from m key (held_for w m key) in
     let missed : Step = on_wanted w c.args.arrival.now c.args.arrival.from m key (held_for w m key) in
     let free : has_room_to_open w c.args.arrival.now ≡ true = sym c.if-not-has_room_to_open.ensures in
-    let is : missed ≡ asked = opened w c.args.arrival.now c.args.arrival.from m key (held_for w m key) (sym c.if-not-put_request.ensures.exact) free in
+    let is : missed ≡ asked = opened w c.args.arrival.now c.args.arrival.from m key (held_for w m key) (sym c.put_request.ensures.exact ∙ c.if-is_err.ensures.negation) free in
     rw c.in_ok-key.ensures.key (fits-as asked missed c.args.out.now.room c.put_validating.new.out.room is (c.in_ok-copy.ensures.kept ∙ c.put_request.ensures.kept) c.requires.fits)
