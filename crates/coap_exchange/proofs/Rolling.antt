@@ -1,6 +1,6 @@
 -- Pairs in rising order: where one stands, and what is there once it is put in or taken out.
-use Rattle.std.proofs.Common.{◌≡◌, ℕ, zero, suc, ◌-◌, ◌+◌, ◌<◌, ◌≤◌, ◌&&◌, ◌||◌, List, [], ◌∷◌, length, take, drop, get_or, Bool, true, false, Some, None, refl, sym, ap, ◌∙◌, subst, arith}
-use Rattle.std.specs.Prelude.{not, Option, Result, Ok, Err, OnOk, OnErr, OnSome, IsSome}
+use Rattle.std.proofs.Common.{◌≡◌, ℕ, zero, suc, ◌-◌, ◌<◌, ◌≤◌, ◌&&◌, ◌||◌, List, [], ◌∷◌, length, take, drop, get_or, Bool, true, false, Some, None, refl, sym, ap, ◌∙◌, subst, arith}
+use Rattle.std.specs.Prelude.{not}
 use Rattle.std.specs.List.{AllByRecursion, insert, remove}
 use Rattle.std.proofs.lemmas.Bool.Decides.{nat_tests}
 use Rattle.coap_exchange.specs.Due.{is_before}
@@ -113,17 +113,6 @@ rising-insert p (suc i) [] r below above free = (tt, tt)
 rising-insert p (suc i) (x ∷ xs) r below above free =
     (all-insert (λ q. is_before x q ≡ true) p i xs r.0 (back_if_other p x below.0 (or_left (is_pair p x) (is_in p xs) free)), rising-insert p i xs r.1 below.1 above (or_right (is_pair p x) (is_in p xs) free))
 
--- there was room
-pub put-in : {A E : Type 0} {P : Type 0} {full len : ℕ} (r : Result A E) → OnOk r P → OnErr r (full ≤ len) → len < full → P
-put-in (Ok a) p f lt = p
-put-in (Err e) p f lt = absurd (omega arith)
-
--- there is one more then
-pub length-insert : (i : ℕ) (xs : List Pair) (p : Pair) → length (insert xs i p) ≡ length xs + 1
-length-insert zero xs p = omega arith
-length-insert (suc i) [] p = refl
-length-insert (suc i) (x ∷ xs) p = let rest = length-insert i xs p in omega arith
-
 -- ---- one is taken out
 
 -- what is after it isn't it
@@ -139,17 +128,6 @@ all-in P q (x ∷ xs) all e = go (is_pair q x) refl e (λ f. all-in P q xs all.1
     go : (b : Bool) → is_pair q x ≡ b → (b || is_in q xs) ≡ true → (is_in q xs ≡ true → P q) → P q
     go true f h rest = subst P (sym (pair_only q x f)) all.0
     go false f h rest = rest h
-
--- there was one at the place
-pub taken : {A P : Type 0} (o : Option A) → IsSome o → OnSome o P → P
-taken None some p = absurd (let e : false ≡ true = some in cc)
-taken (Some a) some p = p
-
--- there is one less then
-pub length-remove : (i : ℕ) (xs : List Pair) → i < length xs → length (remove xs i) + 1 ≡ length xs
-length-remove i [] lt = absurd (omega arith)
-length-remove zero (x ∷ xs) lt = omega arith
-length-remove (suc i) (x ∷ xs) lt = let rest = length-remove i xs (omega arith) in omega arith
 
 -- what holds of all holds of the rest
 all-remove : (P : Pair → Type 0) (i : ℕ) (xs : List Pair) → AllByRecursion P xs → AllByRecursion P (remove xs i)
@@ -219,11 +197,6 @@ first-least p ps r = (rw (pair_itself p) refl, λ q e. go q (is_pair q p) refl e
 pub first-is : (xs : List Pair) (p : Pair) → 0 < length xs → p ≡ get_or xs 0 p → AreRising xs → IsLeast xs (Some p)
 first-is [] p lt e r = absurd (omega arith)
 first-is (x ∷ xs) p lt e r = subst (λ (y : Pair). IsLeast (x ∷ xs) (Some y)) (sym e) (first-least x xs r)
-
--- a list that has no first is empty
-pub none-left : (xs : List Pair) → (0 < length xs → ⊥) → xs ≡ []
-none-left [] none = refl
-none-left (x ∷ xs) none = absurd (none (omega arith))
 
 -- none up to here is after it, so what is after it is from here on
 is_in-drop : (p q : Pair) (i : ℕ) (xs : List Pair) → NoneAfter p (take i xs) → is_before p q ≡ true → is_in q (drop i xs) ≡ is_in q xs

@@ -13,6 +13,7 @@ mod lines;
 mod listed;
 mod marks;
 mod roll;
+mod row;
 mod table;
 mod tally;
 mod timer;

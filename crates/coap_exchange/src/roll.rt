@@ -2,38 +2,30 @@
 //! search through all.
 ghost use Rattle.std.specs.Prelude.{◌≡◌, ◌+◌, ◌<◌, ◌≤◌, ◌||◌, ◌&&◌, ℕ, length, take, drop, true, false, not, None, Some, IfOk, IfSome, OnOk, OnErr};
 ghost use Rattle.std.specs.List.{AllByRecursion};
-ghost use Rattle.std.specs.VecDeque.{deque_len};
 ghost use Rattle.coap_exchange.specs.Due.{is_before};
 ghost use Rattle.coap_exchange.specs.Roll.{empty_roll, is_in, is_pair, one_of, AreRising, is_some_pair, IsFirstAfter, IsLeast, IsNextOf, IsOwnerIn, IsPassed, IsReplaced, Pair};
 
 use crate::due::is_before;
+use crate::row::Row;
 use coap_message::OutOfMemory;
 use std::alloc::Global;
-use std::collections::VecDeque;
 use std::marker::Model;
 
 /// Pairs of an owner and a number, each of them at most once, in rising order. Room for all pairs
-/// is made at the start, or by `make_room`, and nothing else takes memory. A change moves the pairs
-/// before it or those behind it, whichever are fewer.
+/// is made at the start, or by `make_room`, and nothing else takes memory.
 #[derive(Drop)]
 pub(crate) struct Roll {
-    pairs: VecDeque<(u64, u64)>,
-    limit: usize,
+    row: Row,
 }
 
 impl Model for Roll {
-    ghost use Rattle.std.specs.Prelude.{◌≡◌, ◌≤◌, length};
-    ghost use Rattle.std.specs.VecDeque.{deque_capacity, deque_len};
     ghost use Rattle.coap_exchange.specs.Roll.{AreRising, Roll};
 
     ghost Value = { Roll };
 
-    ghost view = { λ r. record { pairs = r.pairs.items; limit = r.limit } };
+    ghost view = { λ r. r.row };
 
-    ghost invariant = { λ r.
-        AreRising r.pairs.items
-        × (r.limit ≤ deque_capacity r.pairs)
-        × (deque_len r.pairs ≡ length r.pairs.items) };
+    ghost invariant = { λ r. AreRising r.row.pairs };
 }
 
 impl Roll {
@@ -42,8 +34,7 @@ impl Roll {
         ensures empty { IfOk result (λ roll. roll ≡ empty_roll limit) }
     {
         Ok(Roll {
-            pairs: VecDeque::with_capacity(alloc, limit)?,
-            limit,
+            row: Row::new(alloc, limit)?,
         })
     }
 
@@ -51,7 +42,7 @@ impl Roll {
     pub(crate) fn first(&self) -> Option<(u64, u64)>
         ensures exact { IsLeast self.now.pairs result }
     {
-        match self.pairs.front() {
+        match self.row.pairs().first() {
             Some(pair) => Some(*pair),
             None => None,
         }
@@ -69,11 +60,12 @@ impl Roll {
     pub(crate) fn after(&self, pair: (u64, u64)) -> Option<(u64, u64)>
         ensures exact { IsFirstAfter pair self.now.pairs result }
     {
-        let place = place_after(&self.pairs, pair);
-        if place == self.pairs.len() {
+        let pairs = self.row.pairs();
+        let place = place_after(pairs, pair);
+        if place == pairs.len() {
             return None;
         }
-        Some(self.pairs[place])
+        Some(pairs[place])
     }
 
     /// Makes room for one pair more than there are, unless there is.
@@ -85,13 +77,7 @@ impl Roll {
         ensures room { OnOk result (length self.new.pairs < self.new.limit) }
         ensures err { OnErr result (self.new ≡ self.old) }
     {
-        let len = self.pairs.len();
-        if len < self.limit {
-            return Ok(());
-        }
-        self.pairs.reserve(1)?;
-        self.limit = len + 1;
-        Ok(())
+        self.row.make_room()
     }
 
     /// Where the one pair stands, if any, the other stands from now on, if any. There is room for
@@ -161,8 +147,8 @@ impl Roll {
         ensures more { (p : Pair)
             → is_in p self.new.pairs ≡ (is_pair p (owner, number) || is_in p self.old.pairs) }
     {
-        let place = place_after(&self.pairs, (owner, number));
-        let _ = self.pairs.insert(place, (owner, number));
+        let place = place_after(self.row.pairs(), (owner, number));
+        self.row.insert(place, (owner, number));
     }
 
     fn take(&mut self, owner: u64, number: u64)
@@ -173,18 +159,17 @@ impl Roll {
             → is_in p self.new.pairs
             ≡ (not (is_pair p (owner, number)) && is_in p self.old.pairs) }
     {
-        let place = place_after(&self.pairs, (owner, number));
-        self.pairs.remove(place - 1);
+        let place = place_after(self.row.pairs(), (owner, number));
+        self.row.remove(place - 1);
     }
 }
 
 /// The place of the first pair after this one.
-fn place_after(pairs: &VecDeque<(u64, u64)>, pair: (u64, u64)) -> usize
-    requires rising { AreRising pairs.now.items }
-    requires len { deque_len pairs.now ≡ length pairs.now.items }
-    ensures within { result ≤ length pairs.now.items }
-    ensures below { AllByRecursion (λ p. is_before pair p ≡ false) (take result pairs.now.items) }
-    ensures above { AllByRecursion (λ p. is_before pair p ≡ true) (drop result pairs.now.items) }
+fn place_after(pairs: &[(u64, u64)], pair: (u64, u64)) -> usize
+    requires { AreRising pairs.now }
+    ensures within { result ≤ length pairs.now }
+    ensures below { AllByRecursion (λ p. is_before pair p ≡ false) (take result pairs.now) }
+    ensures above { AllByRecursion (λ p. is_before pair p ≡ true) (drop result pairs.now) }
 {
     let mut low = 0;
     let mut high = pairs.len();

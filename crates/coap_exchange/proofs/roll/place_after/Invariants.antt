@@ -5,9 +5,9 @@ use Rattle.coap_exchange.proofs.roll.place_after.Given as goal
 abbrev pub invariant-loop-low : goal.invariant-loop-low
 invariant-loop-low l = record {
   order : l.low ≤ l.high;
-  within : l.high ≤ length l.pairs.items;
-  below : NoneAfter l.pair (take l.low l.pairs.items);
-  above : AllAfter l.pair (drop l.high l.pairs.items);
+  within : l.high ≤ length l.pairs;
+  below : NoneAfter l.pair (take l.low l.pairs);
+  above : AllAfter l.pair (drop l.high l.pairs);
 }
 
 abbrev pub decreases-loop-low : goal.decreases-loop-low

@@ -1,0 +1,171 @@
+//! Pairs in a row, of which one is put in or taken out at a place.
+ghost use Rattle.std.specs.Prelude.{◌≡◌, ◌+◌, ◌-◌, ◌<◌, ◌≤◌, drop, length, vec_capacity, vec_len, IfOk, OnErr, OnOk};
+ghost use Rattle.std.specs.List.{insert, remove};
+ghost use Rattle.coap_exchange.specs.Roll.{empty_roll, Roll};
+
+use coap_message::OutOfMemory;
+use std::alloc::Global;
+use std::marker::Model;
+
+/// Pairs in a row, which stand behind each other up to the end of a `Vec`. A change moves those
+/// before its place or those behind it, whichever are fewer; but those behind it move if there is
+/// no room before the first. `new` and `make_room` take memory for twice as many pairs as there may
+/// be, so that they seldom come to the end of it, and nothing else takes memory.
+#[derive(Drop)]
+pub(crate) struct Row {
+    items: Vec<(u64, u64)>,
+    start: usize,
+    limit: usize,
+}
+
+impl Model for Row {
+    ghost use Rattle.std.specs.Prelude.{◌≡◌, ◌≤◌, drop, length, vec_capacity, vec_len};
+    ghost use Rattle.coap_exchange.specs.Roll.{Roll};
+
+    ghost Value = { Roll };
+
+    ghost view = { λ r. record { pairs = drop r.start r.items.items; limit = r.limit } };
+
+    ghost invariant = { λ r.
+        (r.start ≤ vec_len r.items)
+        × (vec_len r.items ≡ length r.items.items)
+        × (r.limit ≤ vec_capacity r.items) };
+}
+
+impl Row {
+    /// An empty row with room for so many pairs.
+    pub(crate) fn new(alloc: Global, limit: usize) -> Result<Row, OutOfMemory>
+        ensures { IfOk result (λ row. row ≡ empty_roll limit) }
+    {
+        Ok(Row {
+            items: Vec::with_capacity(alloc, limit.saturating_mul(2))?,
+            start: 0,
+            limit,
+        })
+    }
+
+    /// The pairs.
+    pub(crate) fn pairs(&self) -> &[(u64, u64)]
+        ensures { result.now ≡ self.now.pairs }
+    {
+        &self.items[self.start..]
+    }
+
+    /// Makes room for one pair more than there are, unless there is.
+    ///
+    /// # Errors
+    /// Out of memory. Nothing is changed then.
+    pub(crate) fn make_room(&mut self) -> Result<(), OutOfMemory>
+        ensures ok { OnOk result (self.new.pairs ≡ self.old.pairs) }
+        ensures room { OnOk result (length self.new.pairs < self.new.limit) }
+        ensures err { OnErr result (self.new ≡ self.old) }
+    {
+        let len = self.items.len() - self.start;
+        if len < self.limit {
+            return Ok(());
+        }
+        to_front(&mut self.items, self.start);
+        self.start = 0;
+        self.items.reserve(len + 2)?;
+        self.limit = len + 1;
+        Ok(())
+    }
+
+    /// Puts a pair in at a place.
+    pub(crate) fn insert(&mut self, place: usize, pair: (u64, u64))
+        requires place { place ≤ length self.old.pairs }
+        requires room { length self.old.pairs < self.old.limit }
+        ensures { self.new ≡ record self.old { pairs = insert self.old.pairs place pair } }
+    {
+        let behind = self.items.len() - self.start - place;
+        if self.start > 0 && place < behind {
+            self.start -= 1;
+            insert_downward(&mut self.items, self.start, place, pair);
+        } else {
+            self.start = make_way(&mut self.items, self.start);
+            insert_upward(&mut self.items, self.start + place, pair);
+        }
+    }
+
+    /// Takes out the pair at a place.
+    pub(crate) fn remove(&mut self, place: usize)
+        requires { place < length self.old.pairs }
+        ensures { self.new ≡ record self.old { pairs = remove self.old.pairs place } }
+    {
+        let behind = self.items.len() - self.start - place;
+        if place < behind {
+            remove_upward(&mut self.items, self.start, place);
+            self.start += 1;
+        } else {
+            self.items.remove(self.start + place);
+        }
+    }
+}
+
+/// Puts a pair in at a place of those behind `start`: those before it move down by one.
+fn insert_downward(items: &mut Vec<(u64, u64)>, start: usize, place: usize, pair: (u64, u64))
+    requires { start + place < length items.old.items }
+    ensures items { drop start items.new.items
+        ≡ insert (drop (start + 1) items.old.items) place pair }
+    ensures len { vec_len items.new ≡ vec_len items.old }
+    ensures capacity { vec_capacity items.new ≡ vec_capacity items.old }
+{
+    items[start] = pair;
+    items[start..start + place + 1].rotate_left(1);
+}
+
+/// Puts a pair in at a place: those from there on move up by one. There is room for that. It is
+/// added last and then rotated, which moves memory at once, as `Vec::insert` doesn't.
+fn insert_upward(items: &mut Vec<(u64, u64)>, place: usize, pair: (u64, u64))
+    requires place { place ≤ length items.old.items }
+    requires room { vec_len items.old < vec_capacity items.old }
+    ensures items { items.new.items ≡ insert items.old.items place pair }
+    ensures len { vec_len items.new ≡ vec_len items.old + 1 }
+    ensures capacity { vec_capacity items.new ≡ vec_capacity items.old }
+{
+    items.push_reserved(pair);
+    items[place..].rotate_right(1);
+}
+
+/// Takes out the pair at a place of those from `start` on: those before it move up by one.
+fn remove_upward(items: &mut Vec<(u64, u64)>, start: usize, place: usize)
+    requires { start + place < length items.old.items }
+    ensures items { drop (start + 1) items.new.items ≡ remove (drop start items.old.items) place }
+    ensures len { vec_len items.new ≡ vec_len items.old }
+    ensures capacity { vec_capacity items.new ≡ vec_capacity items.old }
+{
+    items[start..start + place + 1].rotate_right(1);
+}
+
+/// Makes room for a pair behind those that stand from `start` on, unless there is, by moving them
+/// to the front. Returns where they start then.
+fn make_way(items: &mut Vec<(u64, u64)>, start: usize) -> usize
+    requires start { start ≤ length items.old.items }
+    requires room { length items.old.items - start < vec_capacity items.old }
+    requires len { vec_len items.old ≡ length items.old.items }
+    ensures items { drop result items.new.items ≡ drop start items.old.items }
+    ensures start { result ≤ length items.new.items }
+    ensures len { vec_len items.new ≡ length items.new.items }
+    ensures capacity { vec_capacity items.new ≡ vec_capacity items.old }
+    ensures room { vec_len items.new < vec_capacity items.new }
+{
+    if items.len() < items.capacity() {
+        return start;
+    }
+    to_front(items, start);
+    0
+}
+
+/// Moves those that stand from `start` on to the front, and gives up what was before them.
+fn to_front(items: &mut Vec<(u64, u64)>, start: usize)
+    requires { start ≤ vec_len items.old }
+    ensures items { items.new.items ≡ drop start items.old.items }
+    ensures len { vec_len items.new ≡ vec_len items.old - start }
+    ensures capacity { vec_capacity items.new ≡ vec_capacity items.old }
+{
+    if start > 0 {
+        let len = items.len();
+        items.copy_within(start..len, 0);
+        items.truncate(len - start);
+    }
+}
