@@ -1,5 +1,5 @@
 //! A port in memory.
-ghost use Rattle.std.specs.Prelude.{◌≡◌, ◌<◌, ◌+◌, ◌^◌, ◌∷◌, ◌++◌, [], None, IfOk, OnErr, OnOk};
+ghost use Rattle.std.specs.Prelude.{◌≡◌, ◌<◌, ◌+◌, ◌^◌, ◌∷◌, ◌++◌, [], None, IfOk, IsOk, OnErr, OnOk};
 ghost use Rattle.coap_port.specs.Given.{IsOnward, given_by};
 ghost use Rattle.coap_port.specs.Memory as spec;
 
@@ -147,6 +147,7 @@ impl Port for MemoryPort {
             Gives into.old.room self.old wait (given_by turn into.new.bytes) self.new) }
         ensures onward { IfOk result (IsOnward self.old.last self.new.last) }
         ensures ticks { wait ≡ 0 → IfOk result (λ turn. turn.from ≡ None) }
+        ensures lasts { wait ≡ 0 → IsOk result }
         ensures room { into.new.room ≡ into.old.room }
         ensures works { OnOk result (self.new.failures ≡ self.old.failures) }
         ensures fails { OnErr result

@@ -1,3 +1,4 @@
 pub mod Addresses
+pub mod Failing
 pub mod Udp
 pub mod Waits

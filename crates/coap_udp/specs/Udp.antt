@@ -1,16 +1,31 @@
 -- What is known of a port over a socket.
-use Rattle.std.specs.Prelude.{◌≡◌, ◌≤◌, ◌^◌, ℕ, List, Bool}
+use Rattle.std.specs.Prelude.{◌≡◌, ◌≤◌, ◌+◌, ◌^◌, ℕ, min, List, Bool, true, false}
 use Rattle.coap_model.specs.Events.{tick}
 use Rattle.coap_model.specs.Runs.{Turn}
 use Rattle.coap_endpoint.specs.declared.endpoint.Endpoint.{Endpoint}
+use Rattle.coap_endpoint.specs.declared.endpoint.Ip.{Ip}
+use Rattle.coap_endpoint.specs.declared.endpoint.Ip.TheVariants.{V4, V6}
 
--- its last moment, and how often it failed
+-- how many bytes it reads of a datagram, whether its socket is one of IPv6, its last moment, and how
+-- often it failed
 pub record Udp : Type 0 where
+  pub room : ℕ
+  pub is_ipv6 : Bool
   pub last : ℕ
   pub failures : ℕ
 
-abbrev pub new_port : Udp
-new_port = record { last = 0; failures = 0 }
+abbrev pub is_of_ipv6 : Ip → Bool
+is_of_ipv6 (V4 octets) = false
+is_of_ipv6 (V6 octets) = true
+
+-- that at a local address, which reads a byte more than the longest datagram has
+abbrev pub new_port : Endpoint → ℕ → Udp
+new_port local longest = record {
+  room = min (longest + 1) 18446744073709551615;
+  is_ipv6 = is_of_ipv6 local.ip;
+  last = 0;
+  failures = 0;
+}
 
 -- What a turn of a socket is known to be. Which datagram came, and whether one did, isn't known;
 -- without a wait none did.

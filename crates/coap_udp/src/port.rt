@@ -46,12 +46,18 @@ pub struct UdpPort<'a, R> {
 }
 
 impl<'a, R> Model for UdpPort<'a, R> {
-    ghost use Rattle.std.specs.Prelude.{◌≤◌, ◌^◌};
+    ghost use Rattle.std.specs.Prelude.{◌≤◌, ◌^◌, vec_len};
     ghost use Rattle.coap_udp.specs.Udp.{Udp};
 
     ghost Value = { Udp };
 
-    ghost view = { λ p. record { last = p.last; failures = p.failures } };
+    ghost view = { λ p.
+        record {
+          room = vec_len p.room;
+          is_ipv6 = p.is_ipv6;
+          last = p.last;
+          failures = p.failures;
+        } };
 
     ghost invariant = { λ p. p.last ≤ 2 ^ 62 };
 }
@@ -76,7 +82,7 @@ impl<'a, R: Net + Clock + RandomSource> UdpPort<'a, R> {
         local: Endpoint,
         longest: usize,
     ) -> io::Result<UdpPort<'a, R>>
-        ensures { IfOk result (λ port. port ≡ new_port) }
+        ensures { IfOk result (λ port. port ≡ new_port local longest) }
     {
         let room = vec![in alloc; 0; longest.saturating_add(1)]?;
         let is_ipv6 = matches!(local.ip, Ip::V6(_));

@@ -1,5 +1,5 @@
 //! How long a read of a socket waits.
-ghost use Rattle.std.specs.Prelude.{◌≤◌, ◌<◌};
+ghost use Rattle.std.specs.Prelude.{◌≡◌, ◌<◌, true, nat_lt, OnOk};
 ghost use Rattle.coap_udp.specs.Waits.{IsWithin};
 
 use std::io;
@@ -17,7 +17,10 @@ pub(crate) struct Waiting {
 
 impl Waiting {
     /// That of a new socket, whose reads wait without a timeout.
-    pub(crate) fn new() -> Waiting {
+    pub(crate) fn new() -> Waiting
+        ensures waits { result.waits ≡ true }
+        ensures untimed { result.timeout ≡ 0 }
+    {
         Waiting {
             waits: true,
             timeout: 0,
@@ -30,6 +33,8 @@ impl Waiting {
     /// A timeout of one millisecond takes eight on common kernels, so such a read doesn't wait.
     pub(crate) fn set(&mut self, socket: &UdpSocket, wait: u64) -> io::Result<()>
         requires { 0 < wait }
+        ensures waits { OnOk result (self.new.waits ≡ nat_lt 1 wait) }
+        ensures timeout { 1 < wait → OnOk result (IsWithin wait self.new.timeout) }
     {
         let waits = wait > 1;
         if waits != self.waits {

@@ -1,5 +1,5 @@
 //! Lines of an output.
-ghost use Rattle.std.specs.Prelude.{◌≡◌, ◌≤◌, ◌++◌, IfOk, length, vec_capacity};
+ghost use Rattle.std.specs.Prelude.{◌≡◌, ◌≤◌, ◌++◌, [], IfOk, length, vec_capacity};
 ghost use Rattle.coap_lines.specs.Lines.{line_of};
 ghost use Rattle.coap_lines.specs.Room.{HasRoom, longest_line};
 
@@ -13,7 +13,8 @@ use std::alloc::Global;
 
 /// An empty buffer with room for the line of a datagram of so many bytes.
 pub fn line_buffer(alloc: Global, datagram: usize) -> Result<Vec<u8>, OutOfMemory>
-    ensures { IfOk result (λ buffer. longest_line datagram ≤ vec_capacity buffer) }
+    ensures empty { IfOk result (λ buffer. buffer.items ≡ []) }
+    ensures room { IfOk result (λ buffer. longest_line datagram ≤ vec_capacity buffer) }
 {
     let hex = datagram.checked_mul(2).ok_or(OutOfMemory)?;
     let room = hex.checked_add(71).ok_or(OutOfMemory)?;

@@ -11,7 +11,7 @@ loop-read-init g c = record {
   few = omega (arith, c.if-turns-eq0.false);
   room = rw (c.in-Ok-new.ensures, c.datagram-2.ensures.exact) (omega arith);
   line = c.in-Ok.ensures.capacity;
-  text = omega (arith, c.in-Ok-line_buffer.ensures, c.datagram.ensures.exact);
+  text = omega (arith, c.in-Ok-line_buffer.ensures.room, c.datagram.ensures.exact);
 }
 
 pub returns-in_err-next_asked : goal.returns-in_err-next_asked
