@@ -14,7 +14,8 @@ use Rattle.coap_exchange.specs.Due.{is_before, sooner, as_due, due_row, first_du
 use Rattle.coap_endpoint.specs.declared.endpoint.Endpoint.{Endpoint}
 use Rattle.coap_endpoint.specs.Endpoint.{same_endpoint}
 use Rattle.coap_exchange.specs.Exchanges.{answer_at, is_joinable, is_some_as, was_sent_as, due_among, due_in, is_blocked, is_queued, is_queued_state, is_sent_state, answer_in_state, is_missing, timer_or, AreTimely}
-use Rattle.coap_exchange.specs.Index.{digest_of_key, key_of, id_in, id_of, owner_at, opening_of, end_in, end_of, later, turn_among, AreListed, IsRollOf}
+use Rattle.coap_exchange.specs.Digests.{digest_of_key}
+use Rattle.coap_exchange.specs.Index.{key_of, id_in, id_of, owner_at, opening_of, end_in, end_of, later, turn_among, AreListed, IsRollOf}
 use Rattle.coap_exchange.specs.Roll.{Pair, Roll, is_in, is_owner, IsLeast, IsNextOf}
 use Rattle.coap_exchange.specs.Table.{Numbered, IsRising, item_at, count, first_that, passes}
 use Rattle.coap_exchange.proofs.Counts.{one_if, all-at, AllItems}

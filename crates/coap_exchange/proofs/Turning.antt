@@ -13,7 +13,8 @@ use Rattle.coap_exchange.specs.declared.lines.Line.{Line}
 use Rattle.coap_exchange.specs.Due.{first_due}
 use Rattle.coap_exchange.specs.Exchanges.{is_blocked, is_queued, is_sent_to}
 use Rattle.coap_exchange.specs.Index.{turn_among}
-use Rattle.coap_exchange.specs.Lines.{AreLined, Lines, endpoint_cmp, has_turn, is_queued_to, queued_of, sent_of}
+use Rattle.coap_exchange.specs.Lines.{AreLined, Lines, has_turn, is_queued_to, queued_of, sent_of}
+use Rattle.coap_exchange.specs.Peers.{peer_cmp}
 use Rattle.coap_exchange.specs.Table.{Numbered, Table, IsRising, IsTable, count, item_at, passes}
 use Rattle.coap_exchange.proofs.Counts.{one_if, count-without}
 use Rattle.coap_exchange.proofs.Seeking.{none-under}
@@ -45,7 +46,7 @@ module _ (nstart : ℕ) (t : Table Exchange) (lines : Lines) (is : IsTable t) (a
       let at = x.key.target.at in
       let counted = count-without (is_queued_to at) n 0 t.items is.rising in
       let one : one_if (passes (is_queued_to at) (item_at n t.items)) ≡ 1 = ap (λ (o : Option Exchange). one_if (passes (is_queued_to at) o)) there ∙ ap (λ (b : Bool). one_if (b && same_endpoint at at)) q ∙ ap one_if (Tells-endpoint.itself at) in
-      blocked-line nstart (count (is_sent_to at) t.items) (count (is_queued_to at) t.items) (get endpoint_cmp lines at) (none-found _ (has_turn nstart) lines.entries none) (are.sent at) (are.queued at) (omega (arith, counted, one))
+      blocked-line nstart (count (is_sent_to at) t.items) (count (is_queued_to at) t.items) (get peer_cmp lines at) (none-found _ (has_turn nstart) lines.entries none) (are.sent at) (are.queued at) (omega (arith, counted, one))
 
   -- so it isn't its turn
   no-turn-there : (n : ℕ) (x : Exchange) → item_at n t.items ≡ Some x → turn_among nstart t.items x ≡ None

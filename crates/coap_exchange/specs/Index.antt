@@ -1,21 +1,13 @@
 -- What exchanges are found by: rolls that keep step with a table.
 use Rattle.std.specs.Prelude.{◌≡◌, ℕ, ◌+◌, ◌≤◌, ◌&&◌, ◌||◌, Bool, true, not, if◌then◌else◌, nat_le, map, List, length, Option, Some, None}
-use Rattle.std.specs.Hash.{HashWrites}
-use Rattle.std.specs.Hash.DefaultHasher as sip
-use Rattle.std.specs.List.{fold}
 use Rattle.std.specs.Option.{is_some}
-use Rattle.coap_store.specs.contracts.key.CacheKeyHash.TheImpl as keys
-use Rattle.coap_store.specs.declared.key.CacheKey.{CacheKey}
-use Rattle.coap_endpoint.specs.contracts.endpoint.EndpointHash.TheImpl as endpoints
-use Rattle.coap_endpoint.specs.contracts.target.TargetHash.TheImpl as targets
-use Rattle.coap_endpoint.specs.declared.endpoint.Endpoint.{Endpoint}
-use Rattle.coap_endpoint.specs.declared.target.Target.{Target}
 use Rattle.coap_exchange.specs.declared.exchange.Exchange.{Exchange}
 use Rattle.coap_exchange.specs.declared.exchange.Sending.{Sending}
 use Rattle.coap_exchange.specs.declared.index.Index.{Index}
 use Rattle.coap_exchange.specs.declared.index.Owners.{Owners}
 use Rattle.coap_exchange.specs.declared.index.Sought.{Sought}
 use Rattle.coap_exchange.specs.declared.index.Sought.TheVariants.{SentAs, Joinable, Queued}
+use Rattle.coap_exchange.specs.Digests.{digest_of_endpoint, digest_of_key, digest_of_target}
 use Rattle.coap_exchange.specs.Exchanges.{answer_at, is_acked, is_blocked, is_done, is_joinable, is_missing, is_queued, is_sent, was_sent_as}
 use Rattle.coap_exchange.specs.Lines.{is_queued_to}
 use Rattle.coap_exchange.specs.Roll.{Pair, Roll, is_in, is_owner, one_of, IsOwnerIn, IsPassed}
@@ -72,19 +64,6 @@ end_in (Some s) = Some s.timer.due
 -- the end of the timeout that runs
 abbrev pub end_of : Exchange → Option ℕ
 end_of x = if is_sent x then end_in x.sending else None
-
--- the digest of a cache key
-abbrev pub digest_of : HashWrites → ℕ
-digest_of writes = sip.finish (fold sip.write sip.initial writes)
-
-abbrev pub digest_of_key : CacheKey → ℕ
-digest_of_key key = digest_of ((keys.ghosts).hash_input key)
-
-abbrev pub digest_of_target : Target → ℕ
-digest_of_target target = digest_of ((targets.ghosts).hash_input target)
-
-abbrev pub digest_of_endpoint : Endpoint → ℕ
-digest_of_endpoint at = digest_of ((endpoints.ghosts).hash_input at)
 
 -- the digest of its endpoint, while it waits for its turn
 abbrev pub queue_of : Exchange → Option ℕ

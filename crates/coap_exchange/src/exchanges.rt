@@ -14,14 +14,16 @@ ghost use Rattle.coap_exchange.specs.Lines.{is_queued_to, is_with, open_in, queu
 ghost use Rattle.coap_exchange.specs.Table.{empty_table, item_at, admitted_to, without, withdrawn, changed_at, all_changed, count, first_that, passes, IsTable};
 ghost use Rattle.coap_exchange.specs.Turns.{AreTurns};
 
+use crate::digests::{digest_of_key, digest_of_target};
 use crate::due::{later, sooner};
 use crate::exchange::{Change, Exchange, Sending};
 use crate::index::{Index, Sought, first_sought, owners_at};
 use crate::lines::{Line, Stage, close_one, has_turn, line_to, move_one, open_one};
-use crate::listed::{Listed, digest_of_key, digest_of_target};
+use crate::listed::Listed;
+use crate::peer::Peer;
 use crate::table::{AdmitError, Table};
 use crate::timer::Fire;
-use crate::turns::{Turns, endpoint_of, head_of};
+use crate::turns::{Turns, head_of, peer_of};
 use coap_endpoint::{Endpoint, Target};
 use coap_message::{OutOfMemory, Seq};
 use coap_store::{Answer, CacheKey, Stored};
@@ -35,7 +37,7 @@ pub struct Exchanges {
     /// How many are still to be sent.
     queued: usize,
     /// How many there are with each endpoint.
-    lines: BTreeMap<Endpoint, Line>,
+    lines: BTreeMap<Peer, Line>,
     /// What they are found by.
     index: Index,
     /// What tells whose turn it is.
@@ -216,10 +218,9 @@ impl Exchanges {
         if self.table.is_full() {
             return Err(AdmitError::Full);
         }
-        let at = key.target.at;
         let listed = Listed::new(Exchange::opened(key, is_get, form, copy, now));
-        let digest = listed.endpoint();
-        let head = head_of(&self.table, &self.index, &self.lines, Some(at), digest);
+        let at = listed.peer();
+        let head = head_of(&self.table, &self.index, &self.lines, &Some(at));
         let Ok(()) = self.turns.heads.make_room() else {
             return Err(AdmitError::OutOfMemory);
         };
@@ -231,7 +232,7 @@ impl Exchanges {
             Ok(number) => {
                 self.queued += 1;
                 self.index.pass(number, was, owners_at(&self.table, number));
-                let next = head_of(&self.table, &self.index, &self.lines, Some(at), digest);
+                let next = head_of(&self.table, &self.index, &self.lines, &Some(at));
                 self.turns.heads.replace(head, next);
                 self.turns.note(now);
                 Ok(number)
@@ -253,14 +254,14 @@ impl Exchanges {
             → self.new ≡ before }
     {
         let number = self.table.admitted();
-        let (at, digest) = endpoint_of(&self.table, number);
-        let head = head_of(&self.table, &self.index, &self.lines, at, digest);
+        let at = peer_of(&self.table, number);
+        let head = head_of(&self.table, &self.index, &self.lines, &at);
         self.queued = queued_without(self.queued, &self.table, number);
         leave(&mut self.lines, &self.table, number);
         let was = owners_at(&self.table, number);
         self.table.withdraw();
         self.index.pass(number, was, owners_at(&self.table, number));
-        let next = head_of(&self.table, &self.index, &self.lines, at, digest);
+        let next = head_of(&self.table, &self.index, &self.lines, &at);
         self.turns.heads.replace(head, next);
     }
 
@@ -268,14 +269,14 @@ impl Exchanges {
     pub fn close(&mut self, number: u64)
         ensures closed { self.new ≡ record self.old { items = without number self.old.items } }
     {
-        let (at, digest) = endpoint_of(&self.table, number);
-        let head = head_of(&self.table, &self.index, &self.lines, at, digest);
+        let at = peer_of(&self.table, number);
+        let head = head_of(&self.table, &self.index, &self.lines, &at);
         self.queued = queued_without(self.queued, &self.table, number);
         leave(&mut self.lines, &self.table, number);
         let was = owners_at(&self.table, number);
         self.table.close(number);
         self.index.pass(number, was, owners_at(&self.table, number));
-        let next = head_of(&self.table, &self.index, &self.lines, at, digest);
+        let next = head_of(&self.table, &self.index, &self.lines, &at);
         self.turns.heads.replace(head, next);
     }
 
@@ -344,14 +345,14 @@ impl Exchanges {
         ensures { self.new
             ≡ record self.old { items = changed_at number (changed_by change) self.old.items } }
     {
-        let (at, digest) = endpoint_of(&self.table, number);
-        let head = head_of(&self.table, &self.index, &self.lines, at, digest);
+        let at = peer_of(&self.table, number);
+        let head = head_of(&self.table, &self.index, &self.lines, &at);
         self.queued = queued_without(self.queued, &self.table, number);
         recount(&mut self.lines, &self.table, number, &change);
         let was = owners_at(&self.table, number);
         self.table.change(number, change);
         self.index.pass(number, was, owners_at(&self.table, number));
-        let next = head_of(&self.table, &self.index, &self.lines, at, digest);
+        let next = head_of(&self.table, &self.index, &self.lines, &at);
         self.turns.heads.replace(head, next);
     }
 }
@@ -379,7 +380,7 @@ impl Table<Listed> {
 /// where they weren't admitted in order.
 fn first_turn(
     exchanges: &Table<Listed>,
-    lines: &BTreeMap<Endpoint, Line>,
+    lines: &BTreeMap<Peer, Line>,
     queued: usize,
     turns: &Turns,
     nstart: usize,
@@ -414,7 +415,7 @@ fn first_in_order(exchanges: &Table<Listed>, turns: &Turns, nstart: usize) -> Op
 /// only where it is the turn of one.
 fn first_of_all(
     exchanges: &Table<Listed>,
-    lines: &BTreeMap<Endpoint, Line>,
+    lines: &BTreeMap<Peer, Line>,
     queued: usize,
     nstart: usize,
 ) -> Option<(u64, u64)>
@@ -431,13 +432,13 @@ fn first_of_all(
 }
 
 impl Table<Listed> {
-    fn first_turn(&self, lines: &BTreeMap<Endpoint, Line>, nstart: usize) -> Option<(u64, u64)>
+    fn first_turn(&self, lines: &BTreeMap<Peer, Line>, nstart: usize) -> Option<(u64, u64)>
         requires lined { AreLined self.now.items lines.now }
         ensures exact { result ≡ first_due (turn_among nstart self.now.items) self.now.items }
     {
         let mut first = None;
         for (number, listed) in self.items.iter() {
-            let turn = self.turn_at(lines, *number, listed.exchange(), nstart);
+            let turn = self.turn_at(lines, *number, listed, nstart);
             first = sooner(first, turn);
         }
         first
@@ -446,16 +447,17 @@ impl Table<Listed> {
     /// When it is the turn of an exchange of the table, under its number.
     fn turn_at(
         &self,
-        lines: &BTreeMap<Endpoint, Line>,
+        lines: &BTreeMap<Peer, Line>,
         number: u64,
-        exchange: &Exchange,
+        listed: &Listed,
         nstart: usize,
     ) -> Option<(u64, u64)>
         requires lined { AreLined self.now.items lines.now }
         ensures exact { result
-            ≡ due_row (turn_among nstart self.now.items) (number, exchange.now) }
+            ≡ due_row (turn_among nstart self.now.items) (number, listed.now) }
     {
-        if exchange.is_queued() && line_to(lines, exchange.key.target.at).sent < nstart {
+        let exchange = listed.exchange();
+        if exchange.is_queued() && line_to(lines, listed.peer()).sent < nstart {
             Some((exchange.admitted, number))
         } else {
             None
@@ -534,7 +536,7 @@ fn queued_without(queued: usize, exchanges: &Table<Listed>, number: u64) -> usiz
 }
 
 /// The exchange of this number is counted no more for its endpoint.
-fn leave(lines: &mut BTreeMap<Endpoint, Line>, exchanges: &Table<Listed>, number: u64)
+fn leave(lines: &mut BTreeMap<Peer, Line>, exchanges: &Table<Listed>, number: u64)
     requires { AreLined exchanges.now.items lines.old }
     ensures all { (e : Endpoint)
         → open_in lines.new e
@@ -549,16 +551,15 @@ fn leave(lines: &mut BTreeMap<Endpoint, Line>, exchanges: &Table<Listed>, number
         + (if passes (is_queued_to e) (item_at number exchanges.now.items) then 1 else 0)
         ≡ queued_in lines.old e }
 {
-    let _few = exchanges.len();
-    if let Some(exchange) = exchanges.exchange(number) {
-        close_one(lines, exchange.key.target.at, exchange.stage());
+    if let Some(listed) = exchanges.get(number) {
+        close_one(lines, listed.peer(), listed.stage());
     }
 }
 
 /// The exchange of this number is counted for its endpoint by what it is after a change, when it
 /// waits for its turn no more.
 fn recount(
-    lines: &mut BTreeMap<Endpoint, Line>,
+    lines: &mut BTreeMap<Peer, Line>,
     exchanges: &Table<Listed>,
     number: u64,
     change: &Change,
@@ -577,12 +578,12 @@ fn recount(
         ≡ queued_in lines.old e }
 {
     let _few = exchanges.len();
-    if let Some(exchange) = exchanges.exchange(number) {
-        let was = exchange.stage();
+    if let Some(listed) = exchanges.get(number) {
+        let was = listed.stage();
         let is = Stage {
             sent: change.sends(was.sent),
             queued: false,
         };
-        move_one(lines, exchange.key.target.at, was, is);
+        move_one(lines, listed.peer(), was, is);
     }
 }

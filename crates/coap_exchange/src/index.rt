@@ -214,7 +214,7 @@ fn queue_of(listed: &Listed) -> Option<u64>
 {
     let exchange = listed.exchange();
     if exchange.is_queued() {
-        Some(listed.endpoint())
+        Some(listed.peer().digest())
     } else {
         None
     }

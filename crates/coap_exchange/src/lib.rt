@@ -2,6 +2,7 @@
 //! 5.2).
 #![tactic(auto)]
 
+mod digests;
 mod due;
 pub mod examples;
 mod exchange;
@@ -12,6 +13,7 @@ pub mod laws;
 mod lines;
 mod listed;
 mod marks;
+mod peer;
 mod roll;
 mod row;
 mod table;

@@ -1,15 +1,16 @@
 //! Exchanges with the digests by which they are found.
 ghost use Rattle.std.specs.Prelude.{◌≡◌};
 ghost use Rattle.std.specs.Option.{option_copied};
-ghost use Rattle.coap_exchange.specs.Exchanges.{changed_by, tainted_by, CanChange};
-ghost use Rattle.coap_exchange.specs.Index.{digest_of_endpoint, digest_of_key, digest_of_target};
+ghost use Rattle.coap_exchange.specs.Digests.{digest_of_key, digest_of_target};
+ghost use Rattle.coap_exchange.specs.Exchanges.{changed_by, is_queued, is_sent, tainted_by, CanChange};
 ghost use Rattle.coap_exchange.specs.Table.{item_at, IsTable};
 
+use crate::digests::{digest_of_key, digest_of_target};
 use crate::exchange::{Change, Exchange};
+use crate::lines::Stage;
+use crate::peer::Peer;
 use crate::table::Table;
-use coap_endpoint::{Endpoint, Target};
-use coap_store::CacheKey;
-use std::hash::{DefaultHasher, Hash, Hasher};
+use coap_endpoint::Target;
 use std::marker::Model;
 
 /// An exchange, and the digests of what it is found by, which are computed once, when it is opened.
@@ -17,7 +18,7 @@ use std::marker::Model;
 #[derive(Drop)]
 pub(crate) struct Listed {
     exchange: Exchange,
-    endpoint: u64,
+    peer: Peer,
     key: u64,
     target: u64,
 }
@@ -25,14 +26,14 @@ pub(crate) struct Listed {
 impl Model for Listed {
     ghost use Rattle.std.specs.Prelude.{◌≡◌};
     ghost use Rattle.coap_exchange.specs.declared.exchange.Exchange.{Exchange};
-    ghost use Rattle.coap_exchange.specs.Index.{digest_of_endpoint, digest_of_key, digest_of_target};
+    ghost use Rattle.coap_exchange.specs.Digests.{digest_of_key, digest_of_target};
 
     ghost Value = { Exchange };
 
     ghost view = { λ l. l.exchange };
 
     ghost invariant = { λ l.
-        (l.endpoint ≡ digest_of_endpoint l.exchange.key.target.at)
+        (l.peer ≡ l.exchange.key.target.at)
         × (l.key ≡ digest_of_key l.exchange.key)
         × (l.target ≡ digest_of_target l.exchange.key.target) };
 }
@@ -42,12 +43,12 @@ impl Listed {
     pub(crate) fn new(exchange: Exchange) -> Listed
         ensures exact { result ≡ exchange }
     {
-        let endpoint = digest_of_endpoint(&exchange.key.target.at);
+        let peer = Peer::new(exchange.key.target.at);
         let key = digest_of_key(&exchange.key);
         let target = digest_of_target(&exchange.key.target);
         Listed {
             exchange,
-            endpoint,
+            peer,
             key,
             target,
         }
@@ -60,11 +61,19 @@ impl Listed {
         &self.exchange
     }
 
-    /// The digest of its endpoint.
-    pub(crate) fn endpoint(&self) -> u64
-        ensures exact { result ≡ digest_of_endpoint self.now.key.target.at }
+    /// Its endpoint.
+    pub(crate) fn peer(&self) -> Peer
+        ensures exact { result ≡ self.now.key.target.at }
     {
-        self.endpoint
+        self.peer
+    }
+
+    /// What of it is counted for its endpoint.
+    pub(crate) fn stage(&self) -> Stage
+        ensures sent { result.sent ≡ is_sent self.now }
+        ensures queued { result.queued ≡ is_queued self.now }
+    {
+        self.exchange.stage()
     }
 
     /// The digest of its cache key.
@@ -108,31 +117,4 @@ impl Table<Listed> {
             None => None,
         }
     }
-}
-
-/// The digest of an endpoint. Equal endpoints have equal digests.
-pub(crate) fn digest_of_endpoint(at: &Endpoint) -> u64
-    ensures exact { result ≡ digest_of_endpoint at.now }
-{
-    let mut hasher = DefaultHasher::new();
-    at.hash(&mut hasher);
-    hasher.finish()
-}
-
-/// The digest of a cache key. Equal keys have equal digests.
-pub(crate) fn digest_of_key(key: &CacheKey) -> u64
-    ensures exact { result ≡ digest_of_key key.now }
-{
-    let mut hasher = DefaultHasher::new();
-    key.hash(&mut hasher);
-    hasher.finish()
-}
-
-/// The digest of a target. Equal targets have equal digests.
-pub(crate) fn digest_of_target(target: &Target) -> u64
-    ensures exact { result ≡ digest_of_target target.now }
-{
-    let mut hasher = DefaultHasher::new();
-    target.hash(&mut hasher);
-    hasher.finish()
 }

@@ -1,6 +1,6 @@
 //! Whose turn it is to be sent.
 ghost use Rattle.std.specs.Prelude.{◌≡◌, ◌+◌, ◌<◌, ◌≤◌, [], true, length, IfOk, IfSome, OnOk, OnErr};
-ghost use Rattle.coap_exchange.specs.Index.{digest_of_endpoint, AreIndexed};
+ghost use Rattle.coap_exchange.specs.Index.{AreIndexed};
 ghost use Rattle.coap_exchange.specs.Lines.{AreLined};
 ghost use Rattle.coap_exchange.specs.Table.{item_at};
 ghost use Rattle.coap_exchange.specs.Turns.{endpoint_in, head_in, lower, noted, AreTurns, IsLowestUnder};
@@ -8,9 +8,9 @@ ghost use Rattle.coap_exchange.specs.Turns.{endpoint_in, head_in, lower, noted, 
 use crate::index::{Index, Sought, first_sought};
 use crate::lines::{Line, line_to};
 use crate::listed::Listed;
+use crate::peer::Peer;
 use crate::roll::Roll;
 use crate::table::Table;
-use coap_endpoint::Endpoint;
 use coap_message::OutOfMemory;
 use std::alloc::Global;
 use std::collections::BTreeMap;
@@ -75,32 +75,32 @@ fn lower(first: Option<u64>, number: u64) -> Option<u64>
     }
 }
 
-/// The endpoint of the exchange of this number, and its digest.
-pub(crate) fn endpoint_of(exchanges: &Table<Listed>, number: u64) -> (Option<Endpoint>, u64)
-    ensures at { result.0 ≡ endpoint_in (item_at number exchanges.now.items) }
-    ensures digest { IfSome result.0 (λ at. result.1 ≡ digest_of_endpoint at) }
+/// The endpoint of the exchange of this number.
+pub(crate) fn peer_of(exchanges: &Table<Listed>, number: u64) -> Option<Peer>
+    ensures exact { result ≡ endpoint_in (item_at number exchanges.now.items) }
 {
     match exchanges.get(number) {
-        Some(listed) => (Some(listed.exchange().key.target.at), listed.endpoint()),
-        None => (None, 0),
+        Some(listed) => Some(listed.peer()),
+        None => None,
     }
 }
 
-/// How many are sent to an endpoint, which has this digest, and the first that waits for its turn
+/// How many are sent to an endpoint, and the first that waits for its turn
 /// with it, if one does.
 pub(crate) fn head_of(
     exchanges: &Table<Listed>,
     index: &Index,
-    lines: &BTreeMap<Endpoint, Line>,
-    at: Option<Endpoint>,
-    digest: u64,
+    lines: &BTreeMap<Peer, Line>,
+    at: &Option<Peer>,
 ) -> Option<(u64, u64)>
-    requires digest { IfSome at (λ e. digest ≡ digest_of_endpoint e) }
     requires indexed { AreIndexed exchanges.now.items exchanges.now.limit index.now }
     requires lined { AreLined exchanges.now.items lines.now }
-    ensures exact { result ≡ head_in exchanges.now.items at }
+    ensures exact { result ≡ head_in exchanges.now.items at.now }
 {
-    let at = at?;
-    let number = first_sought(exchanges, &index.queues, digest, &Sought::Queued(at))?;
-    Some((line_to(lines, at).sent as u64, number))
+    let Some(at) = at else {
+        return None;
+    };
+    let sought = Sought::Queued(at.endpoint());
+    let number = first_sought(exchanges, &index.queues, at.digest(), &sought)?;
+    Some((line_to(lines, *at).sent as u64, number))
 }

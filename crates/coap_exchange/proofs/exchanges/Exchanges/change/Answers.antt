@@ -41,7 +41,7 @@ replace-requires-clause-free c =
     let is = c.queued_without-self-inside.ensures.sound in
     let n = c.args.number in
     let f = changed_by c.args.change in
-    rw (c.head_of-head.ensures.exact, c.head_of-next.ensures.exact, c.endpoint_of-at.ensures.at, c.change.ensures)
+    rw (c.head_of-head.ensures.exact, c.head_of-next.ensures.exact, c.peer_of-at.ensures.exact, c.change.ensures)
     (turns-free n c.self.inside.table.items (changed_at n f c.self.inside.table.items) (endpoint_in (item_at n c.self.inside.table.items)) (moves-changed n f c.self.inside.table is) is.rising (changed_at-is n f c.self.inside.table is).rising (at-its (item_at n c.self.inside.table.items)) (at-changed n f c.self.inside.table.items (endpoint-after c.args.change)) c.self.inside.turns c.self.invariant.3)
 
 pub replace-requires-clause-room : goal.replace-requires-clause-room
@@ -51,7 +51,7 @@ replace-requires-clause-room c =
     let is = c.queued_without-self-inside.ensures.sound in
     let n = c.args.number in
     let f = changed_by c.args.change in
-    rw (c.head_of-head.ensures.exact, c.head_of-next.ensures.exact, c.endpoint_of-at.ensures.at, c.change.ensures)
+    rw (c.head_of-head.ensures.exact, c.head_of-next.ensures.exact, c.peer_of-at.ensures.exact, c.change.ensures)
     (turns-room n c.self.inside.table.items (changed_at n f c.self.inside.table.items) (endpoint_in (item_at n c.self.inside.table.items)) (moves-changed n f c.self.inside.table is) is.rising (changed_at-is n f c.self.inside.table is).rising (at-its (item_at n c.self.inside.table.items)) (at-changed n f c.self.inside.table.items (endpoint-after c.args.change)) c.self.inside.turns c.self.invariant.3 (changed-off n f c.self.inside.table.items off))
 
 pub invariant_of-self : goal.invariant_of-self
@@ -62,8 +62,8 @@ invariant_of-self c =
     let is = c.queued_without-self-inside.ensures.sound in
     let n = c.args.number in
     let f = changed_by c.args.change in
-    let len = rw (c.head_of-head.ensures.exact, c.head_of-next.ensures.exact, c.endpoint_of-at.ensures.at, c.change.ensures) at c.replace.ensures.length in
-    let replaced = rw (c.head_of-head.ensures.exact, c.head_of-next.ensures.exact, c.endpoint_of-at.ensures.at, c.change.ensures) at c.replace.ensures.replaced in
+    let len = rw (c.head_of-head.ensures.exact, c.head_of-next.ensures.exact, c.peer_of-at.ensures.exact, c.change.ensures) at c.replace.ensures.length in
+    let replaced = rw (c.head_of-head.ensures.exact, c.head_of-next.ensures.exact, c.peer_of-at.ensures.exact, c.change.ensures) at c.replace.ensures.replaced in
     rw c.change.ensures (
       exchanges-changed c.args.number c.args.change c.self.inside.table.items c.self.inside.queued c.queued_without-self-inside.result c.self.inside.table refl is c.self.invariant.0 c.requires.timely off c.queued_without-self-inside.ensures.fewer,
       lined-changed c.args.number c.args.change c.self.inside.table c.self.inside.lines c.recount.new.lines is c.self.invariant.1 c.recount.ensures.all c.recount.ensures.sent off c.recount.ensures.queued,

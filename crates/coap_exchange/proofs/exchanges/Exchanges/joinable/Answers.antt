@@ -1,5 +1,6 @@
 use Rattle.coap_exchange.specs.Exchanges.{is_joinable}
-use Rattle.coap_exchange.specs.Index.{digest_of_key, key_of}
+use Rattle.coap_exchange.specs.Digests.{digest_of_key}
+use Rattle.coap_exchange.specs.Index.{key_of}
 use Rattle.coap_exchange.proofs.Seeking.{joinable-by-key, owner-listed}
 use Rattle.coap_exchange.proofs.exchanges.Exchanges.joinable.Goals as goal
 

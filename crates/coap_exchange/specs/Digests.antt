@@ -1,0 +1,27 @@
+-- Digests, by which exchanges are found.
+use Rattle.std.specs.Prelude.{ℕ}
+use Rattle.std.specs.Hash.{HashWrites}
+use Rattle.std.specs.Hash.DefaultHasher as sip
+use Rattle.std.specs.List.{fold}
+use Rattle.coap_store.specs.contracts.key.CacheKeyHash.TheImpl as keys
+use Rattle.coap_store.specs.declared.key.CacheKey.{CacheKey}
+use Rattle.coap_endpoint.specs.contracts.endpoint.EndpointHash.TheImpl as endpoints
+use Rattle.coap_endpoint.specs.contracts.target.TargetHash.TheImpl as targets
+use Rattle.coap_endpoint.specs.declared.endpoint.Endpoint.{Endpoint}
+use Rattle.coap_endpoint.specs.declared.target.Target.{Target}
+
+-- what a hasher makes of what is written into it
+abbrev pub digest_of : HashWrites → ℕ
+digest_of writes = sip.finish (fold sip.write sip.initial writes)
+
+-- the digest of a cache key
+abbrev pub digest_of_key : CacheKey → ℕ
+digest_of_key key = digest_of ((keys.ghosts).hash_input key)
+
+-- of a target
+abbrev pub digest_of_target : Target → ℕ
+digest_of_target target = digest_of ((targets.ghosts).hash_input target)
+
+-- and of an endpoint
+abbrev pub digest_of_endpoint : Endpoint → ℕ
+digest_of_endpoint at = digest_of ((endpoints.ghosts).hash_input at)

@@ -1,0 +1,34 @@
+//! Digests, by which exchanges are found.
+ghost use Rattle.std.specs.Prelude.{◌≡◌};
+ghost use Rattle.coap_exchange.specs.Digests.{digest_of_endpoint, digest_of_key, digest_of_target};
+
+use coap_endpoint::{Endpoint, Target};
+use coap_store::CacheKey;
+use std::hash::{DefaultHasher, Hash, Hasher};
+
+/// The digest of an endpoint. Equal endpoints have equal digests.
+pub(crate) fn digest_of_endpoint(at: &Endpoint) -> u64
+    ensures exact { result ≡ digest_of_endpoint at.now }
+{
+    let mut hasher = DefaultHasher::new();
+    at.hash(&mut hasher);
+    hasher.finish()
+}
+
+/// The digest of a cache key. Equal keys have equal digests.
+pub(crate) fn digest_of_key(key: &CacheKey) -> u64
+    ensures exact { result ≡ digest_of_key key.now }
+{
+    let mut hasher = DefaultHasher::new();
+    key.hash(&mut hasher);
+    hasher.finish()
+}
+
+/// The digest of a target. Equal targets have equal digests.
+pub(crate) fn digest_of_target(target: &Target) -> u64
+    ensures exact { result ≡ digest_of_target target.now }
+{
+    let mut hasher = DefaultHasher::new();
+    target.hash(&mut hasher);
+    hasher.finish()
+}
