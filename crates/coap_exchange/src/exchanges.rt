@@ -17,8 +17,8 @@ ghost use Rattle.coap_exchange.specs.Turns.{AreTurns};
 use crate::digests::{digest_of_key, digest_of_target};
 use crate::due::{later, sooner};
 use crate::exchange::{Change, Exchange, Sending};
-use crate::index::{Index, Sought, first_sought, owners_at};
-use crate::lines::{Line, Stage, close_one, has_turn, line_to, move_one, open_one};
+use crate::index::{Index, Sought, first_sought, owners_at, owners_in};
+use crate::lines::{Line, Stage, close_one, has_turn, line_to, lowered, move_one, open_one};
 use crate::listed::Listed;
 use crate::peer::Peer;
 use crate::table::{AdmitError, Table};
@@ -254,11 +254,13 @@ impl Exchanges {
             → self.new ≡ before }
     {
         let number = self.table.admitted();
-        let at = peer_of(&self.table, number);
+        let found = self.table.get(number);
+        let at = peer_of(found);
         let head = head_of(&self.table, &self.index, &self.lines, &at);
-        self.queued = queued_without(self.queued, &self.table, number);
-        leave(&mut self.lines, &self.table, number);
-        let was = owners_at(&self.table, number);
+        let queued = queued_without(self.queued, &self.table, number, found);
+        leave(&mut self.lines, &self.table, number, found);
+        let was = owners_in(found);
+        self.queued = queued;
         self.table.withdraw();
         self.index.pass(number, was, owners_at(&self.table, number));
         let next = head_of(&self.table, &self.index, &self.lines, &at);
@@ -269,11 +271,13 @@ impl Exchanges {
     pub fn close(&mut self, number: u64)
         ensures closed { self.new ≡ record self.old { items = without number self.old.items } }
     {
-        let at = peer_of(&self.table, number);
+        let found = self.table.get(number);
+        let at = peer_of(found);
         let head = head_of(&self.table, &self.index, &self.lines, &at);
-        self.queued = queued_without(self.queued, &self.table, number);
-        leave(&mut self.lines, &self.table, number);
-        let was = owners_at(&self.table, number);
+        let queued = queued_without(self.queued, &self.table, number, found);
+        leave(&mut self.lines, &self.table, number, found);
+        let was = owners_in(found);
+        self.queued = queued;
         self.table.close(number);
         self.index.pass(number, was, owners_at(&self.table, number));
         let next = head_of(&self.table, &self.index, &self.lines, &at);
@@ -345,11 +349,13 @@ impl Exchanges {
         ensures { self.new
             ≡ record self.old { items = changed_at number (changed_by change) self.old.items } }
     {
-        let at = peer_of(&self.table, number);
+        let found = self.table.get(number);
+        let at = peer_of(found);
         let head = head_of(&self.table, &self.index, &self.lines, &at);
-        self.queued = queued_without(self.queued, &self.table, number);
-        recount(&mut self.lines, &self.table, number, &change);
-        let was = owners_at(&self.table, number);
+        let queued = queued_without(self.queued, &self.table, number, found);
+        recount(&mut self.lines, &self.table, number, found, &change);
+        let was = owners_in(found);
+        self.queued = queued;
         self.table.change(number, change);
         self.index.pass(number, was, owners_at(&self.table, number));
         let next = head_of(&self.table, &self.index, &self.lines, &at);
@@ -522,22 +528,35 @@ fn taint_one(exchanges: &mut Table<Listed>, index: &mut Index, number: u64, targ
 }
 
 /// How many are still to be sent, once the exchange of this number no longer is.
-fn queued_without(queued: usize, exchanges: &Table<Listed>, number: u64) -> usize
-    requires { queued ≡ count is_queued exchanges.now.items }
+fn queued_without(
+    queued: usize,
+    exchanges: &Table<Listed>,
+    number: u64,
+    found: Option<&Listed>,
+) -> usize
+    requires queued { queued ≡ count is_queued exchanges.now.items }
+    requires found { option_copied found ≡ item_at number exchanges.now.items }
     ensures fewer { result
         + (if passes is_queued (item_at number exchanges.now.items) then 1 else 0)
         ≡ queued }
     ensures sound { IsTable exchanges.now }
 {
-    match exchanges.exchange(number) {
-        Some(exchange) if exchange.is_queued() => queued - 1,
-        _ => queued,
+    let _sound = exchanges.is_full();
+    match found {
+        Some(listed) => lowered(queued, listed.stage().queued),
+        None => queued,
     }
 }
 
 /// The exchange of this number is counted no more for its endpoint.
-fn leave(lines: &mut BTreeMap<Peer, Line>, exchanges: &Table<Listed>, number: u64)
-    requires { AreLined exchanges.now.items lines.old }
+fn leave(
+    lines: &mut BTreeMap<Peer, Line>,
+    exchanges: &Table<Listed>,
+    number: u64,
+    found: Option<&Listed>,
+)
+    requires lined { AreLined exchanges.now.items lines.old }
+    requires found { option_copied found ≡ item_at number exchanges.now.items }
     ensures all { (e : Endpoint)
         → open_in lines.new e
         + (if passes (is_with e) (item_at number exchanges.now.items) then 1 else 0)
@@ -551,7 +570,8 @@ fn leave(lines: &mut BTreeMap<Peer, Line>, exchanges: &Table<Listed>, number: u6
         + (if passes (is_queued_to e) (item_at number exchanges.now.items) then 1 else 0)
         ≡ queued_in lines.old e }
 {
-    if let Some(listed) = exchanges.get(number) {
+    let _sound = exchanges.is_full();
+    if let Some(listed) = found {
         close_one(lines, listed.peer(), listed.stage());
     }
 }
@@ -562,9 +582,11 @@ fn recount(
     lines: &mut BTreeMap<Peer, Line>,
     exchanges: &Table<Listed>,
     number: u64,
+    found: Option<&Listed>,
     change: &Change,
 )
-    requires { AreLined exchanges.now.items lines.old }
+    requires lined { AreLined exchanges.now.items lines.old }
+    requires found { option_copied found ≡ item_at number exchanges.now.items }
     ensures all { (e : Endpoint) → open_in lines.new e ≡ open_in lines.old e }
     ensures sent { (e : Endpoint)
         → sent_in lines.new e
@@ -577,8 +599,8 @@ fn recount(
         + (if passes (is_queued_to e) (item_at number exchanges.now.items) then 1 else 0)
         ≡ queued_in lines.old e }
 {
-    let _few = exchanges.len();
-    if let Some(listed) = exchanges.get(number) {
+    let (_few, _sound) = (exchanges.len(), exchanges.is_full());
+    if let Some(listed) = found {
         let was = listed.stage();
         let is = Stage {
             sent: change.sends(was.sent),

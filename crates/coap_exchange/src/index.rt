@@ -1,5 +1,6 @@
 //! What exchanges are found by, so that none is searched for among all.
 ghost use Rattle.std.specs.Prelude.{◌≡◌, Some, IfOk};
+ghost use Rattle.std.specs.Option.{option_copied};
 ghost use Rattle.coap_exchange.specs.Index.{queue_of, end_of, got_of, id_of, key_of, target_of, is_met, opening_of, owners_at, AreListed, CanPassAll, HavePassed};
 ghost use Rattle.coap_exchange.specs.Roll.{empty_roll};
 ghost use Rattle.coap_exchange.specs.Table.{first_that, item_at, passes, IsRising, IsTable};
@@ -111,7 +112,14 @@ pub(crate) fn owners_at(exchanges: &Table<Listed>, number: u64) -> Owners
     ensures exact { result ≡ owners_at (item_at number exchanges.now.items) }
     ensures sound { IsTable exchanges.now }
 {
-    match exchanges.get(number) {
+    owners_in(exchanges.get(number))
+}
+
+/// What an exchange is found by, if there is one.
+pub(crate) fn owners_in(found: Option<&Listed>) -> Owners
+    ensures exact { result ≡ owners_at (option_copied found.entry) }
+{
+    match found {
         Some(listed) => owners_of(listed),
         None => Owners {
             id: None,

@@ -1,8 +1,8 @@
 //! Whose turn it is to be sent.
 ghost use Rattle.std.specs.Prelude.{◌≡◌, ◌+◌, ◌<◌, ◌≤◌, [], true, length, IfOk, IfSome, OnOk, OnErr};
+ghost use Rattle.std.specs.Option.{option_copied};
 ghost use Rattle.coap_exchange.specs.Index.{AreIndexed};
 ghost use Rattle.coap_exchange.specs.Lines.{AreLined};
-ghost use Rattle.coap_exchange.specs.Table.{item_at};
 ghost use Rattle.coap_exchange.specs.Turns.{endpoint_in, head_in, lower, noted, AreTurns, IsLowestUnder};
 
 use crate::index::{Index, Sought, first_sought};
@@ -75,11 +75,11 @@ fn lower(first: Option<u64>, number: u64) -> Option<u64>
     }
 }
 
-/// The endpoint of the exchange of this number.
-pub(crate) fn peer_of(exchanges: &Table<Listed>, number: u64) -> Option<Peer>
-    ensures exact { result ≡ endpoint_in (item_at number exchanges.now.items) }
+/// The endpoint of an exchange, if there is one.
+pub(crate) fn peer_of(found: Option<&Listed>) -> Option<Peer>
+    ensures exact { result ≡ endpoint_in (option_copied found.entry) }
 {
-    match exchanges.get(number) {
+    match found {
         Some(listed) => Some(listed.peer()),
         None => None,
     }

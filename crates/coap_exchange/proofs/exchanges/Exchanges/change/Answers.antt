@@ -19,53 +19,53 @@ change-requires c =
 
 pub pass-requires : goal.pass-requires
 pass-requires c =
-    let is = c.queued_without-self-inside.ensures.sound in
-    rw (c.owners_at-was.ensures.exact, c.owners_at.ensures.exact, c.change.ensures)
+    let is = c.get-found.ensures.sound in
+    rw (c.owners_in-was.ensures.exact, c.get-found.ensures.exact, c.owners_at.ensures.exact, c.change.ensures)
     (all-can-pass c.args.number c.self.inside.table.limit c.self.inside.table.items _ c.self.inside.index (moves-changed c.args.number (changed_by c.args.change) c.self.inside.table is) (changed_at-is c.args.number (changed_by c.args.change) c.self.inside.table is).within c.self.invariant.2)
 
 pub head_of-next-requires-clause-indexed : goal.head_of-next-requires-clause-indexed
 head_of-next-requires-clause-indexed c =
-    let is = c.queued_without-self-inside.ensures.sound in
-    let passed = rw (c.owners_at-was.ensures.exact, c.owners_at.ensures.exact, c.change.ensures) at c.pass.ensures.exact in
+    let is = c.get-found.ensures.sound in
+    let passed = rw (c.owners_in-was.ensures.exact, c.get-found.ensures.exact, c.owners_at.ensures.exact, c.change.ensures) at c.pass.ensures.exact in
     rw c.change.ensures (all-have-passed c.args.number c.self.inside.table.limit c.self.inside.table.items _ c.self.inside.index c.pass.new.self (moves-changed c.args.number (changed_by c.args.change) c.self.inside.table is) c.self.invariant.2 passed (changed_at-is c.args.number (changed_by c.args.change) c.self.inside.table is).rising)
 
 pub head_of-next-requires-clause-lined : goal.head_of-next-requires-clause-lined
 head_of-next-requires-clause-lined c =
     let off : IfSome (item_at c.args.number c.self.inside.table.items) (λ x. is_queued (changed_by c.args.change x) ≡ false) =
     subst (λ (t : Table Exchange). IfSome (item_at c.args.number t.items) (λ x. is_queued (changed_by c.args.change x) ≡ false)) (sym c.self.view_is) c.requires.queued in
-    let is = c.queued_without-self-inside.ensures.sound in
+    let is = c.get-found.ensures.sound in
     rw c.change.ensures (lined-changed c.args.number c.args.change c.self.inside.table c.self.inside.lines c.recount.new.lines is c.self.invariant.1 c.recount.ensures.all c.recount.ensures.sent off c.recount.ensures.queued)
 
 pub replace-requires-clause-free : goal.replace-requires-clause-free
 replace-requires-clause-free c =
-    let is = c.queued_without-self-inside.ensures.sound in
+    let is = c.get-found.ensures.sound in
     let n = c.args.number in
     let f = changed_by c.args.change in
-    rw (c.head_of-head.ensures.exact, c.head_of-next.ensures.exact, c.peer_of-at.ensures.exact, c.change.ensures)
+    rw (c.head_of-head.ensures.exact, c.head_of-next.ensures.exact, c.peer_of-at.ensures.exact, c.get-found.ensures.exact, c.change.ensures)
     (turns-free n c.self.inside.table.items (changed_at n f c.self.inside.table.items) (endpoint_in (item_at n c.self.inside.table.items)) (moves-changed n f c.self.inside.table is) is.rising (changed_at-is n f c.self.inside.table is).rising (at-its (item_at n c.self.inside.table.items)) (at-changed n f c.self.inside.table.items (endpoint-after c.args.change)) c.self.inside.turns c.self.invariant.3)
 
 pub replace-requires-clause-room : goal.replace-requires-clause-room
 replace-requires-clause-room c =
     let off : IfSome (item_at c.args.number c.self.inside.table.items) (λ x. is_queued (changed_by c.args.change x) ≡ false) =
     subst (λ (t : Table Exchange). IfSome (item_at c.args.number t.items) (λ x. is_queued (changed_by c.args.change x) ≡ false)) (sym c.self.view_is) c.requires.queued in
-    let is = c.queued_without-self-inside.ensures.sound in
+    let is = c.get-found.ensures.sound in
     let n = c.args.number in
     let f = changed_by c.args.change in
-    rw (c.head_of-head.ensures.exact, c.head_of-next.ensures.exact, c.peer_of-at.ensures.exact, c.change.ensures)
+    rw (c.head_of-head.ensures.exact, c.head_of-next.ensures.exact, c.peer_of-at.ensures.exact, c.get-found.ensures.exact, c.change.ensures)
     (turns-room n c.self.inside.table.items (changed_at n f c.self.inside.table.items) (endpoint_in (item_at n c.self.inside.table.items)) (moves-changed n f c.self.inside.table is) is.rising (changed_at-is n f c.self.inside.table is).rising (at-its (item_at n c.self.inside.table.items)) (at-changed n f c.self.inside.table.items (endpoint-after c.args.change)) c.self.inside.turns c.self.invariant.3 (changed-off n f c.self.inside.table.items off))
 
 pub invariant_of-self : goal.invariant_of-self
 invariant_of-self c =
     let off : IfSome (item_at c.args.number c.self.inside.table.items) (λ x. is_queued (changed_by c.args.change x) ≡ false) =
     subst (λ (t : Table Exchange). IfSome (item_at c.args.number t.items) (λ x. is_queued (changed_by c.args.change x) ≡ false)) (sym c.self.view_is) c.requires.queued in
-    let passed = rw (c.owners_at-was.ensures.exact, c.owners_at.ensures.exact, c.change.ensures) at c.pass.ensures.exact in
-    let is = c.queued_without-self-inside.ensures.sound in
+    let passed = rw (c.owners_in-was.ensures.exact, c.get-found.ensures.exact, c.owners_at.ensures.exact, c.change.ensures) at c.pass.ensures.exact in
+    let is = c.get-found.ensures.sound in
     let n = c.args.number in
     let f = changed_by c.args.change in
-    let len = rw (c.head_of-head.ensures.exact, c.head_of-next.ensures.exact, c.peer_of-at.ensures.exact, c.change.ensures) at c.replace.ensures.length in
-    let replaced = rw (c.head_of-head.ensures.exact, c.head_of-next.ensures.exact, c.peer_of-at.ensures.exact, c.change.ensures) at c.replace.ensures.replaced in
+    let len = rw (c.head_of-head.ensures.exact, c.head_of-next.ensures.exact, c.peer_of-at.ensures.exact, c.get-found.ensures.exact, c.change.ensures) at c.replace.ensures.length in
+    let replaced = rw (c.head_of-head.ensures.exact, c.head_of-next.ensures.exact, c.peer_of-at.ensures.exact, c.get-found.ensures.exact, c.change.ensures) at c.replace.ensures.replaced in
     rw c.change.ensures (
-      exchanges-changed c.args.number c.args.change c.self.inside.table.items c.self.inside.queued c.queued_without-self-inside.result c.self.inside.table refl is c.self.invariant.0 c.requires.timely off c.queued_without-self-inside.ensures.fewer,
+      exchanges-changed c.args.number c.args.change c.self.inside.table.items c.self.inside.queued c.queued_without-queued.result c.self.inside.table refl is c.self.invariant.0 c.requires.timely off c.queued_without-queued.ensures.fewer,
       lined-changed c.args.number c.args.change c.self.inside.table c.self.inside.lines c.recount.new.lines is c.self.invariant.1 c.recount.ensures.all c.recount.ensures.sent off c.recount.ensures.queued,
       all-have-passed c.args.number c.self.inside.table.limit c.self.inside.table.items _ c.self.inside.index c.pass.new.self (moves-changed c.args.number (changed_by c.args.change) c.self.inside.table is) c.self.invariant.2 passed (changed_at-is c.args.number (changed_by c.args.change) c.self.inside.table is).rising,
       turns-moved n c.self.inside.table.items (changed_at n f c.self.inside.table.items) (endpoint_in (item_at n c.self.inside.table.items)) (moves-changed n f c.self.inside.table is) is.rising (changed_at-is n f c.self.inside.table is).rising (at-its (item_at n c.self.inside.table.items)) (at-changed n f c.self.inside.table.items (endpoint-after c.args.change)) c.self.inside.turns c.self.invariant.3 (kept-changed n f c.self.inside.table.items (admitted-after c.args.change) (moves-changed n f c.self.inside.table is)) (changed-off n f c.self.inside.table.items off) c.replace.new.self c.replace.ensures.limit len replaced,
