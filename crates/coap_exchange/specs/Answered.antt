@@ -8,11 +8,11 @@ use Rattle.coap_exchange.specs.Roll.{Pair, is_owner}
 use Rattle.coap_exchange.specs.Table.{Numbered, item_at}
 use Rattle.coap_exchange.specs.Waiters.{exchange_of, moment_of}
 
--- the exchange for which it waits
+-- the exchange that it waits for
 abbrev pub awaited_of : Waiter → Option ℕ
 awaited_of w = exchange_of w.state
 
--- the moment at which the answer of the exchange of this number came
+-- the moment when the answer of exchange `number` came
 abbrev pub got_in : ℕ → List (Numbered Exchange) → Option ℕ
 got_in number exchanges = moment_of (answer_in number exchanges)
 
@@ -21,7 +21,7 @@ abbrev pub IsFirstGot : List (Numbered Exchange) → Option ℕ → Type 0
 IsFirstGot exchanges None = (e : ℕ) → got_in e exchanges ≡ None
 IsFirstGot exchanges (Some moment) = (e at : ℕ) → got_in e exchanges ≡ Some at → moment ≤ at
 
--- the least number above another of an exchange whose answer came at this moment
+-- the least number greater than `after` of an exchange whose answer came at this moment
 abbrev pub IsNextGot : ℕ → ℕ → List (Numbered Exchange) → Option ℕ → Type 0
 IsNextGot moment after exchanges None =
     (e : ℕ) → after < e → is_owner moment (got_in e exchanges) ≡ false
@@ -35,7 +35,7 @@ abbrev pub due_at : ℕ → Option ℕ → Option Pair
 due_at moment None = None
 due_at moment (Some number) = Some (moment, number)
 
--- this is due since an answer came at this moment, that of an exchange up to a number
+-- this is due because an answer came at this moment: that of an exchange numbered `last` or lower
 abbrev pub IsGotUpTo :
     List (Numbered Exchange) → ℕ → List (Numbered Waiter) → ℕ → Option Pair → Type 0
 IsGotUpTo exchanges moment waiters last x =
@@ -45,7 +45,7 @@ IsGotUpTo exchanges moment waiters last x =
     × (e ≤ last)
     × (x ≡ Some (moment, n))
 
--- the same of an exchange of any number
+-- the same for an exchange of any number
 abbrev pub IsGotAt : List (Numbered Exchange) → ℕ → List (Numbered Waiter) → Option Pair → Type 0
 IsGotAt exchanges moment waiters x =
     (n e : ℕ)

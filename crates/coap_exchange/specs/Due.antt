@@ -1,15 +1,15 @@
--- What is due: a moment, and the number of what is due then. And what of it is due first.
+-- What is due: a moment, with the number of the item that is due then; and which item is due first.
 use Rattle.std.specs.Prelude.{ℕ, ◌==◌, ◌&&◌, ◌||◌, Bool, nat_lt, if◌then◌else◌, List, [], ◌∷◌, map, Option, Some, None}
 use Rattle.coap_exchange.specs.Table.{Numbered}
 
--- it is due before the other: earlier, or at one moment under a lower number
+-- a is due before b: earlier, or at the same moment with a lower number
 abbrev pub is_before : ℕ × ℕ → ℕ × ℕ → Bool
 is_before a b = nat_lt a.0 b.0 || (a.0 == b.0 && nat_lt a.1 b.1)
 
 abbrev pub sooner_of : ℕ × ℕ → ℕ × ℕ → ℕ × ℕ
 sooner_of a b = if is_before b a then b else a
 
--- the sooner of two, if anything is due
+-- the sooner of two, if either is due
 abbrev pub sooner : Option (ℕ × ℕ) → Option (ℕ × ℕ) → Option (ℕ × ℕ)
 sooner None b = b
 sooner (Some a) None = Some a
@@ -24,10 +24,10 @@ abbrev pub as_due : ℕ → Option ℕ → Option (ℕ × ℕ)
 as_due number None = None
 as_due number (Some at) = Some (at, number)
 
--- what is due of a numbered item, by when an item is due
+-- when a numbered item is due, given a function for when an item is due
 abbrev pub due_row : {A : Type 0} → (A → Option ℕ) → Numbered A → Option (ℕ × ℕ)
 due_row due x = as_due x.0 (due x.1)
 
--- what is due first of the items of a table: the least by moment and number
+-- which item of a table is due first: the least by moment, then by number
 abbrev pub first_due : {A : Type 0} → (A → Option ℕ) → List (Numbered A) → Option (ℕ × ℕ)
 first_due due items = first_of (map (due_row due) items)

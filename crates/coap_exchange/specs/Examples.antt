@@ -1,4 +1,4 @@
--- Timers, ids and exchanges of the examples.
+-- Timers, ids and exchanges used in the examples.
 use Rattle.std.specs.Prelude.{ℕ, false, true, List, [], ◌∷◌, Option, Some, None}
 use Rattle.coap_store.specs.declared.key.CacheKey.{CacheKey}
 use Rattle.coap_exchange.specs.declared.exchange.Exchange.{Exchange}
@@ -8,7 +8,7 @@ use Rattle.coap_exchange.specs.declared.exchange.Sending.{Sending}
 use Rattle.coap_exchange.specs.declared.timer.Timer.{Timer}
 use Rattle.coap_exchange.specs.Timers.{started, fired}
 
--- the timer of a message whose sendings were at these moments, after the first at 0 with this draw
+-- the timer of a message first sent at 0 with this draw, and sent again at these moments
 abbrev pub timer_after : ℕ → List ℕ → Timer
 timer_after draw [] = started 0 draw
 timer_after draw (now ∷ before) = fired now (timer_after draw before)

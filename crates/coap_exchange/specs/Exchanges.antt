@@ -1,4 +1,4 @@
--- Exchanges: how far they have come, what happens to them, and when they are due.
+-- Exchanges: their states, how they change, and when they are due.
 use Rattle.std.specs.Prelude.{◌≡◌, ◌≤◌, ℕ, ◌+◌, ◌-◌, ◌^◌, ◌==◌, ◌&&◌, ◌||◌, min, Bool, true, false, not, nat_lt, nat_le, if◌then◌else◌, List, Option, Some, None, IfSome}
 use Rattle.std.specs.List.{AllByRecursion}
 use Rattle.coap_message.specs.Spelling.{with_id}
@@ -21,7 +21,7 @@ use Rattle.coap_exchange.specs.declared.exchange.Change.TheVariants as change
 use Rattle.coap_exchange.specs.Table.{Numbered, count, item_at}
 use Rattle.coap_exchange.specs.Timers.{fire_of, fired, IsShort}
 
--- ---- how far it has come
+-- ---- states
 
 abbrev pub is_queued_state : ExchangeState → Bool
 is_queued_state Queued = true
@@ -47,7 +47,7 @@ answer_in_state Sent = None
 answer_in_state Acked = None
 answer_in_state (Done a) = Some a
 
--- one that was just opened
+-- an exchange that was just opened
 abbrev pub opened : CacheKey → Bool → List ℕ → Option Stored → ℕ → Exchange
 opened key is_get form copy now =
     record {
@@ -61,7 +61,7 @@ opened key is_get form copy now =
       state = Queued;
     }
 
--- its request waits for its turn
+-- its request is waiting for its turn
 abbrev pub is_queued : Exchange → Bool
 is_queued x = is_queued_state x.state
 
@@ -84,9 +84,9 @@ is_missing (Some a) = false
 abbrev pub is_done : Exchange → Bool
 is_done x = not (is_missing (answer_at x))
 
--- ---- which one it is
+-- ---- which exchange it is
 
--- it is one of those that are sent to this endpoint (RFC 7252, 4.7)
+-- it counts as outstanding to this endpoint (RFC 7252, 4.7)
 abbrev pub is_sent_to : Endpoint → Exchange → Bool
 is_sent_to at x = is_sent x && same_endpoint x.key.target.at at
 
@@ -94,7 +94,7 @@ is_sent_to at x = is_sent x && same_endpoint x.key.target.at at
 abbrev pub is_joinable : CacheKey → Exchange → Bool
 is_joinable key x = x.is_get && (not x.tainted && (is_missing (answer_at x) && same_key x.key key))
 
--- the sending has this id, and was begun less than 247,000 ms ago
+-- the sending has this id and started less than 247,000 ms ago
 abbrev pub is_as : ℕ → ℕ → Sending → Bool
 is_as id now s = (s.id == id) && nat_lt (now - s.timer.started) 247000
 
@@ -106,11 +106,11 @@ is_some_as id now (Some s) = is_as id now s
 abbrev pub was_sent_as : Endpoint → ℕ → ℕ → Exchange → Bool
 was_sent_as at id now x = same_endpoint x.key.target.at at && is_some_as id now x.sending
 
--- a change of this target reaches its answer (RFC 7252, 5.9.1)
+-- a change of this target affects its answer (RFC 7252, 5.9.1)
 abbrev pub is_changed_with : Target → Exchange → Bool
 is_changed_with target x = (is_sent x || is_acked x) && same_target x.key.target target
 
--- the answer of the exchange of this number
+-- the answer of an exchange, if there is one
 abbrev pub answer_of : Option Exchange → Option Answer
 answer_of None = None
 answer_of (Some x) = answer_at x
@@ -118,9 +118,9 @@ answer_of (Some x) = answer_at x
 abbrev pub answer_in : ℕ → List (Numbered Exchange) → Option Answer
 answer_in number exchanges = answer_of (item_at number exchanges)
 
--- ---- what happens to it
+-- ---- changes
 
--- its request is sent, and has its message id from then on
+-- its request is sent, and carries its message id from then on
 abbrev pub sent : Sending → Exchange → Exchange
 sent sending x =
     record x { form = with_id sending.id x.form; sending = Some sending; state = Sent }
@@ -144,11 +144,11 @@ acked x = record x { state = Acked }
 abbrev pub answered : Answer → Exchange → Exchange
 answered answer x = record x { state = Done answer }
 
--- its target is changed
+-- its target has changed
 abbrev pub tainted_by : Target → Exchange → Exchange
 tainted_by target x = if is_changed_with target x then record x { tainted = true } else x
 
--- what its timer says where it is due
+-- what its timer calls for when it is due
 abbrev pub fire_of_sending : ℕ → Option Sending → Fire
 fire_of_sending now None = GiveUp
 fire_of_sending now (Some s) = fire_of now s.timer
@@ -163,7 +163,7 @@ changed_by (change.Fire now) = fired_exchange now
 changed_by change.Acknowledge = acked
 changed_by (change.Answer a) = answered a
 
--- the moment of a change is no greater than moments are, and its first timeout no longer than those
+-- the moment of a change is within the allowed range, and a first timeout is at most 3,000 ms
 abbrev pub is_timely : Change → Bool
 is_timely (change.Send s) = nat_le s.timer.timeout 3000
 is_timely (change.Fire now) = nat_le now (2 ^ 62)
@@ -175,13 +175,13 @@ is_timely (change.Answer a) = true
 abbrev pub deadline : ℕ → Exchange → ℕ
 deadline exchange_ms x = x.admitted + exchange_ms
 
--- the end of the timeout that runs, but not after the deadline
+-- the end of the current timeout, but no later than `last`
 abbrev pub timer_or : ℕ → Option Sending → ℕ
 timer_or last None = last
 timer_or last (Some s) = min s.timer.due last
 
--- By its state: where it waits for its turn it is due at its admission, unless it is blocked; where
--- it was sent at the end of its timeout; and at last at its deadline, unless its answer has come.
+-- By state: while queued it is due at its admission, unless it is blocked; once sent, at the end of
+-- its timeout; and at the latest at its deadline, unless its answer has come.
 abbrev pub due_in : ExchangeState → Bool → ℕ → Exchange → Option ℕ
 due_in Queued blocked exchange_ms x =
     Some (if blocked then deadline exchange_ms x else x.admitted)
@@ -192,7 +192,7 @@ due_in (Done a) blocked exchange_ms x = None
 abbrev pub due_of : Bool → ℕ → Exchange → Option ℕ
 due_of blocked exchange_ms x = due_in x.state blocked exchange_ms x
 
--- as many as may be are sent to its endpoint (NSTART; RFC 7252, 4.7)
+-- as many requests as NSTART allows are outstanding to its endpoint (RFC 7252, 4.7)
 abbrev pub is_blocked : ℕ → List (Numbered Exchange) → Exchange → Bool
 is_blocked nstart exchanges x = nat_le nstart (count (is_sent_to x.key.target.at) exchanges)
 
@@ -201,9 +201,9 @@ abbrev pub due_among : ℕ → ℕ → List (Numbered Exchange) → Exchange →
 due_among nstart exchange_ms exchanges x =
     due_of (is_blocked nstart exchanges x) exchange_ms x
 
--- ---- what is asked of an exchange that is changed
+-- ---- what a change requires
 
--- its request was sent, and the timeout has ended that runs
+-- its request was sent, and the current timeout has ended
 abbrev pub HasEnded : ℕ → Option Sending → Type 0
 HasEnded now None = ⊥
 HasEnded now (Some s) = s.timer.due ≤ now
@@ -211,7 +211,7 @@ HasEnded now (Some s) = s.timer.due ≤ now
 abbrev pub IsDue : ℕ → Exchange → Type 0
 IsDue now x = (is_sent x ≡ true) × HasEnded now x.sending
 
--- its timer can be fired: the timeout has ended, and twice as long a one isn't too long
+-- its timer can be fired: the timeout has ended, and doubling it stays in range
 abbrev pub CanFire : ℕ → Option Sending → Type 0
 CanFire now None = Unit {0}
 CanFire now (Some s) = (s.timer.due ≤ now) × (s.timer.timeout ≤ 2 ^ 32)
@@ -222,20 +222,20 @@ CanChange (change.Fire now) x = (now ≤ 2 ^ 62) × CanFire now x.sending
 CanChange change.Acknowledge x = Unit {0}
 CanChange (change.Answer a) x = Unit {0}
 
--- where its timer is fired, the exchange is due
+-- if the change fires its timer, the exchange is due
 abbrev pub IsFireDue : Change → Option Exchange → Type 0
 IsFireDue (change.Send s) found = Unit {0}
 IsFireDue (change.Fire now) found = IfSome found (IsDue now)
 IsFireDue change.Acknowledge found = Unit {0}
 IsFireDue (change.Answer a) found = Unit {0}
 
--- ---- what a table of exchanges keeps
+-- ---- invariants of a table of exchanges
 
--- moments are at most so great
+-- admission moments are at most 2^62
 abbrev pub AreTimely : List (Numbered Exchange) → Type 0
 AreTimely exchanges = AllByRecursion (λ x. x.1.admitted ≤ 2 ^ 62) exchanges
 
--- timeouts are no longer than they come to be
+-- timeouts stay short
 abbrev pub IsSendingShort : Option Sending → Type 0
 IsSendingShort None = Unit {0}
 IsSendingShort (Some s) = IsShort s.timer

@@ -1,4 +1,4 @@
--- What exchanges are found by: rolls that keep step with a table.
+-- What exchanges are looked up by: rolls that are kept in step with a table.
 use Rattle.std.specs.Prelude.{◌≡◌, ℕ, ◌+◌, ◌≤◌, ◌&&◌, ◌||◌, Bool, true, not, if◌then◌else◌, nat_le, map, List, length, Option, Some, None}
 use Rattle.std.specs.Option.{is_some}
 use Rattle.coap_exchange.specs.declared.exchange.Exchange.{Exchange}
@@ -14,13 +14,13 @@ use Rattle.coap_exchange.specs.Roll.{Pair, Roll, is_in, is_owner, one_of, IsOwne
 use Rattle.coap_exchange.specs.Table.{Numbered, IsRising, count, item_at, passes}
 use Rattle.coap_exchange.specs.Waiters.{moment_of}
 
--- ---- a roll beside a table
+-- ---- a roll next to a table
 
 abbrev pub owner_at : {A : Type 0} → (A → Option ℕ) → Option A → Option ℕ
 owner_at owner_of None = None
 owner_at owner_of (Some a) = owner_of a
 
--- each number that has an item stands with that item's owner, if it has one
+-- the roll pairs each item's number with the item's owner, if it has one
 pub record IsRollOf {A : Type 0} (owner_of : A → Option ℕ) (items : List (Numbered A)) (most : ℕ)
     (roll : Roll)
     : Type 0 where
@@ -39,7 +39,7 @@ pub record HasPassed (old new : Roll) (number : ℕ) (was is : Option ℕ) : Typ
   pub length : length new.pairs + one_of was ≡ length old.pairs + one_of is
   pub passed : IsPassed old.pairs new.pairs number is
 
--- ---- what an exchange is found by
+-- ---- what an exchange is looked up by
 
 abbrev pub id_in : Option Sending → Option ℕ
 id_in None = None
@@ -49,7 +49,7 @@ id_in (Some s) = Some s.id
 abbrev pub id_of : Exchange → Option ℕ
 id_of x = id_in x.sending
 
--- the moment at which its answer came
+-- the moment when its answer came
 abbrev pub got_of : Exchange → Option ℕ
 got_of x = moment_of (answer_at x)
 
@@ -61,11 +61,12 @@ abbrev pub end_in : Option Sending → Option ℕ
 end_in None = None
 end_in (Some s) = Some s.timer.due
 
--- the end of the timeout that runs
+-- the end of the current timeout
 abbrev pub end_of : Exchange → Option ℕ
 end_of x = if is_sent x then end_in x.sending else None
 
--- the digest of its endpoint, while it waits for its turn
+-- the digest of a cache key
+-- the digest of its endpoint, while it is queued
 abbrev pub queue_of : Exchange → Option ℕ
 queue_of x = if is_queued x then Some (digest_of_endpoint x.key.target.at) else None
 
@@ -75,7 +76,7 @@ key_of x =
     if x.is_get && (not x.tainted && is_missing (answer_at x)) then Some (digest_of_key x.key)
     else None
 
--- the digest of its target, from its sending on until it is tainted or its answer has come
+-- the digest of its target, from when it is sent until it is tainted or its answer has come
 abbrev pub target_of : Exchange → Option ℕ
 target_of x =
     if not x.tainted && (is_sent x || is_acked x) then Some (digest_of_target x.key.target) else None
@@ -120,33 +121,33 @@ pub record HavePassed (old new : Index) (number : ℕ) (was is : Owners) : Type 
   pub keys : HasPassed old.keys new.keys number was.key is.key
   pub targets : HasPassed old.targets new.targets number was.target is.target
 
--- ---- what is sought
+-- ---- what is looked for
 
 abbrev pub is_met : Sought → Exchange → Bool
 is_met (SentAs at id now) = was_sent_as at id now
 is_met (Joinable key) = is_joinable key.now
 is_met (Queued at) = is_queued_to at
 
--- the items that pass stand with this owner
+-- the roll has the numbers of the items that pass, under this owner
 abbrev pub AreListed : {A : Type 0} → (A → Bool) → ℕ → List (Numbered A) → List Pair → Type 0
 AreListed test owner items pairs =
     (n : ℕ) → passes test (item_at n items) ≡ true → is_in (owner, n) pairs ≡ true
 
 -- ---- what is due
 
--- so many milliseconds later
+-- the same, with the moment moved later by this many milliseconds
 abbrev pub later : ℕ → Option Pair → Option Pair
 later ms None = None
 later ms (Some d) = Some (d.0 + ms, d.1)
 
--- when it is the turn of an exchange that waits for it: at its admission, if it isn't blocked
+-- when a queued exchange gets its turn: at its admission, if it isn't blocked
 abbrev pub turn_among : ℕ → List (Numbered Exchange) → Exchange → Option ℕ
 turn_among nstart exchanges x =
     if is_queued x && not (is_blocked nstart exchanges x) then Some x.admitted else None
 
--- ---- what is changed one after the other
+-- ---- changing the items one by one
 
--- the items up to this number have changed
+-- the items numbered up to this have changed
 abbrev pub changed_to : {A : Type 0} → ℕ → (A → A) → List (Numbered A) → List (Numbered A)
 changed_to number change items =
     map (λ x. if nat_le x.0 number then (x.0, change x.1) else x) items

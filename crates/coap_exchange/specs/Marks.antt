@@ -1,4 +1,4 @@
--- What waiters are found by.
+-- What waiters are looked up by.
 use Rattle.std.specs.Prelude.{ℕ, List, Option, Some, None}
 use Rattle.coap_exchange.specs.declared.exchange.Exchange.{Exchange}
 use Rattle.coap_exchange.specs.declared.waiter.Waiter.{Waiter}
@@ -20,16 +20,16 @@ end_in (Delivering bytes id timer) = Some timer.due
 abbrev pub id_of : Waiter → Option ℕ
 id_of w = id_in w.state
 
--- the moment at which the timeout that runs ends
+-- the moment when the current timeout ends
 abbrev pub end_of : Waiter → Option ℕ
 end_of w = end_in w.state
 
--- ---- who waits
+-- ---- which waiter is waiting
 
 abbrev pub answered_in : List (Numbered Exchange) → WaiterState → Option ℕ
 answered_in exchanges (Waiting exchange) = moment_of (answer_in exchange exchanges)
 answered_in exchanges (Delivering bytes id timer) = None
 
--- the moment of the answer of the exchange for which it waits
+-- the moment when the answer came of the exchange that it waits for
 abbrev pub answered_of : List (Numbered Exchange) → Waiter → Option ℕ
 answered_of exchanges w = answered_in exchanges w.state

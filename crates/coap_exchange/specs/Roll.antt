@@ -1,9 +1,9 @@
--- Rolls: pairs of an owner and a number, each of them at most once.
+-- Rolls: sets of pairs, each an owner and a number.
 use Rattle.std.specs.Prelude.{◌≡◌, ℕ, ◌==◌, ◌<◌, ◌≤◌, ◌&&◌, ◌||◌, Bool, true, false, not, if◌then◌else◌, List, [], ◌∷◌, Option, Some, None}
 use Rattle.std.specs.List.{AllByRecursion}
 use Rattle.coap_exchange.specs.Due.{is_before}
 
--- an owner, and a number that it has
+-- an owner, and a number that belongs to it
 abbrev pub Pair : Type 0
 Pair = ℕ × ℕ
 
@@ -14,26 +14,26 @@ abbrev pub is_in : Pair → List Pair → Bool
 is_in p [] = false
 is_in p (q ∷ qs) = is_pair p q || is_in p qs
 
--- each is before those that follow
+-- each pair is before all that follow
 abbrev pub AreRising : List Pair → Type 0
 AreRising [] = Unit {0}
 AreRising (p ∷ ps) = AllByRecursion (λ q. is_before p q ≡ true) ps × AreRising ps
 
 pub record Roll : Type 0 where
   pub pairs : List Pair
-  -- the most pairs that it holds
+  -- the most pairs that it can hold
   pub limit : ℕ
 
 abbrev pub empty_roll : ℕ → Roll
 empty_roll limit = record { pairs = []; limit = limit }
 
--- none is before it
+-- no pair is before this one
 abbrev pub IsLeast : List Pair → Option Pair → Type 0
 IsLeast pairs None = pairs ≡ []
 IsLeast pairs (Some p) =
     (is_in p pairs ≡ true) × ((q : Pair) → is_in q pairs ≡ true → is_before q p ≡ false)
 
--- the least number of an owner above another
+-- the least number of an owner that is greater than another number
 abbrev pub IsNextOf : ℕ → ℕ → List Pair → Option ℕ → Type 0
 IsNextOf owner after pairs None = (n : ℕ) → after < n → is_in (owner, n) pairs ≡ false
 IsNextOf owner after pairs (Some m) =
@@ -49,7 +49,7 @@ IsFirstAfter p pairs (Some r) =
     × (is_before p r ≡ true)
     × ((q : Pair) → is_in q pairs ≡ true → is_before p q ≡ true → is_before q r ≡ false)
 
--- ---- what owner a number has, if it has one
+-- ---- which owner a number has, if any
 
 abbrev pub is_owner : ℕ → Option ℕ → Bool
 is_owner owner None = false
@@ -59,23 +59,23 @@ abbrev pub one_of : {A : Type 0} → Option A → ℕ
 one_of None = 0
 one_of (Some a) = 1
 
--- the pairs of a number are those with its owner
+-- the pairs with this number are exactly the one with its owner, if it has one
 abbrev pub IsOwnerIn : List Pair → ℕ → Option ℕ → Type 0
 IsOwnerIn pairs number owner = (o : ℕ) → is_in (o, number) pairs ≡ is_owner o owner
 
--- a number comes to have this owner, and the others keep theirs
+-- a number gets this owner, and the other numbers keep theirs
 abbrev pub IsPassed : List Pair → List Pair → ℕ → Option ℕ → Type 0
 IsPassed old new number owner =
     (o n : ℕ) → is_in (o, n) new ≡ (if n == number then is_owner o owner else is_in (o, n) old)
 
--- ---- one pair in the place of another
+-- ---- replacing one pair by another
 
 -- there is a pair, and it is this one
 abbrev pub is_some_pair : Pair → Option Pair → Bool
 is_some_pair p None = false
 is_some_pair p (Some q) = is_pair p q
 
--- the one pair goes, if there is one, and then the other comes
+-- the old pair is removed, if there is one, and then the new one is added, if there is one
 abbrev pub IsReplaced : List Pair → List Pair → Option Pair → Option Pair → Type 0
 IsReplaced old new was is =
     (p : Pair)

@@ -1,4 +1,4 @@
--- How many there are of each number.
+-- Counts by number.
 use Rattle.std.specs.Prelude.{◌≡◌, ℕ, List, Option, Some, None}
 use Rattle.std.specs.BTreeMap.{BTreeMap, get}
 use Rattle.std.specs.Ordering.{nat_cmp}
@@ -10,15 +10,15 @@ abbrev pub count_or_none : Option ℕ → ℕ
 count_or_none None = 0
 count_or_none (Some count) = count
 
--- how many there are of a number: none where it has no entry
+-- the count of a number: zero if it has no entry
 abbrev pub tally : BTreeMap ℕ ℕ → ℕ → ℕ
 tally counts number = count_or_none (get nat_cmp counts number)
 
--- as many are counted for each exchange as wait for it
+-- the count of each exchange is the number of waiters that wait for it
 abbrev pub AreTallied : List (Numbered Waiter) → BTreeMap ℕ ℕ → Type 0
 AreTallied waiters counts = (e : ℕ) → tally counts e ≡ count (waits_for e) waiters
 
--- what a table of waiters keeps beside them
+-- what a table of waiters keeps alongside them
 pub record AreWaiters (waiters : List (Numbered Waiter)) (many : ℕ) (counts : BTreeMap ℕ ℕ)
     : Type 0 where
   pub waiting : many ≡ count is_waiting waiters

@@ -1,4 +1,5 @@
--- Whose turn it is to be sent: the first that waits with each endpoint, by how many are sent to it.
+-- Whose turn it is to be sent: for each endpoint its first queued exchange, keyed by how many are
+-- sent to the endpoint.
 use Rattle.std.specs.Prelude.{◌≡◌, ℕ, ◌<◌, ◌≤◌, ◌&&◌, max, true, if◌then◌else◌, nat_le, nat_lt, List, length, Option, Some, None}
 use Rattle.std.specs.Option.{option_map}
 use Rattle.coap_endpoint.specs.declared.endpoint.Endpoint.{Endpoint}
@@ -9,12 +10,12 @@ use Rattle.coap_exchange.specs.Lines.{is_queued_to}
 use Rattle.coap_exchange.specs.Roll.{Pair, Roll, is_in}
 use Rattle.coap_exchange.specs.Table.{Numbered, count, first_that, item_at}
 
--- how many are sent to an endpoint, and the first that waits for its turn with it, if one does
+-- the number of exchanges sent to an endpoint, and its first queued exchange, if it has one
 abbrev pub head_at : List (Numbered Exchange) → Endpoint → Option Pair
 head_at items at =
     option_map (λ n. (count (is_sent_to at) items, n)) (first_that (is_queued_to at) items)
 
--- the same, where there is an endpoint
+-- the same, if there is an endpoint
 abbrev pub head_in : List (Numbered Exchange) → Option Endpoint → Option Pair
 head_in items None = None
 head_in items (Some at) = head_at items at
@@ -23,13 +24,13 @@ head_in items (Some at) = head_at items at
 abbrev pub endpoint_in : Option Exchange → Option Endpoint
 endpoint_in found = option_map (λ x. x.key.target.at) found
 
--- in the roll the heads of all endpoints stand, and nothing else
+-- the roll holds the heads of all endpoints, and nothing else
 pub record AreHeads (items : List (Numbered Exchange)) (heads : Roll) : Type 0 where
   pub only : (p : Pair) → is_in p heads.pairs ≡ true → (at : Endpoint) × (head_at items at ≡ Some p)
   pub all : (at : Endpoint) (p : Pair) → head_at items at ≡ Some p → is_in p heads.pairs ≡ true
   pub room : length heads.pairs ≤ heads.limit
 
--- none was admitted after this moment, nor before one of a lower number
+-- none was admitted after `latest`, and each was admitted no earlier than those with lower numbers
 pub record AreInOrder (items : List (Numbered Exchange)) (latest : ℕ) : Type 0 where
   pub early : (n : ℕ) (x : Exchange) → item_at n items ≡ Some x → x.admitted ≤ latest
   pub order :
@@ -39,7 +40,7 @@ pub record AreInOrder (items : List (Numbered Exchange)) (latest : ℕ) : Type 0
       → n < m
       → x.admitted ≤ y.admitted
 
--- what tells whose turn it is
+-- the state that decides whose turn it is
 pub record AreTurns (items : List (Numbered Exchange)) (turns : Turns) : Type 0 where
   pub heads : AreHeads items turns.heads
   pub order : turns.in_order ≡ true → AreInOrder items turns.latest
@@ -52,12 +53,12 @@ noted now turns =
       in_order = turns.in_order && nat_le turns.latest now;
     }
 
--- the lower of two numbers, if there is a first
+-- the lower of two numbers, or the second if there is no first
 abbrev pub lower : Option ℕ → ℕ → Option ℕ
 lower None m = Some m
 lower (Some n) m = if nat_lt n m then Some n else Some m
 
--- the least number of those that stand under less than so many
+-- the least number among the pairs whose owner is less than `most`
 abbrev pub IsLowestUnder : ℕ → List Pair → Option ℕ → Type 0
 IsLowestUnder most pairs None = (p : Pair) → is_in p pairs ≡ true → most ≤ p.0
 IsLowestUnder most pairs (Some n) =

@@ -1,4 +1,4 @@
--- Waiters: clients that wait for an exchange, or for which a response is on its way.
+-- Waiters: clients that wait for an exchange, or that are being sent a response.
 use Rattle.std.specs.Prelude.{◌≤◌, ℕ, ◌-◌, ◌^◌, ◌==◌, ◌&&◌, Bool, true, false, nat_lt, List, [], Option, Some, None}
 use Rattle.std.specs.List.{AllByRecursion}
 use Rattle.coap_endpoint.specs.declared.endpoint.Endpoint.{Endpoint}
@@ -17,7 +17,7 @@ use Rattle.coap_exchange.specs.Exchanges.{answer_in}
 use Rattle.coap_exchange.specs.Table.{Numbered}
 use Rattle.coap_exchange.specs.Timers.{fire_of, fired, IsShort}
 
--- ---- how far it was served
+-- ---- states
 
 abbrev pub exchange_of : WaiterState → Option ℕ
 exchange_of (Waiting exchange) = Some exchange
@@ -49,14 +49,14 @@ is_delivered_as id now (Delivering bytes other timer) =
 abbrev pub was_sent_as : Endpoint → ℕ → ℕ → Waiter → Bool
 was_sent_as at id now w = same_endpoint w.client at && is_delivered_as id now w.state
 
--- the exchange for which a waiter of a table waits
+-- the exchange that a waiter of a table waits for
 abbrev pub awaited_by : Option Waiter → Option ℕ
 awaited_by None = None
 awaited_by (Some w) = exchange_of w.state
 
--- ---- what happens to it
+-- ---- changes
 
--- it is sent the response: its token and its tags aren't needed any more
+-- it is sent the response; its token and tags are no longer needed
 abbrev pub delivered : List ℕ → ℕ → Timer → Waiter → Waiter
 delivered bytes id timer w =
     record w { token = []; tags = []; state = Delivering bytes id timer }
@@ -69,7 +69,7 @@ fired_state now (Delivering bytes id timer) = Delivering bytes id (fired now tim
 abbrev pub fired_waiter : ℕ → Waiter → Waiter
 fired_waiter now w = record w { state = fired_state now w.state }
 
--- what its timer says where it is due
+-- what its timer calls for when it is due
 abbrev pub fire_of_state : ℕ → WaiterState → Fire
 fire_of_state now (Waiting exchange) = GiveUp
 fire_of_state now (Delivering bytes id timer) = fire_of now timer
@@ -88,7 +88,7 @@ abbrev pub moment_of : Option Answer → Option ℕ
 moment_of None = None
 moment_of (Some a) = Some a.got
 
--- it is due at the moment of its exchange's answer, or at the end of the timeout that runs
+-- it is due when its exchange's answer comes, or at the end of the current timeout
 abbrev pub due_in : WaiterState → List (Numbered Exchange) → Option ℕ
 due_in (Waiting exchange) exchanges = moment_of (answer_in exchange exchanges)
 due_in (Delivering bytes id timer) exchanges = Some timer.due
@@ -96,9 +96,9 @@ due_in (Delivering bytes id timer) exchanges = Some timer.due
 abbrev pub due_after : List (Numbered Exchange) → Waiter → Option ℕ
 due_after exchanges w = due_in w.state exchanges
 
--- ---- what is asked of a waiter that is changed
+-- ---- what a change requires
 
--- it was sent the response, and the timeout has ended that runs
+-- it was sent the response, and the current timeout has ended
 abbrev pub HasEnded : ℕ → WaiterState → Type 0
 HasEnded now (Waiting exchange) = ⊥
 HasEnded now (Delivering bytes id timer) = timer.due ≤ now
@@ -106,7 +106,7 @@ HasEnded now (Delivering bytes id timer) = timer.due ≤ now
 abbrev pub IsDue : ℕ → Waiter → Type 0
 IsDue now w = HasEnded now w.state
 
--- its timer can be fired: the timeout has ended, and twice as long a one isn't too long
+-- its timer can be fired: the timeout has ended, and doubling it stays in range
 abbrev pub CanFire : ℕ → WaiterState → Type 0
 CanFire now (Waiting exchange) = Unit {0}
 CanFire now (Delivering bytes id timer) = (timer.due ≤ now) × (timer.timeout ≤ 2 ^ 32)
@@ -115,9 +115,9 @@ abbrev pub CanChange : WaiterChange → Waiter → Type 0
 CanChange (Deliver bytes id timer) w = Unit {0}
 CanChange (fire now) w = (now ≤ 2 ^ 62) × CanFire now w.state
 
--- ---- what a table of waiters keeps
+-- ---- invariants of a table of waiters
 
--- timeouts are no longer than they come to be
+-- timeouts stay short
 abbrev pub IsStateShort : WaiterState → Type 0
 IsStateShort (Waiting exchange) = Unit {0}
 IsStateShort (Delivering bytes id timer) = IsShort timer

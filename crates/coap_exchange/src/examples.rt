@@ -8,8 +8,8 @@ ghost use Rattle.coap_exchange.specs.Exchanges.{due_of, is_some_as, acked};
 ghost use Rattle.coap_exchange.specs.Ids.{after_calls, left_of, next_of};
 ghost use Rattle.coap_exchange.specs.Timers.{fire_of};
 
-/// When a message is sent again, and when it is given up (RFC 7252, 4.2 and 4.8), with the least
-/// and with the greatest draw.
+/// When a message is sent again, and when the sender gives up (RFC 7252, 4.2 and 4.8), with the
+/// least and the greatest draw.
 pub fn sent_again()
     ensures first { (timer_after 0 []).due ≡ 2000 }
     ensures second { (timer_after 0 (2000 ∷ [])).due ≡ 6000 }
@@ -39,7 +39,7 @@ pub fn given()
         ≡ Some 9 }
 {}
 
-/// What is due first, when an exchange is, and for how long it is known by its id.
+/// What is due first, when an exchange is due, and how long it can be looked up by its id.
 pub fn due_first()
     ensures earlier { first_of (due 9 1 ∷ None ∷ due 5 3 ∷ due 6 2 ∷ []) ≡ due 5 3 }
     ensures lower_number { first_of (due 5 3 ∷ due 5 2 ∷ due 5 4 ∷ []) ≡ due 5 2 }

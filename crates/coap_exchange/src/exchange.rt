@@ -10,22 +10,22 @@ use coap_endpoint::{Endpoint, Target};
 use coap_message::{Seq, set_id};
 use coap_store::{Answer, CacheKey, Stored};
 
-/// For how long a message id that was given isn't given again, in milliseconds (EXCHANGE_LIFETIME;
-/// RFC 7252, 4.8.2).
+/// How long a message id isn't reused after it was given, in milliseconds (EXCHANGE_LIFETIME; RFC
+/// 7252, 4.8.2).
 pub(crate) const LIFETIME: u64 = 247_000;
 
-/// The sending of a request.
+/// How a request was sent.
 #[derive(Clone, Copy)]
 pub struct Sending {
     /// The number of the event in which the request was first sent.
     pub asked: u64,
-    /// The message id that it was given.
+    /// The message id of the request.
     pub id: u16,
     pub timer: Timer,
 }
 
 impl Sending {
-    /// Whether it has this id, and was begun less than 247,000 milliseconds before this moment.
+    /// Whether it has this id, and started less than 247,000 milliseconds before `now`.
     pub fn is_as(&self, id: u16, now: u64) -> bool
         ensures exact { result ≡ is_as id now self.now }
     {
@@ -33,7 +33,7 @@ impl Sending {
     }
 }
 
-/// How far an exchange has come.
+/// The state of an exchange.
 ///
 /// ```text
 ///           a tick sends          acknowledged           the answer            its last waiter
@@ -41,11 +41,11 @@ impl Sending {
 ///                                                                  is served
 /// ```
 ///
-/// An answer may come in each of the first three: a response, or the proxy's own where a response
-/// can't be had any more.
+/// An answer may come in each of the first three states: a response, or the proxy's own answer if
+/// no response can come any more.
 #[derive(Drop)]
 pub enum ExchangeState {
-    /// The request waits for its turn.
+    /// The request is waiting for its turn.
     Queued,
     /// The request was sent, and neither an acknowledgement nor an answer has come.
     Sent,
@@ -57,20 +57,20 @@ pub enum ExchangeState {
 
 /// A request on its way to an origin.
 pub struct Exchange {
-    /// What its response answers: the target, and the options that take part in the cache key.
+    /// What its response is cached under: the target, and the options that are part of the cache
+    /// key.
     pub key: CacheKey,
     /// Whether the method is GET.
     pub is_get: bool,
-    /// The bytes of the request that is sent on: with the message id 0 until it is sent, and then
-    /// with the one that it was given.
+    /// The encoded request that is forwarded. Its message id is 0 until it is sent.
     pub form: Seq<u8>,
     /// The stored response that the request asks to validate, if it does (RFC 7252, 5.6.2).
     pub copy: Option<Stored>,
-    /// The moment at which it was opened, in milliseconds.
+    /// When the exchange was opened, in milliseconds.
     pub admitted: u64,
-    /// The sending of the request, once it was sent.
+    /// How the request was sent, once it has been.
     pub sending: Option<Sending>,
-    /// Whether its target was changed since the request was sent (RFC 7252, 5.9.1).
+    /// Whether its target has changed since the request was sent (RFC 7252, 5.9.1).
     pub tainted: bool,
     pub state: ExchangeState,
 }
@@ -90,12 +90,12 @@ impl Drop for Exchange {
     }
 }
 
-/// What happens to an exchange.
+/// A change to an exchange.
 #[derive(Drop)]
 pub(crate) enum Change {
     /// Its request is sent.
     Send(Sending),
-    /// Its timer is due at this moment.
+    /// Its timer is due at this moment, in milliseconds.
     Fire(u64),
     /// Its request is acknowledged.
     Acknowledge,
@@ -104,7 +104,7 @@ pub(crate) enum Change {
 }
 
 impl Change {
-    /// Whether an exchange is sent after this, by whether it was before.
+    /// Whether an exchange is in the sent state after this change, given whether it was before.
     pub(crate) fn sends(&self, was: bool) -> bool
         ensures exact { result ≡ sends self.now was }
     {
@@ -117,7 +117,7 @@ impl Change {
 }
 
 impl Exchange {
-    /// One that was just opened: its request waits for its turn.
+    /// A new exchange, whose request is waiting for its turn.
     pub(crate) fn opened(
         key: CacheKey,
         is_get: bool,
@@ -139,7 +139,7 @@ impl Exchange {
         }
     }
 
-    /// Whether the request waits for its turn.
+    /// Whether the request is waiting for its turn.
     pub fn is_queued(&self) -> bool
         ensures exact { result ≡ is_queued self.now }
     {
@@ -169,14 +169,14 @@ impl Exchange {
         }
     }
 
-    /// Whether the request waits for its turn with this endpoint.
+    /// Whether the request is waiting for its turn with this endpoint.
     pub(crate) fn is_queued_to(&self, at: Endpoint) -> bool
         ensures exact { result ≡ is_queued_to at self.now }
     {
         self.is_queued() && self.key.target.at == at
     }
 
-    /// What of it is counted for its endpoint.
+    /// How it is counted for its endpoint.
     pub(crate) fn stage(&self) -> Stage
         ensures sent { result.sent ≡ is_sent self.now }
         ensures queued { result.queued ≡ is_queued self.now }
@@ -197,16 +197,16 @@ impl Exchange {
         }
     }
 
-    /// Whether a GET of this key may wait for its answer: it is a GET of an equal key, its target
-    /// wasn't changed since it was sent, and its answer hasn't come.
+    /// Whether a GET with this key may share its answer: the exchange is a GET with an equal key,
+    /// its target hasn't changed since it was sent, and its answer hasn't come.
     pub fn is_joinable(&self, key: &CacheKey) -> bool
         ensures exact { result ≡ is_joinable key.now self.now }
     {
         self.is_get && !self.tainted && self.answer().is_none() && self.key == *key
     }
 
-    /// Whether its request was sent to this endpoint with this message id, less than 247,000
-    /// milliseconds before this moment (RFC 7252, 4.4).
+    /// Whether its request was sent to the endpoint `at` with message id `id`, less than 247,000
+    /// milliseconds before `now` (RFC 7252, 4.4).
     pub fn was_sent_as(&self, at: Endpoint, id: u16, now: u64) -> bool
         ensures exact { result ≡ was_sent_as at id now self.now }
     {
@@ -216,15 +216,15 @@ impl Exchange {
         }
     }
 
-    /// Whether a change of this target reaches its answer: its request for that was sent, and no
-    /// answer has come.
+    /// Whether a change of this target affects its answer: its request to that target was sent, and
+    /// no answer has come.
     pub(crate) fn is_changed_with(&self, target: &Target) -> bool
         ensures exact { result ≡ is_changed_with target.now self.now }
     {
         (self.is_sent() || self.is_acked()) && self.key.target == *target
     }
 
-    /// What its timer says, now that it is due.
+    /// What its timer calls for, now that it is due.
     pub(crate) fn fire_of(&self, now: u64) -> Fire
         ensures exact { result ≡ fire_of_sending now self.now.sending }
     {
@@ -234,7 +234,7 @@ impl Exchange {
         }
     }
 
-    /// What happens to it is done.
+    /// Applies a change.
     pub(crate) fn change(&mut self, change: Change)
         requires { CanChange change self.old }
         ensures exact { self.new ≡ changed_by change self.old }
@@ -261,7 +261,7 @@ impl Exchange {
         }
     }
 
-    /// It is tainted where a change of this target reaches its answer.
+    /// Taints it if a change of this target affects its answer.
     pub(crate) fn taint(&mut self, target: &Target)
         ensures exact { self.new ≡ tainted_by target.now self.old }
     {

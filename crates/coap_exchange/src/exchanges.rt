@@ -1,4 +1,4 @@
-//! Tables of exchanges: what is admitted, sent, answered and closed, and what is due.
+//! Tables of exchanges: which are admitted, sent, answered and closed, and which is due.
 ghost use Rattle.std.specs.Prelude.{◌≡◌, ◌+◌, ◌-◌, ◌<◌, ◌≤◌, ◌^◌, ◌↔◌, ◌&&◌, length, if◌then◌else◌, true, false, None, OnOk, OnErr, IfOk, IfErr, IfSome, IfNone};
 ghost use Rattle.std.specs.Map.{set_value};
 ghost use Rattle.std.specs.Option.{option_copied};
@@ -31,16 +31,16 @@ use std::alloc::Global;
 use std::collections::BTreeMap;
 use std::marker::Model;
 
-/// Exchanges in order of number. A contract sees the table. Only `new` and `admit` take memory.
+/// Exchanges in order of number. A contract sees the table. Only `new` and `admit` allocate.
 pub struct Exchanges {
     table: Table<Listed>,
-    /// How many are still to be sent.
+    /// The number of exchanges that are still to be sent.
     queued: usize,
-    /// How many there are with each endpoint.
+    /// The number of exchanges with each endpoint.
     lines: BTreeMap<Peer, Line>,
-    /// What they are found by.
+    /// What they are looked up by.
     index: Index,
-    /// What tells whose turn it is.
+    /// Whose turn it is.
     turns: Turns,
 }
 
@@ -76,7 +76,10 @@ impl Model for Exchanges {
 }
 
 impl Exchanges {
-    /// An empty table with room for so many exchanges.
+    /// An empty table with room for `limit` exchanges.
+    ///
+    /// # Errors
+    /// Out of memory.
     pub fn new(alloc: Global, limit: usize) -> Result<Exchanges, OutOfMemory>
         ensures empty { IfOk result (λ exchanges. exchanges ≡ empty_table limit) }
     {
@@ -92,28 +95,28 @@ impl Exchanges {
         })
     }
 
-    /// The number of exchanges under way.
+    /// The number of exchanges in the table.
     pub fn len(&self) -> usize
         ensures exact { result ≡ length self.now.items }
     {
         self.table.len()
     }
 
-    /// How many there ever were.
+    /// The number of exchanges ever admitted.
     pub fn admitted(&self) -> u64
         ensures exact { result ≡ self.now.admitted }
     {
         self.table.admitted()
     }
 
-    /// How many are still to be sent.
+    /// The number of exchanges whose request is still to be sent.
     pub fn queued(&self) -> usize
         ensures exact { result ≡ count is_queued self.now.items }
     {
         self.queued
     }
 
-    /// The exchange of this number.
+    /// The exchange numbered `number`, if it is in the table.
     pub fn get(&self, number: u64) -> Option<&Exchange>
         ensures exact { option_copied result ≡ item_at number self.now.items }
         ensures sound { IsTable self.now }
@@ -121,7 +124,7 @@ impl Exchanges {
         self.table.exchange(number)
     }
 
-    /// The answer of the exchange of this number, if it has come.
+    /// The answer of the exchange numbered `number`, if it has come.
     pub fn answer_of(&self, number: u64) -> Option<&Answer>
         ensures exact { option_copied result ≡ answer_in number self.now.items }
     {
@@ -131,7 +134,7 @@ impl Exchanges {
         }
     }
 
-    /// The moment of the first of the answers that have come, in milliseconds.
+    /// When the earliest of the answers came, in milliseconds.
     pub(crate) fn first_got(&self) -> Option<u64>
         ensures exact { IsFirstGot self.now.items result }
         ensures sound { IsTable self.now }
@@ -143,16 +146,16 @@ impl Exchanges {
         }
     }
 
-    /// The least number greater than another of an exchange whose answer came at this moment.
+    /// The least number greater than `after` of an exchange whose answer came at this moment.
     pub(crate) fn next_got(&self, moment: u64, after: u64) -> Option<u64>
         ensures exact { IsNextGot moment after self.now.items result }
     {
         self.index.dones.next_of(moment, after)
     }
 
-    /// The number of the exchange whose answer a GET of this key may wait for: a GET of an equal
-    /// key, whose target wasn't changed since it was sent, and whose answer hasn't come. Of several
-    /// the first.
+    /// The number of the exchange whose answer a GET with this key may share: a GET with an equal
+    /// key, whose target hasn't changed since it was sent, and whose answer hasn't come. If there
+    /// are several, the first.
     pub fn joinable(&self, key: &CacheKey) -> Option<u64>
         ensures exact { result ≡ first_that (is_joinable key.now) self.now.items }
     {
@@ -160,8 +163,9 @@ impl Exchanges {
         first_sought(&self.table, &self.index.keys, digest_of_key(key), &sought)
     }
 
-    /// The number of the exchange whose request was sent to this endpoint with this message id,
-    /// less than 247,000 milliseconds before this moment (RFC 7252, 4.4). Of several the first.
+    /// The number of the exchange whose request was sent to the endpoint `at` with message id `id`,
+    /// less than 247,000 milliseconds before `now` (RFC 7252, 4.4). If there are several, the
+    /// first.
     pub fn sent_as(&self, at: Endpoint, id: u16, now: u64) -> Option<u64>
         ensures exact { result ≡ first_that (was_sent_as at id now) self.now.items }
     {
@@ -169,16 +173,16 @@ impl Exchanges {
         first_sought(&self.table, &self.index.ids, u64::from(id), &sought)
     }
 
-    /// What is due first, as its moment, in milliseconds, and its number; of what is due at one
-    /// moment what has the least number. An exchange is due
+    /// The moment when the first exchange is due, in milliseconds, and its number. If several are
+    /// due at the same moment, the one with the least number. An exchange is due
     ///
-    /// - while its request waits for its turn, at its admission, or, where `nstart` or more
-    ///   requests to its endpoint are sent and not acknowledged (RFC 7252, 4.7), at its deadline;
-    /// - once it is sent, at the end of the timeout that runs, or at its deadline, if that is
-    ///   earlier;
+    /// - while its request waits for its turn, at its admission, or at its deadline if `nstart` or
+    ///   more requests to its endpoint are sent and not acknowledged (RFC 7252, 4.7);
+    /// - once it is sent, at the end of the current timeout, or at its deadline if that is earlier;
     /// - once it is acknowledged, at its deadline.
     ///
-    /// The deadline is `exchange_ms` milliseconds after the admission, at most 600,000.
+    /// The deadline is `exchange_ms` milliseconds after the admission, where `exchange_ms` is at
+    /// most 600,000.
     pub fn due(&self, nstart: usize, exchange_ms: u64) -> Option<(u64, u64)>
         requires { exchange_ms ≤ 600000 }
         ensures exact { result
@@ -190,12 +194,14 @@ impl Exchanges {
         sooner(deadline, sooner(end, turn))
     }
 
-    /// Opens an exchange after the others: its request waits for its turn. Answers its number. The
-    /// moment is in milliseconds, and at most 2^62.
+    /// Opens an exchange after the others, with its request waiting for its turn, and returns its
+    /// number. `now` is in milliseconds, and at most 2^62.
     ///
     /// # Errors
-    /// 1. `Full` where the table holds as many as it may. 2. `OutOfMemory`. Nothing is changed
-    /// then.
+    /// 1. `Full` if the table has no room for another exchange.
+    /// 2. `OutOfMemory`.
+    ///
+    /// The table is unchanged then.
     pub fn admit(
         &mut self,
         key: CacheKey,
@@ -244,8 +250,8 @@ impl Exchanges {
         }
     }
 
-    /// Undoes an `admit` that was the last change: takes out the exchange of the last number that
-    /// was given, if it is there, and gives that number back.
+    /// Undoes an `admit`, if that was the last change: removes the exchange with the last number
+    /// given, if it is still in the table, and gives that number back.
     pub fn withdraw(&mut self)
         ensures exact { self.new ≡ withdrawn self.old }
         ensures undone { (before : Table Exchange) (item : Exchange)
@@ -267,7 +273,7 @@ impl Exchanges {
         self.turns.heads.replace(head, next);
     }
 
-    /// Takes the exchange of this number out, if there is one.
+    /// Removes the exchange numbered `number`, if there is one.
     pub fn close(&mut self, number: u64)
         ensures closed { self.new ≡ record self.old { items = without number self.old.items } }
     {
@@ -284,9 +290,9 @@ impl Exchanges {
         self.turns.heads.replace(head, next);
     }
 
-    /// The request of the exchange of this number, which waited for its turn, is sent: its form has
-    /// the message id of the sending from now on. The timeout of its timer is at most 3,000
-    /// milliseconds, as the first one is.
+    /// Marks the request of the exchange numbered `number`, which was waiting for its turn, as
+    /// sent, and writes the message id of the sending into its encoded form. The timer's timeout is
+    /// at most 3,000 milliseconds, like that of a new timer.
     pub fn send(&mut self, number: u64, sending: Sending)
         requires queued { IfSome (item_at number self.old.items) (λ x. is_queued x ≡ true) }
         requires short { sending.timer.timeout ≤ 3000 }
@@ -296,8 +302,8 @@ impl Exchanges {
         self.change(number, Change::Send(sending));
     }
 
-    /// The timer of the exchange of this number, whose request was sent, is due: what is to be
-    /// done. Where the request is to be sent again, the timer counts that. The moment is in
+    /// Fires the timer of the exchange numbered `number`, whose request was sent, and returns what
+    /// is to be done. If the request is to be sent again, the timer counts that. `now` is in
     /// milliseconds, and at most 2^62.
     pub fn fire(&mut self, number: u64, now: u64) -> Fire
         requires due { IfSome (item_at number self.old.items) (IsDue now) }
@@ -314,7 +320,7 @@ impl Exchanges {
         fire
     }
 
-    /// The request of the exchange of this number, which was sent, is acknowledged.
+    /// Marks the request of the exchange numbered `number`, which was sent, as acknowledged.
     pub fn acked(&mut self, number: u64)
         requires sent { IfSome (item_at number self.old.items) (λ x. is_sent x ≡ true) }
         ensures acked { self.new
@@ -323,7 +329,7 @@ impl Exchanges {
         self.change(number, Change::Acknowledge);
     }
 
-    /// The answer of the exchange of this number has come: a response, or the proxy's own.
+    /// Records the answer of the exchange numbered `number`: a response, or the proxy's own answer.
     pub fn answered(&mut self, number: u64, answer: Answer)
         requires open { IfSome (item_at number self.old.items) (λ x. is_done x ≡ false) }
         ensures answered { self.new
@@ -332,8 +338,8 @@ impl Exchanges {
         self.change(number, Change::Answer(answer));
     }
 
-    /// A change of this target taints the exchanges of that target whose request was sent and whose
-    /// answer hasn't come (RFC 7252, 5.9.1).
+    /// Taints the exchanges with this target whose request was sent and whose answer hasn't come,
+    /// because the target has changed (RFC 7252, 5.9.1).
     pub fn taint(&mut self, target: &Target)
         ensures tainted { self.new
             ≡ record self.old { items = all_changed (tainted_by target.now) self.old.items } }
@@ -382,8 +388,8 @@ impl Table<Listed> {
     }
 }
 
-/// What of the exchanges that wait for their turn is to be sent first. They are gone through only
-/// where they weren't admitted in order.
+/// Which of the queued exchanges is to be sent first. They are only scanned if they weren't
+/// admitted in order.
 fn first_turn(
     exchanges: &Table<Listed>,
     lines: &BTreeMap<Peer, Line>,
@@ -404,7 +410,7 @@ fn first_turn(
     }
 }
 
-/// The same, where they were admitted in order.
+/// The same, if they were admitted in order.
 fn first_in_order(exchanges: &Table<Listed>, turns: &Turns, nstart: usize) -> Option<(u64, u64)>
     requires turns { AreTurns exchanges.now.items turns.now }
     requires order { turns.now.in_order ≡ true }
@@ -417,8 +423,8 @@ fn first_in_order(exchanges: &Table<Listed>, turns: &Turns, nstart: usize) -> Op
     Some((exchange.admitted, number))
 }
 
-/// The same, in whatever order they were admitted. `queued` of them wait. Those are gone through
-/// only where it is the turn of one.
+/// The same, in whatever order they were admitted. `queued` of them are waiting. They are only
+/// scanned if one of them can be sent.
 fn first_of_all(
     exchanges: &Table<Listed>,
     lines: &BTreeMap<Peer, Line>,
@@ -450,7 +456,7 @@ impl Table<Listed> {
         first
     }
 
-    /// When it is the turn of an exchange of the table, under its number.
+    /// When a queued exchange of the table gets its turn, with its number.
     fn turn_at(
         &self,
         lines: &BTreeMap<Peer, Line>,
@@ -496,7 +502,7 @@ fn taint_under(exchanges: &mut BTreeMap<u64, Listed>, number: u64, target: &Targ
     }
 }
 
-/// Taints those that a change of this target reaches: their digests are alike.
+/// Taints those that a change of this target affects. They are found by the target's digest.
 fn taint_all(exchanges: &mut Table<Listed>, index: &mut Index, target: &Target)
     requires { AreIndexed exchanges.old.items exchanges.old.limit index.old }
     ensures tainted { exchanges.new
@@ -513,7 +519,7 @@ fn taint_all(exchanges: &mut Table<Listed>, index: &mut Index, target: &Target)
     }
 }
 
-/// Taints the exchange of this number, if a change of this target reaches it.
+/// Taints the exchange numbered `number` if a change of this target affects it.
 fn taint_one(exchanges: &mut Table<Listed>, index: &mut Index, number: u64, target: &Target)
     requires { AreIndexed exchanges.old.items exchanges.old.limit index.old }
     ensures tainted { exchanges.new
@@ -527,7 +533,7 @@ fn taint_one(exchanges: &mut Table<Listed>, index: &mut Index, number: u64, targ
     index.pass(number, was, owners_at(exchanges, number));
 }
 
-/// How many are still to be sent, once the exchange of this number no longer is.
+/// The number of exchanges that are still to be sent, once the one numbered `number` no longer is.
 fn queued_without(
     queued: usize,
     exchanges: &Table<Listed>,
@@ -548,7 +554,7 @@ fn queued_without(
     }
 }
 
-/// The exchange of this number is counted no more for its endpoint.
+/// Stops counting the exchange numbered `number` for its endpoint.
 fn leave(
     lines: &mut BTreeMap<Peer, Line>,
     exchanges: &Table<Listed>,
@@ -576,8 +582,8 @@ fn leave(
     }
 }
 
-/// The exchange of this number is counted for its endpoint by what it is after a change, when it
-/// waits for its turn no more.
+/// Counts the exchange numbered `number` for its endpoint in its state after a change, in which it
+/// no longer waits for its turn.
 fn recount(
     lines: &mut BTreeMap<Peer, Line>,
     exchanges: &Table<Listed>,

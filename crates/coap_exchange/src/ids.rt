@@ -2,29 +2,29 @@
 ghost use Rattle.std.specs.Prelude.{◌≡◌};
 ghost use Rattle.coap_exchange.specs.Ids.{called, left_of, new_ids, next_of};
 
-/// The message ids that a proxy gives: counted up from the first, and begun anew at 0 after 65,535.
+/// The message ids that a proxy gives out: they count up from the first, and wrap from 65,535 to 0.
 ///
-/// Time is cut into windows of 247,000 milliseconds (EXCHANGE_LIFETIME; RFC 7252, 4.8.2), and at
-/// most 32,768 ids are given in one. So an id comes back only where as much time has passed, as
-/// long as moments don't go back. Moments are in milliseconds.
+/// Time is divided into windows of 247,000 milliseconds (EXCHANGE_LIFETIME; RFC 7252, 4.8.2), and
+/// at most 32,768 ids are given in each. So an id is only reused after at least that time has
+/// passed, as long as moments never go back. Moments are in milliseconds.
 #[derive(Clone, Copy)]
 pub struct Ids {
-    /// The id that is given next.
+    /// The next id to give.
     pub following: u16,
-    /// The window in which the last was given, counted from 0.
+    /// The window in which the last id was given, counted from 0.
     pub window: u64,
-    /// How many were given in that window.
+    /// The number of ids given in that window.
     pub given: u32,
 }
 
 impl Ids {
-    /// How many ids are given in a window at most.
+    /// The most ids that are given in a window.
     pub const MOST: u32 = 32_768;
 
     /// How long a window is, in milliseconds.
     pub const WINDOW: u64 = 247_000;
 
-    /// Ids of which none was given yet.
+    /// Ids that start at `first`, with none given yet.
     pub fn new(first: u16) -> Ids
         ensures exact { result ≡ new_ids first }
     {
@@ -35,7 +35,7 @@ impl Ids {
         }
     }
 
-    /// How many may still be given in the window of this moment.
+    /// The number of ids that can still be given in the window of `now`.
     pub fn left(&self, now: u64) -> u32
         ensures exact { result ≡ left_of now self.now }
     {
@@ -46,7 +46,7 @@ impl Ids {
         }
     }
 
-    /// Gives the next id, unless none is left in the window of this moment.
+    /// Gives the next id, unless none is left in the window of `now`.
     pub fn next(&mut self, now: u64) -> Option<u16>
         ensures id { result ≡ next_of now self.old }
         ensures given { self.new ≡ called now self.old }

@@ -1,4 +1,4 @@
-//! What exchanges are found by, so that none is searched for among all.
+//! What exchanges are looked up by, so that no lookup scans them all.
 ghost use Rattle.std.specs.Prelude.{◌≡◌, Some, IfOk};
 ghost use Rattle.std.specs.Option.{option_copied};
 ghost use Rattle.coap_exchange.specs.Index.{queue_of, end_of, got_of, id_of, key_of, target_of, is_met, opening_of, owners_at, AreListed, CanPassAll, HavePassed};
@@ -14,27 +14,27 @@ use coap_message::OutOfMemory;
 use coap_store::CacheKey;
 use std::alloc::Global;
 
-/// Numbers of exchanges, by what they are found by. Room for all is made at the start.
+/// Numbers of exchanges, by what they are looked up by. Room for all of them is allocated up front.
 #[derive(Drop)]
 pub(crate) struct Index {
-    /// By the message id with which they were sent.
+    /// By the message id that they were sent with.
     pub(crate) ids: Roll,
-    /// By the moment at which their answer came.
+    /// By the moment when their answer came.
     pub(crate) dones: Roll,
-    /// By the moment of their admission, until their answer has come.
+    /// By the moment of their admission, until their answer comes.
     pub(crate) openings: Roll,
-    /// By the end of the timeout that runs.
+    /// By the end of the current timeout.
     pub(crate) ends: Roll,
     /// By the digest of their endpoint, while they wait for their turn.
     pub(crate) queues: Roll,
-    /// GETs by the digest of their cache key, until they are tainted or their answer has come.
+    /// GETs by the digest of their cache key, until they are tainted or their answer comes.
     pub(crate) keys: Roll,
-    /// By the digest of their target, from their sending on until they are tainted or their answer
-    /// has come.
+    /// By the digest of their target, from when they are sent until they are tainted or their
+    /// answer comes.
     pub(crate) targets: Roll,
 }
 
-/// What one exchange is found by.
+/// What one exchange is looked up by.
 #[derive(Clone, Copy)]
 pub(crate) struct Owners {
     pub(crate) id: Option<u64>,
@@ -46,15 +46,15 @@ pub(crate) struct Owners {
     pub(crate) target: Option<u64>,
 }
 
-/// Which exchange is sought.
+/// Which exchange is looked for.
 #[derive(Drop)]
 pub(crate) enum Sought<'a> {
     /// One whose request was sent to this endpoint with this message id, less than 247,000
     /// milliseconds before this moment.
     SentAs(Endpoint, u16, u64),
-    /// One for whose answer a GET of this key may wait.
+    /// One whose answer a GET with this key may share.
     Joinable(&'a CacheKey),
-    /// One that waits for its turn with this endpoint.
+    /// One that is waiting for its turn with this endpoint.
     Queued(Endpoint),
 }
 
@@ -71,7 +71,10 @@ impl Sought<'_> {
 }
 
 impl Index {
-    /// An empty index with room for so many exchanges.
+    /// An empty index with room for `limit` exchanges.
+    ///
+    /// # Errors
+    /// Out of memory.
     pub(crate) fn new(alloc: Global, limit: usize) -> Result<Index, OutOfMemory>
         ensures ids { IfOk result (λ index. index.ids ≡ empty_roll limit) }
         ensures dones { IfOk result (λ index. index.dones ≡ empty_roll limit) }
@@ -92,7 +95,7 @@ impl Index {
         })
     }
 
-    /// The exchange of this number, which was found by the one, is found by the other from now on.
+    /// Updates what the exchange numbered `number` is looked up by, from `was` to `is`.
     pub(crate) fn pass(&mut self, number: u64, was: Owners, is: Owners)
         requires { CanPassAll self.old number was is }
         ensures exact { HavePassed self.old self.new number was is }
@@ -107,7 +110,7 @@ impl Index {
     }
 }
 
-/// What the exchange of this number is found by, if there is one.
+/// What the exchange numbered `number` is looked up by, if there is one.
 pub(crate) fn owners_at(exchanges: &Table<Listed>, number: u64) -> Owners
     ensures exact { result ≡ owners_at (item_at number exchanges.now.items) }
     ensures sound { IsTable exchanges.now }
@@ -185,7 +188,8 @@ fn end_of(exchange: &Exchange) -> Option<u64>
     }
 }
 
-/// The number of the first exchange that is sought. All of them stand in the roll, with this owner.
+/// The number of the first exchange that is looked for. All of those are in the roll, under this
+/// owner.
 pub(crate) fn first_sought(
     exchanges: &Table<Listed>,
     roll: &Roll,
@@ -206,7 +210,7 @@ pub(crate) fn first_sought(
     None
 }
 
-/// Whether the exchange of this number is sought.
+/// Whether the exchange numbered `number` is one that is looked for.
 fn is_sought_at(exchanges: &Table<Listed>, number: u64, sought: &Sought) -> bool
     ensures exact { result
         ≡ passes (is_met sought.now) (item_at number exchanges.now.items) }

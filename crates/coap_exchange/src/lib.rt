@@ -1,4 +1,4 @@
-//! What is under way: exchanges with origins, and the clients that wait for them (RFC 7252, 4 and
+//! What is in progress: exchanges with origins, and the clients that wait for them (RFC 7252, 4 and
 //! 5.2).
 #![tactic(auto)]
 

@@ -1,4 +1,4 @@
-//! Exchanges with the digests by which they are found.
+//! Exchanges with the digests that they are looked up by.
 ghost use Rattle.std.specs.Prelude.{◌≡◌};
 ghost use Rattle.std.specs.Option.{option_copied};
 ghost use Rattle.coap_exchange.specs.Digests.{digest_of_key, digest_of_target};
@@ -13,8 +13,8 @@ use crate::table::Table;
 use coap_endpoint::Target;
 use std::marker::Model;
 
-/// An exchange, and the digests of what it is found by, which are computed once, when it is opened.
-/// A contract sees the exchange.
+/// An exchange, and the digests that it is looked up by, which are computed once, when it is
+/// opened. A contract sees the exchange.
 #[derive(Drop)]
 pub(crate) struct Listed {
     exchange: Exchange,
@@ -39,7 +39,7 @@ impl Model for Listed {
 }
 
 impl Listed {
-    /// An exchange that is opened.
+    /// Computes the digests of a new exchange.
     pub(crate) fn new(exchange: Exchange) -> Listed
         ensures exact { result ≡ exchange }
     {
@@ -90,7 +90,7 @@ impl Listed {
         self.target
     }
 
-    /// What happens to the exchange is done.
+    /// Applies a change to the exchange.
     pub(crate) fn change(&mut self, change: Change)
         requires { CanChange change self.old }
         ensures exact { self.new ≡ changed_by change self.old }
@@ -98,7 +98,7 @@ impl Listed {
         self.exchange.change(change);
     }
 
-    /// It is tainted where a change of this target reaches its answer.
+    /// Taints it if a change of this target affects its answer.
     pub(crate) fn taint(&mut self, target: &Target)
         ensures exact { self.new ≡ tainted_by target.now self.old }
     {
@@ -107,7 +107,7 @@ impl Listed {
 }
 
 impl Table<Listed> {
-    /// The exchange of this number.
+    /// The exchange numbered `number`.
     pub(crate) fn exchange(&self, number: u64) -> Option<&Exchange>
         ensures exact { option_copied result ≡ item_at number self.now.items }
         ensures sound { IsTable self.now }

@@ -1,4 +1,4 @@
-//! What waiters are found by.
+//! What waiters are looked up by.
 ghost use Rattle.std.specs.Prelude.{◌≡◌};
 ghost use Rattle.coap_exchange.specs.Answered.{awaited_of};
 ghost use Rattle.coap_exchange.specs.Marks.{end_of, id_of};
@@ -8,18 +8,18 @@ ghost use Rattle.coap_exchange.specs.Table.{item_at, IsTable};
 use crate::table::Table;
 use crate::waiter::{Waiter, WaiterState};
 
-/// What a waiter is found by.
+/// What a waiter is looked up by.
 #[derive(Clone, Copy)]
 pub(crate) struct Marks {
-    /// The exchange for which it waits.
+    /// The exchange that it waits for.
     pub(crate) awaited: Option<u64>,
-    /// The message id of the response that it was sent.
+    /// The message id of the response that was sent to it.
     pub(crate) id: Option<u64>,
-    /// The moment at which the timeout that runs ends, in milliseconds.
+    /// When the current timeout ends, in milliseconds.
     pub(crate) end: Option<u64>,
 }
 
-/// What the waiter of this number is found by, if there is one.
+/// What the waiter numbered `number` is looked up by, if there is one.
 pub(crate) fn marks_at(waiters: &Table<Waiter>, number: u64) -> Marks
     ensures awaited { result.awaited ≡ owner_at awaited_of (item_at number waiters.now.items) }
     ensures id { result.id ≡ owner_at id_of (item_at number waiters.now.items) }

@@ -1,5 +1,5 @@
-//! Rolls: who has which number. They find the first pair, and the numbers of one owner, without a
-//! search through all.
+//! Rolls: which owner has which numbers. The first pair, and the numbers of one owner, are found
+//! without a scan.
 ghost use Rattle.std.specs.Prelude.{◌≡◌, ◌+◌, ◌<◌, ◌≤◌, ◌||◌, ◌&&◌, ℕ, length, take, drop, true, false, not, None, Some, IfOk, IfSome, OnOk, OnErr};
 ghost use Rattle.std.specs.List.{AllByRecursion};
 ghost use Rattle.coap_exchange.specs.Due.{is_before};
@@ -11,8 +11,8 @@ use coap_message::OutOfMemory;
 use std::alloc::Global;
 use std::marker::Model;
 
-/// Pairs of an owner and a number, each of them at most once, in rising order. Room for all pairs
-/// is made at the start, or by `make_room`, and nothing else takes memory.
+/// Pairs of an owner and a number, each at most once, in increasing order. `new` and `make_room`
+/// allocate room for them, and nothing else allocates.
 #[derive(Drop)]
 pub(crate) struct Roll {
     row: Row,
@@ -29,7 +29,10 @@ impl Model for Roll {
 }
 
 impl Roll {
-    /// An empty roll with room for so many pairs.
+    /// An empty roll with room for `limit` pairs.
+    ///
+    /// # Errors
+    /// Out of memory.
     pub(crate) fn new(alloc: Global, limit: usize) -> Result<Roll, OutOfMemory>
         ensures empty { IfOk result (λ roll. roll ≡ empty_roll limit) }
     {
@@ -38,7 +41,7 @@ impl Roll {
         })
     }
 
-    /// The first pair: that of the least owner, and of its numbers the least.
+    /// The first pair: the least owner, and the least of its numbers.
     pub(crate) fn first(&self) -> Option<(u64, u64)>
         ensures exact { IsLeast self.now.pairs result }
     {
@@ -48,7 +51,7 @@ impl Roll {
         }
     }
 
-    /// The least number of this owner that is greater than another.
+    /// The least number of this owner that is greater than `after`.
     pub(crate) fn next_of(&self, owner: u64, after: u64) -> Option<u64>
         ensures exact { IsNextOf owner after self.now.pairs result }
     {
@@ -68,7 +71,7 @@ impl Roll {
         Some(pairs[place])
     }
 
-    /// Makes room for one pair more than there are, unless there is.
+    /// Makes room for one more pair, unless there already is.
     ///
     /// # Errors
     /// Out of memory. Nothing is changed then.
@@ -80,8 +83,7 @@ impl Roll {
         self.row.make_room()
     }
 
-    /// Where the one pair stands, if any, the other stands from now on, if any. There is room for
-    /// that.
+    /// Replaces the pair `was` by the pair `is`: either may be absent. There is room for that.
     pub(crate) fn replace(&mut self, was: Option<(u64, u64)>, is: Option<(u64, u64)>)
         requires there { IfSome was (λ p. is_in p self.old.pairs ≡ true) }
         requires free { IfSome is (λ p. is_in p self.old.pairs ≡ true → was ≡ Some p) }
@@ -101,7 +103,7 @@ impl Roll {
         }
     }
 
-    /// The number, which was this owner's, if any, comes to be another's, if any. There is room
+    /// Moves the number from the owner `was` to the owner `is`: either may be absent. There is room
     /// for that.
     pub(crate) fn pass(&mut self, number: u64, was: Option<u64>, is: Option<u64>)
         requires was { IsOwnerIn self.old.pairs number was }

@@ -1,4 +1,4 @@
-//! Pairs in a row, of which one is put in or taken out at a place.
+//! A row of pairs, which are inserted and removed by position.
 ghost use Rattle.std.specs.Prelude.{◌≡◌, ◌+◌, ◌-◌, ◌<◌, ◌≤◌, drop, length, vec_capacity, vec_len, IfOk, OnErr, OnOk};
 ghost use Rattle.std.specs.List.{insert, remove};
 ghost use Rattle.coap_exchange.specs.Roll.{empty_roll, Roll};
@@ -7,10 +7,10 @@ use coap_message::OutOfMemory;
 use std::alloc::Global;
 use std::marker::Model;
 
-/// Pairs in a row, which stand behind each other up to the end of a `Vec`. A change moves those
-/// before its place or those behind it, whichever are fewer; but those behind it move if there is
-/// no room before the first. `new` and `make_room` take memory for twice as many pairs as there may
-/// be, so that they seldom come to the end of it, and nothing else takes memory.
+/// Pairs in a row, contiguous up to the end of a `Vec`. An insertion or a removal shifts the pairs
+/// before the place or those after it, whichever are fewer; but it shifts those after it if there
+/// is no room before the first. `new` and `make_room` allocate room for twice as many pairs as
+/// there may be, so that the end of the room is seldom reached, and nothing else allocates.
 #[derive(Drop)]
 pub(crate) struct Row {
     items: Vec<(u64, u64)>,
@@ -33,7 +33,10 @@ impl Model for Row {
 }
 
 impl Row {
-    /// An empty row with room for so many pairs.
+    /// An empty row with room for `limit` pairs.
+    ///
+    /// # Errors
+    /// Out of memory.
     pub(crate) fn new(alloc: Global, limit: usize) -> Result<Row, OutOfMemory>
         ensures { IfOk result (λ row. row ≡ empty_roll limit) }
     {
@@ -51,7 +54,7 @@ impl Row {
         &self.items[self.start..]
     }
 
-    /// Makes room for one pair more than there are, unless there is.
+    /// Makes room for one more pair, unless there already is.
     ///
     /// # Errors
     /// Out of memory. Nothing is changed then.
@@ -71,7 +74,7 @@ impl Row {
         Ok(())
     }
 
-    /// Puts a pair in at a place.
+    /// Inserts a pair at a place.
     pub(crate) fn insert(&mut self, place: usize, pair: (u64, u64))
         requires place { place ≤ length self.old.pairs }
         requires room { length self.old.pairs < self.old.limit }
@@ -87,7 +90,7 @@ impl Row {
         }
     }
 
-    /// Takes out the pair at a place.
+    /// Removes the pair at a place.
     pub(crate) fn remove(&mut self, place: usize)
         requires { place < length self.old.pairs }
         ensures { self.new ≡ record self.old { pairs = remove self.old.pairs place } }
@@ -102,7 +105,7 @@ impl Row {
     }
 }
 
-/// Puts a pair in at a place of those behind `start`: those before it move down by one.
+/// Inserts a pair at a place, counted from `start`: the pairs before it move down by one.
 fn insert_downward(items: &mut Vec<(u64, u64)>, start: usize, place: usize, pair: (u64, u64))
     requires { start + place < length items.old.items }
     ensures items { drop start items.new.items
@@ -114,8 +117,8 @@ fn insert_downward(items: &mut Vec<(u64, u64)>, start: usize, place: usize, pair
     items[start..start + place + 1].rotate_left(1);
 }
 
-/// Puts a pair in at a place: those from there on move up by one. There is room for that. It is
-/// added last and then rotated, which moves memory at once, as `Vec::insert` doesn't.
+/// Inserts a pair at a place: the pairs from there on move up by one. There is room for that. It
+/// pushes and then rotates, because a rotation moves memory in one go and `Vec::insert` doesn't.
 fn insert_upward(items: &mut Vec<(u64, u64)>, place: usize, pair: (u64, u64))
     requires place { place ≤ length items.old.items }
     requires room { vec_len items.old < vec_capacity items.old }
@@ -127,7 +130,7 @@ fn insert_upward(items: &mut Vec<(u64, u64)>, place: usize, pair: (u64, u64))
     items[place..].rotate_right(1);
 }
 
-/// Takes out the pair at a place of those from `start` on: those before it move up by one.
+/// Removes the pair at a place, counted from `start`: the pairs before it move up by one.
 fn remove_upward(items: &mut Vec<(u64, u64)>, start: usize, place: usize)
     requires { start + place < length items.old.items }
     ensures items { drop (start + 1) items.new.items ≡ remove (drop start items.old.items) place }
@@ -137,8 +140,8 @@ fn remove_upward(items: &mut Vec<(u64, u64)>, start: usize, place: usize)
     items[start..start + place + 1].rotate_right(1);
 }
 
-/// Makes room for a pair behind those that stand from `start` on, unless there is, by moving them
-/// to the front. Returns where they start then.
+/// Makes room for a pair after those from `start` on, unless there already is, by moving them to
+/// the front. Returns where they start then.
 fn make_way(items: &mut Vec<(u64, u64)>, start: usize) -> usize
     requires start { start ≤ length items.old.items }
     requires room { length items.old.items - start < vec_capacity items.old }
@@ -156,7 +159,7 @@ fn make_way(items: &mut Vec<(u64, u64)>, start: usize) -> usize
     0
 }
 
-/// Moves those that stand from `start` on to the front, and gives up what was before them.
+/// Moves the pairs from `start` on to the front, and drops what was before them.
 fn to_front(items: &mut Vec<(u64, u64)>, start: usize)
     requires { start ≤ vec_len items.old }
     ensures items { items.new.items ≡ drop start items.old.items }

@@ -1,43 +1,42 @@
-//! Timers of messages that are sent again until they are acknowledged (RFC 7252, 4.2).
+//! Timers of messages that are retransmitted until they are acknowledged (RFC 7252, 4.2).
 ghost use Rattle.std.specs.Prelude.{◌≡◌, ◌<◌, ◌≤◌, ◌^◌, true};
 ghost use Rattle.coap_exchange.specs.Timers.{fire_of, fired, goes_on, started};
 
-/// What is to be done where a timer is due.
+/// What is to be done when a timer is due.
 #[derive(Clone, Copy)]
 pub enum Fire {
     /// The message is to be sent again.
     Again,
-    /// It was sent as often as may be, or for as long, and is given up.
+    /// The message was sent as many times as allowed, or for as long, and the sender gives up.
     GiveUp,
 }
 
 /// When a Confirmable message was sent, and when it is to be sent again (RFC 7252, 4.2 and 4.8).
-/// The first timeout lasts two to three seconds, and each further one twice as long as the one
-/// before it. Moments and timeouts are in milliseconds.
+/// The first timeout is two to three seconds, and each further one twice the one before it. Moments
+/// and timeouts are in milliseconds.
 #[derive(Clone, Copy)]
 pub struct Timer {
     /// The moment of the first sending.
     pub started: u64,
-    /// The timeout that runs.
+    /// The length of the current timeout.
     pub timeout: u64,
-    /// The moment at which it ends.
+    /// When the current timeout ends.
     pub due: u64,
-    /// How often the message was sent.
+    /// How many times the message was sent.
     pub sends: u8,
 }
 
 impl Timer {
-    /// How often a message is sent at most: once, and four times again (MAX_RETRANSMIT; RFC 7252,
-    /// 4.8).
+    /// The most times that a message is sent: once, and four retransmissions (MAX_RETRANSMIT; RFC
+    /// 7252, 4.8).
     pub const MOST: u8 = 5;
 
-    /// Less than so long after the first sending a message is sent again, in milliseconds
-    /// (MAX_TRANSMIT_WAIT; RFC 7252, 4.8.2).
+    /// A message is retransmitted only within less than this many milliseconds after it was first
+    /// sent (MAX_TRANSMIT_WAIT; RFC 7252, 4.8.2).
     pub const SPAN: u64 = 93_000;
 
-    /// The timer of a message that is sent now for the first time. The first timeout is 2,000
-    /// milliseconds (ACK_TIMEOUT; RFC 7252, 4.8) and what was drawn, which is at most 1,000. The
-    /// moment is at most 2^62.
+    /// The timer of a message that is first sent now. The first timeout is 2,000 milliseconds
+    /// (ACK_TIMEOUT; RFC 7252, 4.8) plus `draw`, which is at most 1,000. `now` is at most 2^62.
     pub fn start(now: u64, draw: u16) -> Timer
         requires now { now ≤ 2 ^ 62 }
         requires draw { draw ≤ 1000 }
@@ -52,8 +51,8 @@ impl Timer {
         }
     }
 
-    /// Whether the message is to be sent again at this moment: it was sent less than five times,
-    /// and for the first time less than 93,000 milliseconds before.
+    /// Whether the message is to be sent again now: it was sent fewer than five times, and first
+    /// less than 93,000 milliseconds ago.
     fn goes_on(&self, now: u64) -> bool
         ensures exact { result ≡ goes_on now self.now }
         ensures few { result ≡ true → self.now.sends < 5 }
@@ -61,7 +60,7 @@ impl Timer {
         self.sends < Timer::MOST && now.saturating_sub(self.started) < Timer::SPAN
     }
 
-    /// What is to be done where it is due at this moment.
+    /// What is to be done if it is due now.
     pub(crate) fn fire_of(&self, now: u64) -> Fire
         ensures exact { result ≡ fire_of now self.now }
     {
@@ -72,9 +71,9 @@ impl Timer {
         }
     }
 
-    /// What is to be done now that it is due: the moment isn't before the end of the timeout that
-    /// runs. Where the message is to be sent again, that is counted, and the next timeout runs,
-    /// which lasts twice as long. The moment is at most 2^62, and the timeout at most 2^32.
+    /// Fires the timer, which is due: `now` isn't before the end of the current timeout. Returns
+    /// what is to be done. If the message is to be sent again, that is counted, and the next
+    /// timeout starts, which is twice as long. `now` is at most 2^62, and the timeout at most 2^32.
     pub fn fire(&mut self, now: u64) -> Fire
         requires due { self.old.due ≤ now }
         requires now { now ≤ 2 ^ 62 }

@@ -15,20 +15,21 @@ use coap_message::OutOfMemory;
 use std::alloc::Global;
 use std::collections::BTreeMap;
 
-/// What tells whose turn it is, so that neither exchanges nor endpoints are gone through.
+/// What decides whose turn it is, so that neither exchanges nor endpoints are scanned.
 #[derive(Drop)]
 pub(crate) struct Turns {
-    /// The first that waits with each endpoint, by how many are sent to that.
+    /// The first queued exchange of each endpoint, by the number of exchanges sent to that
+    /// endpoint.
     pub(crate) heads: Roll,
     /// The latest moment of an admission, in milliseconds.
     pub(crate) latest: u64,
-    /// Whether exchanges were admitted in the order of their moments, so that the lower of two
-    /// numbers comes first.
+    /// Whether exchanges were admitted in order of time, so that the lower of two numbers comes
+    /// first.
     pub(crate) in_order: bool,
 }
 
 impl Turns {
-    /// Those of an empty table.
+    /// The turns of an empty table.
     pub(crate) fn new(alloc: Global) -> Result<Turns, OutOfMemory>
         ensures empty { IfOk result (λ turns. AreTurns [] turns) }
     {
@@ -39,7 +40,7 @@ impl Turns {
         })
     }
 
-    /// An exchange is admitted at this moment, after all others.
+    /// Notes that an exchange is admitted now, after all others.
     pub(crate) fn note(&mut self, now: u64)
         ensures exact { self.new ≡ noted now self.old }
     {
@@ -47,8 +48,8 @@ impl Turns {
         self.latest = self.latest.max(now);
     }
 
-    /// The least number of those whose turn it is, where they were admitted in order: with their
-    /// endpoints fewer than `nstart` are sent.
+    /// The least number of the exchanges that can be sent, if they were admitted in order: those
+    /// with fewer than `nstart` exchanges sent to their endpoint.
     pub(crate) fn first(&self, nstart: usize) -> Option<u64>
         ensures exact { IsLowestUnder nstart self.now.heads.pairs result }
     {
@@ -65,7 +66,7 @@ impl Turns {
     }
 }
 
-/// The lower of two numbers, if there is a first.
+/// The lower of two numbers, or the second if there is no first.
 fn lower(first: Option<u64>, number: u64) -> Option<u64>
     ensures { result ≡ lower first number }
 {
@@ -85,8 +86,7 @@ pub(crate) fn peer_of(found: Option<&Listed>) -> Option<Peer>
     }
 }
 
-/// How many are sent to an endpoint, and the first that waits for its turn
-/// with it, if one does.
+/// The number of exchanges sent to an endpoint, and its first queued exchange, if it has one.
 pub(crate) fn head_of(
     exchanges: &Table<Listed>,
     index: &Index,

@@ -8,7 +8,7 @@ use coap_endpoint::Endpoint;
 use coap_message::{Kind, Pieces, Seq, Token};
 use std::alloc::Global;
 
-/// How far a client was served.
+/// The state of a waiter.
 ///
 /// ```text
 ///            its exchange is done, a tick serves it
@@ -19,27 +19,27 @@ use std::alloc::Global;
 /// ```
 #[derive(Drop)]
 pub enum WaiterState {
-    /// It waits for the exchange of this number.
+    /// It is waiting for the exchange of this number.
     Waiting(u64),
     /// It was sent the response in a Confirmable message, and hasn't acknowledged it.
     Delivering {
-        /// The bytes that are sent.
+        /// The encoded response.
         bytes: Seq<u8>,
-        /// The message id that they have.
+        /// The message id of the response.
         id: u16,
         timer: Timer,
     },
 }
 
-/// A client that waits for an exchange, or for which a response is on its way.
+/// A client that waits for an exchange, or that is being sent a response.
 pub struct Waiter {
     pub client: Endpoint,
-    /// The type of the message that its request came in.
+    /// The type of the message that carried its request.
     pub kind: Kind,
-    /// The token of its request, empty once it was sent the response.
+    /// The token of its request; empty once the response was sent.
     pub token: Token,
-    /// The ETags of the responses that it holds already (RFC 7252, 5.10.6.2), none once it was sent
-    /// the response.
+    /// The ETags of the responses that it already holds (RFC 7252, 5.10.6.2); none once the
+    /// response was sent.
     pub tags: Pieces,
     pub state: WaiterState,
 }
@@ -56,7 +56,7 @@ impl Drop for Waiter {
     }
 }
 
-/// What happens to a waiter.
+/// A change to a waiter.
 #[derive(Drop)]
 pub(crate) enum WaiterChange {
     /// It is sent the response.
@@ -65,12 +65,12 @@ pub(crate) enum WaiterChange {
         id: u16,
         timer: Timer,
     },
-    /// Its timer is due at this moment.
+    /// Its timer is due at this moment, in milliseconds.
     Fire(u64),
 }
 
 impl Waiter {
-    /// The exchange that it waits for, if it isn't served yet.
+    /// The exchange that it waits for, if the response wasn't sent yet.
     pub fn exchange(&self) -> Option<u64>
         ensures exact { result ≡ exchange_of self.now.state }
     {
@@ -100,8 +100,8 @@ impl Waiter {
         }
     }
 
-    /// Whether it was sent the response to this endpoint with this message id, less than 247,000
-    /// milliseconds before this moment (RFC 7252, 4.4).
+    /// Whether the response was sent to the endpoint `at` with message id `id`, less than 247,000
+    /// milliseconds before `now` (RFC 7252, 4.4).
     pub fn was_sent_as(&self, at: Endpoint, id: u16, now: u64) -> bool
         ensures exact { result ≡ was_sent_as at id now self.now }
     {
@@ -117,7 +117,7 @@ impl Waiter {
         }
     }
 
-    /// What its timer says, now that it is due.
+    /// What its timer calls for, now that it is due.
     pub(crate) fn fire_of(&self, now: u64) -> Fire
         ensures exact { result ≡ fire_of_state now self.now.state }
     {
@@ -127,7 +127,7 @@ impl Waiter {
         }
     }
 
-    /// What happens to it is done.
+    /// Applies a change.
     pub(crate) fn change(&mut self, change: WaiterChange, alloc: Global)
         requires { CanChange change self.old }
         ensures exact { self.new ≡ changed_by change self.old }

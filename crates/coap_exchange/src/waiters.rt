@@ -1,4 +1,5 @@
-//! Tables of waiters: who waits for which exchange, what is delivered, and what is due.
+//! Tables of waiters: who waits for which exchange, which are being sent a response, and which is
+//! due.
 ghost use Rattle.std.specs.Prelude.{◌≡◌, ◌+◌, ◌-◌, ◌<◌, ◌≤◌, ◌^◌, ◌↔◌, ℕ, length, if◌then◌else◌, true, false, OnOk, OnErr, IfOk, IfErr, IfSome, IfNone};
 ghost use Rattle.std.specs.Map.{set_value};
 ghost use Rattle.std.specs.Option.{option_copied};
@@ -27,18 +28,18 @@ use std::alloc::Global;
 use std::collections::BTreeMap;
 use std::marker::Model;
 
-/// Waiters in order of number. A contract sees the table. Only `new` and `admit` take memory.
+/// Waiters in order of number. A contract sees the table. Only `new` and `admit` allocate.
 pub struct Waiters {
     table: Table<Waiter>,
-    /// How many wait for an exchange.
+    /// The number of waiters that wait for an exchange.
     waiting: usize,
-    /// How many wait for the exchange of each number.
+    /// The number of waiters for each exchange, by the exchange's number.
     by_exchange: BTreeMap<u64, usize>,
-    /// Those that wait, by the exchange for which they do.
+    /// Those that wait, by the exchange that they wait for.
     by_awaited: Roll,
     /// Those that were sent their response, by its message id.
     by_id: Roll,
-    /// The same, by the end of the timeout that runs.
+    /// The same, by the end of the current timeout.
     by_end: Roll,
     alloc: Global,
 }
@@ -78,7 +79,10 @@ impl Model for Waiters {
 }
 
 impl Waiters {
-    /// An empty table with room for so many waiters.
+    /// An empty table with room for `limit` waiters.
+    ///
+    /// # Errors
+    /// Out of memory.
     pub fn new(alloc: Global, limit: usize) -> Result<Waiters, OutOfMemory>
         ensures empty { IfOk result (λ waiters. waiters ≡ empty_table limit) }
     {
@@ -94,35 +98,35 @@ impl Waiters {
         })
     }
 
-    /// The number of waiters, those that wait and those that are delivered to.
+    /// The number of waiters: those that wait, and those that are being sent a response.
     pub fn len(&self) -> usize
         ensures exact { result ≡ length self.now.items }
     {
         self.table.len()
     }
 
-    /// How many there ever were.
+    /// The number of waiters ever admitted.
     pub fn admitted(&self) -> u64
         ensures exact { result ≡ self.now.admitted }
     {
         self.table.admitted()
     }
 
-    /// How many wait for an exchange.
+    /// The number of waiters that wait for an exchange.
     pub fn waiting(&self) -> usize
         ensures exact { result ≡ count is_waiting self.now.items }
     {
         self.waiting
     }
 
-    /// How many wait for the exchange of this number.
+    /// The number of waiters that wait for the exchange numbered `exchange`.
     pub fn waiting_for(&self, exchange: u64) -> usize
         ensures exact { result ≡ count (waits_for exchange) self.now.items }
     {
         counted(&self.by_exchange, exchange)
     }
 
-    /// The waiter of this number.
+    /// The waiter numbered `number`.
     pub fn get(&self, number: u64) -> Option<&Waiter>
         ensures exact { option_copied result ≡ item_at number self.now.items }
         ensures sound { IsTable self.now }
@@ -130,8 +134,9 @@ impl Waiters {
         self.table.get(number)
     }
 
-    /// The number of the waiter that was sent its response to this endpoint with this message id,
-    /// less than 247,000 milliseconds before this moment (RFC 7252, 4.4). Of several the first.
+    /// The number of the waiter whose response was sent to the endpoint `at` with message id `id`,
+    /// less than 247,000 milliseconds before `now` (RFC 7252, 4.4). If there are several, the
+    /// first.
     pub fn sent_as(&self, at: Endpoint, id: u16, now: u64) -> Option<u64>
         ensures exact { result ≡ first_that (was_sent_as at id now) self.now.items }
     {
@@ -154,17 +159,17 @@ impl Waiters {
         }
     }
 
-    /// What is due first, as its moment, in milliseconds, and its number; of what is due at one
-    /// moment what has the least number. A waiter is due at the moment at which the answer of its exchange came, and once the response was sent, at
-    /// the end of the timeout that runs.
+    /// The moment when the first waiter is due, in milliseconds, and its number. If several are due
+    /// at the same moment, the one with the least number. A waiter is due when the answer of its
+    /// exchange comes, and, once the response was sent, at the end of the current timeout.
     pub fn due(&self, exchanges: &Exchanges) -> Option<(u64, u64)>
         ensures exact { result ≡ first_due (due_after exchanges.now.items) self.now.items }
     {
         sooner(self.by_end.first(), self.first_answered(exchanges))
     }
 
-    /// What is due first because an answer has come. Those whose answer came first are found
-    /// without a search. Only where none waits for an answer that came first are all looked at.
+    /// Which waiter is due first because an answer has come. Those whose answer came first are
+    /// found without a scan. All are scanned only if none waits for an answer that came first.
     fn first_answered(&self, exchanges: &Exchanges) -> Option<(u64, u64)>
         ensures exact { result ≡ first_due (answered_of exchanges.now.items) self.now.items }
     {
@@ -184,12 +189,14 @@ impl Waiters {
         }
     }
 
-    /// Takes a waiter in after the others, which waits for the exchange of this number. Answers its
-    /// number.
+    /// Adds a waiter after the others, which waits for the exchange of this number, and returns the
+    /// waiter's number.
     ///
     /// # Errors
-    /// 1. `Full` where the table holds as many as it may. 2. `OutOfMemory`. Nothing is changed
-    /// then.
+    /// 1. `Full` if the table has no room for another waiter.
+    /// 2. `OutOfMemory`.
+    ///
+    /// The table is unchanged then.
     pub fn admit(
         &mut self,
         client: Endpoint,
@@ -243,8 +250,8 @@ impl Waiters {
         }
     }
 
-    /// Undoes an `admit` that was the last change: takes out the waiter of the last number that was
-    /// given, if it is there, and gives that number back.
+    /// Undoes an `admit`, if that was the last change: removes the waiter with the last number
+    /// given, if it is still in the table, and gives that number back.
     pub fn withdraw(&mut self)
         ensures exact { self.new ≡ withdrawn self.old }
         ensures undone { (before : Table Waiter) (item : Waiter)
@@ -263,7 +270,7 @@ impl Waiters {
         self.by_awaited.pass(number, was.awaited, is.awaited);
     }
 
-    /// Takes the waiter of this number out, if there is one.
+    /// Removes the waiter numbered `number`, if there is one.
     pub fn close(&mut self, number: u64)
         ensures closed { self.new ≡ record self.old { items = without number self.old.items } }
     {
@@ -277,9 +284,9 @@ impl Waiters {
         self.by_awaited.pass(number, was.awaited, is.awaited);
     }
 
-    /// The waiter of this number, which waited for an exchange, is sent its response: these bytes,
-    /// which have this message id. Its token and its tags are let go. The timeout of the timer is at
-    /// most 3,000 milliseconds, as the first one is.
+    /// Marks the waiter numbered `number`, which was waiting for an exchange, as being sent its
+    /// response: `bytes`, with message id `id`. Its token and tags are dropped. The timer's timeout
+    /// is at most 3,000 milliseconds, like that of a new timer.
     pub fn deliver(&mut self, number: u64, bytes: Seq<u8>, id: u16, timer: Timer)
         requires waiting { IfSome (item_at number self.old.items) (λ w. is_waiting w ≡ true) }
         requires short { timer.timeout ≤ 3000 }
@@ -300,8 +307,8 @@ impl Waiters {
         self.by_awaited.pass(number, was.awaited, is.awaited);
     }
 
-    /// The timer of the waiter of this number, which was sent its response, is due: what is to be
-    /// done. Where the response is to be sent again, the timer counts that. The moment is in
+    /// Fires the timer of the waiter numbered `number`, which was sent its response, and returns
+    /// what is to be done. If the response is to be sent again, the timer counts that. `now` is in
     /// milliseconds, and at most 2^62.
     pub fn fire(&mut self, number: u64, now: u64) -> Fire
         requires due { IfSome (item_at number self.old.items) (IsDue now) }
@@ -346,7 +353,7 @@ impl Table<Waiter> {
     }
 }
 
-/// What is due at a moment, if there is a number.
+/// Pairs a number with the moment when it is due, if there is a number.
 fn due_at(moment: u64, number: Option<u64>) -> Option<(u64, u64)>
     ensures exact { result ≡ due_at moment number }
 {
@@ -354,7 +361,7 @@ fn due_at(moment: u64, number: Option<u64>) -> Option<(u64, u64)>
     Some((moment, number))
 }
 
-/// When the answer came for which a waiter waits, under its number.
+/// When the answer came that a waiter waits for, with the waiter's number.
 fn answered_at(number: u64, waiter: &Waiter, exchanges: &Exchanges) -> Option<(u64, u64)>
     ensures exact { result ≡ due_row (answered_of exchanges.now.items) (number, waiter.now) }
 {
@@ -381,7 +388,7 @@ fn change_under(
     }
 }
 
-/// How many wait for an exchange, once the waiter of this number no longer does.
+/// The number of waiters that wait for an exchange, once the one numbered `number` no longer does.
 fn waiting_without(waiting: usize, waiters: &Table<Waiter>, number: u64) -> usize
     requires { waiting ≡ count is_waiting waiters.now.items }
     ensures fewer { result + (if passes is_waiting (item_at number waiters.now.items) then 1 else 0)
@@ -394,7 +401,7 @@ fn waiting_without(waiting: usize, waiters: &Table<Waiter>, number: u64) -> usiz
     }
 }
 
-/// The exchange for which the waiter of this number waits, if it does.
+/// The exchange that the waiter numbered `number` waits for, if it does.
 fn awaited_by(waiters: &Table<Waiter>, number: u64) -> Option<u64>
     ensures exact { result ≡ awaited_by (item_at number waiters.now.items) }
     ensures sound { IsTable waiters.now }
@@ -405,7 +412,7 @@ fn awaited_by(waiters: &Table<Waiter>, number: u64) -> Option<u64>
     }
 }
 
-/// The waiter of this number is counted no more for the exchange for which it waits.
+/// Stops counting the waiter numbered `number` for the exchange that it waits for.
 fn stop_waiting(by_exchange: &mut BTreeMap<u64, usize>, waiters: &Table<Waiter>, number: u64)
     requires { AreTallied waiters.now.items by_exchange.old }
     ensures fewer { (e : ℕ)
