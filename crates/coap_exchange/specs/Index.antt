@@ -65,7 +65,6 @@ end_in (Some s) = Some s.timer.due
 abbrev pub end_of : Exchange → Option ℕ
 end_of x = if is_sent x then end_in x.sending else None
 
--- the digest of a cache key
 -- the digest of its endpoint, while it is queued
 abbrev pub queue_of : Exchange → Option ℕ
 queue_of x = if is_queued x then Some (digest_of_endpoint x.key.target.at) else None
