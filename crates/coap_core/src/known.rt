@@ -40,7 +40,7 @@ fn put_acknowledgement(id: u16, out: &mut Datagram)
         code: Code::EMPTY,
         id,
     };
-    put_bare(out, head, &Token::empty());
+    put_bare(head, &Token::empty(), out);
 }
 
 /// Writes what goes out at once to a message of this endpoint that is taken up, and answers to whom

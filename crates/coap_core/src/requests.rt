@@ -220,7 +220,7 @@ impl<S: Store + Drop> World<S> {
                 let id = self.reply_id(arrival.message);
                 let kind = reply_kind(arrival.message.kind());
                 let token = Token::new(arrival.message.token());
-                put_stored(out, arrival.now, stored, kind, id, &token, &asked.tags);
+                put_stored(arrival.now, stored, kind, id, &token, &asked.tags, out);
                 true
             }
             _ => false,
@@ -440,7 +440,7 @@ impl<S: Store + Drop> World<S> {
     {
         let token = token_of(self.salt, self.exchanges.admitted() + 1);
         let room = self.limits.values().datagram as usize;
-        put_forwarded(out, room, &token, request, target, tag)
+        put_forwarded(&token, request, target, tag, out, room)
     }
 
     /// The client is refused with a code.
@@ -461,7 +461,7 @@ impl<S: Store + Drop> World<S> {
     {
         let head = self.reply_head(arrival.message, code);
         let token = Token::new(arrival.message.token());
-        put_bare(out, head, &token);
+        put_bare(head, &token, out);
         self.reply(arrival, Outcome::Refused(code), out)
     }
 
@@ -482,7 +482,7 @@ impl<S: Store + Drop> World<S> {
     {
         let head = self.reply_head(arrival.message, Code::SERVICE_UNAVAILABLE);
         let token = Token::new(arrival.message.token());
-        put_with_max_age(out, head, &token, self.limits.values().retry_s, &[]);
+        put_with_max_age(head, &token, self.limits.values().retry_s, &[], out);
         self.reply(arrival, Outcome::Overloaded, out)
     }
 

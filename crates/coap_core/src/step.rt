@@ -175,7 +175,7 @@ impl<S: Store + Drop> World<S> {
             code: Code::EMPTY,
             id,
         };
-        put_bare(out, head, &Token::empty());
+        put_bare(head, &Token::empty(), out);
         self.pass(now);
         Report {
             send: Some(source),

@@ -281,7 +281,7 @@ impl<S: Store + Drop> World<S> {
         let (client, kind, id) = (waiter.client, waiter.kind, self.next_id());
         let (token, tags) = (&waiter.token, &waiter.tags);
         is_short(token);
-        put_shown(out, now, answer, kind, awaited.is_get, id, token, tags);
+        put_shown(now, answer, kind, awaited.is_get, id, token, tags, out);
         self.tell(now, draw, number, kind, out)?;
         self.take_id(now);
         self.let_go(exchange);

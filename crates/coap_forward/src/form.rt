@@ -220,12 +220,12 @@ fn payload_sent<'a>(request: &MessageRef<'a>) -> &'a [u8]
 /// `Full`, exactly where it is longer than `room` bytes. Then a part of it may have been written.
 #[tactic(auto, unfolding(coap_message::specs::Spelling::spelling))]
 pub fn put_forwarded(
-    out: &mut Datagram,
-    room: usize,
     token: &Token,
     request: &MessageRef<'_>,
     target: &Target,
     tag: Option<&[u8]>,
+    out: &mut Datagram,
+    room: usize,
 ) -> Result<(), Full>
     requires room { room ≤ out.old.room }
     requires method { is_method request.now.code ≡ true }
@@ -271,7 +271,7 @@ pub fn tag_to_send<'a>(
     }
     let tag = tag_of(&response.options.lent())?;
     let token = Token::new(&[0; 8]);
-    match put_forwarded(out, most, &token, request, target, Some(tag)) {
+    match put_forwarded(&token, request, target, Some(tag), out, most) {
         Ok(()) => Some(tag),
         Err(_) => None,
     }

@@ -16,7 +16,7 @@ use coap_store::{Answer, Stored, put_max_age, show_into};
 // ---- the proxy's own messages
 
 /// Writes a message with neither options nor a payload.
-pub fn put_bare(out: &mut Datagram, head: Head, token: &Token)
+pub fn put_bare(head: Head, token: &Token, out: &mut Datagram)
     requires fits { length (spelling (message_of head token.now [] [])) ≤ out.old.room }
     ensures { out.new ≡ holding out.old (spelling (message_of head token.now [] [])) }
 {
@@ -27,7 +27,7 @@ pub fn put_bare(out: &mut Datagram, head: Head, token: &Token)
 }
 
 /// Writes a message whose one option is a Max-Age of so many seconds (RFC 7252, 5.10.5).
-pub fn put_with_max_age(out: &mut Datagram, head: Head, token: &Token, seconds: u64, payload: &[u8])
+pub fn put_with_max_age(head: Head, token: &Token, seconds: u64, payload: &[u8], out: &mut Datagram)
     requires fits { length
         (spelling (message_of head token.now (max_age_option seconds ∷ []) payload.now))
         ≤ out.old.room }
@@ -36,19 +36,19 @@ pub fn put_with_max_age(out: &mut Datagram, head: Head, token: &Token, seconds: 
         (spelling (message_of head token.now (max_age_option seconds ∷ []) payload.now)) }
 {
     let room = out.room();
-    if try_with_max_age(out, room, head, token, seconds, payload).is_err() {
+    if try_with_max_age(head, token, seconds, payload, out, room).is_err() {
         unreachable!();
     }
 }
 
 #[tactic(auto, unfolding(coap_message::specs::Spelling::spelling))]
 fn try_with_max_age(
-    out: &mut Datagram,
-    room: usize,
     head: Head,
     token: &Token,
     seconds: u64,
     payload: &[u8],
+    out: &mut Datagram,
+    room: usize,
 ) -> Result<(), Full>
     requires { room ≤ out.old.room }
     ensures { Appends (holding out.old []) out.new room
@@ -64,7 +64,6 @@ fn try_with_max_age(
 /// Writes what a client with these tags is given for an answer to a GET, or to another method, in a
 /// message of this type.
 pub fn put_shown(
-    out: &mut Datagram,
     now: u64,
     answer: &Answer,
     kind: Kind,
@@ -72,6 +71,7 @@ pub fn put_shown(
     id: u16,
     token: &Token,
     tags: &Pieces,
+    out: &mut Datagram,
 )
     requires fits { length (spelling (shown_as kind to_get now answer.now id token.now tags.now))
         ≤ out.old.room }
@@ -88,13 +88,13 @@ pub fn put_shown(
 /// Writes what a client with these tags is given for what is stored, the answer to a GET, in a
 /// message of this type.
 pub fn put_stored(
-    out: &mut Datagram,
     now: u64,
     stored: &Stored,
     kind: Kind,
     id: u16,
     token: &Token,
     tags: &Pieces,
+    out: &mut Datagram,
 )
     requires fits { length
         (spelling (shown_as kind true now (stored_answer stored.now) id token.now tags.now))
