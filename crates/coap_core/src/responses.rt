@@ -242,7 +242,7 @@ impl<S: Store + Drop> World<S> {
         ensures kept { out.new.room ≡ out.old.room }
     {
         self.is_wide();
-        let Some(answer) = self.answer_made(arrival.now, number, arrival.message, out)? else {
+        let Some(answer) = self.answer_made(arrival.now, number, arrival.message)? else {
             return Ok(self.ignore(arrival.now, out));
         };
         let entry = self.entry_made(arrival.now, number, &answer)?;
@@ -296,21 +296,18 @@ impl<S: Store + Drop> World<S> {
         now: u64,
         number: u64,
         response: &MessageRef<'_>,
-        out: &mut Datagram,
     ) -> Result<Option<Answer>, OutOfMemory>
-        requires room { self.now.setting.limits.datagram ≤ out.old.room }
-        ensures exact { IfOk result (λ answer.
+        ensures { IfOk result (λ answer.
             answer
             ≡ option_map (answer_for self.now now response.now)
             (item_at number self.now.exchanges)) }
-        ensures kept { out.new.room ≡ out.old.room }
     {
         let Some(exchange) = self.exchanges.get(number) else {
             return Ok(None);
         };
         let most = self.limits.values().datagram as usize;
         let (to_get, copy) = (exchange.is_get, exchange.copy.as_ref());
-        let answer = answer_of(self.alloc, most, to_get, copy, now, response, out)?;
+        let answer = answer_of(self.alloc, most, to_get, copy, now, response)?;
         Ok(Some(answer))
     }
 

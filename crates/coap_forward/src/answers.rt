@@ -1,5 +1,5 @@
 //! What a proxy makes of a response: the answer that it keeps, and how long that is fresh.
-ghost use Rattle.std.specs.Prelude.{◌≡◌, ◌≤◌, ◌==◌, true, not, [], filter, option_map, IfOk, IsOk};
+ghost use Rattle.std.specs.Prelude.{◌≡◌, ◌==◌, true, not, [], filter, option_map, IfOk, IsOk};
 ghost use Rattle.std.specs.List.{list_any};
 ghost use Rattle.coap_message.specs.declared.code.Code.{Code};
 ghost use Rattle.coap_message.specs.declared.kind.Kind.{Kind};
@@ -7,11 +7,9 @@ ghost use Rattle.coap_message.specs.declared.kind.Kind.TheVariants.{Non};
 ghost use Rattle.coap_option.specs.declared.numbers.TheConstants.{OBSERVE};
 ghost use Rattle.coap_forward.specs.Answers.{is_storable, without_observe, taken_of, validates, fits, answer_if_fits, answer_of, validated, left_of, left_told, bad_gateway, gateway_timeout, origin_answer, own_answer};
 
-use coap_message::{
-    Code, Datagram, Head, Kind, Message, MessageRef, OptionList, Options, OutOfMemory, Seq, Token,
-};
+use coap_message::{Code, Kind, Message, MessageRef, OptionList, Options, OutOfMemory, Seq, Token};
 use coap_option::{max_age, numbers, screen_response_ref};
-use coap_store::{Answer, Stored, left_at, put_aged, tells_age};
+use coap_store::{Answer, Stored, aged_fits, left_at, tells_age};
 use coap_validation::{RenewError, renewed};
 use std::alloc::Global;
 
@@ -75,20 +73,13 @@ fn taken_of(alloc: Global, to_get: bool, response: &MessageRef<'_>) -> Result<Me
     })
 }
 
-/// Whether a response fits a datagram of so many bytes with any token and any Max-Age. Its widest
-/// form is written for that.
-fn fits(message: &Message, most: usize, out: &mut Datagram) -> bool
-    requires { most ≤ out.old.room }
-    ensures exact { result ≡ fits most message.now }
-    ensures kept { out.new.room ≡ out.old.room }
+/// Whether a response fits a datagram of so many bytes with any token and any Max-Age: whether its
+/// widest form does.
+fn fits(message: &Message, most: usize) -> bool
+    ensures { result ≡ fits most message.now }
 {
-    let head = Head {
-        kind: Kind::Non,
-        code: message.code,
-        id: 0,
-    };
     let token = Token::new(&[0; 8]);
-    put_aged(message, head, &token, GREATEST_MAX_AGE, out, most).is_ok()
+    aged_fits(message, &token, GREATEST_MAX_AGE, most)
 }
 
 /// An answer of the proxy's own, with this code and nothing more. It takes no memory.
@@ -138,18 +129,10 @@ fn origin_answer(now: u64, message: Message) -> Answer
 }
 
 /// A response of an origin, as an answer, if it fits a datagram, and else 5.02.
-fn answer_if_fits(
-    alloc: Global,
-    most: usize,
-    now: u64,
-    message: Message,
-    out: &mut Datagram,
-) -> Answer
-    requires { most ≤ out.old.room }
-    ensures exact { result ≡ answer_if_fits most now message }
-    ensures kept { out.new.room ≡ out.old.room }
+fn answer_if_fits(alloc: Global, most: usize, now: u64, message: Message) -> Answer
+    ensures { result ≡ answer_if_fits most now message }
 {
-    if fits(&message, most, out) {
+    if fits(&message, most) {
         origin_answer(now, message)
     } else {
         bad_gateway(alloc, now)
@@ -164,19 +147,16 @@ fn validated(
     now: u64,
     copy: Option<&Stored>,
     valid: &Message,
-    out: &mut Datagram,
 ) -> Result<Answer, OutOfMemory>
-    requires { most ≤ out.old.room }
-    ensures exact { IfOk result (λ answer.
+    ensures { IfOk result (λ answer.
         answer
         ≡ validated most now (option_map (λ stored. stored.now.response) copy.entry) valid.now) }
-    ensures kept { out.new.room ≡ out.old.room }
 {
     let Some(stored) = copy else {
         return Ok(bad_gateway(alloc, now));
     };
     match renewed(alloc, stored, valid) {
-        Ok(message) => Ok(answer_if_fits(alloc, most, now, message, out)),
+        Ok(message) => Ok(answer_if_fits(alloc, most, now, message)),
         Err(RenewError::WrongTag) => Ok(bad_gateway(alloc, now)),
         Err(RenewError::OutOfMemory) => Err(OutOfMemory),
     }
@@ -196,14 +176,11 @@ pub fn answer_of(
     copy: Option<&Stored>,
     now: u64,
     response: &MessageRef<'_>,
-    out: &mut Datagram,
 ) -> Result<Answer, OutOfMemory>
-    requires { most ≤ out.old.room }
     ensures exact { IfOk result (λ answer.
         answer
         ≡ answer_of most to_get (option_map (λ stored. stored.now.response) copy.entry) now
         response.now) }
-    ensures kept { out.new.room ≡ out.old.room }
     ensures reset { response.now.kind ≡ Kind.Rst → IsOk result }
 {
     if response.kind() == Kind::Rst || screen_response_ref(response).is_err() {
@@ -214,11 +191,11 @@ pub fn answer_of(
         return Ok(bad_gateway(alloc, now));
     }
     let message = taken_of(alloc, to_get, response)?;
-    if !fits(&message, most, out) {
+    if !fits(&message, most) {
         return Ok(bad_gateway(alloc, now));
     }
     if valid {
-        validated(alloc, most, now, copy, &message, out)
+        validated(alloc, most, now, copy, &message)
     } else {
         Ok(origin_answer(now, message))
     }

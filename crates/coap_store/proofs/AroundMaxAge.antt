@@ -1,17 +1,19 @@
 -- Options in two parts, and a Max-Age between them.
-use Rattle.std.proofs.Common.{◌≡◌, ℕ, ◌≤◌, List, [], ◌∷◌, ◌++◌, Result, Ok, Err, sym, ap, subst, ◌∙◌, arith}
+use Rattle.std.proofs.Common.{◌≡◌, ℕ, ◌+◌, ◌≤◌, List, [], ◌∷◌, ◌++◌, length, Result, Ok, Err, sym, ap, subst, ◌∙◌, arith}
 use Rattle.coap_message.specs.declared.error.Full.{Full}
 use Rattle.coap_message.specs.Datagram.{Datagram, Appends}
 use Rattle.coap_message.proofs.Appending.{Appends-full, Appends-behind}
 use Rattle.std.proofs.lemmas.Bool.{ltb-true}
+use Rattle.std.proofs.lemmas.List.{length-append}
 use Rattle.coap_message.specs.declared.options.Opt.{Opt}
 use Rattle.coap_message.specs.Options.{AreOptions, last_number}
-use Rattle.coap_message.specs.Spelling.{options_spelling}
+use Rattle.coap_message.specs.Spelling.{option_length, options_length, options_spelling}
 use Rattle.coap_store.specs.declared.show.Part.{Part}
 use Rattle.coap_store.specs.declared.show.Part.TheVariants.{Before, After}
 use Rattle.coap_store.specs.Renewing.{max_age_option, with_max_age}
 use Rattle.coap_store.specs.Writing.{floor_of, is_in, part_of}
 use Rattle.coap_message.proofs.OptionSpellings.{options_spelling-append}
+use Rattle.coap_message.proofs.Spellings.{options-length}
 use Rattle.coap_store.proofs.Picked.{AreOptions-above, last-below}
 
 -- the options of a part are in order after what may stand before it
@@ -29,6 +31,14 @@ parts left os =
     let after = options_spelling-append (last_number 0 (part_of Before os)) (max_age_option left ∷ []) (part_of After os) in
     let whole = options_spelling-append 0 (part_of Before os) (max_age_option left ∷ part_of After os) in
     ap (λ (l : List ℕ). options_spelling 0 (part_of Before os) ++ l) (sym after) ∙ sym whole
+
+-- and how long they are together
+pub parts-length : (left : ℕ) (os : List Opt) → options_length 0 (part_of Before os) + (option_length (last_number 0 (part_of Before os)) (max_age_option left) + options_length 14 (part_of After os)) ≡ options_length 0 (with_max_age left os)
+parts-length left os =
+    let before = options_spelling 0 (part_of Before os) in
+    let between = options_spelling (last_number 0 (part_of Before os)) (max_age_option left ∷ []) in
+    let after = options_spelling 14 (part_of After os) in
+    omega (arith, ap length (parts left os), length-append before (between ++ after), length-append between after, options-length 0 (part_of Before os), options-length (last_number 0 (part_of Before os)) (max_age_option left ∷ []), options-length 14 (part_of After os), options-length 0 (with_max_age left os))
 
 -- ---- the three writes
 

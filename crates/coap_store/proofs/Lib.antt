@@ -7,4 +7,5 @@ pub mod Tags
 pub mod Picked
 pub mod Renewals
 pub mod AroundMaxAge
+pub mod Measures
 pub mod Updates

@@ -7,3 +7,4 @@ pub mod Entries
 pub mod Renewing
 pub mod Showing
 pub mod Writing
+pub mod Measuring

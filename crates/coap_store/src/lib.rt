@@ -5,6 +5,7 @@
 mod answer;
 mod key;
 pub mod laws;
+mod measure;
 mod show;
 mod showing;
 mod size;
@@ -15,7 +16,8 @@ mod updating;
 
 pub use answer::Answer;
 pub use key::CacheKey;
-pub use show::{put_aged, put_max_age, show_into, tells_age};
+pub use measure::aged_fits;
+pub use show::{put_max_age, show_into, tells_age};
 pub use showing::shown;
 pub use size::bytes_of;
 pub use store::{Put, Store};

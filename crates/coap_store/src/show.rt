@@ -165,7 +165,7 @@ pub fn put_max_age(out: &mut Datagram, room: usize, before: u16, seconds: u64) -
 /// # Errors
 /// `Full`, exactly where it is longer than `room` bytes. Then a part of it may have been written.
 #[tactic(auto, unfolding(coap_message::specs::Spelling::spelling))]
-pub fn put_aged(
+fn put_aged(
     message: &Message,
     head: Head,
     token: &Token,
@@ -213,7 +213,7 @@ pub(crate) enum Part {
 
 impl Part {
     /// Whether an option of this number stands there.
-    fn has(self, number: u16) -> bool
+    pub(crate) fn has(self, number: u16) -> bool
         ensures { result ≡ is_in self number }
     {
         match self {

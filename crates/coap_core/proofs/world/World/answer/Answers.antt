@@ -2,7 +2,6 @@ use Rattle.std.proofs.Common.{◌∙◌, ◌<◌, sym, arith}
 use Rattle.coap_model.specs.declared.report.Outcome.TheVariants.{Answered}
 use Rattle.coap_core.specs.Storing.{targets_in}
 use Rattle.coap_core.proofs.Puts.{left-open, left-events, answer-does}
-use Rattle.coap_core.proofs.Records.{held-same}
 use Rattle.coap_core.proofs.world.World.answer.Goals as goal
 
 pub answered-requires : goal.answered-requires
@@ -22,6 +21,6 @@ pass-requires g c =
 pub returns-clause-exact : goal.returns-clause-exact
 returns-clause-exact g c =
     answer-does c.args.self.now c.keep-storing.new.self c.args.arrival.now c.args.number c.args.arrival.from c.args.arrival.message.now c.in_ok-entry.entry (targets_in c.in_ok-changed.changed) c.keep-storing.result (record { send = c.in_ok-send.send; outcome = Answered c.keep-storing.result }) c.args.out.now c.take_up.new.out c.pass.new.self c.in-Some.answer
-    (sym c.in-Some.is ∙ c.in_ok-answer.ensures.exact) c.in_ok-entry.ensures c.in_ok-changed.ensures (rw (c.change_all.ensures, c.in_ok-send.ensures.done) at c.keep-storing.ensures) (λ i. record { send = c.in_ok-send.ensures.send i; outcome = Answered c.keep-storing.result })
-    (c.in_ok-send.ensures.said ∙ held-same c.answer_made.new.out c.args.out.now _ c.in_ok-answer.ensures.kept)
+    (sym c.in-Some.is ∙ c.in_ok-answer.ensures) c.in_ok-entry.ensures c.in_ok-changed.ensures (rw (c.change_all.ensures, c.in_ok-send.ensures.done) at c.keep-storing.ensures) (λ i. record { send = c.in_ok-send.ensures.send i; outcome = Answered c.keep-storing.result })
+    c.in_ok-send.ensures.said
     (rw (← c.self.view_is) (rw c.answered.ensures.answered at c.pass.ensures))
