@@ -1,5 +1,5 @@
--- How the request that is sent on is written: the options of its target and the tag, and the others
--- in the gaps between them.
+-- How the forwarded request is written: the options of its target and the tag, and the others in
+-- the gaps between them.
 use Rattle.std.specs.Prelude.{ℕ, ◌&&◌, Bool, nat_lt, List, [], ◌∷◌, ◌++◌, filter, map, Option, Some, None}
 use Rattle.std.specs.Option.{option_map}
 use Rattle.coap_message.specs.declared.code.Code.{Code}
@@ -18,19 +18,19 @@ abbrev pub given : Option (List ℕ) → List (List ℕ)
 given None = []
 given (Some value) = value ∷ []
 
--- the values that are left of a part
+-- the remaining values of a part
 abbrev pub values_left : PartValues → List (List ℕ)
 values_left (Given value) = given (option_map (λ v. v.now) value)
 values_left (Kept pieces) = pieces
 
--- an option of this number stands in this gap
+-- an option with this number is in this gap
 abbrev pub is_in : Gap → ℕ → Bool
 is_in BeforeHost number = nat_lt number URI_HOST
 is_in BeforePath number = nat_lt URI_HOST number && nat_lt number URI_PATH
 is_in BeforeQuery number = nat_lt URI_PATH number && nat_lt number URI_QUERY
 is_in Last number = nat_lt URI_QUERY number
 
--- The greatest number of the options before the gap. The tag stands right after the Uri-Host.
+-- The greatest number of the options before the gap. The tag comes right after the Uri-Host.
 abbrev pub floor_of : Gap → ℕ
 floor_of BeforeHost = 0
 floor_of BeforePath = ETAG
@@ -44,10 +44,10 @@ end_of BeforePath = URI_PATH
 end_of BeforeQuery = URI_QUERY
 end_of Last = 65535
 
--- of the options of a request with this code those in a gap that go on
+-- the options in a gap that are forwarded, of a request with this code
 abbrev pub others_in : Code → Gap → List Opt → List Opt
 others_in code gap options = filter (λ o. is_in gap o.number && goes_on code o) options
 
--- what is written of a gap, and of the part after it
+-- what is written for a gap, and for the part after it
 abbrev pub part_of : Message → Gap → List (List ℕ) → List Opt
 part_of m gap values = others_in m.code gap m.options ++ map (option_of (end_of gap)) values

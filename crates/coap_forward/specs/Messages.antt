@@ -1,5 +1,5 @@
--- What messages mean to a proxy: words that the step and the history share, as those of `Forms`,
--- `Verdicts` and `Answers`. They speak of messages alone, and of no table.
+-- What messages mean to a proxy: definitions shared by the step and the history, like those of
+-- `Forms`, `Verdicts` and `Answers`. They are about messages alone, not about tables.
 use Rattle.std.specs.Prelude.{ℕ, ◌+◌, ◌%◌, ◌^◌, ◌&&◌, ◌||◌, Bool, true, false, if◌then◌else◌, List, [], ◌∷◌, Option, Some, None}
 use Rattle.std.specs.Int.{w64, to_be_bytes}
 use Rattle.coap_message.specs.declared.kind.Kind.{Kind}
@@ -25,15 +25,15 @@ is_non Non = true
 is_non Ack = false
 is_non Rst = false
 
--- requests come in these (RFC 7252, 4.2 and 4.3)
+-- the types that requests come in (RFC 7252, 4.2 and 4.3)
 abbrev pub brings_requests : Kind → Bool
 brings_requests Con = true
 brings_requests Non = true
 brings_requests Ack = false
 brings_requests Rst = false
 
--- and responses in these; in a Confirmable or a Non-confirmable message they come separately (RFC
--- 7252, 5.2)
+-- the types that responses come in; those in a Confirmable or a Non-confirmable message are
+-- separate responses (RFC 7252, 5.2)
 abbrev pub brings_responses : Kind → Bool
 brings_responses Con = true
 brings_responses Non = true
@@ -57,7 +57,7 @@ is_rst Rst = true
 abbrev pub is_get : Code → Bool
 is_get code = is_code code GET
 
--- the methods of requests that are sent on (RFC 7252, 5.8)
+-- the methods of requests that are forwarded (RFC 7252, 5.8)
 abbrev pub is_method : Code → Bool
 is_method code =
     is_code code GET || (is_code code POST || (is_code code PUT || is_code code DELETE))
@@ -65,7 +65,7 @@ is_method code =
 abbrev pub is_empty : Code → Bool
 is_empty code = is_code code EMPTY
 
--- an acknowledgement or a Reset without more (RFC 7252, 4.2)
+-- an acknowledgement or a Reset with nothing more (RFC 7252, 4.2)
 abbrev pub is_bare : Message → Bool
 is_bare m = is_empty m.code && (is_ack m.kind || is_rst m.kind)
 
@@ -75,18 +75,18 @@ abbrev pub is_recorded : Message → Bool
 is_recorded m =
     (brings_requests m.kind && is_request m.code) || (is_con m.kind && is_response m.code)
 
--- ---- what the proxy says of its own
+-- ---- the proxy's own messages
 
--- a message without token, options and payload: a Reset of a message with this id (RFC 7252, 4.2)
+-- a message without token, options or payload: the Reset of a message with this id (RFC 7252, 4.2)
 abbrev pub reset : ℕ → Message
 reset id = record { kind = Rst; code = EMPTY; id = id; token = []; options = []; payload = [] }
 
--- an Empty acknowledgement of a message with this id (RFC 7252, 4.2 and 5.2.2)
+-- the Empty acknowledgement of a message with this id (RFC 7252, 4.2 and 5.2.2)
 abbrev pub acknowledgement : ℕ → Message
 acknowledgement id =
     record { kind = Ack; code = EMPTY; id = id; token = []; options = []; payload = [] }
 
--- a reply of the proxy's own to a client's token
+-- a reply of the proxy's own, with a client's token
 abbrev pub own_reply : Code → List Opt → ℕ → List ℕ → Message
 own_reply code options id token =
     record { kind = Non; code = code; id = id; token = token; options = options; payload = [] }
@@ -95,23 +95,23 @@ own_reply code options id token =
 abbrev pub busy_reply : ℕ → ℕ → List ℕ → Message
 busy_reply seconds id token = own_reply SERVICE_UNAVAILABLE (max_age_option seconds ∷ []) id token
 
--- ---- replies that go out at once
+-- ---- replies that are sent at once
 
 -- to a Confirmable request in its acknowledgement, which has its id (RFC 7252, 5.2.1), and to a
--- Non-confirmable one in a message like it, with an id of the proxy's (RFC 7252, 5.2.3)
+-- Non-confirmable one in a Non-confirmable message, with an id of the proxy's (RFC 7252, 5.2.3)
 abbrev pub reply_kind : Kind → Kind
 reply_kind kind = if is_con kind then Ack else Non
 
 abbrev pub reply_id : Message → ℕ → ℕ
 reply_id request id = if is_con request.kind then request.id else id
 
--- a reply as it goes out at once to a request
+-- a reply as it is sent at once to a request
 abbrev pub at_once : Message → Message → Message
 at_once request reply =
     record reply { kind = reply_kind request.kind; id = reply_id request reply.id }
 
--- what a duplicate is told: that of a Confirmable message what went out at once (RFC 7252, 4.2),
--- and that of a Non-confirmable one nothing (RFC 7252, 4.3)
+-- what a duplicate gets: for a Confirmable message what was sent at once (RFC 7252, 4.2), and for a
+-- Non-confirmable one nothing (RFC 7252, 4.3)
 abbrev pub told_again : Kind → List ℕ → Option (List ℕ)
 told_again kind sent = if is_con kind then Some sent else None
 
@@ -121,6 +121,6 @@ told_again kind sent = if is_con kind then Some sent else None
 abbrev pub eight_zeros : List ℕ
 eight_zeros = 0 ∷ 0 ∷ 0 ∷ 0 ∷ 0 ∷ 0 ∷ 0 ∷ 0 ∷ []
 
--- the token of the request of an exchange: the salt and its number, in eight bytes
+-- the token of an exchange's request: the salt and its number, in eight bytes
 unfoldable pub token_of : ℕ → ℕ → List ℕ
 token_of salt number = to_be_bytes w64 ((salt + number) % 2 ^ 64)

@@ -1,4 +1,4 @@
-//! What a proxy makes of a response: the answer that it keeps, and how long that is fresh.
+//! What a proxy makes of a response: the answer that it keeps, and how long the answer stays fresh.
 ghost use Rattle.std.specs.Prelude.{◌≡◌, ◌==◌, true, not, [], filter, option_map, IfOk, IsOk};
 ghost use Rattle.std.specs.List.{list_any};
 ghost use Rattle.coap_message.specs.declared.code.Code.{Code};
@@ -28,7 +28,7 @@ fn has_observe(options: &Options<'_>) -> bool
     false
 }
 
-/// A copy of the options without Observe, in no more room than it needs.
+/// A copy of the options without Observe, with no spare capacity.
 fn without_observe(alloc: Global, options: &Options<'_>) -> Result<OptionList, OutOfMemory>
     ensures { IfOk result (λ list. list ≡ filter (λ o. not (o.number == OBSERVE)) options.now) }
 {
@@ -45,16 +45,15 @@ fn without_observe(alloc: Global, options: &Options<'_>) -> Result<OptionList, O
     Ok(list)
 }
 
-/// Whether a response to a GET, or to another method, is a 2.03 that validates what is stored (RFC
-/// 7252, 5.9.1.3).
+/// Whether a response is a 2.03 to a GET, which validates what is stored (RFC 7252, 5.9.1.3).
 fn validates(to_get: bool, response: &MessageRef<'_>) -> bool
     ensures { result ≡ validates to_get response.now }
 {
     to_get && response.code() == Code::VALID
 }
 
-/// A copy of what is taken of a response: Observe is taken off (RFC 7641, 2), and of one that
-/// validates the payload, too.
+/// A copy of what is taken from a response: all but Observe (RFC 7641, 2), and, if it validates,
+/// all but the payload too.
 fn taken_of(alloc: Global, to_get: bool, response: &MessageRef<'_>) -> Result<Message, OutOfMemory>
     ensures { IfOk result (λ message. message ≡ taken_of to_get response.now) }
 {
@@ -73,8 +72,8 @@ fn taken_of(alloc: Global, to_get: bool, response: &MessageRef<'_>) -> Result<Me
     })
 }
 
-/// Whether a response fits a datagram of so many bytes with any token and any Max-Age: whether its
-/// widest form does.
+/// Whether a response fits a datagram of `most` bytes with any token and any Max-Age: whether its
+/// longest form does.
 fn fits(message: &Message, most: usize) -> bool
     ensures { result ≡ fits most message.now }
 {
@@ -82,7 +81,7 @@ fn fits(message: &Message, most: usize) -> bool
     aged_fits(message, &token, GREATEST_MAX_AGE, most)
 }
 
-/// An answer of the proxy's own, with this code and nothing more. It takes no memory.
+/// An answer of the proxy's own, with this code and nothing more. Doesn't allocate.
 fn own_answer(alloc: Global, now: u64, code: Code) -> Answer
     ensures { result
         ≡ own_answer now
@@ -102,22 +101,22 @@ fn own_answer(alloc: Global, now: u64, code: Code) -> Answer
     }
 }
 
-/// 5.02, in place of a response that can't be passed on (RFC 7252, 5.9.3.3), and of one that never
-/// comes since its request was rejected (RFC 7252, 4.2). It takes no memory.
+/// 5.02, in place of a response that can't be passed on (RFC 7252, 5.9.3.3), or that never comes
+/// because its request was rejected (RFC 7252, 4.2). `now` is in milliseconds. Doesn't allocate.
 pub fn bad_gateway(alloc: Global, now: u64) -> Answer
     ensures exact { result ≡ own_answer now bad_gateway }
 {
     own_answer(alloc, now, Code::BAD_GATEWAY)
 }
 
-/// 5.04, where no answer came in time (RFC 7252, 5.7.1). It takes no memory.
+/// 5.04, if no answer came in time (RFC 7252, 5.7.1). `now` is in milliseconds. Doesn't allocate.
 pub fn gateway_timeout(alloc: Global, now: u64) -> Answer
     ensures exact { result ≡ own_answer now gateway_timeout }
 {
     own_answer(alloc, now, Code::GATEWAY_TIMEOUT)
 }
 
-/// A response of an origin, as an answer.
+/// An origin's response, as an answer.
 fn origin_answer(now: u64, message: Message) -> Answer
     ensures { result ≡ origin_answer now message }
 {
@@ -128,7 +127,7 @@ fn origin_answer(now: u64, message: Message) -> Answer
     }
 }
 
-/// A response of an origin, as an answer, if it fits a datagram, and else 5.02.
+/// An origin's response, as an answer, if it fits a datagram, and 5.02 otherwise.
 fn answer_if_fits(alloc: Global, most: usize, now: u64, message: Message) -> Answer
     ensures { result ≡ answer_if_fits most now message }
 {
@@ -139,8 +138,8 @@ fn answer_if_fits(alloc: Global, most: usize, now: u64, message: Message) -> Ans
     }
 }
 
-/// What a 2.03 gives for what is stored: that response, renewed, if it is the one that is validated
-/// (RFC 7252, 5.9.1.3).
+/// The answer for a 2.03: the stored response, renewed, if it is the one being validated (RFC 7252,
+/// 5.9.1.3).
 fn validated(
     alloc: Global,
     most: usize,
@@ -162,9 +161,10 @@ fn validated(
     }
 }
 
-/// The answer that a message gives which came for a request, a GET or of another method (RFC 7252,
-/// 5.7.1). What may be passed on is copied. A 2.03 to a GET renews `copy`, the stored response whose
-/// tag the request carried (RFC 7252, 5.6.2). Everything else gives 5.02; a Reset takes no memory.
+/// The answer for a message that came in reply to a request, a GET or another method (RFC 7252,
+/// 5.7.1). What may be passed on is copied. A 2.03 to a GET renews `copy`, the stored response
+/// whose tag the request carried (RFC 7252, 5.6.2). Everything else gives 5.02; for a Reset it
+/// doesn't allocate.
 ///
 /// # Errors
 /// Out of memory.
@@ -201,14 +201,14 @@ pub fn answer_of(
     }
 }
 
-/// For how many seconds an answer still is fresh (RFC 7252, 5.7.1).
+/// How many seconds an answer stays fresh (RFC 7252, 5.7.1).
 fn left_of(now: u64, answer: &Answer) -> u32
     ensures { result ≡ left_of now answer.now }
 {
     left_at(&answer.message, now.saturating_sub(answer.got))
 }
 
-/// That is told of what an origin answered to a GET, and not of other answers.
+/// The same for an origin's answer to a GET, and `None` for other answers.
 pub(crate) fn left_told(to_get: bool, now: u64, answer: &Answer) -> Option<u32>
     ensures { result ≡ left_told to_get now answer.now }
 {
@@ -219,7 +219,7 @@ pub(crate) fn left_told(to_get: bool, now: u64, answer: &Answer) -> Option<u32>
     }
 }
 
-/// Whether an answer may be stored: a 2.05 or an error of class 4 or 5 that an origin sent, with a
+/// Whether an answer may be stored: a 2.05 or an error of class 4 or 5, sent by an origin, with a
 /// Max-Age above 0 (RFC 7252, 5.6.1 and 5.9).
 pub fn is_storable(answer: &Answer) -> bool
     ensures { result ≡ is_storable answer.now }

@@ -9,16 +9,16 @@ use coap_message::{Code, MessageRef, OutOfMemory, Pieces};
 use coap_option::{Side, numbers, recognised};
 use std::alloc::Global;
 
-/// Whether a response of this code says that its target was changed: 2.01, 2.02 and 2.04 (RFC 7252,
-/// 5.9.1).
+/// Whether a response with this code says that its target was changed: 2.01, 2.02 and 2.04 (RFC
+/// 7252, 5.9.1).
 pub fn is_change(code: Code) -> bool
     ensures { result ≡ is_change code }
 {
     code == Code::CREATED || code == Code::DELETED || code == Code::CHANGED
 }
 
-/// The values of the recognised options of a number of a response, for a number that is recognised
-/// in any place. Without such an option it takes no memory.
+/// The values of a response's recognised options with a number that is recognised in any place.
+/// Doesn't allocate if there is no such option.
 fn values_at(alloc: Global, response: &MessageRef<'_>, number: u16) -> Result<Pieces, OutOfMemory>
     requires anywhere { (length before : ℕ)
         → is_recognised Side.Response number length before
@@ -37,8 +37,8 @@ fn values_at(alloc: Global, response: &MessageRef<'_>, number: u16) -> Result<Pi
     Ok(values)
 }
 
-/// The target of the same host and endpoint with this path, or with its own where this is empty,
-/// and with this query (RFC 7252, 5.10.7).
+/// The target with the same host and endpoint, with this path, or its own path if this one is
+/// empty, and with this query (RFC 7252, 5.10.7).
 fn located(target: &Target, path: Pieces, query: Pieces) -> Result<Target, OutOfMemory>
     ensures { IfOk result (λ created. created ≡ located target.now path query) }
 {
@@ -56,8 +56,8 @@ fn located(target: &Target, path: Pieces, query: Pieces) -> Result<Target, OutOf
 }
 
 /// The target that a 2.01 to a request for a target says was created: the one that its Location
-/// options name, if it has some. Without Location-Paths it has the path of the request's target (RFC
-/// 7252, 5.8.2 and 5.10.7). Where there is none, it takes no memory.
+/// options name, if it has any. Without Location-Paths it has the path of the request's target (RFC
+/// 7252, 5.8.2 and 5.10.7). If there is none, it doesn't allocate.
 ///
 /// # Errors
 /// Out of memory.

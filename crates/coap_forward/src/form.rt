@@ -1,5 +1,5 @@
-//! The request that is sent on, written part by part into the caller's datagram, without memory
-//! (RFC 7252, 5.7 and 5.8).
+//! The forwarded request, written part by part into the caller's datagram, without allocation (RFC
+//! 7252, 5.7 and 5.8).
 ghost use Rattle.std.specs.Prelude.{◌≡◌, ◌≤◌, None, [], true, length, map, option_map, IfOk, IfSome};
 ghost use Rattle.std.specs.List.{AllByRecursion};
 ghost use Rattle.coap_message.specs.declared.code.Code.{Code};
@@ -24,7 +24,7 @@ use coap_message::{
 use coap_option::{Side, numbers, recognised};
 use coap_store::tag_of;
 
-/// Where other options stand among those of a target.
+/// Where other options go among those of a target.
 #[derive(Clone, Copy)]
 pub(crate) enum Gap {
     /// Before the Uri-Host.
@@ -33,12 +33,12 @@ pub(crate) enum Gap {
     BeforePath,
     /// After the Uri-Paths, before any Uri-Query.
     BeforeQuery,
-    /// After them all.
+    /// After all of them.
     Last,
 }
 
 impl Gap {
-    /// Whether an option of this number stands there.
+    /// Whether an option with this number goes there.
     fn has(self, number: u16) -> bool
         ensures { result ≡ is_in self number }
     {
@@ -50,7 +50,7 @@ impl Gap {
         }
     }
 
-    /// The number of the options of the target that stand after it. None do after the last gap.
+    /// The number of the target's options that follow the gap. None follow the last gap.
     fn end(self) -> u16
         ensures { result ≡ end_of self }
     {
@@ -63,8 +63,8 @@ impl Gap {
     }
 }
 
-/// Whether an option of a request with this code is sent on, where no option of the request is
-/// refused: the ETags of a GET are for the proxy (RFC 7252, 5.10.6.2).
+/// Whether an option of a request with this code is forwarded, given that no option of the request
+/// is refused: the ETags of a GET are for the proxy (RFC 7252, 5.10.6.2).
 fn goes_on(code: Code, option: OptRef<'_>) -> bool
     ensures { result ≡ goes_on code (opt.seen option.entry) }
 {
@@ -84,9 +84,9 @@ fn goes_on(code: Code, option: OptRef<'_>) -> bool
     }
 }
 
-// ---- options, after one of the number `before`; what is answered is the number of the last
+// ---- options, after one with the number `before`; these return the number of the last option
 
-/// Adds those options of a request in a gap that are sent on.
+/// Adds the request's options in a gap that are forwarded.
 fn put_others(
     out: &mut Datagram,
     room: usize,
@@ -143,7 +143,7 @@ fn put_values(
     Ok(last)
 }
 
-/// Adds a part of a target, and what stands between it and the part before it.
+/// Adds a part of a target, and the options between it and the part before it.
 fn put_part(
     out: &mut Datagram,
     room: usize,
@@ -168,7 +168,7 @@ fn put_part(
     put_values(out, room, last, gap.end(), part)
 }
 
-/// Adds all options that are sent on, and the tag after the Uri-Host, so that it stands before
+/// Adds all options that are forwarded, and the tag after the Uri-Host, so that it comes before
 /// other ETags.
 fn put_form_options(
     out: &mut Datagram,
@@ -198,7 +198,7 @@ fn put_form_options(
     Ok(())
 }
 
-/// The payload of a request that goes on: that of a POST and of a PUT (RFC 7252, 5.8).
+/// The payload of a request that is forwarded: that of a POST or a PUT (RFC 7252, 5.8).
 fn payload_sent<'a>(request: &MessageRef<'a>) -> &'a [u8]
     ensures { result.now ≡ payload_sent request.now }
 {
@@ -210,14 +210,14 @@ fn payload_sent<'a>(request: &MessageRef<'a>) -> &'a [u8]
     }
 }
 
-/// Writes the request that is sent on for one that passed the screening, with the id 0, if it is at
+/// Writes the request to forward for one that passed the screening, with message id 0, if it is at
 /// most `room` bytes: Uri-Host, a Uri-Path for each segment and a Uri-Query for each part (RFC
-/// 7252, 5.10.1), with the other options in their places. `tag` is that of the stored response
-/// which the origin may validate, as an ETag before all others (RFC 7252, 5.6.2 and 5.10.6.2). It
-/// takes no memory.
+/// 7252, 5.10.1), with the other options in their places. `tag` is the tag of the stored response
+/// that the origin may validate, sent as an ETag before all others (RFC 7252, 5.6.2 and 5.10.6.2).
+/// Doesn't allocate.
 ///
 /// # Errors
-/// `Full`, exactly where it is longer than `room` bytes. Then a part of it may have been written.
+/// `Full`, exactly if it is longer than `room` bytes. Part of it may have been written then.
 #[tactic(auto, unfolding(coap_message::specs::Spelling::spelling))]
 pub fn put_forwarded(
     token: &Token,
@@ -247,9 +247,9 @@ pub fn put_forwarded(
     put_payload(out, room, payload_sent(request))
 }
 
-/// The tag that the request for a GET carries where this response is stored for its key: that of a
-/// 2.05, if the request fits a datagram of so many bytes with it and a token of eight bytes (RFC
-/// 7252, 5.6.2). It is written for that, without memory.
+/// The tag that the forwarded request for a GET carries if this response is stored for its key:
+/// that of a 2.05, if the request fits a datagram of `most` bytes with it and a token of eight
+/// bytes (RFC 7252, 5.6.2). To find out, the request is written to `out`, without allocation.
 #[tactic(auto, unfolding(crate::specs::Forms::form_fits))]
 pub fn tag_to_send<'a>(
     most: usize,

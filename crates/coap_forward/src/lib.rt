@@ -1,5 +1,5 @@
-//! What a proxy passes on (RFC 7252, 5.7): the request that it sends to an origin, what it makes of
-//! the response, and what its clients are shown of that.
+//! What a proxy passes on (RFC 7252, 5.7): the request that it forwards to an origin, what it makes
+//! of the response, and what it sends to its clients for it.
 #![tactic(auto)]
 
 mod answers;

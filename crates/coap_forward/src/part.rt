@@ -1,16 +1,16 @@
-//! Values of options that are written one after the other.
+//! Option values that are written one after the other.
 ghost use Rattle.std.specs.Prelude.{◌≡◌, ◌∷◌, [], MatchOption};
 ghost use Rattle.coap_forward.specs.Gaps.{given, values_left};
 
 use coap_endpoint::Target;
 use coap_message::PieceRefs;
 
-/// Values that say a part of a target, or a tag.
+/// Values that make up a part of a target, or a tag.
 #[derive(Drop)]
 pub(crate) enum PartValues<'a> {
     /// A value, or none.
     Given(Option<&'a [u8]>),
-    /// Those of a list.
+    /// The values of a list.
     Kept(PieceRefs<'a>),
 }
 
@@ -27,7 +27,7 @@ impl<'a> PartValues<'a> {
     }
 }
 
-/// The value that says the host, if there is one.
+/// The value of the Uri-Host, if the target has a host.
 pub(crate) fn host_of(target: &Target) -> PartValues<'_>
     ensures { values_left result ≡ given target.now.host }
 {

@@ -1,5 +1,5 @@
 //! The messages that a proxy sends, written part by part into the caller's datagram, without
-//! memory.
+//! allocation.
 ghost use Rattle.std.specs.Prelude.{◌≡◌, ◌≤◌, ◌∷◌, [], true, length};
 ghost use Rattle.coap_message.specs.Datagram.{Appends, holding};
 ghost use Rattle.coap_message.specs.Message.{message_of};
@@ -15,7 +15,7 @@ use coap_store::{Answer, Stored, put_max_age, show_into};
 
 // ---- the proxy's own messages
 
-/// Writes a message with neither options nor a payload.
+/// Writes a message with no options and no payload.
 pub fn put_bare(head: Head, token: &Token, out: &mut Datagram)
     requires fits { length (spelling (message_of head token.now [] [])) ≤ out.old.room }
     ensures { out.new ≡ holding out.old (spelling (message_of head token.now [] [])) }
@@ -26,7 +26,7 @@ pub fn put_bare(head: Head, token: &Token, out: &mut Datagram)
     }
 }
 
-/// Writes a message whose one option is a Max-Age of so many seconds (RFC 7252, 5.10.5).
+/// Writes a message whose only option is a Max-Age of `seconds` seconds (RFC 7252, 5.10.5).
 pub fn put_with_max_age(head: Head, token: &Token, seconds: u64, payload: &[u8], out: &mut Datagram)
     requires fits { length
         (spelling (message_of head token.now (max_age_option seconds ∷ []) payload.now))
@@ -59,9 +59,9 @@ fn try_with_max_age(
     put_payload(out, room, payload)
 }
 
-// ---- what clients are shown
+// ---- what clients are sent
 
-/// Writes what a client with these tags is given for an answer to a GET, or to another method, in a
+/// Writes what a client with these tags is sent for an answer to a GET or another method, in a
 /// message of this type.
 pub fn put_shown(
     now: u64,
@@ -85,7 +85,7 @@ pub fn put_shown(
     }
 }
 
-/// Writes what a client with these tags is given for what is stored, the answer to a GET, in a
+/// Writes what a client with these tags is sent for a stored response, the answer to a GET, in a
 /// message of this type.
 pub fn put_stored(
     now: u64,
