@@ -1,4 +1,4 @@
--- The entries of a store: keys with their stored responses.
+-- The entries of a store: keys with stored responses.
 use Rattle.std.specs.Prelude.{◌≡◌, ℕ, ◌≤◌, Bool, true, false, if◌then◌else◌, List, Option, length}
 use Rattle.std.specs.Option.{option_map, option_map_or}
 use Rattle.coap_endpoint.specs.declared.target.Target.{Target}
@@ -27,21 +27,21 @@ abbrev pub has_usable : CacheKey → ℕ → List Entry → Bool
 has_usable key now entries =
     option_map_or (λ entry. is_usable now entry.1) (of_key entry_key key entries) false
 
--- the entry is one of this target
+-- the entry is for this target
 abbrev pub is_for : Target → Entry → Bool
 is_for target entry = same_target entry.0.target target
 
--- a change of the target marks its entries, which then answer no request any more (RFC 7252, 5.9.1)
+-- a change of the target marks its entries, which then no longer answer requests (RFC 7252, 5.9.1)
 abbrev pub marked : Target → Entry → Entry
 marked target entry =
     if is_for target entry then (entry.0, record entry.1 { marked = true }) else entry
 
--- how much a store keeps at most: bytes as they are counted, and entries
+-- the most that a store keeps: bytes, as they are counted, and entries
 pub record Limits : Type 0 where
   pub bytes : ℕ
   pub entries : ℕ
 
--- a store keeps within its limits, and keeps one response for a key
+-- a store stays within its limits, and keeps at most one response for a key
 pub record IsStore (limits : Limits) (entries : List Entry) : Type 0 where
   pub distinct : are_distinct entry_key entries ≡ true
   pub within_bytes : total entry_size entries ≤ limits.bytes

@@ -15,23 +15,23 @@ use Rattle.coap_option.specs.Classes.{is_unsafe}
 use Rattle.coap_option.specs.Places.{places}
 use Rattle.coap_option.specs.Selection.{is_of, max_age_of}
 
--- the value of a response's ETag, the first one, where it is recognised (RFC 7252, 5.10.6.1)
+-- the value of a response's first ETag, if it is recognised (RFC 7252, 5.10.6.1)
 abbrev pub tag_of : List Opt → Option (List ℕ)
 tag_of options = option_map (λ p. p.option.value) (find (is_of Response ETAG) (places options))
 
--- a Max-Age of so many seconds, in as few bytes as will do (RFC 7252, 3.2 and 5.10.5)
+-- a Max-Age of this many seconds, in the fewest bytes (RFC 7252, 3.2 and 5.10.5)
 abbrev pub max_age_option : ℕ → Opt
 max_age_option seconds = option_of MAX_AGE (uint_spelling seconds)
 
--- the options of one kind
+-- the options with one number
 abbrev pub of_number : ℕ → List Opt → List Opt
 of_number number options = filter (λ o. o.number == number) options
 
--- there is one of this kind
+-- there is one with this number
 abbrev pub has_number : ℕ → List Opt → Bool
 has_number number options = list_any (λ o. o.number == number) options
 
--- the options below a number, those from it on, and those above it
+-- the options with lower numbers than this, those from it on, and those with higher ones
 abbrev pub below : ℕ → List Opt → List Opt
 below number options = filter (λ o. nat_lt o.number number) options
 
@@ -41,12 +41,13 @@ from number options = filter (λ o. nat_le number o.number) options
 abbrev pub above : ℕ → List Opt → List Opt
 above number options = filter (λ o. nat_lt number o.number) options
 
--- Newer options in their places among the older ones, in place of all of their kinds.
+-- The newer options, in their places among the older ones, replace all older ones with their
+-- numbers.
 abbrev pub updated : List Opt → List Opt → List Opt
 updated [] older = older
 updated (o ∷ newer) older = below o.number older ++ (o ∷ updated newer (above o.number older))
 
--- one Max-Age, of so many seconds
+-- one Max-Age, of this many seconds
 abbrev pub with_max_age : ℕ → List Opt → List Opt
 with_max_age seconds options = updated (max_age_option seconds ∷ []) options
 
@@ -54,11 +55,11 @@ with_max_age seconds options = updated (max_age_option seconds ∷ []) options
 abbrev pub safe_options : List Opt → List Opt
 safe_options options = filter (λ o. not (is_unsafe o.number)) options
 
--- what a 2.03 renews: its safe options, and its Max-Age, 60 seconds where it has none
+-- what a 2.03 renews: its safe options, and its Max-Age, 60 seconds if it has none
 abbrev pub news_of : Message → List Opt
 news_of valid = with_max_age (max_age_of valid) (safe_options valid.options)
 
--- The stored response, renewed by a 2.03, whose options replace those of their kinds.
+-- The stored response renewed by a 2.03, whose options replace those with the same numbers.
 abbrev pub renewed : Message → Message → Message
 renewed response valid = record response { options = updated (news_of valid) response.options }
 
@@ -66,7 +67,7 @@ renewed response valid = record response { options = updated (news_of valid) res
 abbrev pub has_tag : List ℕ → Message → Bool
 has_tag tag m = option_map_or (same_bytes tag) (tag_of m.options) false
 
--- A 2.03 validates a stored 2.05: it has the same tag (RFC 7252, 5.10.6.1). Without a tag nothing
+-- A 2.03 validates a stored 2.05 if it has the same tag (RFC 7252, 5.10.6.1). Without a tag nothing
 -- is validated.
 abbrev pub is_validated : Message → Message → Bool
 is_validated response valid =

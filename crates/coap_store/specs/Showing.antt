@@ -1,4 +1,4 @@
--- What a client is given for a response (RFC 7252, 5.6, 5.7.1, 5.10.5 and 5.10.6).
+-- What a client is sent for a response (RFC 7252, 5.6, 5.7.1, 5.10.5 and 5.10.6).
 use Rattle.std.specs.Prelude.{ℕ, ◌==◌, ◌/◌, ◌||◌, Bool, if◌then◌else◌, List, [], ◌∷◌, Option, None, Some}
 use Rattle.std.specs.List.{list_any}
 use Rattle.std.specs.Option.{option_map_or}
@@ -16,20 +16,20 @@ use Rattle.coap_store.specs.Renewing.{tag_of, max_age_option, with_max_age}
 abbrev pub is_content : Code → Bool
 is_content code = is_code code CONTENT
 
--- a 2.05, or an error of class 4 or 5, is told with a Max-Age
+-- a 2.05, or an error of class 4 or 5, is sent with a Max-Age
 abbrev pub tells_age : Code → Bool
 tells_age code = is_content code || (code.0 / 32 == 4 || code.0 / 32 == 5)
 
--- a tag, if it is among those of the client
+-- a tag, if it is one of the client's
 abbrev pub among : List (List ℕ) → Option (List ℕ) → Option (List ℕ)
 among tags None = None
 among tags (Some tag) = if list_any (same_bytes tag) tags then Some tag else None
 
--- the tag of a 2.05 that the client holds already (RFC 7252, 5.10.6.2)
+-- the tag of a 2.05 that the client already holds (RFC 7252, 5.10.6.2)
 abbrev pub held_tag : Message → List (List ℕ) → Option (List ℕ)
 held_tag m tags = if is_content m.code then among tags (tag_of m.options) else None
 
--- 2.03 with this tag, and the Max-Age alone (RFC 7252, 5.9.1.3)
+-- a 2.03 with just this tag and the Max-Age (RFC 7252, 5.9.1.3)
 abbrev pub valid : Message → ℕ → List ℕ → Message
 valid m left tag =
     record m {
@@ -38,20 +38,20 @@ valid m left tag =
       payload = [];
     }
 
--- one Max-Age of what is left
+-- with one Max-Age, of the seconds left
 abbrev pub aged : Message → ℕ → Message
 aged m left = record m { options = with_max_age left m.options }
 
--- as a 2.03 where the client holds it, or else with the Max-Age of what is left
+-- as a 2.03 if the client holds it, and otherwise with a Max-Age of the seconds left
 abbrev pub told : Message → ℕ → List (List ℕ) → Message
 told m left tags = option_map_or (valid m left) (held_tag m tags) (aged m left)
 
--- What is shown to a client with these tags. `left` is how many seconds are left of an answer of an
--- origin to a GET, and none for every other answer, which is shown as it is stored.
+-- What is sent to a client with these tags. `left` is the number of seconds left of an origin's
+-- answer to a GET, and none for every other answer, which is sent as it is stored.
 abbrev pub shown : Message → Option ℕ → List (List ℕ) → Message
 shown m None tags = m
 shown m (Some left) tags = if tells_age m.code then told m left tags else m
 
--- as a message of its own
+-- as a message of its own, with this type, message id and token
 abbrev pub addressed : Kind → ℕ → List ℕ → Message → Message
 addressed kind id token m = record m { kind = kind; id = id; token = token }

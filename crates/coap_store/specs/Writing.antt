@@ -5,7 +5,7 @@ use Rattle.coap_option.specs.declared.numbers.TheConstants.{MAX_AGE}
 use Rattle.coap_store.specs.declared.show.Part.{Part}
 use Rattle.coap_store.specs.declared.show.Part.TheVariants.{Before, After}
 
--- an option of this number stands in this part: before a Max-Age, or after it
+-- an option with this number is in this part: before a Max-Age, or after it
 abbrev pub is_in : Part → ℕ → Bool
 is_in Before number = nat_lt number MAX_AGE
 is_in After number = nat_lt MAX_AGE number
@@ -13,7 +13,7 @@ is_in After number = nat_lt MAX_AGE number
 abbrev pub part_of : Part → List Opt → List Opt
 part_of part options = filter (λ o. is_in part o.number) options
 
--- the least number that may stand before it
+-- the least number that can come before it
 abbrev pub floor_of : Part → ℕ
 floor_of Before = 0
 floor_of After = MAX_AGE

@@ -8,8 +8,8 @@ use coap_endpoint::Target;
 use coap_message::{OptionList, OutOfMemory};
 use std::hash::{Hash, Hasher};
 
-/// What a request and one whose response was stored have in common where that response answers
-/// both: the target, and the options that take part in the cache key (RFC 7252, 5.4.2 and 5.6).
+/// What two requests have in common if one response answers both: the target, and the options that
+/// are part of the cache key (RFC 7252, 5.4.2 and 5.6).
 pub struct CacheKey {
     pub target: Target,
     pub options: OptionList,
@@ -28,7 +28,7 @@ impl Eq for CacheKey {
     ghost laws = { keys_equiv };
 }
 
-/// Part by part.
+/// Compares part by part.
 impl PartialEq for CacheKey {
     ghost eq = { same_key };
 
@@ -39,7 +39,7 @@ impl PartialEq for CacheKey {
     }
 }
 
-/// The target, and then the options.
+/// Hashes the target, and then the options.
 impl Hash for CacheKey {
     ghost hash_input = { fed_key };
 
@@ -52,7 +52,7 @@ impl Hash for CacheKey {
 }
 
 impl CacheKey {
-    /// A copy, in no more room than it needs.
+    /// A copy, with no spare capacity.
     ///
     /// # Errors
     /// Out of memory.

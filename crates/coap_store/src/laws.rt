@@ -7,22 +7,22 @@ ghost use Rattle.coap_store.specs.Keys.{same_key};
 ghost use Rattle.coap_store.specs.Lists.{IsLongestBeginning, cut};
 ghost use Rattle.coap_store.specs.Renewing.{has_number, of_number, updated};
 
-/// Two keys are one exactly where their targets are equal and their options are.
+/// Two keys are equal exactly if their targets are equal and their options are.
 pub fn equal_keys_have_equal_parts()
     ensures parts { (a b : CacheKey)
         → (same_key a b ≡ true) ↔ ((a.target ≡ b.target) × (a.options ≡ b.options)) }
     ensures whole { (a b : CacheKey) → (same_key a b ≡ true) ↔ (a ≡ b) }
 {}
 
-/// What is cut is the longest beginning within both limits.
+/// `cut` is the longest prefix within both limits.
 pub fn cuts_are_longest<T>()
     ensures { (size : T → ℕ) (bytes count : ℕ) (xs : List T)
         → IsLongestBeginning size bytes count xs (cut size bytes count xs) }
 {}
 
-/// Newer options replace kinds: of a number that one of them has, there are the newer options, and
-/// of each other number the older ones. Options in order stay in order, so that this says which
-/// options there are, and where.
+/// Newer options replace older ones by number: for a number that a newer option has, the result has
+/// the newer options, and for each other number the older ones. Options in order stay in order, so
+/// this says which options there are, and where.
 pub fn kinds_are_replaced()
     ensures kinds { (n : ℕ) (newer older : List Opt)
         → AreOptions 0 newer

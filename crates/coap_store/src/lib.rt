@@ -1,5 +1,5 @@
-//! The cache of a proxy: keys, stored responses, what a store of them is to do, and what clients are
-//! shown (RFC 7252, 5.6, 5.7.1, 5.10.5 and 5.10.6).
+//! The cache of a proxy: keys, stored responses, what a store of them has to do, and what clients
+//! are sent (RFC 7252, 5.6, 5.7.1, 5.10.5 and 5.10.6).
 #![tactic(auto)]
 
 mod answer;

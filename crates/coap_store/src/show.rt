@@ -1,5 +1,5 @@
-//! What clients are given for a response, written without memory (RFC 7252, 5.6, 5.7.1, 5.10.5 and
-//! 5.10.6).
+//! What clients are sent for a response, written without allocation (RFC 7252, 5.6, 5.7.1, 5.10.5
+//! and 5.10.6).
 ghost use Rattle.std.specs.Prelude.{◌≡◌, ◌≤◌, ◌<◌, ◌↔◌, ◌∷◌, [], length, IfOk, IsErr, OnOk, OnErr};
 ghost use Rattle.coap_message.specs.Datagram.{Appends, holding, unit_of};
 ghost use Rattle.coap_message.specs.Message.{message_of};
@@ -17,16 +17,16 @@ use coap_message::{
 };
 use coap_option::numbers;
 
-/// Writes what a client is shown for a response: as a message of this kind, message id and token.
-/// It takes no memory.
+/// Writes what a client is sent for a response, with this kind, message id and token. Doesn't
+/// allocate.
 ///
-/// `left` is how many seconds are left of an answer of an origin to a GET. A 2.05 and a code of
-/// class 4 or 5 then carry exactly one Max-Age of that; a 2.05 whose ETag is among the client's
-/// `tags` is a 2.03 with that ETag and the Max-Age alone. Every other response, and each one
-/// without `left`, is shown as it is.
+/// `left` is the number of seconds left of an origin's answer to a GET. If it is given, a 2.05 or a
+/// code of class 4 or 5 is sent with exactly one Max-Age, of that many seconds; and a 2.05 whose
+/// ETag is among the client's `tags` is sent as a 2.03 with just that ETag and the Max-Age. Every
+/// other response, and each one without `left`, is sent as it is.
 ///
 /// # Errors
-/// `Full`, exactly where it is longer than `room` bytes: the datagram is empty then.
+/// `Full`, exactly if it is longer than `room` bytes: the datagram is empty then.
 pub fn show_into(
     message: &Message,
     kind: Kind,
@@ -59,14 +59,14 @@ pub fn show_into(
     Ok(())
 }
 
-/// Whether a response of this code is told with a Max-Age (RFC 7252, 5.10.5).
+/// Whether a response with this code is sent with a Max-Age (RFC 7252, 5.10.5).
 pub fn tells_age(code: Code) -> bool
     ensures { result ≡ tells_age code }
 {
     code == Code::CONTENT || code.class() == 4 || code.class() == 5
 }
 
-/// Writes what is shown, if it is at most `room` bytes.
+/// Writes what the client is sent, if it is at most `room` bytes.
 fn write_shown(
     message: &Message,
     head: Head,
@@ -93,7 +93,7 @@ fn write_shown(
     }
 }
 
-/// Writes a response that is told with a Max-Age.
+/// Writes a response that is sent with a Max-Age.
 fn put_told(
     message: &Message,
     head: Head,
@@ -141,12 +141,12 @@ fn put_valid(
     put_max_age(out, room, numbers::ETAG, left)
 }
 
-/// Adds a Max-Age of so many seconds after an option of the number `before`, 0 for none, if at most
-/// `room` bytes are held then. It takes no memory.
+/// Adds a Max-Age of `seconds` seconds after an option with the number `before`, 0 for none, if the
+/// datagram then holds at most `room` bytes. Doesn't allocate.
 ///
 /// # Errors
-/// `Full`, exactly where more than `room` bytes would be held. Then a part of it may have been
-/// added.
+/// `Full`, exactly if the datagram would hold more than `room` bytes. Part of it may have been
+/// added then.
 #[tactic(auto, unfolding(coap_message::specs::Uint::uint_spelling))]
 pub fn put_max_age(out: &mut Datagram, room: usize, before: u16, seconds: u64) -> Result<(), Full>
     requires room { room ≤ out.old.room }
@@ -158,12 +158,11 @@ pub fn put_max_age(out: &mut Datagram, room: usize, before: u16, seconds: u64) -
     put_option(out, room, before, numbers::MAX_AGE, without_zeros(&bytes))
 }
 
-/// Writes a response with one Max-Age of so many seconds, if it is at most `room` bytes: as a
-/// message of this head and token, whose options and payload are those of the response. It takes no
-/// memory.
+/// Writes a response with one Max-Age of `left` seconds, if it is at most `room` bytes: a message
+/// with this head and token, and the options and payload of the response. Doesn't allocate.
 ///
 /// # Errors
-/// `Full`, exactly where it is longer than `room` bytes. Then a part of it may have been written.
+/// `Full`, exactly if it is longer than `room` bytes. Part of it may have been written then.
 #[tactic(auto, unfolding(coap_message::specs::Spelling::spelling))]
 fn put_aged(
     message: &Message,
@@ -202,7 +201,7 @@ fn put_aged_options(
     Ok(())
 }
 
-/// Where an option stands by its number.
+/// Where an option goes, by its number.
 #[derive(Clone, Copy)]
 pub(crate) enum Part {
     /// Before a Max-Age.
@@ -212,7 +211,7 @@ pub(crate) enum Part {
 }
 
 impl Part {
-    /// Whether an option of this number stands there.
+    /// Whether an option with this number goes there.
     pub(crate) fn has(self, number: u16) -> bool
         ensures { result ≡ is_in self number }
     {
@@ -223,8 +222,8 @@ impl Part {
     }
 }
 
-/// Adds those options that stand in this part, after one of the number `before`. Answers the
-/// number of the last.
+/// Adds the options that go in this part, after one with the number `before`. Returns the number of
+/// the last.
 fn put_part(
     out: &mut Datagram,
     room: usize,

@@ -1,4 +1,4 @@
-//! What clients are given for a response, as a message (RFC 7252, 5.6, 5.7.1, 5.10.5 and 5.10.6).
+//! What clients are sent for a response, as a message (RFC 7252, 5.6, 5.7.1, 5.10.5 and 5.10.6).
 ghost use Rattle.std.specs.Prelude.{◌≡◌, ◌≤◌, ◌∷◌, [], true, length, IfOk};
 ghost use Rattle.coap_message.specs.Options.{option_of};
 ghost use Rattle.coap_option.specs.declared.numbers.TheConstants.{ETAG};
@@ -12,13 +12,13 @@ use coap_message::{Code, Message, OptionList, OutOfMemory, Pieces, Seq, without_
 use coap_option::numbers;
 use std::alloc::Global;
 
-/// What a client is shown for a response, as `show_into` writes it, but for kind, message id and
+/// What a client is sent for a response, as `show_into` writes it, except for kind, message id and
 /// token, which are those of the response.
 ///
-/// `left` is how many seconds are left of an answer of an origin to a GET. A 2.05 and a code of
-/// class 4 or 5 then carry exactly one Max-Age of that; a 2.05 whose ETag is among the client's
-/// `tags` is a 2.03 with that ETag and the Max-Age alone. Every other response, and each one
-/// without `left`, is shown as it is.
+/// `left` is the number of seconds left of an origin's answer to a GET. If it is given, a 2.05 or a
+/// code of class 4 or 5 is sent with exactly one Max-Age, of that many seconds; and a 2.05 whose
+/// ETag is among the client's `tags` is sent as a 2.03 with just that ETag and the Max-Age. Every
+/// other response, and each one without `left`, is sent as it is.
 ///
 /// # Errors
 /// Out of memory.
@@ -36,7 +36,7 @@ pub fn shown(
     }
 }
 
-/// A response that is shown with a Max-Age.
+/// A response that is sent with a Max-Age.
 fn told(alloc: Global, message: &Message, left: u32, tags: &Pieces) -> Result<Message, OutOfMemory>
     requires { tells_age message.now.code ≡ true }
     ensures { IfOk result (λ m. m ≡ told message.now left tags.now) }

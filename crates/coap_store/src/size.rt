@@ -1,4 +1,4 @@
-//! How many bytes an entry counts.
+//! How many bytes an entry counts for.
 ghost use Rattle.std.specs.Prelude.{◌≡◌, ◌+◌, min};
 ghost use Rattle.coap_store.specs.Sizes.{options_size, size_of, value_size, values_size};
 
@@ -6,12 +6,12 @@ use crate::key::CacheKey;
 use crate::stored::Stored;
 use coap_message::{OptionList, Pieces};
 
-/// How many bytes an entry counts: 64, and what it keeps of values, each with a byte more: the
-/// host, if it has one, the segments of the path, the parts of the query, the options of the key
-/// and those of the response; and the payload, without a byte more. Token and message id aren't
-/// counted. It takes no memory.
+/// How many bytes an entry counts for: 64, plus its values, each with one more byte (the host, if
+/// it has one, the segments of the path, the parts of the query, the options of the key and those
+/// of the response), plus the payload, without a further byte. The token and the message id aren't
+/// counted. Doesn't allocate.
 ///
-/// The count ends at `u64::MAX`, so that it is exact below that.
+/// The count saturates at `u64::MAX`, so it is exact below that.
 pub fn bytes_of(key: &CacheKey, stored: &Stored) -> u64
     ensures { result ≡ min (size_of key.now stored.now) u64.MAX }
 {
@@ -26,14 +26,14 @@ pub fn bytes_of(key: &CacheKey, stored: &Stored) -> u64
     with_options(bytes, &stored.response.options)
 }
 
-/// Counts a value too.
+/// Adds a value to the count.
 fn with_value(bytes: u64, value: &[u8]) -> u64
     ensures { result ≡ min (bytes + value_size value.now) u64.MAX }
 {
     bytes.saturating_add(value.len() as u64).saturating_add(1)
 }
 
-/// Counts the values of a list too.
+/// Adds the values of a list to the count.
 fn with_values(bytes: u64, values: &Pieces) -> u64
     ensures { result ≡ min (bytes + values_size values.now) u64.MAX }
 {
@@ -44,7 +44,7 @@ fn with_values(bytes: u64, values: &Pieces) -> u64
     bytes
 }
 
-/// Counts the values of options too.
+/// Adds the values of options to the count.
 fn with_options(bytes: u64, options: &OptionList) -> u64
     ensures { result ≡ min (bytes + options_size options.now) u64.MAX }
 {

@@ -11,32 +11,34 @@ use coap_endpoint::Target;
 use coap_message::OutOfMemory;
 use std::alloc::Global;
 
-/// What became of a response that was to be stored.
+/// What happened to a response that was to be stored.
 #[derive(Clone, Copy, Debug, PartialEq, Eq)]
 pub enum Put {
-    /// It is stored. What no longer fits was given up.
+    /// It is stored. What no longer fitted was dropped.
     Kept,
-    /// It alone counts more bytes than the store keeps. What was stored for its key was given up.
+    /// It alone counts for more bytes than the store keeps. What was stored for its key was
+    /// dropped.
     TooLarge,
-    /// There was no memory for one more entry. Nothing was changed.
+    /// Out of memory for one more entry. Nothing was changed.
     NoMemory,
 }
 
 /// A store of responses, which keeps the most recently used within limits. A contract sees its
-/// limits, and its entries as a list, the most recently used first. No two have one key.
+/// limits, and its entries as a list, the most recently used first. No two have the same key.
 pub trait Store {
-    /// What a store is made of beside its limits, as a hasher.
+    /// What a store needs besides its limits, such as a hasher.
     type Seed;
 
     ghost limits: { Self → Limits };
 
     ghost entries: { Self → List Entry };
 
-    /// An empty store, which keeps at most so many bytes, as `bytes_of` counts them, and so many
-    /// entries. Of bytes it never keeps more than 2^63 - 1: a greater limit is that one.
+    /// An empty store, which keeps at most `most_bytes` bytes, as `bytes_of` counts them, and at
+    /// most `most_entries` entries. It never keeps more than 2^63 - 1 bytes: a greater limit is
+    /// lowered to that.
     ///
     /// # Errors
-    /// The store was refused memory.
+    /// Out of memory.
     fn with_limits(
         alloc: Global,
         seed: Self::Seed,
@@ -50,9 +52,9 @@ pub trait Store {
             ≡ record { bytes = min most_bytes (2 ^ 63 - 1); entries = most_entries }) }
         ensures empty { IfOk result (λ s. entries s ≡ []) };
 
-    /// Whether a response is stored for the key that may answer a request at this moment, in
-    /// milliseconds: it is fresh, and it isn't marked (RFC 7252, 5.6 and 5.6.1). It is the most
-    /// recently used then. It takes no memory.
+    /// Whether the response stored for the key may answer a request at this moment, in
+    /// milliseconds: there is one, it is fresh, and it isn't marked (RFC 7252, 5.6 and 5.6.1). If
+    /// so, it becomes the most recently used. Doesn't allocate.
     fn hit(&mut self, key: &CacheKey, now: u64) -> bool
         ensures usable { result ≡ has_usable key.now now (entries self.old) }
         ensures moved { IsTrue result
@@ -67,20 +69,20 @@ pub trait Store {
         usable
     }
 
-    /// What is stored for the key, if anything is, is the most recently used from here on. It takes
-    /// no memory.
+    /// Makes what is stored for the key the most recently used, if anything is stored. Doesn't
+    /// allocate.
     fn touch(&mut self, key: &CacheKey)
         ensures moved { entries self.new ≡ used entry_key key.now (entries self.old) }
         ensures limited { limits self.new ≡ limits self.old };
 
-    /// What is stored for the key. It takes no memory.
+    /// What is stored for the key. Doesn't allocate.
     fn peek(&self, key: &CacheKey) -> Option<&Stored>
         ensures { option_map (λ stored. stored.now) result
             ≡ stored_for key.now (entries self.now) };
 
-    /// Stores a response in place of the one for its key, as the most recently used. The least
-    /// recently used ones are given up until the rest keeps within both limits, so that a store of
-    /// no entries keeps none. It takes no memory where the key has an entry already.
+    /// Stores a response as the most recently used, replacing the one for its key. Drops the least
+    /// recently used ones until the rest is within both limits, so a store with room for no entries
+    /// keeps none. Doesn't allocate if the key already has an entry.
     fn put(&mut self, key: CacheKey, stored: Stored) -> Put
         ensures kept { result ≡ Put.Kept
             → entries self.new
@@ -101,32 +103,31 @@ pub trait Store {
 
         ensures limited { limits self.new ≡ limits self.old };
 
-    /// Marks what is stored for any key of a target that was changed, so that it answers no request
-    /// any more (RFC 7252, 5.9.1). The answer is how many entries the target has, those marked
-    /// before too. It takes no memory.
+    /// Marks what is stored for any key of a target that was changed, so that it no longer answers
+    /// requests (RFC 7252, 5.9.1). Returns the number of entries that the target has, including
+    /// those marked before. Doesn't allocate.
     fn mark(&mut self, target: &Target) -> usize
         ensures counted { result ≡ count_by (is_for target.now) (entries self.old) }
         ensures marked { entries self.new ≡ map (marked target.now) (entries self.old) }
         ensures limited { limits self.new ≡ limits self.old };
 
-    /// Gives up what is stored for the key, and says whether there was something. It takes no
-    /// memory.
+    /// Drops what is stored for the key, and returns whether there was anything. Doesn't allocate.
     fn forget(&mut self, key: &CacheKey) -> bool
         ensures found { result ≡ is_some (of_key entry_key key.now (entries self.old)) }
         ensures given_up { entries self.new ≡ others entry_key key.now (entries self.old) }
         ensures limited { limits self.new ≡ limits self.old };
 
-    /// How many bytes the entries count, as `bytes_of` counts them. It takes no memory.
+    /// How many bytes the entries count for, as `bytes_of` counts them. Doesn't allocate.
     fn total(&self) -> u64
         ensures bytes { result ≡ total entry_size (entries self.now) }
         ensures within { result ≤ (limits self.now).bytes };
 
-    /// How many entries there are. It takes no memory.
+    /// The number of entries. Doesn't allocate.
     fn len(&self) -> usize
         ensures length { result ≡ length (entries self.now) }
         ensures valid { IsStore (limits self.now) (entries self.now) };
 
-    /// Whether there is no entry. It takes no memory.
+    /// Whether there are no entries. Doesn't allocate.
     fn is_empty(&self) -> bool
         ensures { IsTrue result ↔ (entries self.now ≡ []) }
     {

@@ -8,7 +8,7 @@ ghost use Rattle.coap_store.specs.Showing.{held_tag};
 use coap_message::{Code, Message, Options, Pieces};
 use coap_option::{Side, numbers, recognised};
 
-/// The value of a response's ETag, the first one, if it is recognised.
+/// The value of a response's first ETag, if it is recognised.
 pub fn tag_of<'a>(options: &Options<'a>) -> Option<&'a [u8]>
     ensures value { option_map (λ tag. tag.now) result ≡ tag_of options.now }
     ensures short { IfSome result (λ tag. length tag.now ≤ 8) }
@@ -24,7 +24,7 @@ pub fn tag_of<'a>(options: &Options<'a>) -> Option<&'a [u8]>
     None
 }
 
-/// Whether a tag is among those of a client.
+/// Whether a tag is one of the client's.
 fn is_among(tag: &[u8], tags: &Pieces) -> bool
     ensures { result ≡ list_any (same_bytes tag.now) tags.now }
 {
@@ -36,7 +36,7 @@ fn is_among(tag: &[u8], tags: &Pieces) -> bool
     false
 }
 
-/// The tag of a 2.05 that a client with these tags holds already (RFC 7252, 5.10.6.2).
+/// The tag of a 2.05 that a client with these tags already holds (RFC 7252, 5.10.6.2).
 pub(crate) fn held_tag<'a>(message: &'a Message, tags: &Pieces) -> Option<&'a [u8]>
     ensures value { option_map (λ tag. tag.now) result ≡ held_tag message.now tags.now }
     ensures short { IfSome result (λ tag. length tag.now ≤ 8) }

@@ -1,4 +1,4 @@
-//! Options in place of those of their kinds (RFC 7252, 5.9.1.3).
+//! Options that replace others by number (RFC 7252, 5.9.1.3).
 ghost use Rattle.std.specs.Prelude.{◌≡◌, ◌∷◌, ◌++◌, [], IfOk, OnOk};
 ghost use Rattle.coap_message.specs.Options.{AreOptions, last_number};
 ghost use Rattle.coap_store.specs.Renewing.{above, below, from, max_age_option, updated, with_max_age};
@@ -7,7 +7,7 @@ use coap_message::{OptRefs, OptionList, Options, OutOfMemory, without_zeros};
 use coap_option::numbers;
 use std::alloc::Global;
 
-/// The options with one Max-Age, of this many seconds, in place of their own.
+/// The options with one Max-Age of `seconds` seconds, replacing any of their own.
 ///
 /// # Errors
 /// Out of memory.
@@ -33,8 +33,8 @@ fn max_age_list(alloc: Global, seconds: u64) -> Result<OptionList, OutOfMemory>
     Ok(list)
 }
 
-/// Newer options in their places among the older ones, in place of all of their kinds, in one block
-/// of memory of just their bytes.
+/// The newer options, in their places among the older ones, replacing all older ones with their
+/// numbers. Allocates one block of just their bytes.
 ///
 /// # Errors
 /// Out of memory.
@@ -57,7 +57,7 @@ pub fn updated(
     Ok(list)
 }
 
-/// Adds the options below a number after the others. Answers those that are left.
+/// Appends the options with lower numbers than this. Returns those that are left.
 fn push_below<'a>(
     list: &mut OptionList,
     left: OptRefs<'a>,
@@ -83,7 +83,7 @@ fn push_below<'a>(
     }
 }
 
-/// The options that stand after those of a number.
+/// The options after those with a number.
 fn above<'a>(left: OptRefs<'a>, number: u16) -> OptRefs<'a>
     requires { AreOptions number left }
     ensures { result ≡ above number left.entry }
@@ -103,7 +103,7 @@ fn above<'a>(left: OptRefs<'a>, number: u16) -> OptRefs<'a>
     }
 }
 
-/// Adds all the options that are left after the others.
+/// Appends all the options that are left.
 fn push_all(list: &mut OptionList, left: OptRefs<'_>) -> Result<(), OutOfMemory>
     requires { AreOptions (last_number 0 list.old) left }
     ensures { OnOk result (list.new ≡ list.old ++ left.entry) }
