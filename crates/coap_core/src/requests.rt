@@ -26,7 +26,9 @@ use crate::known::{put_taken_up, reply_kind};
 use crate::request_target::{CacheQuery, RequestTarget};
 use crate::world::{World, silent};
 use coap_endpoint::{Endpoint, Target};
-use coap_forward::{put_bare, put_forwarded, put_stored, put_with_max_age, tag_to_send, token_of};
+use coap_forward::{
+    put_bare, put_forwarded, put_stored, put_with_max_age, token_of, validating_tag,
+};
 use coap_message::{Code, Datagram, Full, MessageRef, OutOfMemory, Pieces, Seq, Token};
 use coap_model::{Outcome, Report};
 use coap_option::screen_request_ref;
@@ -373,15 +375,16 @@ impl<S: Store + Drop> World<S> {
         let Some(stored) = self.held_for(request, &asked.key) else {
             return Ok(None);
         };
-        let most = self.limits.values().datagram as usize;
-        let tag = tag_to_send(most, request, target, &stored.response, out);
-        if self.put_request(request, target, tag, out).is_err() {
+        let Some(tag) = validating_tag(request, &stored.response) else {
+            return Ok(None);
+        };
+        if self.put_request(request, target, Some(tag), out).is_ok() {
+            return Ok(Some(copy_of_stored(stored)?));
+        }
+        if self.put_request(request, target, None, out).is_err() {
             unreachable!();
         }
-        if tag.is_none() {
-            return Ok(None);
-        }
-        Ok(Some(copy_of_stored(stored)?))
+        Ok(None)
     }
 
     /// The target of a request that passed the screening. What is mapped is lent, so that it takes

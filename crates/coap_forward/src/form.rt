@@ -1,6 +1,6 @@
 //! The forwarded request, written part by part into the caller's datagram, without allocation (RFC
 //! 7252, 5.7 and 5.8).
-ghost use Rattle.std.specs.Prelude.{◌≡◌, ◌≤◌, None, [], true, length, map, option_map, IfOk, IfSome};
+ghost use Rattle.std.specs.Prelude.{◌≡◌, ◌≤◌, ℕ, None, [], true, length, map, option_map, IfOk, IfSome};
 ghost use Rattle.std.specs.List.{AllByRecursion};
 ghost use Rattle.coap_message.specs.declared.code.Code.{Code};
 ghost use Rattle.coap_message.specs.Datagram.{Appends, holding, unit_of};
@@ -11,7 +11,8 @@ ghost use Rattle.coap_option.specs.declared.side.Side.{Side};
 ghost use Rattle.coap_option.specs.Screening.{first_refused};
 ghost use Rattle.coap_option.specs.Selection.{sent_on};
 ghost use Rattle.coap_endpoint.specs.Target.{IsTarget, IsShort};
-ghost use Rattle.coap_forward.specs.Forms.{merged, target_options, tagged, forwarded, goes_on, payload_sent, tag_to_send};
+ghost use Rattle.coap_endpoint.specs.declared.target.Target.{Target};
+ghost use Rattle.coap_forward.specs.Forms.{merged, target_options, tagged, forwarded, goes_on, payload_sent, tag_if_fits, tag_to_send};
 ghost use Rattle.coap_forward.specs.Gaps.{end_of, floor_of, is_in, others_in, part_of, values_left};
 ghost use Rattle.coap_forward.specs.Messages.{is_method};
 
@@ -247,32 +248,16 @@ pub fn put_forwarded(
     put_payload(out, room, payload_sent(request))
 }
 
-/// The tag that the forwarded request for a GET carries if this response is stored for its key:
-/// that of a 2.05, if the request fits a datagram of `most` bytes with it and a token of eight
-/// bytes (RFC 7252, 5.6.2). To find out, the request is written to `out`, without allocation.
-#[tactic(auto, unfolding(crate::specs::Forms::form_fits))]
-pub fn tag_to_send<'a>(
-    most: usize,
-    request: &MessageRef<'_>,
-    target: &Target,
-    response: &'a Message,
-    out: &mut Datagram,
-) -> Option<&'a [u8]>
-    requires room { most ≤ out.old.room }
-    requires screened { first_refused Side.Request request.now.options ≡ None }
-    requires target { IsTarget target.now }
-    ensures exact { option_map (λ tag. tag.now) result
-        ≡ tag_to_send most target.now request.now response.now }
+/// The tag that the forwarded request for a GET carries if this response is stored for its key, and
+/// if the request fits a datagram with it: that of a 2.05 (RFC 7252, 5.6.2).
+pub fn validating_tag<'a>(request: &MessageRef<'_>, response: &'a Message) -> Option<&'a [u8]>
+    ensures exact { (most : ℕ) (target : Target)
+        → tag_to_send most target request.now response.now
+        ≡ tag_if_fits most target request.now (option_map (λ tag. tag.now) result) }
     ensures short { IfSome result (λ tag. length tag.now ≤ 8) }
-    ensures kept { out.new.room ≡ out.old.room }
 {
     if request.code() != Code::GET || response.code != Code::CONTENT {
         return None;
     }
-    let tag = tag_of(&response.options.lent())?;
-    let token = Token::new(&[0; 8]);
-    match put_forwarded(&token, request, target, Some(tag), out, most) {
-        Ok(()) => Some(tag),
-        Err(_) => None,
-    }
+    tag_of(&response.options.lent())
 }

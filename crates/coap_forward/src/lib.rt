@@ -11,6 +11,6 @@ mod writing;
 
 pub use answers::{answer_of, bad_gateway, gateway_timeout, is_storable};
 pub use changes::{created_by, is_change};
-pub use form::{put_forwarded, tag_to_send};
+pub use form::{put_forwarded, validating_tag};
 pub use token::{number_of, token_of};
 pub use writing::{put_bare, put_shown, put_stored, put_with_max_age};
