@@ -16,13 +16,14 @@ ghost use Rattle.coap_core.specs.Events.{IsUnread, seen};
 ghost use Rattle.coap_core.specs.Steps.{CarriesOn, Does, GivesConfirmable, KeepsWordOn, PromisesOn, entry_told, wants_memory};
 
 use crate::event::Event;
+use crate::ticks::moment_of;
 use crate::world::World;
 use coap_message::{Datagram, OutOfMemory};
 use coap_model::laws::{
     datagrams_fit, new_proxies_carry_nothing, settings_stay, steps_are_carried,
     what_is_carried_is_promised,
 };
-use coap_model::{Counts, Limits, Report};
+use coap_model::{Counts, DueItem, Limits, Report};
 use coap_store::Store;
 use coap_target::Routes;
 use std::alloc::Global;
@@ -32,30 +33,34 @@ use std::marker::Model;
 /// its tables.
 pub struct Core<S: Store> {
     world: World<S>,
+    /// What is due first in the world.
+    due: Option<DueItem>,
 }
 
 impl<S: Store + Drop> Drop for Core<S> {
     fn drop(self) {
-        let Core { world: _ } = self;
+        let Core { world: _, due: _ } = self;
     }
 }
 
 impl<S: Store> Model for Core<S> {
-    ghost use Rattle.std.specs.Prelude.{List};
+    ghost use Rattle.std.specs.Prelude.{◌≡◌, List};
     ghost use Rattle.coap_model.specs.World.{World};
     ghost use Rattle.coap_model.specs.History.{Entry};
     ghost use Rattle.coap_model.specs.Carries.{Carries};
     ghost use Rattle.coap_model.specs.Ranges.{AreInRange};
+    ghost use Rattle.coap_model.specs.Ticks.{item_due};
     ghost use Rattle.coap_limits.specs.Limits.{AreLimits};
 
     ghost Value = { World };
 
     ghost view = { λ c. c.world };
 
-    // It carries some history, of moments and draws within their ranges.
+    // It carries some history, of moments and draws within their ranges, and has what is due first.
     ghost invariant = { λ c.
         AreLimits c.world.setting.limits
-        × ((history : List Entry) × Carries history c.world × AreInRange history) };
+        × ((history : List Entry) × Carries history c.world × AreInRange history)
+        × (c.due ≡ item_due c.world) };
 }
 
 impl<S: Store + Drop> Core<S> {
@@ -83,7 +88,8 @@ impl<S: Store + Drop> Core<S> {
         // Its clause says that the maps are sound, which each step relies on.
         routes.maps();
         let world = World::new(alloc, seed, limits, routes, first_id, salt)?;
-        Ok(Core { world })
+        let due = world.first_due();
+        Ok(Core { world, due })
     }
 
     /// One step: what is made of an event at a moment, with a random draw, by which the first timeout
@@ -168,7 +174,9 @@ impl<S: Store + Drop> Core<S> {
         datagrams_fit();
         settings_stay();
         event.holds_bytes();
-        self.world.step(now, draw, event, out)
+        let done = self.world.step(now, draw, event, self.due, out);
+        self.due = self.world.first_due();
+        done
     }
 
     /// The moment at which the next thing is due, in milliseconds, if anything is. It is at most
@@ -177,7 +185,7 @@ impl<S: Store + Drop> Core<S> {
         ensures exact { result ≡ next_due self.now }
         ensures bounded { IfSome result (λ at. at ≤ 2 ^ 62 + 600000) }
     {
-        self.world.next_due()
+        moment_of(self.due)
     }
 
     /// The moment of the last step, in milliseconds, 0 at first.

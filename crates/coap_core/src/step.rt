@@ -6,7 +6,7 @@ ghost use Rattle.coap_message.specs.Datagram.{holding};
 ghost use Rattle.coap_model.specs.History.{grown_of};
 ghost use Rattle.coap_model.specs.World.{ignores, rejects, unprocessed};
 ghost use Rattle.coap_model.specs.Step.{message_in, on_message, on_datagram, step_of};
-ghost use Rattle.coap_model.specs.Ticks.{on_tick};
+ghost use Rattle.coap_model.specs.Ticks.{item_due, on_tick};
 ghost use Rattle.coap_core.specs.Arrivals.{of_grown};
 ghost use Rattle.coap_core.specs.Events.{IsUnread, seen};
 ghost use Rattle.coap_core.specs.Steps.{Does, IsDoneBy, CanGoOn, GivesConfirmable, wants_memory};
@@ -17,22 +17,25 @@ use crate::world::{World, silent};
 use coap_endpoint::Endpoint;
 use coap_forward::put_bare;
 use coap_message::{Code, Datagram, Head, Kind, MessageRef, OutOfMemory, Token, head_of};
-use coap_model::{Outcome, Report};
+use coap_model::{DueItem, Outcome, Report};
 use coap_store::Store;
 
 impl<S: Store + Drop> World<S> {
-    /// One step. Where memory is missing, nothing happened, and `out` is empty.
+    /// One step. `due` is what is due first. Where memory is missing, nothing happened, and `out` is
+    /// empty.
     pub(crate) fn step(
         &mut self,
         now: u64,
         draw: u16,
         event: Event<'_>,
+        due: Option<DueItem>,
         out: &mut Datagram,
     ) -> Result<Report, OutOfMemory>
         requires can { CanGoOn self.old }
         requires onward { self.old.last ≤ now }
         requires moment { now ≤ 2 ^ 62 }
         requires draw { draw ≤ 1000 }
+        requires due { due ≡ item_due self.old }
         requires room { self.old.setting.limits.datagram ≤ out.old.room }
         requires fits { length (step_of self.old now draw true (seen event)).bytes ≤ out.old.room }
         ensures exact { IfOk result (λ report.
@@ -49,7 +52,7 @@ impl<S: Store + Drop> World<S> {
     {
         let done = match event {
             Event::Datagram { from, bytes } => self.on_datagram(now, from, bytes, out),
-            Event::Tick => self.on_tick(now, draw, out),
+            Event::Tick => self.on_tick(now, draw, due, out),
         };
         if done.is_err() {
             out.clear();

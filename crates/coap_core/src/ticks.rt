@@ -1,11 +1,11 @@
 //! The step of a tick: what is due is done, one thing at a time (RFC 7252, 4.2 and 4.7).
-ghost use Rattle.std.specs.Prelude.{◌≡◌, ◌≤◌, ◌<◌, ◌^◌, true, false, nat_le, length, IfOk, IfSome, OnOk, OnErr};
+ghost use Rattle.std.specs.Prelude.{◌≡◌, ◌≤◌, ◌<◌, ◌^◌, true, false, nat_le, length, option_map, IfOk, IfSome, OnOk, OnErr};
 ghost use Rattle.coap_exchange.specs.Exchanges.{deadline, is_done, is_queued, IsDue};
 ghost use Rattle.coap_exchange.specs.Table.{item_at};
 ghost use Rattle.coap_exchange.specs.declared.waiter.WaiterState.TheVariants.{Waiting};
 ghost use Rattle.coap_message.specs.Datagram.{holding};
 ghost use Rattle.coap_forward.specs.Messages.{is_con};
-ghost use Rattle.coap_model.specs.Ticks.{abandons, item_due, next_due, gives_up, idles, on_exchange, on_waiter, on_tick, without_idle};
+ghost use Rattle.coap_model.specs.Ticks.{abandons, item_due, moment_of, gives_up, idles, on_exchange, on_waiter, on_tick, without_idle};
 ghost use Rattle.coap_exchange.specs.Waiters as waiters;
 ghost use Rattle.coap_exchange.specs.Waiters.{is_waiting};
 ghost use Rattle.coap_core.specs.Steps.{Does, IsDone, CanGoOn, GivesConfirmable, IsClientDueAt, IsDueAt, answer_at, delivery_at, firing_at, form_at, sending_at, told_in, unheard_at};
@@ -24,23 +24,35 @@ fn is_short(token: &Token)
     let _bytes = token.as_slice();
 }
 
+/// The moment from which on this is due, if it is something.
+pub(crate) fn moment_of(due: Option<DueItem>) -> Option<u64>
+    ensures { result ≡ option_map moment_of due }
+{
+    match due? {
+        DueItem::OfExchange { at, .. } | DueItem::OfWaiter { at, .. } => Some(at),
+    }
+}
+
 impl<S: Store + Drop> World<S> {
+    /// `due` is what is due first.
     pub(crate) fn on_tick(
         &mut self,
         now: u64,
         draw: u16,
+        due: Option<DueItem>,
         out: &mut Datagram,
     ) -> Result<Report, OutOfMemory>
         requires can { CanGoOn self.old }
         requires onward { self.old.last ≤ now }
         requires moment { now ≤ 2 ^ 62 }
         requires draw { draw ≤ 1000 }
+        requires due { due ≡ item_due self.old }
         requires fits { length (on_tick self.old now draw).bytes ≤ out.old.room }
         ensures done { IsDone (on_tick self.old now draw)
             result out.old out.new self.old self.new }
         ensures memory { OnErr result (GivesConfirmable (on_tick self.old now draw)) }
     {
-        match self.first_due() {
+        match due {
             Some(DueItem::OfExchange { at, number }) if at <= now => {
                 Ok(self.on_exchange(now, draw, number, out))
             }
@@ -51,17 +63,8 @@ impl<S: Store + Drop> World<S> {
         }
     }
 
-    /// The moment at which the next thing is due.
-    pub(crate) fn next_due(&self) -> Option<u64>
-        ensures { result ≡ next_due self.now }
-    {
-        match self.first_due()? {
-            DueItem::OfExchange { at, .. } | DueItem::OfWaiter { at, .. } => Some(at),
-        }
-    }
-
     /// What is due first; at one moment exchanges come before clients.
-    fn first_due(&self) -> Option<DueItem>
+    pub(crate) fn first_due(&self) -> Option<DueItem>
         ensures { result ≡ item_due self.now }
     {
         let limits = self.limits.values();

@@ -5,88 +5,88 @@ use Rattle.coap_model.specs.Step.{step_of}
 use Rattle.coap_core.specs.Events.{seen}
 use Rattle.coap_core.proofs.Carried.{IsLeft, can_go_on, is-left, is-short, promises-on, word-on}
 use Rattle.coap_core.proofs.proxy.Core.step.Given.{Over}
-use Rattle.coap_core.proofs.proxy.Core.step.Goals.{After-step}
+use Rattle.coap_core.proofs.proxy.Core.step.Goals.{After-step-done}
 use Rattle.coap_core.proofs.proxy.Core.step.Goals as goal
 
-pub step-requires-clause-can : goal.step-requires-clause-can
-step-requires-clause-can g c = can_go_on c.self.invariant.1.0 c.self.inside.world c.self.invariant.1.1 (rw (← c.self.view_is) at c.requires.events)
+pub step-done-requires-clause-can : goal.step-done-requires-clause-can
+step-done-requires-clause-can g c = can_go_on c.self.invariant.1.0 c.self.inside.world c.self.invariant.1.1 (rw (← c.self.view_is) at c.requires.events)
 
-pub step-requires-clause-fits : goal.step-requires-clause-fits
-step-requires-clause-fits g c =
+pub step-done-requires-clause-fits : goal.step-done-requires-clause-fits
+step-done-requires-clause-fits g c =
     let i = c.self.invariant in
     let room = rw (← c.self.view_is) at c.requires.room in
     let fits = c.datagrams_fit.ensures.fits c.self.inside.world i.1.0 c.args.now c.args.draw true (seen c.args.event) i.1.1 i.0 c.holds_bytes.ensures in
     omega (arith, room, fits)
 
 -- what the step leaves
-leaves : (g : Over) (c : After-step g) → IsLeft c.self.inside.world c.step.new.self
+leaves : (g : Over) (c : After-step-done g) → IsLeft c.self.inside.world c.step-done.new.self
 leaves g c =
     let i = c.self.invariant in
-    is-left c.self.inside.world c.args.now c.args.draw (seen c.args.event) i.1.0 i.1.1 i.1.2 c.requires.moment c.requires.draw (rw (← c.self.view_is) at c.requires.onward) c.holds_bytes.ensures c.step.result c.args.out.now c.step.new.out c.step.new.self c.step.ensures.exact c.step.ensures.err
+    is-left c.self.inside.world c.args.now c.args.draw (seen c.args.event) i.1.0 i.1.1 i.1.2 c.requires.moment c.requires.draw (rw (← c.self.view_is) at c.requires.onward) c.holds_bytes.ensures c.step-done.result c.args.out.now c.step-done.new.out c.step-done.new.self c.step-done.ensures.exact c.step-done.ensures.err
 
 pub invariant_of-self : goal.invariant_of-self
 invariant_of-self g c =
     let i = c.self.invariant in
-    let left = leaves g (goal.at.invariant_of-self g c).After-step in
-    (subst (λ (s : Setting). AreLimits s.limits) (sym left.setting) i.0, (left.history, left.carries, left.in_range))
+    let left = leaves g (goal.at.invariant_of-self g c).After-step-done in
+    (subst (λ (s : Setting). AreLimits s.limits) (sym left.setting) i.0, (left.history, left.carries, left.in_range), c.first_due-self-inside.ensures)
 
 pub returns-clause-setting : goal.returns-clause-setting
 returns-clause-setting g c =
-    let left = leaves g (goal.at.returns-clause-setting g c).After-step in
+    let left = leaves g (goal.at.returns-clause-setting g c).After-step-done in
     rw (← c.self.view_is) left.setting
 
 pub returns-clause-exchanges : goal.returns-clause-exchanges
 returns-clause-exchanges g c =
-    let left = leaves g (goal.at.returns-clause-exchanges g c).After-step in
-    (c.what_is_carried_is_promised.ensures.promised left.history c.step.new.self left.carries).exchanges
+    let left = leaves g (goal.at.returns-clause-exchanges g c).After-step-done in
+    (c.what_is_carried_is_promised.ensures.promised left.history c.step-done.new.self left.carries).exchanges
 
 pub returns-clause-waiters : goal.returns-clause-waiters
 returns-clause-waiters g c =
-    let left = leaves g (goal.at.returns-clause-waiters g c).After-step in
-    (c.what_is_carried_is_promised.ensures.promised left.history c.step.new.self left.carries).waiters
+    let left = leaves g (goal.at.returns-clause-waiters g c).After-step-done in
+    (c.what_is_carried_is_promised.ensures.promised left.history c.step-done.new.self left.carries).waiters
 
 pub returns-clause-held : goal.returns-clause-held
 returns-clause-held g c =
-    let left = leaves g (goal.at.returns-clause-held g c).After-step in
-    (c.what_is_carried_is_promised.ensures.promised left.history c.step.new.self left.carries).bytes
+    let left = leaves g (goal.at.returns-clause-held g c).After-step-done in
+    (c.what_is_carried_is_promised.ensures.promised left.history c.step-done.new.self left.carries).bytes
 
 pub returns-clause-short : goal.returns-clause-short
 returns-clause-short g c =
     let i = c.self.invariant in
     let w = c.self.inside.world in
-    let left = leaves g (goal.at.returns-clause-short g c).After-step in
+    let left = leaves g (goal.at.returns-clause-short g c).After-step-done in
     let short : (grown : Bool) → length (step_of w c.args.now c.args.draw grown (seen c.args.event)).bytes ≤ w.setting.limits.datagram = λ grown. c.datagrams_fit.ensures.fits w i.1.0 c.args.now c.args.draw grown (seen c.args.event) i.1.1 i.0 c.holds_bytes.ensures in
-    rw left.setting (is-short c.step.result (λ grown. step_of w c.args.now c.args.draw grown (seen c.args.event)) c.args.out.now c.step.new.out c.step.new.self w.setting.limits.datagram short c.step.ensures.exact c.step.ensures.none)
+    rw left.setting (is-short c.step-done.result (λ grown. step_of w c.args.now c.args.draw grown (seen c.args.event)) c.args.out.now c.step-done.new.out c.step-done.new.self w.setting.limits.datagram short c.step-done.ensures.exact c.step-done.ensures.none)
 
 pub returns-clause-entries : goal.returns-clause-entries
 returns-clause-entries g c =
-    let left = leaves g (goal.at.returns-clause-entries g c).After-step in
-    (c.what_is_carried_is_promised.ensures.promised left.history c.step.new.self left.carries).entries
+    let left = leaves g (goal.at.returns-clause-entries g c).After-step-done in
+    (c.what_is_carried_is_promised.ensures.promised left.history c.step-done.new.self left.carries).entries
 
 pub returns-clause-cached_bytes : goal.returns-clause-cached_bytes
 returns-clause-cached_bytes g c =
-    let left = leaves g (goal.at.returns-clause-cached_bytes g c).After-step in
-    (c.what_is_carried_is_promised.ensures.promised left.history c.step.new.self left.carries).cached_bytes
+    let left = leaves g (goal.at.returns-clause-cached_bytes g c).After-step-done in
+    (c.what_is_carried_is_promised.ensures.promised left.history c.step-done.new.self left.carries).cached_bytes
 
 pub returns-clause-con_records : goal.returns-clause-con_records
 returns-clause-con_records g c =
-    let left = leaves g (goal.at.returns-clause-con_records g c).After-step in
-    (c.what_is_carried_is_promised.ensures.promised left.history c.step.new.self left.carries).con_records
+    let left = leaves g (goal.at.returns-clause-con_records g c).After-step-done in
+    (c.what_is_carried_is_promised.ensures.promised left.history c.step-done.new.self left.carries).con_records
 
 pub returns-clause-non_records : goal.returns-clause-non_records
 returns-clause-non_records g c =
-    let left = leaves g (goal.at.returns-clause-non_records g c).After-step in
-    (c.what_is_carried_is_promised.ensures.promised left.history c.step.new.self left.carries).non_records
+    let left = leaves g (goal.at.returns-clause-non_records g c).After-step-done in
+    (c.what_is_carried_is_promised.ensures.promised left.history c.step-done.new.self left.carries).non_records
 
 pub returns-clause-promised : goal.returns-clause-promised
 returns-clause-promised g c =
     rw (← c.self.view_is)
-    (promises-on c.self.inside.world c.args.now c.args.draw (seen c.args.event) (rw (← c.self.view_is) at c.requires.onward) c.holds_bytes.ensures c.step.result c.args.out.now c.step.new.out c.step.new.self c.step.ensures.exact)
+    (promises-on c.self.inside.world c.args.now c.args.draw (seen c.args.event) (rw (← c.self.view_is) at c.requires.onward) c.holds_bytes.ensures c.step-done.result c.args.out.now c.step-done.new.out c.step-done.new.self c.step-done.ensures.exact)
 
 pub returns-clause-word : goal.returns-clause-word
 returns-clause-word g c =
     rw (← c.self.view_is)
-    (word-on c.self.inside.world c.args.now c.args.draw (seen c.args.event) (rw (← c.self.view_is) at c.requires.onward) c.holds_bytes.ensures c.step.result c.args.out.now c.step.new.out c.step.new.self c.step.ensures.exact)
+    (word-on c.self.inside.world c.args.now c.args.draw (seen c.args.event) (rw (← c.self.view_is) at c.requires.onward) c.holds_bytes.ensures c.step-done.result c.args.out.now c.step-done.new.out c.step-done.new.self c.step-done.ensures.exact)
 
 pub returns-clause-ticks : goal.returns-clause-ticks
-returns-clause-ticks g c = rw (← c.self.view_is) c.step.ensures.ticks
+returns-clause-ticks g c = rw (← c.self.view_is) c.step-done.ensures.ticks

@@ -1,4 +1,4 @@
-use Rattle.std.proofs.Common.{rules, ◌≡◌, ◌≤◌, Some, length, IfOk, OnErr, sym, subst}
+use Rattle.std.proofs.Common.{rules, ◌≡◌, ◌≤◌, Some, length, IfOk, OnErr, sym, subst, ◌∙◌}
 use Rattle.coap_exchange.specs.Table.{item_at}
 use Rattle.coap_model.specs.declared.due.DueItem.TheVariants.{OfExchange, OfWaiter}
 use Rattle.coap_model.specs.World.{Step}
@@ -11,11 +11,15 @@ use Rattle.coap_core.proofs.world.World.on_tick.Goals as goal
 
 -- an exchange is due first
 exchange : (g : Over) (c : In-Some-OfExchange g) → Some (OfExchange c.in-Some-OfExchange.at c.in-Some-OfExchange.number) ≡ item_due c.args.self.now
-exchange g c = rw c.in-Some-OfExchange.field-0-is at c.in-Some-OfExchange.ensures
+exchange g c =
+    let item = rw c.in-Some-OfExchange.is at c.in-Some-OfExchange.field-0-is in
+    rw item at (sym c.in-Some-OfExchange.is ∙ c.requires.due)
 
 -- a client is due first
 waiter : (g : Over) (c : In-Some-OfWaiter g) → Some (OfWaiter c.in-Some-OfWaiter.at c.in-Some-OfWaiter.number) ≡ item_due c.args.self.now
-waiter g c = rw c.in-Some-OfWaiter.field-0-is at c.in-Some-OfWaiter.ensures
+waiter g c =
+    let item = rw c.in-Some-OfWaiter.is at c.in-Some-OfWaiter.field-0-is in
+    rw item at (sym c.in-Some-OfWaiter.is ∙ c.requires.due)
 
 pub on_exchange-requires-clause-due : goal.on_exchange-requires-clause-due
 on_exchange-requires-clause-due g c =
