@@ -1,4 +1,4 @@
--- An event of the program as the model sees it: the bytes themselves, and not a loan of them.
+-- An event of the program as the model sees it: with the bytes themselves, not borrowed ones.
 use Rattle.std.specs.Prelude.{◌≡◌, ℕ, None}
 use Rattle.coap_core.specs.declared.event.Event.{Event}
 use Rattle.coap_core.specs.declared.event.Event.TheVariants.{Datagram, Tick}
@@ -9,7 +9,7 @@ abbrev pub seen : Event → model.Event
 seen (Datagram source bytes) = model.arrival source bytes.now
 seen Tick = model.tick
 
--- a datagram in which there is no message of at most so many bytes: it is too long, or spells none
+-- a datagram that holds no message of at most this many bytes: it is too long, or encodes none
 abbrev pub IsUnread : ℕ → model.Event → Type 0
 IsUnread most (model.arrival source bytes) = message_in most bytes ≡ None
 IsUnread most model.tick = ⊥

@@ -1,4 +1,4 @@
--- What the calls of a core answer and leave.
+-- What the calls of a core return and leave behind.
 use Rattle.std.specs.Prelude.{◌≡◌, ℕ, ◌+◌, ◌<◌, ◌≤◌, ◌^◌, Bool, true, false, List, [], ◌∷◌, Option, Some, None, IfSome, IfOk, OnErr, Result, option_map, if◌then◌else◌}
 use Rattle.coap_message.specs.Datagram.{Datagram, holding}
 use Rattle.coap_message.specs.Message.{Message}
@@ -44,7 +44,7 @@ use Rattle.coap_model.specs.Ticks.{idles, sends, on_fire, on_awaited, on_unheard
 abbrev pub Does : Step → Report → Datagram → Datagram → World → Type 0
 Does s report old new world = (report ≡ s.report) × (new ≡ holding old s.bytes) × (world ≡ s.world)
 
--- A step is done, or there was no memory for it and nothing happened. A datagram keeps its room.
+-- The step is done, or it ran out of memory and nothing happened. The datagram keeps its capacity.
 pub record IsDone (s : Step) (result : Result Report OutOfMemory)
     (out_old out_new : Datagram) (before after : World)
     : Type 0 where
@@ -52,7 +52,7 @@ pub record IsDone (s : Step) (result : Result Report OutOfMemory)
   pub err : OnErr result (after ≡ before)
   pub kept : out_new.room ≡ out_old.room
 
--- the same of a step that depends on whether what is kept has grown, which the report tells
+-- the same for a step that depends on whether what is kept has grown, which the report says
 pub record IsDoneBy (s : Bool → Step) (result : Result Report OutOfMemory)
     (out_old out_new : Datagram) (before after : World)
     : Type 0 where
@@ -61,21 +61,21 @@ pub record IsDoneBy (s : Bool → Step) (result : Result Report OutOfMemory)
   pub err : OnErr result (after ≡ before)
   pub kept : out_new.room ≡ out_old.room
 
--- whether a step may want memory
+-- whether a step may allocate
 abbrev pub wants_memory : Step → Bool
 wants_memory s = takes_memory s.report.outcome s.bytes
 
--- a client is given its answer in a Confirmable message, which is kept until it is acknowledged
+-- a client is sent its answer in a Confirmable message, which is kept until it is acknowledged
 abbrev pub GivesConfirmable : Step → Type 0
 GivesConfirmable s = (s.report.outcome ≡ Delivered) × (is_con_datagram s.bytes ≡ true)
 
--- what the outside saw of a step
+-- what is visible of a step from outside
 abbrev pub entry_told : ℕ → ℕ → Event → Report → List ℕ → Entry
 entry_told now draw event report bytes =
     record { now = now; draw = draw; event = event; report = report; bytes = bytes }
 
--- Whatever history is carried before an entry is carried after it with the entry in front, and what
--- is carried then is promised.
+-- A history carried before an entry is carried after it with the entry in front, and what is then
+-- carried is promised.
 abbrev pub CarriesOn : World → Entry → World → Type 0
 CarriesOn before e after =
     (history : List Entry) → Carries history before → Carries (e ∷ history) after
@@ -84,14 +84,14 @@ abbrev pub PromisesOn : World → Entry → World → Type 0
 PromisesOn before e after =
     (history : List Entry) → Carries history before → Promised (e ∷ history) after
 
--- and it keeps its word of that
+-- and it keeps its word about that
 abbrev pub KeepsWordOn : World → Entry → World → Type 0
 KeepsWordOn before e after =
     (history : List Entry) → Carries history before → KeepsItsWord (e ∷ history) after
 
--- What a step needs of the tables before it: origins are targets, the tables are in order of
--- number, there are numbers left to count with, an id is left for whoever it is kept for, and what
--- is remembered is in order, up to the last moment.
+-- What a step needs of the tables before it: the origins of the routes are targets, the tables are
+-- in order of number, there are numbers left to count with, every reserved message id is still
+-- free, and the records are in order, none later than the last moment.
 pub record CanGoOn (w : World) : Type 0 where
   pub routes : AreRoutes w.setting.routes
   pub exchanges : IsRising 0 w.exchanges
@@ -105,12 +105,12 @@ pub record CanGoOn (w : World) : Type 0 where
   pub non_records : AreRecords w.non_records
   pub non_until : AreUpTo w.last w.non_records.items
 
--- a message of this endpoint may be remembered at this moment: it is new, and nothing came later
+-- a message from this endpoint may be remembered at this moment: it is new, and nothing came later
 pub record CanRemember (now : ℕ) (source : Endpoint) (m : Message) (w : World) : Type 0 where
   pub unknown : known_of w now source m ≡ None
   pub until : AreUpTo now (records_of m.kind w).items
 
--- what a duplicate is told, if a message is one
+-- what a duplicate gets, if the message is one
 abbrev pub repetition_of : World → ℕ → Endpoint → Message → Option Step
 repetition_of w now source m =
     option_map (λ known. repeats w now source known.reply) (known_of w now source m)
@@ -119,7 +119,7 @@ repetition_of w now source m =
 abbrev pub IsSaid : Step → Report → Datagram → Datagram → Type 0
 IsSaid s report old new = (report ≡ s.report) × (new ≡ holding old s.bytes)
 
--- the request of the exchange of this number, if there is one, was sent, and neither an
+-- the request of the exchange numbered this, if there is one, was sent, and neither an
 -- acknowledgement nor an answer has come
 abbrev pub IsSentAt : ℕ → List (Numbered Exchange) → Type 0
 IsSentAt number exchanges = IfSome (item_at number exchanges) (λ x. is_sent x ≡ true)
@@ -128,7 +128,7 @@ IsSentAt number exchanges = IfSome (item_at number exchanges) (λ x. is_sent x �
 abbrev pub IsOpenAt : ℕ → List (Numbered Exchange) → Type 0
 IsOpenAt number exchanges = IfSome (item_at number exchanges) (λ x. is_done x ≡ false)
 
--- the request of the exchange of this number was rejected: the proxy makes its answer
+-- the request of the exchange with this number was rejected: the proxy generates its answer
 abbrev pub resets : World → ℕ → ℕ → Step
 resets w now number =
     silent (Answered NotStored) (record (later w now) {
@@ -142,48 +142,48 @@ abbrev pub verdict_seen : Verdict → CacheKey → verdicts.Verdict
 verdict_seen (RefusedWith code) key = verdicts.refused_with code
 verdict_seen MayAsk key = verdicts.may_ask key
 
--- a request may be asked for: this is what it asks for
+-- the request may be forwarded: this is what it asks for
 pub record IsAsked (w : World) (m : Message) (asked : CacheQuery) : Type 0 where
   pub key : verdicts.verdict_of w.setting.routes m ≡ verdicts.may_ask asked.key
   pub tags : asked.tags ≡ tags_of m
 
--- what is stored for the key of a request: a GET alone is answered from the store, or validates
+-- what is stored for the key of a request: only a GET is answered from the store, or validates
 abbrev pub held_for : World → Message → CacheKey → Option Stored
 held_for w m key = if is_get m.code then stored_for key w.store else None
 
--- the step of a request for whose key the exchange of this number is under way
+-- the step of a request whose key the exchange with this number is already in progress for
 abbrev pub joinable_step : World → ℕ → Endpoint → Message → ℕ → Step
 joinable_step w now client m exchange =
     if has_room_to_join w now then joins w now client m exchange else turns_away w now client m
 
 -- ---- what is due, by its number
 
--- an exchange is due at a moment, since then or since before
+-- an exchange is due at this moment or was due before
 pub record IsExchangeDue (w : World) (now : ℕ) (x : Exchange) : Type 0 where
   pub at : ℕ
   pub due : due_among w.setting.limits.nstart w.setting.limits.exchange_ms w.exchanges x ≡ Some at
   pub past : at ≤ now
 
--- so is the one of this number, if there is one
+-- the same for the exchange with this number, if there is one
 abbrev pub IsDueAt : World → ℕ → ℕ → Type 0
 IsDueAt w now number = IfSome (item_at number w.exchanges) (IsExchangeDue w now)
 
--- a client is due at a moment, since then or since before
+-- a client is due at this moment or was due before
 pub record IsClientDue (w : World) (now : ℕ) (v : Waiter) : Type 0 where
   pub at : ℕ
   pub due : due_after w.exchanges v ≡ Some at
   pub past : at ≤ now
 
--- so is the one of this number, if there is one
+-- the same for the client with this number, if there is one
 abbrev pub IsClientDueAt : World → ℕ → ℕ → Type 0
 IsClientDueAt w now number = IfSome (item_at number w.waiters) (IsClientDue w now)
 
--- the step of an item that is looked up: where there is none, nothing is done
+-- the step of an item that is looked up: if there is none, nothing is done
 abbrev pub step_with : {A : Type 0} → World → ℕ → (A → Step) → Option A → Step
 step_with w now step None = idles w now
 step_with w now step (Some a) = step a
 
--- the request of the exchange of this number is sent
+-- the request of the exchange with this number is sent
 abbrev pub sending_at : World → ℕ → ℕ → ℕ → Step
 sending_at w now draw number =
     step_with w now (sends w now draw number) (item_at number w.exchanges)
@@ -194,31 +194,31 @@ firing_at w now number =
     step_with w now (λ x. on_fire w now number x (fire_of_sending now x.sending))
     (item_at number w.exchanges)
 
--- the client of this number is given the answer of this exchange
+-- the client with this number is sent the answer of this exchange
 abbrev pub delivery_at : World → ℕ → ℕ → ℕ → ℕ → Step
 delivery_at w now draw number exchange =
     step_with w now (λ v. on_awaited w now draw number v exchange (item_at exchange w.exchanges))
     (item_at number w.waiters)
 
--- the clients, after the one of this number was given a message of this type with the next id
+-- the clients, after the one with this number was sent a message of this type with the next id
 abbrev pub told_in : World → ℕ → ℕ → ℕ → Kind → List ℕ → List (Numbered Waiter)
 told_in w now draw number kind bytes =
     if is_con kind
     then changed_at number (delivered bytes (next_id w) (started now draw)) w.waiters
     else without number w.waiters
 
--- the timeout has ended that ran since a client was given its answer
+-- the current timeout of a client that was sent its answer has ended
 abbrev pub unheard : World → ℕ → ℕ → Waiter → WaiterState → Step
 unheard w now number v (Waiting exchange) = idles w now
 unheard w now number v (Delivering bytes id timer) =
     on_unheard w now number v bytes (fire_of now timer)
 
--- the client of this number
+-- the same for the client with this number
 abbrev pub unheard_at : World → ℕ → ℕ → Step
 unheard_at w now number =
     step_with w now (λ v. unheard w now number v v.state) (item_at number w.waiters)
 
--- the bytes of the request of the exchange of this number
+-- the encoded request of an exchange
 abbrev pub form_of : Option Exchange → List ℕ
 form_of None = []
 form_of (Some x) = x.form
@@ -226,7 +226,7 @@ form_of (Some x) = x.form
 abbrev pub form_at : ℕ → List (Numbered Exchange) → List ℕ
 form_at number exchanges = form_of (item_at number exchanges)
 
--- and of the answer that the client of this number was given
+-- the encoded response that a client was sent
 abbrev pub answer_in_state : WaiterState → List ℕ
 answer_in_state (Waiting exchange) = []
 answer_in_state (Delivering bytes id timer) = bytes

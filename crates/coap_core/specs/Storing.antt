@@ -1,4 +1,4 @@
--- The store of the program: its limits, and what is done with an answer.
+-- The store of the program: its limits, and what happens to an answer.
 use Rattle.std.specs.Prelude.{◌≡◌, ℕ, ◌<◌, ◌≤◌, Bool, if◌then◌else◌, List, [], ◌∷◌, Option, Some, None, option_map}
 use Rattle.coap_store.specs.Entries as store
 use Rattle.coap_store.specs.Entries.{Entry, entry_key, entry_size}
@@ -19,12 +19,12 @@ use Rattle.coap_endpoint.specs.declared.endpoint.Endpoint.{Endpoint}
 use Rattle.coap_endpoint.specs.declared.target.Target.{Target}
 use Rattle.coap_core.specs.declared.responses.Changed.{Changed}
 
--- it keeps as much as the limits say
+-- the store's limits are those of the proxy
 abbrev pub AreStoreLimits : Limits → store.Limits → Type 0
 AreStoreLimits limits of_store =
     of_store ≡ record { bytes = limits.cache_bytes; entries = limits.cache_entries }
 
--- what is to be stored of the answer of an exchange, if it may be
+-- what is to be stored for the answer of an exchange, if it may be
 abbrev pub if_storable : World → ℕ → Numbered Exchange → Answer → Option Entry
 if_storable w now x a = if may_store x.1 a then Some (entry_made w now x a) else None
 
@@ -44,12 +44,12 @@ answering w now grown source m x =
     then remembers now source m (answers w now grown source m x)
     else answers w now grown source m x
 
--- of the exchange of this number
+-- the same for the exchange with this number
 abbrev pub answering_at : World → ℕ → Bool → Endpoint → Message → ℕ → Option Step
 answering_at w now grown source m number =
     option_map (λ x. answering w now grown source m (number, x)) (item_at number w.exchanges)
 
--- what goes out at once to a response that is taken up, to whom, and the tables then
+-- what is sent at once for a response that is accepted, to whom, and the tables then
 abbrev pub taken_up_bytes : Message → List ℕ
 taken_up_bytes m = if is_con m.kind then spelling (acknowledgement m.id) else []
 
@@ -60,7 +60,7 @@ abbrev pub taken_up : ℕ → Endpoint → Message → World → World
 taken_up now source m w =
     if is_con m.kind then with_record now source m (spelling (acknowledgement m.id)) w else w
 
--- the step of a response that isn't confirmable, of one that is, and of one that is new
+-- the steps of a response that isn't Confirmable, of one that is, and of a new one that is
 abbrev pub awaited_step : World → ℕ → Bool → Endpoint → Message → Step
 awaited_step w now grown source m = on_awaited w now grown source m (awaiting w source m)
 
@@ -89,7 +89,7 @@ IsPut w entry NoMemory v =
     × (of_key entry_key entry.0 w.store ≡ None)
 IsPut w entry NotStored v = ⊥
 
--- what is done with what is to be stored, and what the store is then
+-- what is done with an entry, if there is one, and the store then
 abbrev pub IsKept : World → Option Entry → Storing → World → Type 0
 IsKept w None storing v = (storing ≡ NotStored) × (v ≡ w)
 IsKept w (Some entry) storing v = IsPut w entry storing v

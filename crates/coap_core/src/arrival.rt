@@ -1,13 +1,13 @@
-//! Messages that come.
+//! Incoming messages.
 use coap_endpoint::Endpoint;
 use coap_message::MessageRef;
 
-/// A message that came.
+/// An incoming message.
 #[derive(Clone, Copy)]
 pub(crate) struct Arrival<'m, 'a> {
-    /// When, in milliseconds.
+    /// When it came, in milliseconds.
     pub(crate) now: u64,
-    /// From whom.
+    /// Who sent it.
     pub(crate) from: Endpoint,
     pub(crate) message: &'m MessageRef<'a>,
 }

@@ -1,4 +1,4 @@
-//! What is kept twice: responses, while they are validated and after they came.
+//! What has to be copied: responses, while they are validated and after they came.
 ghost use Rattle.std.specs.Prelude.{◌≡◌, IfOk};
 
 use coap_message::{Message, OutOfMemory};

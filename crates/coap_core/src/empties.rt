@@ -30,8 +30,8 @@ impl<S: Store + Drop> World<S> {
         }
     }
 
-    /// The request of the exchange of this number is acknowledged, or reset. Where it was
-    /// acknowledged or answered before, what came is of no request.
+    /// Acknowledges or resets the request of the exchange numbered `number`. If that was
+    /// acknowledged or answered before, the message isn't for a request.
     fn on_sent(&mut self, arrival: Arrival<'_, '_>, number: u64, out: &mut Datagram) -> Report
         requires can { CanGoOn self.old }
         requires bare { is_bare arrival.message.now ≡ true }
@@ -52,7 +52,8 @@ impl<S: Store + Drop> World<S> {
         }
     }
 
-    /// The request of the exchange of this number is acknowledged: its answer is to come separately.
+    /// Marks the request of the exchange numbered `number` as acknowledged: its answer is to come
+    /// as a separate response.
     fn acknowledge(&mut self, now: u64, number: u64, out: &mut Datagram) -> Report
         requires can { CanGoOn self.old }
         requires sent { IsSentAt number self.old.exchanges }
@@ -64,8 +65,8 @@ impl<S: Store + Drop> World<S> {
         silent(Outcome::Acked)
     }
 
-    /// The request of the exchange of this number is rejected: the proxy makes its answer (RFC 7252,
-    /// 4.2 and 5.9.3.3). That takes no memory.
+    /// Answers the exchange numbered `number`, whose request was rejected, with the proxy's own
+    /// answer (RFC 7252, 4.2 and 5.9.3.3). Doesn't allocate.
     fn reset(&mut self, now: u64, number: u64, out: &mut Datagram) -> Report
         requires can { CanGoOn self.old }
         requires sent { IsSentAt number self.old.exchanges }
@@ -80,7 +81,7 @@ impl<S: Store + Drop> World<S> {
         })
     }
 
-    /// An acknowledgement or a Reset of an answer that a client was sent.
+    /// Handles an acknowledgement or a Reset of an answer that was sent to a client.
     fn on_client(&mut self, arrival: Arrival<'_, '_>, out: &mut Datagram) -> Report
         requires can { CanGoOn self.old }
         ensures { Does (of_arrival (on_client self.old) arrival.entry) result out.old out.new
@@ -93,7 +94,7 @@ impl<S: Store + Drop> World<S> {
         }
     }
 
-    /// The client of this number has its answer, or doesn't know what that is for: it is let go.
+    /// Removes the client numbered `number`, which has acknowledged its answer, or rejected it.
     fn close_client(&mut self, now: u64, number: u64, out: &mut Datagram) -> Report
         requires { CanGoOn self.old }
         ensures { Does (closes self.old now number) result out.old out.new self.new }

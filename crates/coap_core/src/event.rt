@@ -1,4 +1,4 @@
-//! Events, which lend their bytes.
+//! Events, which borrow their bytes.
 ghost use Rattle.coap_message.specs.Uint.{IsBytes};
 ghost use Rattle.coap_model.specs.Events.{IsEvent};
 ghost use Rattle.coap_core.specs.Events.{seen};
@@ -15,7 +15,7 @@ pub enum Event<'a> {
 }
 
 impl Event<'_> {
-    // Nothing is done: a proof learns here that the bytes of a datagram are below 256.
+    // Does nothing: it lets a proof conclude that the bytes of a datagram are below 256.
     pub(crate) fn holds_bytes(&self)
         ensures { IsEvent (seen self.now) }
     {

@@ -1,4 +1,4 @@
-//! Messages that came before, and what goes out at once to those that are new (RFC 7252, 4.2, 4.3
+//! Messages that came before, and what is sent at once for those that are new (RFC 7252, 4.2, 4.3
 //! and 4.5).
 ghost use Rattle.std.specs.Prelude.{◌≡◌, ◌≤◌, true, length, Some, is_some, IfOk, IfSome, OnOk, OnErr};
 ghost use Rattle.coap_message.specs.Datagram.{holding};
@@ -20,7 +20,7 @@ use coap_message::{Code, Datagram, Head, Kind, MessageRef, OutOfMemory, Seq, Tok
 use coap_model::{Outcome, Report};
 use coap_store::Store;
 
-/// In which type of message a reply goes out at once to a request of this type.
+/// The type of message in which a reply is sent at once to a request of this type.
 pub(crate) fn reply_kind(kind: Kind) -> Kind
     ensures { result ≡ reply_kind kind }
 {
@@ -30,7 +30,7 @@ pub(crate) fn reply_kind(kind: Kind) -> Kind
     }
 }
 
-/// Writes an Empty acknowledgement of a message with this id.
+/// Writes an Empty acknowledgement of the message with this id.
 fn put_acknowledgement(id: u16, out: &mut Datagram)
     requires { length (spelling (acknowledgement id)) ≤ out.old.room }
     ensures { out.new ≡ holding out.old (spelling (acknowledgement id)) }
@@ -43,8 +43,8 @@ fn put_acknowledgement(id: u16, out: &mut Datagram)
     put_bare(head, &Token::empty(), out);
 }
 
-/// Writes what goes out at once to a message of this endpoint that is taken up, and answers to whom
-/// it goes: a Confirmable one is acknowledged (RFC 7252, 4.2 and 5.2.2).
+/// Writes what is sent at once for a message from this endpoint that is accepted, and returns to
+/// whom it is sent: a Confirmable message is acknowledged (RFC 7252, 4.2 and 5.2.2).
 pub(crate) fn put_taken_up(
     to: Endpoint,
     message: &MessageRef<'_>,
@@ -67,7 +67,7 @@ pub(crate) fn put_taken_up(
 }
 
 impl<S: Store + Drop> World<S> {
-    /// What is remembered of the messages of this type that came.
+    /// The records of the messages of this type that came.
     fn records(&self, kind: Kind) -> &Records
         ensures { result.now ≡ records_of kind self.now }
     {
@@ -77,7 +77,7 @@ impl<S: Store + Drop> World<S> {
         }
     }
 
-    /// Whether one more message of this type can be remembered.
+    /// Whether there is room to remember one more message of this type.
     pub(crate) fn has_record_room(&self, now: u64, kind: Kind) -> bool
         requires { CanGoOn self.now }
         ensures { result ≡ has_record_room self.now now kind }
@@ -86,7 +86,8 @@ impl<S: Store + Drop> World<S> {
         !records.is_full(now)
     }
 
-    /// What a duplicate is told, if this is one: `out` holds it then, and else what it held.
+    /// If the message is a duplicate, writes to `out` what it gets; otherwise leaves `out` as it
+    /// is.
     pub(crate) fn repeat(&self, arrival: Arrival<'_, '_>, out: &mut Datagram) -> Option<Report>
         requires fits { IfSome (of_arrival (repetition_of self.now) arrival) (λ step.
             length step.bytes ≤ out.old.room) }
@@ -114,7 +115,7 @@ impl<S: Store + Drop> World<S> {
         })
     }
 
-    /// There is no room to remember a message: silence.
+    /// Drops a message that there is no room to remember, without a reply.
     pub(crate) fn drop_message(&mut self, now: u64, out: &mut Datagram) -> Report
         requires { CanGoOn self.old }
         ensures { Does (drops self.old now) result out.old out.new self.new }
@@ -124,8 +125,8 @@ impl<S: Store + Drop> World<S> {
         silent(Outcome::NoRecordRoom)
     }
 
-    /// Whether a reply can go out at once to a request of this type: an acknowledgement needs no
-    /// id.
+    /// Whether a reply can be sent at once to a request of this type. An acknowledgement needs no
+    /// new id.
     pub(crate) fn can_reply(&self, now: u64, kind: Kind) -> bool
         requires can { CanGoOn self.now }
         requires onward { self.now.last ≤ now }
@@ -134,7 +135,7 @@ impl<S: Store + Drop> World<S> {
         kind == Kind::Con || self.has_ids(1, now)
     }
 
-    /// The id of a reply that goes out at once.
+    /// The message id of a reply that is sent at once.
     pub(crate) fn reply_id(&self, request: &MessageRef<'_>) -> u16
         ensures { result ≡ reply_id request.now (next_id self.now) }
     {
@@ -144,7 +145,7 @@ impl<S: Store + Drop> World<S> {
         }
     }
 
-    /// The head of a reply of the proxy's own that goes out at once.
+    /// The head of a reply of the proxy's own that is sent at once.
     pub(crate) fn reply_head(&self, request: &MessageRef<'_>, code: Code) -> Head
         ensures { result
             ≡ record {
@@ -160,7 +161,7 @@ impl<S: Store + Drop> World<S> {
         }
     }
 
-    /// Remembers a message that is new, and this as what goes out at once to it.
+    /// Remembers a new message, and `sent` as what is sent at once for it.
     pub(crate) fn remember(
         &mut self,
         arrival: Arrival<'_, '_>,
@@ -187,7 +188,7 @@ impl<S: Store + Drop> World<S> {
         }
     }
 
-    /// What `out` holds goes out at once in reply to a request that is new, which is remembered.
+    /// Sends what `out` holds at once in reply to a new request, and remembers the request.
     pub(crate) fn reply(
         &mut self,
         arrival: Arrival<'_, '_>,

@@ -1,4 +1,4 @@
-//! The step of a proxy in code: exactly the step of the model, for one event at a time.
+//! The step of a proxy in code: exactly the model's step, for one event at a time.
 #![tactic(auto)]
 
 mod arrival;

@@ -29,8 +29,8 @@ use coap_target::Routes;
 use std::alloc::Global;
 use std::marker::Model;
 
-/// The core of a proxy. A contract sees the world of the model: what the core was made with, and
-/// its tables.
+/// The core of a proxy. A contract sees the model's world: what the core was made with, and its
+/// tables.
 pub struct Core<S: Store> {
     world: World<S>,
     /// What is due first in the world.
@@ -56,7 +56,8 @@ impl<S: Store> Model for Core<S> {
 
     ghost view = { λ c. c.world };
 
-    // It carries some history, of moments and draws within their ranges, and has what is due first.
+    // It carries some history, with moments and draws within their ranges, and knows what is due
+    // first.
     ghost invariant = { λ c.
         AreLimits c.world.setting.limits
         × ((history : List Entry) × Carries history c.world × AreInRange history)
@@ -64,10 +65,10 @@ impl<S: Store> Model for Core<S> {
 }
 
 impl<S: Store + Drop> Core<S> {
-    /// A core that has done nothing. Room for exchanges, clients and records is made here.
+    /// A core that has done nothing yet. Room for exchanges, clients and records is allocated here.
     ///
     /// `first_id` is the first message id that it gives (RFC 7252, 4.4). `salt` makes its tokens
-    /// differ from those of its former lives (RFC 7252, 5.3.1).
+    /// differ from those of earlier runs (RFC 7252, 5.3.1).
     ///
     /// # Errors
     /// Out of memory.
@@ -79,31 +80,31 @@ impl<S: Store + Drop> Core<S> {
         first_id: u16,
         salt: u64,
     ) -> Result<Core<S>, OutOfMemory>
-        // It is made of exactly what it was handed, and carries no history.
+        // It is made of exactly the arguments, and carries no history.
         ensures exact { IfOk result (λ core.
             core ≡ new_world (setting_of limits routes first_id salt)) }
         ensures carries { IfOk result (λ core. Carries [] core) }
     {
         new_proxies_carry_nothing();
-        // Its clause says that the maps are sound, which each step relies on.
+        // The call's contract says that the maps are sound, which each step relies on.
         routes.maps();
         let world = World::new(alloc, seed, limits, routes, first_id, salt)?;
         let due = world.first_due();
         Ok(Core { world, due })
     }
 
-    /// One step: what is made of an event at a moment, with a random draw, by which the first timeout
-    /// of a request or an answer is longer than two seconds (RFC 7252, 4.2). The datagram that it
-    /// sends, if it sends one, is in `out`, which is empty otherwise.
+    /// Handles one event at the moment `now`. `draw` is a random number of milliseconds, added to
+    /// the two seconds of the first timeout of a request or an answer (RFC 7252, 4.2). The datagram
+    /// to send, if there is one, is written to `out`, which is left empty otherwise.
     ///
-    /// `now` is in milliseconds, at most 2^62, and doesn't go back; `draw` is at most 1,000; `out`
-    /// has room for `datagram()` bytes; fewer than 2^63 steps were done.
+    /// `now` is in milliseconds, at most 2^62, and never goes back; `draw` is at most 1,000; `out`
+    /// has room for `datagram()` bytes; and fewer than 2^63 steps were done before.
     ///
     /// # Errors
-    /// Out of memory, which changes nothing. It is answered only where a request that is new was
-    /// to be remembered, an answer that came to be kept, or one to be given to a client in a
-    /// Confirmable message, which is kept until it is acknowledged. A tick that found no memory can
-    /// come again: what was due is due still.
+    /// Out of memory, in which case nothing changes except that `out` is emptied. That can only
+    /// happen when a new request is remembered, when an answer that came is kept, or when an answer
+    /// is sent to a client in a Confirmable message, which is kept until it is acknowledged. A tick
+    /// that ran out of memory can be retried: what was due is still due.
     pub fn step(
         &mut self,
         now: u64,
@@ -117,32 +118,33 @@ impl<S: Store + Drop> Core<S> {
         requires room { self.old.setting.limits.datagram ≤ out.old.room }
         requires events { self.old.events < 2 ^ 63 }
 
-        // The report, the datagram and the core after it are determined, and the datagram isn't too
-        // long.
+        // The report, the datagram and the core after the step are determined, and the datagram
+        // isn't too long.
         ensures exact { IfOk result (λ report.
             Does (step_of self.old now draw (grown_of report.outcome) (seen event.entry)) report
             out.old out.new self.new) }
 
         ensures short { length out.new.bytes ≤ self.new.setting.limits.datagram }
 
-        // A core that carries a history carries it with the entry of the step in front.
+        // A core that carries a history then carries it with the step's entry in front.
         ensures carries { IfOk result (λ report.
             CarriesOn self.old (entry_told now draw (seen event.entry) report out.new.bytes)
             self.new) }
 
-        // So it promises of this step what it promised of those before.
+        // So what it promises of earlier steps it promises of this one.
         ensures promised { IfOk result (λ report.
             PromisesOn self.old (entry_told now draw (seen event.entry) report out.new.bytes)
             self.new) }
 
-        // And in short: at each event the limits hold, each reply from the cache was received for
-        // an equal key, is fresh, and its target is unchanged, and each duplicate gets its kept
-        // reply.
+        // In short: at each event the limits hold; each reply from the cache was received for an
+        // equal key, is fresh, and its target is unchanged; and each duplicate gets the reply that
+        // was kept.
         ensures word { IfOk result (λ report.
             KeepsWordOn self.old (entry_told now draw (seen event.entry) report out.new.bytes)
             self.new) }
 
-        // It is as it was made, within its limits, and within the bound on bytes.
+        // The settings don't change, and the tables stay within the limits and within the bound on
+        // bytes.
         ensures setting { self.new.setting ≡ self.old.setting }
         ensures exchanges { length self.new.exchanges ≤ self.new.setting.limits.exchanges }
         ensures waiters { length self.new.waiters ≤ self.new.setting.limits.waiters }
@@ -155,13 +157,13 @@ impl<S: Store + Drop> Core<S> {
             ≤ self.new.setting.limits.cache_bytes }
         ensures held { held self.new ≤ most_held self.new.setting.limits }
 
-        // Where memory is missing, nothing happened.
+        // If it runs out of memory, nothing happened.
         ensures err { OnErr result (self.new ≡ self.old) }
         ensures none { OnErr result (out.new ≡ holding out.old []) }
 
-        // It can be missing only where a request that is new is remembered, or an answer is kept:
-        // whatever else is done needs none. So a tick needs none but to give a client its answer in
-        // a Confirmable message, and a duplicate needs none, nor does a datagram without a message.
+        // It can only run out of memory when a new request is remembered, or an answer is kept:
+        // nothing else allocates. So a tick only allocates to send a client its answer in a
+        // Confirmable message, and neither a duplicate nor a datagram without a message allocates.
         ensures memory { OnErr result
             (wants_memory (step_of self.old now draw true (seen event.entry)) ≡ true) }
         ensures ticks { seen event.entry ≡ tick
@@ -179,8 +181,7 @@ impl<S: Store + Drop> Core<S> {
         done
     }
 
-    /// The moment at which the next thing is due, in milliseconds, if anything is. It is at most
-    /// 2^62 + 600,000.
+    /// When the next item is due, in milliseconds, if any is. It is at most 2^62 + 600,000.
     pub fn next_due(&self) -> Option<u64>
         ensures exact { result ≡ next_due self.now }
         ensures bounded { IfSome result (λ at. at ≤ 2 ^ 62 + 600000) }
@@ -188,21 +189,21 @@ impl<S: Store + Drop> Core<S> {
         moment_of(self.due)
     }
 
-    /// The moment of the last step, in milliseconds, 0 at first.
+    /// The moment of the last step, in milliseconds, or 0 before the first.
     pub fn last(&self) -> u64
         ensures exact { result ≡ self.now.last }
     {
         self.world.last
     }
 
-    /// How many steps were done.
+    /// The number of steps done.
     pub fn events(&self) -> u64
         ensures exact { result ≡ self.now.events }
     {
         self.world.events
     }
 
-    /// How much it holds.
+    /// How much it holds at present.
     pub fn counts(&self) -> Counts
         ensures exact { result ≡ counts self.now }
     {

@@ -1,4 +1,4 @@
-//! What a request asks for: its target, before anything of it is kept, and its key.
+//! What a request asks for: its target, before anything of it is kept, and its cache key.
 ghost use Rattle.std.specs.Prelude.{◌≡◌, IfOk, OnOk, is_some};
 ghost use Rattle.coap_option.specs.Selection.{tags_of};
 ghost use Rattle.coap_model.specs.Keys.{request_key};
@@ -15,14 +15,14 @@ use std::mem;
 /// The target of a request.
 #[derive(Drop)]
 pub(crate) enum RequestTarget<'m, 'a> {
-    /// It is lent: the request was mapped.
+    /// It is borrowed: the request was mapped.
     Mapped(MappedTarget<'m, 'a>),
-    /// The request said it by a URI (RFC 7252, 5.10.2).
+    /// The request named it by a URI (RFC 7252, 5.10.2).
     Named(Target),
 }
 
 impl RequestTarget<'_, '_> {
-    /// Whether it has a host, and not only an address.
+    /// Whether it has a host, and not just an address.
     fn has_host(&self) -> bool
         ensures { result ≡ is_some (seen self.now).host }
     {
@@ -32,7 +32,7 @@ impl RequestTarget<'_, '_> {
         }
     }
 
-    /// Puts a copy in place of another target, whose room is used again.
+    /// Overwrites another target with a copy, reusing that target's memory.
     fn copy_to(&self, target: &mut Target) -> Result<(), OutOfMemory>
         ensures { OnOk result (target.new ≡ seen self.now) }
     {
@@ -43,12 +43,12 @@ impl RequestTarget<'_, '_> {
     }
 }
 
-/// What a request asks for: a response for this key, to a client that holds those with these tags.
-/// It is read of one request after the other, each time in room that is made once.
+/// What a request asks for: a response for this key, for a client that already holds those with
+/// these tags. One request after another is read into it, in memory that is allocated once.
 pub(crate) struct CacheQuery {
     pub(crate) key: CacheKey,
     pub(crate) tags: Pieces,
-    /// Room for a host, where the key's target has none.
+    /// Room for a host, while the key's target has none.
     host_room: Option<Seq<u8>>,
 }
 
@@ -66,7 +66,7 @@ impl Drop for CacheQuery {
 const LONGEST_HOST: usize = 255;
 
 impl CacheQuery {
-    /// No room yet, which takes no memory.
+    /// One without any room. Doesn't allocate.
     pub(crate) fn new(alloc: Global) -> CacheQuery {
         let nowhere = Endpoint {
             ip: Ip::V4([0; 4]),
@@ -86,9 +86,9 @@ impl CacheQuery {
         }
     }
 
-    /// Room for what any request of at most `datagram` bytes asks for, where the path of an origin
-    /// takes `path` bytes at most. None of its lists takes more than the options that it is read of
-    /// do, so that nothing is allocated later.
+    /// Room for what any request of at most `datagram` bytes asks for, if the path of an origin
+    /// takes at most `path` bytes. None of its lists takes more than the options that it is read
+    /// from, so that nothing is allocated later.
     ///
     /// # Errors
     /// Out of memory.
@@ -106,7 +106,7 @@ impl CacheQuery {
         Ok(query)
     }
 
-    /// The key and the tags, copied, in no more room than they need.
+    /// Copies of the key and the tags, with no spare capacity.
     ///
     /// # Errors
     /// Out of memory.

@@ -36,12 +36,12 @@ use coap_store::{CacheKey, Store, Stored};
 use coap_target::laws::{requests_to_the_proxy_are_mapped, targets_fit_options};
 use coap_target::{TargetError, says_uri};
 
-/// What becomes of a request, leaving length, room and what is stored aside.
+/// The verdict on a request, apart from its length, the room, and what is stored.
 #[derive(Drop)]
 pub(crate) enum Verdict {
     /// It is refused with this code.
     RefusedWith(Code),
-    /// It may be asked for.
+    /// It may be forwarded.
     MayAsk,
 }
 
@@ -52,7 +52,7 @@ fn is_get(code: Code) -> bool
     code == Code::GET
 }
 
-/// Whether requests of this method are sent on (RFC 7252, 5.8).
+/// Whether requests with this method are forwarded (RFC 7252, 5.8).
 fn is_method(code: Code) -> bool
     ensures { result ≡ is_method code }
 {
@@ -60,8 +60,8 @@ fn is_method(code: Code) -> bool
 }
 
 impl<S: Store + Drop> World<S> {
-    /// A duplicate is told again what its request was told; what is new is remembered, with what is
-    /// told to it.
+    /// Handles a request: a duplicate gets the same reply again; a new one is remembered, with the
+    /// reply that it gets.
     pub(crate) fn on_request(
         &mut self,
         arrival: Arrival<'_, '_>,
@@ -88,7 +88,7 @@ impl<S: Store + Drop> World<S> {
         self.on_new(arrival, out)
     }
 
-    /// What becomes of a request that is new.
+    /// Handles a new request.
     fn on_new(
         &mut self,
         arrival: Arrival<'_, '_>,
@@ -113,8 +113,8 @@ impl<S: Store + Drop> World<S> {
         done
     }
 
-    /// What becomes of a request that is new, where a reply can go out: it is refused, or asked
-    /// for. What it asks for is read into `asked`.
+    /// Handles a new request, to which a reply can be sent: refuses it, or looks up its key. What
+    /// it asks for is read into `asked`.
     fn judge(
         &mut self,
         arrival: Arrival<'_, '_>,
@@ -138,8 +138,8 @@ impl<S: Store + Drop> World<S> {
         }
     }
 
-    /// What becomes of a request: the method, the options, the target; the first that is at fault
-    /// decides. If none is, `asked` is what it asks for.
+    /// The verdict on a request, by its method, its options and its target, in this order. If none
+    /// is at fault, what it asks for is read into `asked`.
     #[tactic(auto, unfolding(coap_model::specs::Verdicts::verdict_of))]
     fn verdict_of(
         &self,
@@ -170,8 +170,8 @@ impl<S: Store + Drop> World<S> {
         }
     }
 
-    /// A request for a key: a response that is stored for it and usable answers a GET; else an
-    /// exchange is wanted.
+    /// Handles a request for a key: a GET is answered by a stored response that is usable;
+    /// otherwise an exchange is needed.
     fn on_key(
         &mut self,
         arrival: Arrival<'_, '_>,
@@ -203,8 +203,8 @@ impl<S: Store + Drop> World<S> {
         self.on_miss(arrival, asked, out)
     }
 
-    /// Whether a response is stored for the key that is usable. Then `out` holds what the client is
-    /// shown of it.
+    /// Whether a usable response is stored for the key. If so, `out` gets what the client is sent
+    /// for it.
     fn put_usable(&self, arrival: Arrival<'_, '_>, asked: &CacheQuery, out: &mut Datagram) -> bool
         requires get { is_get arrival.message.now.code ≡ true }
         requires ids { can_reply self.now arrival.now arrival.message.now.kind ≡ true }
@@ -229,8 +229,8 @@ impl<S: Store + Drop> World<S> {
         }
     }
 
-    /// What is stored for a key, if something is, doesn't answer: an exchange of the key that is
-    /// under way is joined, or else one is wanted.
+    /// Handles a request that isn't answered from the store: it joins an exchange of the key that
+    /// is in progress, or else needs a new one.
     fn on_miss(
         &mut self,
         arrival: Arrival<'_, '_>,
@@ -260,7 +260,7 @@ impl<S: Store + Drop> World<S> {
         }
     }
 
-    /// The exchange of this number is joined, if there is room for the client.
+    /// Joins the exchange numbered `number`, if there is room for the client.
     fn on_joinable(
         &mut self,
         arrival: Arrival<'_, '_>,
@@ -287,8 +287,9 @@ impl<S: Store + Drop> World<S> {
         self.join(arrival, exchange, tags, out)
     }
 
-    /// An exchange is wanted for a key: the length of what is sent on decides, then the room. What a
-    /// request asks for is copied where it is opened alone, in no more room than it needs.
+    /// Opens an exchange for a key, if the forwarded request isn't too long, and then if there is
+    /// room. What the request asks for is only copied when an exchange is opened, with no spare
+    /// capacity.
     fn on_wanted(
         &mut self,
         arrival: Arrival<'_, '_>,
@@ -328,7 +329,7 @@ impl<S: Store + Drop> World<S> {
         self.open(arrival, key, tags, copy, out)
     }
 
-    /// What is stored for the key of a request, which is a GET.
+    /// What is stored for the key of a request, if that is a GET.
     fn held_for(&self, request: &MessageRef<'_>, key: &CacheKey) -> Option<&Stored>
         ensures { option_map (λ stored. stored.now) result ≡ held_for self.now request.now key.now }
     {
@@ -339,9 +340,9 @@ impl<S: Store + Drop> World<S> {
         }
     }
 
-    /// Has what is sent on, which `out` holds, carry the tag of what is stored for the key, if
-    /// something with a tag is, and if it fits with that. Then the answer is a copy of what is
-    /// stored (RFC 7252, 5.6.2).
+    /// Rewrites the forwarded request, which `out` holds, with the tag of what is stored for the
+    /// key, if something with a tag is, and if it fits with the tag. Returns a copy of what is
+    /// stored then (RFC 7252, 5.6.2).
     fn put_validating(
         &self,
         request: &MessageRef<'_>,
@@ -387,8 +388,8 @@ impl<S: Store + Drop> World<S> {
         Ok(None)
     }
 
-    /// The target of a request that passed the screening. What is mapped is lent, so that it takes
-    /// no memory.
+    /// The target of a request that passed the screening. A mapped target is borrowed, so that it
+    /// doesn't allocate.
     fn target_of<'m, 'a>(
         &'m self,
         request: &MessageRef<'a>,
@@ -414,10 +415,10 @@ impl<S: Store + Drop> World<S> {
         }
     }
 
-    /// Writes what is sent on, with this tag.
+    /// Writes the forwarded request, with this tag.
     ///
     /// # Errors
-    /// `Full`, exactly where it doesn't fit a datagram. Then a part of it may have been written.
+    /// `Full`, exactly if it doesn't fit a datagram. Part of it may have been written then.
     fn put_request(
         &self,
         request: &MessageRef<'_>,
@@ -446,7 +447,7 @@ impl<S: Store + Drop> World<S> {
         put_forwarded(&token, request, target, tag, out, room)
     }
 
-    /// The client is refused with a code.
+    /// Refuses the request with a code.
     fn refuse(
         &mut self,
         arrival: Arrival<'_, '_>,
@@ -468,7 +469,7 @@ impl<S: Store + Drop> World<S> {
         self.reply(arrival, Outcome::Refused(code), out)
     }
 
-    /// There is no room for the client: it may try again later.
+    /// Tells the client to try again later, because there is no room for it.
     fn overload(
         &mut self,
         arrival: Arrival<'_, '_>,
@@ -489,7 +490,7 @@ impl<S: Store + Drop> World<S> {
         self.reply(arrival, Outcome::Overloaded, out)
     }
 
-    /// No id is free for a reply: silence.
+    /// Drops a request because no message id is free for a reply.
     fn lack_id(
         &mut self,
         arrival: Arrival<'_, '_>,
@@ -507,8 +508,8 @@ impl<S: Store + Drop> World<S> {
         Ok(silent(Outcome::NoId))
     }
 
-    /// A request that is new is taken up: a Confirmable one is acknowledged, and what goes out is
-    /// remembered (RFC 7252, 4.2 and 5.2.2).
+    /// Accepts a new request: a Confirmable one is acknowledged, and what is sent is remembered
+    /// (RFC 7252, 4.2 and 5.2.2).
     fn take_up_request(
         &mut self,
         arrival: Arrival<'_, '_>,
@@ -530,8 +531,8 @@ impl<S: Store + Drop> World<S> {
         Ok(Report { send, outcome })
     }
 
-    /// An exchange is opened for a key, and the client waits for it. `out` holds what is sent on, and
-    /// `copy` is what that asks to validate.
+    /// Opens an exchange for a key, and has the client wait for it. `out` holds the forwarded
+    /// request, and `copy` is the response that it asks to validate.
     fn open(
         &mut self,
         arrival: Arrival<'_, '_>,
@@ -585,7 +586,7 @@ impl<S: Store + Drop> World<S> {
         done
     }
 
-    /// The client waits for the exchange of this number.
+    /// Has the client wait for the exchange numbered `number`.
     fn join(
         &mut self,
         arrival: Arrival<'_, '_>,

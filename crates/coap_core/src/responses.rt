@@ -1,5 +1,5 @@
-//! The step of a response: in an acknowledgement, or separately in a message of its own (RFC 7252,
-//! 5.2.1, 5.2.2 and 5.3.2).
+//! The step of a response: piggybacked in an acknowledgement, or separate in a message of its own
+//! (RFC 7252, 5.2.1, 5.2.2 and 5.3.2).
 ghost use Rattle.std.specs.Prelude.{◌≡◌, ◌≤◌, ◌&&◌, [], ◌∷◌, true, false, length, option_map, IfOk, IfSome, OnOk, OnErr};
 ghost use Rattle.coap_message.specs.Datagram.{holding};
 ghost use Rattle.coap_endpoint.specs.Endpoint.{same_endpoint};
@@ -25,14 +25,14 @@ use coap_model::{Outcome, Report, Storing};
 use coap_store::{CacheKey, Put, Store, Stored};
 use std::alloc::Global;
 
-/// Whether its request was sent, and has no answer.
+/// Whether its request was sent, and has no answer yet.
 fn is_in_flight(exchange: &Exchange) -> bool
     ensures { result ≡ is_in_flight exchange.now }
 {
     exchange.is_sent() || exchange.is_acked()
 }
 
-/// Whether it was sent with this id.
+/// Whether the request was sent with this id.
 fn was_sent_with(id: u16, sending: &Option<Sending>) -> bool
     ensures { result ≡ was_sent_with id sending.now }
 {
@@ -42,8 +42,8 @@ fn was_sent_with(id: u16, sending: &Option<Sending>) -> bool
     }
 }
 
-/// Whether a response has the id that it has to have: in an acknowledgement that of its request, in
-/// a message of its own any.
+/// Whether a response has the right message id: in an acknowledgement that of the request, in a
+/// message of its own any.
 fn has_id(response: &MessageRef<'_>, sending: &Option<Sending>) -> bool
     ensures { result ≡ has_id response.now sending.now }
 {
@@ -53,7 +53,7 @@ fn has_id(response: &MessageRef<'_>, sending: &Option<Sending>) -> bool
     }
 }
 
-/// Whether an exchange of the right token awaits this response of this endpoint.
+/// Whether an exchange with the right token awaits this response from this endpoint.
 fn awaits(exchange: &Exchange, source: Endpoint, response: &MessageRef<'_>) -> bool
     ensures { result
         ≡ ((is_in_flight exchange.now && has_id response.now exchange.now.sending)
@@ -74,8 +74,8 @@ fn asked_of(sending: &Option<Sending>) -> u64
     }
 }
 
-/// Whether an answer may be stored: it is to a GET, and its target wasn't changed since that was
-/// sent (RFC 7252, 5.9.1).
+/// Whether an answer may be stored: it is for a GET, and its target wasn't changed since the GET
+/// was sent (RFC 7252, 5.9.1).
 fn may_store(exchange: &Exchange, answer: &Answer) -> bool
     ensures { result ≡ may_store exchange.now answer.now }
 {
@@ -87,11 +87,11 @@ fn may_store(exchange: &Exchange, answer: &Answer) -> bool
 pub(crate) struct Changed {
     /// The target of its request.
     target: Target,
-    /// The one that the Location options of a 2.01 name.
+    /// The target that the Location options of a 2.01 name.
     created: Option<Target>,
 }
 
-/// What a response to a request for this target changes, if it changes something.
+/// What a response to a request for this target changes, if anything.
 #[tactic(auto, unfolding(coap_forward::specs::Changes::changed_by))]
 fn changed_by(
     alloc: Global,
@@ -133,7 +133,7 @@ impl<S: Store + Drop> World<S> {
         }
     }
 
-    /// A response that isn't confirmable.
+    /// Handles a response that isn't Confirmable.
     fn on_awaited(
         &mut self,
         arrival: Arrival<'_, '_>,
@@ -153,7 +153,7 @@ impl<S: Store + Drop> World<S> {
         }
     }
 
-    /// A response that is confirmable: a duplicate is told again what it was told.
+    /// Handles a Confirmable response: a duplicate gets the same reply again.
     fn on_confirmable(
         &mut self,
         arrival: Arrival<'_, '_>,
@@ -178,7 +178,7 @@ impl<S: Store + Drop> World<S> {
         self.on_separate(arrival, out)
     }
 
-    /// A confirmable response that is new. It is remembered if an exchange awaits it, and so there
+    /// Handles a new Confirmable response. It is remembered if an exchange awaits it, and so there
     /// has to be room for that.
     fn on_separate(
         &mut self,
@@ -206,8 +206,8 @@ impl<S: Store + Drop> World<S> {
         self.answer(arrival, number, out)
     }
 
-    /// The number of the exchange that awaits this response of this endpoint: by endpoint and token,
-    /// and in an acknowledgement by id.
+    /// The number of the exchange that awaits this response from this endpoint: it is matched by
+    /// endpoint and token, and in an acknowledgement also by message id.
     fn awaiting(&self, source: Endpoint, response: &MessageRef<'_>) -> Option<u64>
         requires { CanGoOn self.now }
         ensures exact { result ≡ option_map (λ x. x.0) (awaiting self.now source response.now) }
@@ -222,8 +222,8 @@ impl<S: Store + Drop> World<S> {
         }
     }
 
-    /// The exchange of this number has its answer. What the response changes is marked and tainted
-    /// first, and then the answer is stored if it may be.
+    /// Records the response as the answer of the exchange numbered `number`. What the response
+    /// changes is first marked and tainted, and then the answer is stored if it may be.
     fn answer(
         &mut self,
         arrival: Arrival<'_, '_>,
@@ -258,8 +258,8 @@ impl<S: Store + Drop> World<S> {
         })
     }
 
-    /// What goes out at once to a response that is taken up, and to whom: a Confirmable one is
-    /// acknowledged, and remembered (RFC 7252, 4.2 and 5.2.2).
+    /// Writes what is sent at once for a response that is accepted, and returns to whom it is sent:
+    /// a Confirmable one is acknowledged, and remembered (RFC 7252, 4.2 and 5.2.2).
     fn take_up(
         &mut self,
         arrival: Arrival<'_, '_>,
@@ -283,14 +283,14 @@ impl<S: Store + Drop> World<S> {
         Ok(send)
     }
 
-    // Nothing is done: a proof learns here how long a datagram may be at least.
+    // Does nothing: it lets a proof conclude how long a datagram may be at least.
     fn is_wide(&self)
         ensures { 128 ≤ self.now.setting.limits.datagram }
     {
         let _values = self.limits.values();
     }
 
-    /// What a response gives for the exchange of this number.
+    /// The answer that a response makes for the exchange numbered `number`.
     fn answer_made(
         &self,
         now: u64,
@@ -311,7 +311,7 @@ impl<S: Store + Drop> World<S> {
         Ok(Some(answer))
     }
 
-    /// What a response to the request of the exchange of this number changes.
+    /// What a response to the request of the exchange numbered `number` changes.
     fn changed_by(
         &self,
         number: u64,
@@ -327,7 +327,8 @@ impl<S: Store + Drop> World<S> {
         }
     }
 
-    /// What is to be stored of the answer of the exchange of this number, if it may be.
+    /// The entry to be stored for the answer of the exchange numbered `number`, if it may be
+    /// stored.
     fn entry_made(
         &self,
         now: u64,
@@ -355,7 +356,7 @@ impl<S: Store + Drop> World<S> {
         Ok(Some((key, stored)))
     }
 
-    /// What a response changes is out of date.
+    /// Invalidates what a response changes.
     fn change_all(&mut self, changed: &Option<Changed>)
         ensures { self.new ≡ with_changed (targets_in changed.now) self.old }
     {
@@ -368,8 +369,8 @@ impl<S: Store + Drop> World<S> {
         }
     }
 
-    /// What is stored for a target is marked, and the exchanges of it are tainted whose request was
-    /// sent (RFC 7252, 5.9.1).
+    /// Marks what is stored for a target, and taints the exchanges for it whose request was sent
+    /// (RFC 7252, 5.9.1).
     fn change(&mut self, target: &Target)
         ensures { self.new ≡ with_changed (target.now ∷ []) self.old }
     {
@@ -377,7 +378,7 @@ impl<S: Store + Drop> World<S> {
         self.exchanges.taint(target);
     }
 
-    /// It is stored in place of the one of its key, if there is something to be stored.
+    /// Stores an entry in place of the one with its key, if there is an entry to store.
     fn keep(&mut self, entry: Option<(CacheKey, Stored)>) -> Storing
         ensures { IsKept self.old entry result self.new }
     {

@@ -21,8 +21,8 @@ use coap_model::{DueItem, Outcome, Report};
 use coap_store::Store;
 
 impl<S: Store + Drop> World<S> {
-    /// One step. `due` is what is due first. Where memory is missing, nothing happened, and `out` is
-    /// empty.
+    /// One step. `due` is what is due first. If it runs out of memory, nothing has happened, and
+    /// `out` is empty.
     pub(crate) fn step(
         &mut self,
         now: u64,
@@ -94,7 +94,7 @@ impl<S: Store + Drop> World<S> {
         }
     }
 
-    /// The message that a datagram spells, if it isn't too long.
+    /// The message that a datagram encodes, if it isn't too long.
     #[tactic(auto, unfolding(coap_model::specs::Step::message_in))]
     fn message_in<'a>(&self, bytes: &'a [u8]) -> Option<MessageRef<'a>>
         ensures { result ≡ message_in self.now.setting.limits.datagram bytes.now }
@@ -105,7 +105,7 @@ impl<S: Store + Drop> World<S> {
         MessageRef::read(bytes).ok()
     }
 
-    /// A request, a response, or an Empty message; what is none of these isn't processed.
+    /// Handles a request, a response or an Empty message; anything else isn't processed.
     fn on_message(
         &mut self,
         arrival: Arrival<'_, '_>,
@@ -142,7 +142,7 @@ impl<S: Store + Drop> World<S> {
         }
     }
 
-    /// What is confirmable and can't be processed is rejected, anything else is ignored.
+    /// Rejects a Confirmable message that can't be processed, and ignores any other.
     fn unprocessed(
         &mut self,
         now: u64,
@@ -161,7 +161,7 @@ impl<S: Store + Drop> World<S> {
         }
     }
 
-    /// A Reset goes out with the id of what can't be processed (RFC 7252, 4.2).
+    /// Rejects a message that can't be processed with a Reset, which has its id (RFC 7252, 4.2).
     pub(crate) fn reject(
         &mut self,
         now: u64,
@@ -186,7 +186,7 @@ impl<S: Store + Drop> World<S> {
         }
     }
 
-    /// Nothing is done.
+    /// Ignores a message.
     pub(crate) fn ignore(&mut self, now: u64, out: &mut Datagram) -> Report
         requires { CanGoOn self.old }
         ensures { Does (ignores self.old now) result out.old out.new self.new }

@@ -1,4 +1,4 @@
-//! The step of a tick: what is due is done, one thing at a time (RFC 7252, 4.2 and 4.7).
+//! The step of a tick: what is due is done, one item at a time (RFC 7252, 4.2 and 4.7).
 ghost use Rattle.std.specs.Prelude.{◌≡◌, ◌≤◌, ◌<◌, ◌^◌, true, false, nat_le, length, option_map, IfOk, IfSome, OnOk, OnErr};
 ghost use Rattle.coap_exchange.specs.Exchanges.{deadline, is_done, is_queued, IsDue};
 ghost use Rattle.coap_exchange.specs.Table.{item_at};
@@ -17,7 +17,7 @@ use coap_message::{Datagram, Kind, OutOfMemory, Seq, Token};
 use coap_model::{DueItem, Outcome, Report};
 use coap_store::Store;
 
-// Nothing is done: a proof learns here that a token has at most eight bytes.
+// Does nothing: it lets a proof conclude that a token has at most eight bytes.
 fn is_short(token: &Token)
     ensures { length token.now ≤ 8 }
 {
@@ -63,7 +63,7 @@ impl<S: Store + Drop> World<S> {
         }
     }
 
-    /// What is due first; at one moment exchanges come before clients.
+    /// What is due first; at the same moment exchanges come before clients.
     pub(crate) fn first_due(&self) -> Option<DueItem>
         ensures { result ≡ item_due self.now }
     {
@@ -100,8 +100,8 @@ impl<S: Store + Drop> World<S> {
 
     // ---- requests
 
-    /// The exchange of this number is due: it is given up at its deadline, and before that its
-    /// request is sent, or sent again.
+    /// Handles the exchange numbered `number`, which is due: it times out at its deadline, and
+    /// before that its request is sent, or sent again.
     fn on_exchange(&mut self, now: u64, draw: u16, number: u64, out: &mut Datagram) -> Report
         requires can { CanGoOn self.old }
         requires onward { self.old.last ≤ now }
@@ -135,8 +135,8 @@ impl<S: Store + Drop> World<S> {
         now.saturating_sub(exchange.admitted) >= self.limits.values().exchange_ms
     }
 
-    /// The request of the exchange of this number is sent to its origin, with a new id, and is to be
-    /// sent again until it is answered (RFC 7252, 4.2).
+    /// Sends the request of the exchange numbered `number` to its origin, with a new message id. It
+    /// is to be sent again until it is acknowledged or answered (RFC 7252, 4.2).
     fn send(&mut self, now: u64, draw: u16, number: u64, out: &mut Datagram) -> Report
         requires can { CanGoOn self.old }
         requires onward { self.old.last ≤ now }
@@ -161,8 +161,8 @@ impl<S: Store + Drop> World<S> {
         }
     }
 
-    /// The timeout has ended that ran since the request of the exchange of this number was sent: it
-    /// is sent again, the same bytes, or given up (RFC 7252, 4.2).
+    /// Handles the end of the current timeout of the exchange numbered `number`: its request is
+    /// retransmitted, with the same bytes, or abandoned (RFC 7252, 4.2).
     fn on_fire(&mut self, now: u64, number: u64, out: &mut Datagram) -> Report
         requires can { CanGoOn self.old }
         requires moment { now ≤ 2 ^ 62 }
@@ -187,7 +187,7 @@ impl<S: Store + Drop> World<S> {
         }
     }
 
-    /// Writes the request of the exchange of this number.
+    /// Writes the request of the exchange numbered `number`.
     fn put_form(&self, number: u64, out: &mut Datagram)
         requires { length (form_at number self.now.exchanges) ≤ out.old.room }
         ensures { out.new ≡ holding out.old (form_at number self.now.exchanges) }
@@ -198,8 +198,8 @@ impl<S: Store + Drop> World<S> {
         }
     }
 
-    /// No answer came in time for the exchange of this number: the proxy makes one (RFC 7252,
-    /// 5.7.1).
+    /// Answers the exchange numbered `number` with the proxy's own answer, because none came in
+    /// time (RFC 7252, 5.7.1).
     fn give_up(&mut self, now: u64, number: u64, out: &mut Datagram) -> Report
         requires events { self.old.events < 2 ^ 63 }
         requires open { IfSome (item_at number self.old.exchanges) (λ x. is_done x ≡ false) }
@@ -214,8 +214,8 @@ impl<S: Store + Drop> World<S> {
 
     // ---- clients
 
-    /// The client of this number is due: one that waits is given the answer of its exchange, and one
-    /// that was given it is given it again, or given up.
+    /// Handles the client numbered `number`, which is due: if it is waiting it is sent the answer
+    /// of its exchange, and otherwise its answer is retransmitted or abandoned.
     fn on_waiter(
         &mut self,
         now: u64,
@@ -248,9 +248,9 @@ impl<S: Store + Drop> World<S> {
         }
     }
 
-    /// The client of this number, which waits for this exchange, is given its answer, with a new id,
-    /// in a message of the type of its request. When nobody waits for the exchange any more, it is
-    /// closed.
+    /// Sends the client numbered `number`, which is waiting for this exchange, its answer, with a
+    /// new message id, in a message of the type of its request. If no other client waits for the
+    /// exchange, it is closed.
     fn deliver(
         &mut self,
         now: u64,
@@ -295,9 +295,9 @@ impl<S: Store + Drop> World<S> {
         })
     }
 
-    /// The client of this number, which waits, is given what `out` holds, a message of this type
-    /// with the next id. A Confirmable one is kept, to be sent again until it is acknowledged (RFC
-    /// 7252, 4.2).
+    /// Records that the client numbered `number`, which was waiting, is sent what `out` holds, a
+    /// message of this type with the next id. A Confirmable one is kept, to be sent again until it
+    /// is acknowledged (RFC 7252, 4.2).
     fn tell(
         &mut self,
         now: u64,
@@ -326,7 +326,7 @@ impl<S: Store + Drop> World<S> {
         Ok(())
     }
 
-    /// An exchange for which nobody waits any more is closed.
+    /// Closes an exchange if no client waits for it any more.
     fn let_go(&mut self, exchange: u64)
         ensures { self.new
             ≡ record self.old {
@@ -338,8 +338,8 @@ impl<S: Store + Drop> World<S> {
         }
     }
 
-    /// The timeout has ended that ran since the client of this number was given its answer: it is
-    /// given it again, the same bytes, or given up (RFC 7252, 4.2).
+    /// Handles the end of the current timeout of a client that was sent its answer: the answer is
+    /// retransmitted, with the same bytes, or abandoned (RFC 7252, 4.2).
     fn on_unheard(&mut self, now: u64, number: u64, out: &mut Datagram) -> Report
         requires can { CanGoOn self.old }
         requires moment { now ≤ 2 ^ 62 }
@@ -364,7 +364,7 @@ impl<S: Store + Drop> World<S> {
         }
     }
 
-    /// Writes the answer that the client of this number was given.
+    /// Writes the answer that the client numbered `number` was sent.
     fn put_answer(&self, number: u64, out: &mut Datagram)
         requires { length (answer_at number self.now.waiters) ≤ out.old.room }
         ensures { out.new ≡ holding out.old (answer_at number self.now.waiters) }
@@ -378,7 +378,7 @@ impl<S: Store + Drop> World<S> {
         }
     }
 
-    /// The client of this number didn't acknowledge its answer in time: it is given up.
+    /// Removes the client numbered `number`, which didn't acknowledge its answer in time.
     fn abandon(&mut self, now: u64, number: u64, out: &mut Datagram) -> Report
         requires { self.old.events < 2 ^ 63 }
         ensures { Does (abandons self.old now number) result out.old out.new self.new }

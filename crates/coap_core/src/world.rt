@@ -20,7 +20,7 @@ use std::alloc::Global;
 use std::marker::Model;
 use std::mem;
 
-/// What a proxy was made with, and what it holds. A contract sees the world of the model.
+/// What a proxy was made with, and what it holds. A contract sees the model's world.
 pub(crate) struct World<S: Store> {
     pub(crate) alloc: Global,
     pub(crate) limits: Limits,
@@ -34,7 +34,7 @@ pub(crate) struct World<S: Store> {
     pub(crate) con_records: Records,
     pub(crate) non_records: Records,
     pub(crate) ids: Ids,
-    /// The message id that was given first, or is to be.
+    /// The first message id given, or to be given.
     pub(crate) first_id: u16,
     pub(crate) last: u64,
     pub(crate) events: u64,
@@ -90,8 +90,8 @@ impl<S: Store> Model for World<S> {
 }
 
 impl<S: Store + Drop> World<S> {
-    /// The world of a proxy that has done nothing. Room for exchanges, waiters and records is made
-    /// here.
+    /// The world of a proxy that has done nothing yet. Room for exchanges, waiters and records is
+    /// allocated here.
     pub(crate) fn new(
         alloc: Global,
         seed: S::Seed,
@@ -127,21 +127,21 @@ impl<S: Store + Drop> World<S> {
         })
     }
 
-    /// The room for what a request asks for, until it is given back.
+    /// Takes the room for what a request asks for, until it is given back.
     pub(crate) fn take_room(&mut self) -> CacheQuery
         ensures { self.new ≡ self.old }
     {
         mem::replace(&mut self.room, CacheQuery::new(self.alloc))
     }
 
-    /// Gives it back.
+    /// Gives the room back.
     pub(crate) fn give_room(&mut self, room: CacheQuery)
         ensures { self.new ≡ self.old }
     {
         self.room = room;
     }
 
-    /// The clock, one event on.
+    /// Advances the clock by one event.
     pub(crate) fn pass(&mut self, now: u64)
         requires { self.old.events < 2 ^ 63 }
         ensures { self.new ≡ later self.old now }
@@ -169,8 +169,8 @@ impl<S: Store + Drop> World<S> {
         }
     }
 
-    /// How many ids are kept for requests that are still to be sent, and for clients that are still
-    /// to be served.
+    /// The number of message ids reserved for requests that are still to be sent, and for clients
+    /// that are still to be served.
     fn reserved(&self) -> u64
         requires { CanGoOn self.now }
         ensures { result ≡ reserved self.now }
@@ -178,7 +178,7 @@ impl<S: Store + Drop> World<S> {
         self.waiters.waiting() as u64 + self.exchanges.queued() as u64
     }
 
-    /// Whether so many ids are free at this moment.
+    /// Whether `count` message ids are free at this moment.
     pub(crate) fn has_ids(&self, count: u64, now: u64) -> bool
         requires can { CanGoOn self.now }
         requires onward { self.now.last ≤ now }
@@ -188,14 +188,14 @@ impl<S: Store + Drop> World<S> {
         self.reserved() + count <= u64::from(self.ids.left(now))
     }
 
-    /// Whether there is room for one more client that waits.
+    /// Whether there is room for one more waiting client.
     fn has_waiter_room(&self) -> bool
         ensures { result ≡ has_waiter_room self.now }
     {
         (self.waiters.len() as u64) < self.limits.values().waiters
     }
 
-    /// Whether one more client may wait for an exchange that is under way.
+    /// Whether one more client may wait for an exchange that is in progress.
     pub(crate) fn has_room_to_join(&self, now: u64) -> bool
         requires can { CanGoOn self.now }
         requires onward { self.now.last ≤ now }
@@ -215,7 +215,7 @@ impl<S: Store + Drop> World<S> {
             && self.has_ids(2, now)
     }
 
-    /// How much the proxy holds.
+    /// How much the proxy holds at present.
     pub(crate) fn counts(&self) -> Counts
         ensures { result ≡ counts self.now }
     {
@@ -249,7 +249,7 @@ fn new_tables(alloc: Global, limits: &Limits) -> Result<(Exchanges, Waiters), Ou
     Ok((exchanges, waiters))
 }
 
-/// No records, with places for as many as the limits say.
+/// Empty records, with room for as many as the limits say.
 fn new_records(alloc: Global, limits: &Limits) -> Result<(Records, Records), OutOfMemory>
     ensures con { IfOk result (λ made.
         made.0 ≡ no_records limits.now.con_records EXCHANGE_LIFETIME) }
@@ -262,7 +262,7 @@ fn new_records(alloc: Global, limits: &Limits) -> Result<(Records, Records), Out
     Ok((con_records, non_records))
 }
 
-/// Nothing is sent.
+/// A report of this outcome, with nothing sent.
 pub(crate) fn silent(outcome: Outcome) -> Report
     ensures { result ≡ record { send = None; outcome = outcome } }
 {
