@@ -6,7 +6,7 @@ use Rattle.coap_message.specs.declared.code.Code.{Code}
 abbrev pub code_of : ℕ → ℕ → Code
 code_of class detail = record { 0 = 32 * class + detail }
 
--- the codes are one
+-- the codes are equal
 abbrev pub is_code : Code → Code → Bool
 is_code a b = a.0 == b.0
 

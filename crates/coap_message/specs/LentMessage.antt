@@ -1,4 +1,4 @@
--- A message whose parts are lent, as contracts see it.
+-- A message whose parts are borrowed, as contracts see it.
 use Rattle.coap_message.specs.declared.message.MessageRef.TheInside.{Inside}
 use Rattle.coap_message.specs.Message.{Message, message_of}
 

@@ -13,7 +13,7 @@ pub record Message : Type 0 where
   pub options : List Opt
   pub payload : List ℕ
 
--- the message of these parts
+-- the message with these parts
 abbrev pub message_of : Head → List ℕ → List Opt → List ℕ → Message
 message_of head token options payload =
     record {
@@ -25,7 +25,7 @@ message_of head token options payload =
       payload = payload;
     }
 
--- an Empty message, of code 0.00, has nothing after its id (RFC 7252, 4.1)
+-- an Empty message, with code 0.00, has nothing after its id (RFC 7252, 4.1)
 pub record IsBareIfEmpty (m : Message) : Type 0 where
   pub token : m.code.0 ≡ 0 → m.token ≡ []
   pub options : m.code.0 ≡ 0 → m.options ≡ []

@@ -1,4 +1,4 @@
--- An option whose value is lent.
+-- An option whose value is borrowed.
 use Rattle.coap_message.specs.declared.options.Opt.{Opt}
 use Rattle.coap_message.specs.declared.options.OptRef.{OptRef}
 

@@ -1,4 +1,4 @@
--- What the steps of reading answer, as lists.
+-- What the steps of reading return, as lists.
 use Rattle.std.specs.Prelude.{ℕ, List}
 use Rattle.coap_message.specs.declared.reading.Parsed.{Parsed}
 use Rattle.coap_message.specs.declared.reading.BodyRef.{BodyRef}

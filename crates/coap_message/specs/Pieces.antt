@@ -1,4 +1,4 @@
--- Pieces of bytes, kept one after the other, each after its length.
+-- Pieces of bytes, stored one after the other, each preceded by its length.
 use Rattle.std.specs.Prelude.{◌≡◌, ◌==◌, ℕ, zero, suc, ◌+◌, ◌/◌, ◌%◌, if◌then◌else◌, Bool, List, [], ◌∷◌, ◌++◌, length, take, drop, replicate, Option, Some, None, option_map}
 use Rattle.std.specs.Option.{option_map_or}
 use Rattle.std.specs.Bool.{Decides}
@@ -6,16 +6,16 @@ use Rattle.std.specs.Cmp.{unsigned_Decides}
 use Rattle.std.specs.Cmp.Lexicographic.{pointwise, pointwise_decides}
 use Rattle.std.specs.Hash.{HashWrites, Alike, same_Alike}
 
--- a length: a byte 255 for each 255 in it, and what is left
+-- the encoding of a length: a byte 255 for each 255 in it, and then the remainder
 abbrev pub length_spelling : ℕ → List ℕ
 length_spelling n = replicate (n / 255) 255 ++ (n % 255) ∷ []
 
--- each piece after its length
+-- each piece preceded by its length
 abbrev pub pieces_spelling : List (List ℕ) → List ℕ
 pieces_spelling [] = []
 pieces_spelling (p ∷ ps) = length_spelling (length p) ++ (p ++ pieces_spelling ps)
 
--- the length that stands here, and what stands after it
+-- the length at the front, and what follows it
 abbrev pub length_at : List ℕ → Option (ℕ × List ℕ)
 length_at [] = None
 length_at (b ∷ rest) =
@@ -23,7 +23,7 @@ length_at (b ∷ rest) =
     then option_map (λ found. (255 + found.0, found.1)) (length_at rest)
     else Some (b, rest)
 
--- the pieces that bytes spell, at most so many
+-- the pieces that bytes encode, at most this many
 unfoldable pub pieces_within : ℕ → List ℕ → List (List ℕ)
 pieces_within zero bytes = []
 pieces_within (suc most) bytes =
@@ -31,11 +31,11 @@ pieces_within (suc most) bytes =
     (λ found. take found.0 found.1 ∷ pieces_within most (drop found.0 found.1))
     (length_at bytes) []
 
--- the pieces that bytes spell, each of which takes a byte at least
+-- the pieces that bytes encode, each of which takes at least one byte
 abbrev pub pieces_of : List ℕ → List (List ℕ)
 pieces_of bytes = pieces_within (length bytes) bytes
 
--- bytes spell pieces, and nothing else
+-- the bytes encode pieces, and nothing else
 pub record SpellPieces (bytes : List ℕ) : Type 0 where
   pub bytes_are : bytes ≡ pieces_spelling (pieces_of bytes)
 
@@ -43,14 +43,14 @@ pub record SpellPieces (bytes : List ℕ) : Type 0 where
 abbrev pub same_pieces : List (List ℕ) → List (List ℕ) → Bool
 same_pieces = pointwise (pointwise ◌==◌)
 
--- what is hashed of pieces: their bytes, in one write
+-- what pieces feed to a hasher: their bytes, in one write
 abbrev pub fed_pieces : List (List ℕ) → HashWrites
 fed_pieces ps = pieces_spelling ps ∷ []
 
--- the test says whether two lists are one
+-- the test decides whether two lists are equal
 pub same_pieces-Decides : (a b : List (List ℕ)) → Decides (same_pieces a b) (a ≡ b)
 same_pieces-Decides = pointwise_decides (pointwise_decides unsigned_Decides)
 
--- lists that are the same are hashed alike
+-- equal lists feed a hasher the same
 pub same_pieces-Alike : Alike same_pieces fed_pieces
 same_pieces-Alike = same_Alike fed_pieces same_pieces-Decides

@@ -1,4 +1,4 @@
--- When options are the same.
+-- When options are equal.
 use Rattle.std.specs.Prelude.{◌≡◌, ◌==◌, ℕ, Bool, List, [], ◌∷◌, refl}
 use Rattle.std.specs.Bool.{Decides}
 use Rattle.std.specs.Cmp.{first_so, second_so, unsigned_Decides}
@@ -9,7 +9,7 @@ use Rattle.coap_message.specs.declared.options.Opt.{Opt}
 use Rattle.coap_message.specs.Options.{option_of}
 use Rattle.coap_message.specs.Spelling.{options_spelling}
 
--- two options have one number and one value
+-- two options have the same number and the same value
 abbrev pub same_option : Opt → Opt → Bool
 same_option = eq_of_both (on (λ o. o.number) ◌==◌) (on (λ o. o.value) (pointwise ◌==◌))
 
@@ -17,15 +17,15 @@ same_option = eq_of_both (on (λ o. o.number) ◌==◌) (on (λ o. o.value) (poi
 abbrev pub same_options : List Opt → List Opt → Bool
 same_options = pointwise same_option
 
--- what is hashed of options: their bytes, in one write
+-- what options feed to a hasher: their bytes, in one write
 abbrev pub fed_options : List Opt → HashWrites
 fed_options os = options_spelling 0 os ∷ []
 
--- options of one number and one value are one
+-- options with the same number and the same value are equal
 both : {m n : ℕ} {v w : List ℕ} → m ≡ n → v ≡ w → option_of m v ≡ option_of n w
 both p q = cc
 
--- so the test says whether two options are one
+-- so the test decides whether two options are equal
 same_option-Decides : (a b : Opt) → Decides (same_option a b) (a ≡ b)
 same_option-Decides a b =
     let numbers = unsigned_Decides a.number b.number in
@@ -40,6 +40,6 @@ same_option-Decides a b =
 pub same_options-Decides : (a b : List Opt) → Decides (same_options a b) (a ≡ b)
 same_options-Decides = pointwise_decides same_option-Decides
 
--- lists that are the same are hashed alike
+-- equal lists feed a hasher the same
 pub same_options-Alike : Alike same_options fed_options
 same_options-Alike = same_Alike fed_options same_options-Decides

@@ -1,4 +1,4 @@
--- Options as the bytes that spell them.
+-- Options as the bytes that encode them.
 use Rattle.std.specs.Prelude.{◌≡◌, ℕ, List, []}
 use Rattle.std.specs.Option.{option_map_or}
 use Rattle.coap_message.specs.declared.options.Opt.{Opt}
@@ -6,11 +6,11 @@ use Rattle.coap_message.specs.Options.{AreOptions, last_number}
 use Rattle.coap_message.specs.Reading.{options_at}
 use Rattle.coap_message.specs.Spelling.{options_spelling}
 
--- the options after one of the number `before` that bytes spell
+-- the options after one with the number `before` that the bytes encode
 unfoldable pub options_of : ℕ → List ℕ → List Opt
 options_of before bytes = option_map_or (λ found. found.0) (options_at before bytes) []
 
--- bytes spell options, and nothing else
+-- the bytes encode options, and nothing else
 pub record SpellOptions (before : ℕ) (bytes : List ℕ) : Type 0 where
   pub bytes_are : bytes ≡ options_spelling before (options_of before bytes)
   pub in_order : AreOptions before (options_of before bytes)

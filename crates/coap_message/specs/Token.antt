@@ -1,5 +1,5 @@
--- A token as eight places, of which the first `len` count; the others are 0, so that a token has
--- one form.
+-- A token as eight places, of which the first `len` count; the others are 0, so that a token has a
+-- unique form.
 use Rattle.std.specs.Prelude.{◌≡◌, ℕ, ◌-◌, ◌≤◌, List, length, take, drop, replicate}
 use Rattle.coap_message.specs.declared.token.Token.TheInside.{Inside}
 

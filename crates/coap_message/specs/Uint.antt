@@ -6,22 +6,22 @@ use Rattle.std.specs.Int.{w64, to_be_bytes}
 abbrev pub IsBytes : List ℕ → Type 0
 IsBytes bytes = (i : ℕ) → slice_index bytes i < 256
 
--- the number that bytes stand for in network byte order
+-- the number that bytes encode in network byte order
 abbrev pub uint_of : List ℕ → ℕ
 uint_of [] = 0
 uint_of (b ∷ bytes) = b * 256 ^ length bytes + uint_of bytes
 
--- bytes without the zeros at their head
+-- bytes without their leading zeros
 abbrev pub without_zeros : List ℕ → List ℕ
 without_zeros [] = []
 without_zeros (zero ∷ bytes) = without_zeros bytes
 without_zeros (suc b ∷ bytes) = suc b ∷ bytes
 
--- the bytes that stand for a number below 2 ^ 64, as few as will do
+-- the fewest bytes that encode a number below 2 ^ 64
 unfoldable pub uint_spelling : ℕ → List ℕ
 uint_spelling n = without_zeros (to_be_bytes w64 n)
 
--- no zero stands at the head
+-- there is no leading zero
 abbrev pub IsShortest : List ℕ → Type 0
 IsShortest [] = Unit {0}
 IsShortest (b ∷ bytes) = b ≢ 0

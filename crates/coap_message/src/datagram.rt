@@ -5,8 +5,8 @@ use crate::error::OutOfMemory;
 use std::alloc::Global;
 use std::marker::Model;
 
-/// A buffer for one datagram, whose room is reserved once. A contract sees its room and the bytes
-/// that it holds.
+/// A buffer for one datagram, which is allocated once. A contract sees its room and the bytes that
+/// it holds.
 #[derive(Drop)]
 pub struct Datagram {
     places: Vec<u8>,
@@ -28,7 +28,10 @@ impl Model for Datagram {
 impl Datagram {
     ghost use Rattle.coap_message.specs.Datagram.{holding};
 
-    /// An empty datagram with room for so many bytes. No other call takes memory.
+    /// An empty datagram with room for `room` bytes. No other call allocates.
+    ///
+    /// # Errors
+    /// Out of memory.
     pub fn new(alloc: Global, room: usize) -> Result<Datagram, OutOfMemory>
         ensures { IfOk result (λ d. d ≡ record { room = room; bytes = [] }) }
     {
@@ -38,7 +41,7 @@ impl Datagram {
         })
     }
 
-    /// How many bytes it has room for.
+    /// The number of bytes that it has room for.
     pub fn room(&self) -> usize
         ensures { result ≡ self.now.room }
     {
@@ -53,14 +56,14 @@ impl Datagram {
         &self.places[..self.held]
     }
 
-    /// Lets go of the bytes that it holds.
+    /// Removes the bytes that it holds.
     pub fn clear(&mut self)
         ensures { self.new ≡ holding self.old [] }
     {
         self.held = 0;
     }
 
-    /// Adds bytes after those that it holds, as many as there is room for.
+    /// Appends bytes to those that it holds, as many as there is room for.
     pub fn put(&mut self, bytes: &[u8])
         ensures { self.new ≡ holding self.old (take self.old.room (self.old.bytes ++ bytes.now)) }
     {

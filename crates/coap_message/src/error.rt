@@ -5,7 +5,7 @@ ghost use Rattle.coap_message.specs.declared.error.DecodeError.TheVariants as er
 use std::alloc::{AllocError, AllocFailed};
 use thiserror::Error;
 
-/// The allocator had no memory. What was to grow is as it was.
+/// Allocation failed. What was to grow is unchanged.
 #[derive(Clone, Copy, Debug, PartialEq, Eq, Error)]
 #[error("out of memory")]
 pub struct OutOfMemory;
@@ -22,7 +22,7 @@ impl<T: Drop> From<AllocFailed<T>> for OutOfMemory {
     }
 }
 
-/// Why bytes were not read as a message. The first that applies, in this order.
+/// Why bytes couldn't be read as a message: the first reason that applies, in this order.
 #[derive(Clone, Copy, Debug, PartialEq, Eq, Error)]
 pub enum DecodeError {
     /// Fewer than four bytes.
@@ -31,10 +31,10 @@ pub enum DecodeError {
     /// The version is not 1 (RFC 7252, 3).
     #[error("a version other than 1")]
     Version,
-    /// No message is spelled so.
+    /// The bytes aren't a well-formed message.
     #[error("a message format error")]
     Format,
-    /// The bytes spell a message, and the allocator had no memory for a copy of it.
+    /// The bytes are a message, but there was no memory for a copy of it.
     #[error("out of memory")]
     OutOfMemory,
 }
@@ -47,7 +47,7 @@ impl From<OutOfMemory> for DecodeError {
     }
 }
 
-/// The room does not suffice for what was to be written.
+/// There isn't enough room for what was to be written.
 #[derive(Clone, Copy, Debug, PartialEq, Eq, Error)]
 #[error("no room")]
 pub struct Full;

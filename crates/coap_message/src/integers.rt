@@ -6,8 +6,8 @@ use crate::error::OutOfMemory;
 use crate::seq::Seq;
 use std::alloc::Global;
 
-/// The number that at most eight bytes stand for, in network byte order. Zeros at the head are
-/// allowed, and no bytes at all stand for 0.
+/// The number that at most eight bytes encode, in network byte order. Leading zeros are allowed,
+/// and no bytes at all encode 0.
 pub fn uint(value: &[u8]) -> u64
     requires { length value.now ≤ 8 }
     ensures value { result ≡ uint_of value.now }
@@ -20,7 +20,7 @@ pub fn uint(value: &[u8]) -> u64
     number
 }
 
-/// The bytes that stand for a number, as few as will do: none for 0, and never a zero at the head.
+/// The fewest bytes that encode a number: none for 0, and never a leading zero.
 #[tactic(auto, unfolding(crate::specs::Uint::uint_spelling))]
 pub fn uint_bytes(alloc: Global, number: u64) -> Result<Seq<u8>, OutOfMemory>
     ensures value { IfOk result (λ bytes. uint_of bytes ≡ number) }
@@ -31,7 +31,7 @@ pub fn uint_bytes(alloc: Global, number: u64) -> Result<Seq<u8>, OutOfMemory>
     Seq::from_slice(alloc, without_zeros(&bytes))
 }
 
-/// Bytes without the zeros at their head: of a number in network byte order its shortest form.
+/// The bytes without leading zeros. For a number in network byte order this is its shortest form.
 pub fn without_zeros(bytes: &[u8]) -> &[u8]
     ensures { result.now ≡ without_zeros bytes.now }
 {

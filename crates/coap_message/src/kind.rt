@@ -16,14 +16,14 @@ pub enum Kind {
 }
 
 impl Kind {
-    /// The two bits of the header that stand for the type: 0 to 3.
+    /// The two bits of the header that encode the type: 0 to 3.
     pub fn number(self) -> u8
         ensures { result ≡ kind_number self }
     {
         self as u8
     }
 
-    /// The type that two bits of the header stand for.
+    /// The type that two bits of the header encode.
     pub fn of_bits(bits: u8) -> Kind
         requires { bits < 4 }
         ensures { result ≡ kind_of bits }

@@ -1,4 +1,4 @@
-//! CoAP messages and their spelling as bytes (RFC 7252, 3).
+//! CoAP messages and their encoding as bytes (RFC 7252, 3).
 #![tactic(auto)]
 
 mod code;

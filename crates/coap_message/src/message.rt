@@ -12,7 +12,7 @@ use crate::token::Token;
 use std::alloc::Global;
 use std::marker::Model;
 
-/// A message. An Empty one, of code 0.00, has neither token nor options nor payload (RFC 7252,
+/// A message. An Empty one, with code 0.00, has no token, no options and no payload (RFC 7252,
 /// 4.1).
 #[derive(Clone)]
 pub struct Message {
@@ -51,7 +51,7 @@ impl Model for Message {
     ghost inverse = { kept };
 }
 
-/// The beginning of a message that any datagram of at least four bytes and version 1 has.
+/// The start of a message: what any datagram has that is at least four bytes long and of version 1.
 #[derive(Clone, Copy)]
 pub struct Head {
     pub kind: Kind,
@@ -59,8 +59,8 @@ pub struct Head {
     pub id: u16,
 }
 
-/// A message whose token, options and payload are lent, as they stand in a datagram. A contract
-/// sees the message.
+/// A message whose token, options and payload are borrowed from a datagram. A contract sees the
+/// message.
 #[derive(Drop)]
 pub struct MessageRef<'a> {
     pub(crate) kind: Kind,
@@ -95,7 +95,7 @@ impl<'a> MessageRef<'a> {
         self.kind
     }
 
-    /// The code: a method, that of a response, or 0.00 of an Empty message, which has nothing after
+    /// The code: a method, a response code, or 0.00 for an Empty message, which has nothing after
     /// its id (RFC 7252, 3 and 4.1).
     pub fn code(&self) -> Code
         ensures exact { result ≡ self.now.code }
@@ -128,22 +128,25 @@ impl<'a> MessageRef<'a> {
         self.options.iter()
     }
 
-    /// The options as a list, lent.
+    /// The options as a borrowed list.
     pub fn option_list(&self) -> Options<'a>
         ensures { result ≡ self.now.options }
     {
         self.options.copied()
     }
 
-    /// The payload: no bytes where there is none.
+    /// The payload, which is empty if there is none.
     pub fn payload(&self) -> &'a [u8]
         ensures { result.now ≡ self.now.payload }
     {
         self.payload
     }
 
-    /// A copy of the message. Its options and its payload take a block of memory each, of just
-    /// their bytes.
+    /// A copy of the message. Its options and its payload take a block of memory each, of exactly
+    /// their length.
+    ///
+    /// # Errors
+    /// Out of memory.
     pub fn to_message(&self, alloc: Global) -> Result<Message, OutOfMemory>
         ensures { IfOk result (λ m. m ≡ self.now) }
     {
@@ -159,7 +162,7 @@ impl<'a> MessageRef<'a> {
 }
 
 impl Message {
-    /// The message, lent.
+    /// The message, borrowed.
     pub fn lent(&self) -> MessageRef<'_>
         ensures { result ≡ self.now }
     {

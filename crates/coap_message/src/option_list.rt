@@ -1,4 +1,4 @@
-//! Options that are kept, as the bytes that spell them (RFC 7252, 3.1), in one block of memory.
+//! Owned options, as the bytes that encode them (RFC 7252, 3.1), in one block of memory.
 ghost use Rattle.std.specs.Prelude.{◌≡◌, ◌≤◌, ◌<◌, ◌++◌, ◌∷◌, ◌^◌, [], OnOk, OnErr, IfOk, length, take};
 ghost use Rattle.coap_message.specs.Spelling.{more_of, option_spelling, options_spelling};
 ghost use Rattle.coap_message.specs.Options.{option_of, AreOptions, last_number};
@@ -14,7 +14,7 @@ use std::alloc::Global;
 use std::hash::{Hash, Hasher};
 use std::marker::Model;
 
-/// Options in order, kept as the bytes that spell them. A contract sees the list.
+/// Options in order, stored as the bytes that encode them. A contract sees the list.
 #[derive(Drop)]
 pub struct OptionList {
     pub(crate) bytes: Seq<u8>,
@@ -35,7 +35,7 @@ impl Model for OptionList {
 }
 
 impl OptionList {
-    /// No options, which takes no memory yet.
+    /// No options. Doesn't allocate.
     pub fn new(alloc: Global) -> OptionList
         ensures { result ≡ [] }
     {
@@ -45,7 +45,7 @@ impl OptionList {
         }
     }
 
-    /// No options, with room for those that so many bytes spell.
+    /// No options, with room for those that `bytes` bytes encode.
     ///
     /// # Errors
     /// Out of memory.
@@ -58,7 +58,7 @@ impl OptionList {
         })
     }
 
-    /// The options, lent.
+    /// The options, borrowed.
     pub fn lent(&self) -> Options<'_>
         ensures { result ≡ self.now }
     {
@@ -77,14 +77,14 @@ impl OptionList {
         self.lent().iter()
     }
 
-    /// How many bytes are held: those of the spelling.
+    /// The number of bytes held: those of the encoding.
     pub fn size(&self) -> usize
         ensures { result ≡ length (options_spelling 0 self.now) }
     {
         self.bytes.len()
     }
 
-    /// Lets go of all options, and keeps their room.
+    /// Removes all options, and keeps their room.
     pub fn clear(&mut self)
         ensures { self.new ≡ [] }
     {
@@ -92,14 +92,17 @@ impl OptionList {
         self.last = 0;
     }
 
-    /// Gives back the room beyond what is held, where the allocator takes it.
+    /// Gives spare room back, if the allocator takes it.
     pub fn shrink_to_fit(&mut self)
         ensures { self.new ≡ self.old }
     {
         self.bytes.shrink_to_fit();
     }
 
-    /// Adds an option after the others.
+    /// Appends an option to the others.
+    ///
+    /// # Errors
+    /// Out of memory.
     pub fn push(&mut self, number: u16, value: &[u8]) -> Result<(), OutOfMemory>
         requires in_order { last_number 0 self.old ≤ number }
         requires within { length value.now ≤ 65804 }
@@ -116,7 +119,7 @@ impl OptionList {
     }
 }
 
-/// Adds the bytes that extend a delta or a length.
+/// Appends the bytes that extend a delta or a length.
 fn add_more(bytes: &mut Seq<u8>, n: usize) -> Result<(), OutOfMemory>
     requires { n ≤ 65804 }
     ensures ok { OnOk result (bytes.new ≡ bytes.old ++ more_of n) }
@@ -129,8 +132,8 @@ fn add_more(bytes: &mut Seq<u8>, n: usize) -> Result<(), OutOfMemory>
     }
 }
 
-/// Adds an option after one of the number `before`. Where there is no memory, a part of it may have
-/// been added.
+/// Appends an option after one with the number `before`. If allocation fails, part of it may have
+/// been appended.
 fn add_option(
     bytes: &mut Seq<u8>,
     before: u16,
@@ -151,7 +154,7 @@ fn add_option(
     add_value(bytes, value)
 }
 
-/// Adds the bytes of a value.
+/// Appends the bytes of a value.
 fn add_value(bytes: &mut Seq<u8>, value: &[u8]) -> Result<(), OutOfMemory>
     ensures ok { OnOk result (bytes.new ≡ bytes.old ++ value.now) }
     ensures err { OnErr result (bytes.new ≡ bytes.old) }

@@ -1,4 +1,4 @@
-//! Options, and lists of them in order (RFC 7252, 3.1), lent as the bytes that spell them.
+//! Options, and lists of them in order (RFC 7252, 3.1), borrowed as the bytes that encode them.
 ghost use Rattle.std.specs.Prelude.{◌≡◌, ◌<◌, ◌^◌, ◌++◌, [], ◌↔◌, IsTrue, IfOk, IfSome, OnOk, length, option_map};
 ghost use Rattle.coap_message.specs.Spelling.{options_spelling};
 ghost use Rattle.coap_message.specs.Reading.{options_at};
@@ -20,14 +20,14 @@ pub struct Opt {
     pub value: Seq<u8>,
 }
 
-/// An option whose value is lent.
+/// An option whose value is borrowed.
 #[derive(Clone, Copy)]
 pub struct OptRef<'a> {
     pub number: u16,
     pub value: &'a [u8],
 }
 
-/// The options that are left, one after the other. A contract sees the list.
+/// An iterator over the remaining options. A contract sees the list.
 #[derive(Drop)]
 pub struct OptRefs<'a> {
     before: u16,
@@ -48,7 +48,7 @@ impl<'a> Model for OptRefs<'a> {
 }
 
 impl<'a> OptRefs<'a> {
-    /// A copy, which goes on from the same place.
+    /// A copy, which continues from the same place.
     pub fn clone(&self) -> OptRefs<'a>
         ensures { result ≡ self.now }
     {
@@ -58,7 +58,7 @@ impl<'a> OptRefs<'a> {
         }
     }
 
-    /// Those from the first on whose number is not below this one.
+    /// The options from the first one on whose number isn't lower than `number`.
     fn from_number(self, number: u16) -> OptRefs<'a>
         ensures { result ≡ from_number number self.entry }
     {
@@ -74,10 +74,10 @@ impl<'a> OptRefs<'a> {
         OptRefs { before, rest }
     }
 
-    /// Adds copies of the values of the options of a number to a list, in order.
+    /// Appends copies of the values of the options with this number to a list, in order.
     ///
     /// # Errors
-    /// Out of memory. Then some of them may have been added.
+    /// Out of memory. Some of them may have been appended then.
     pub fn append_values(self, number: u16, list: &mut Pieces) -> Result<(), OutOfMemory>
         ensures { OnOk result (list.new ≡ list.old ++ values_of number self.entry) }
     {
@@ -123,7 +123,7 @@ impl<'a> Iterator for OptRefs<'a> {
     }
 }
 
-/// Options in order, lent as the bytes that spell them. A contract sees the list.
+/// Options in order, borrowed as the bytes that encode them. A contract sees the list.
 #[derive(Drop)]
 pub struct Options<'a> {
     pub(crate) bytes: &'a [u8],
@@ -154,7 +154,7 @@ impl<'a> Options<'a> {
         }
     }
 
-    /// The same options, lent by a copy.
+    /// The same options, borrowed again.
     pub fn copied(&self) -> Options<'a>
         ensures { result ≡ self.now }
     {
@@ -177,7 +177,7 @@ impl<'a> Options<'a> {
         }
     }
 
-    /// The options one by one, from the first on whose number is not below this one.
+    /// The options one by one, from the first one on whose number isn't lower than `number`.
     pub fn iter_from(&self, number: u16) -> OptRefs<'a>
         ensures list { result ≡ from_number number self.now }
         ensures in_order { AreOptions 0 self.now }
@@ -193,14 +193,14 @@ impl<'a> Options<'a> {
         all.from_number(number)
     }
 
-    /// The bytes that spell the options.
+    /// The bytes that encode the options.
     pub fn bytes(&self) -> &'a [u8]
         ensures { result.now ≡ options_spelling 0 self.now }
     {
         self.bytes
     }
 
-    /// Whether there is no option.
+    /// Whether there are no options.
     pub fn is_empty(&self) -> bool
         ensures { IsTrue result ↔ (self.now ≡ []) }
     {
@@ -208,6 +208,9 @@ impl<'a> Options<'a> {
     }
 
     /// A copy, in one block of memory.
+    ///
+    /// # Errors
+    /// Out of memory.
     pub fn to_owned(&self, alloc: Global) -> Result<OptionList, OutOfMemory>
         ensures { IfOk result (λ list. list ≡ self.now) }
     {
@@ -218,7 +221,7 @@ impl<'a> Options<'a> {
     }
 }
 
-/// The options that stand here, and the payload after them.
+/// The options at the front, and the payload after them.
 pub(crate) fn split_options(bytes: &[u8]) -> Option<(Options<'_>, &[u8])>
     ensures { option_map (λ x. (x.0, x.1.now)) result ≡ options_at 0 bytes.now }
 {
@@ -237,7 +240,7 @@ pub(crate) fn split_options(bytes: &[u8]) -> Option<(Options<'_>, &[u8])>
     Some((options, payload))
 }
 
-/// What stands after a value of fewer than 13 bytes that has its length in front.
+/// What follows a value of fewer than 13 bytes that is preceded by its length.
 fn after_short(bytes: &[u8]) -> Option<&[u8]>
     ensures { IfSome result (λ rest. ShortPiece bytes.now rest.now) }
 {
@@ -250,8 +253,8 @@ fn after_short(bytes: &[u8]) -> Option<&[u8]>
     Some(rest)
 }
 
-/// The bytes after an option that spell those of its number whose values have fewer than 13 bytes,
-/// as far as they follow one another, and what stands after them.
+/// Splits the bytes after an option: those that encode the options which follow it with the same
+/// number and values of fewer than 13 bytes, without a gap, and the rest.
 fn split_run(bytes: &[u8]) -> (&[u8], &[u8])
     ensures { ShortRun bytes.now result.0.now result.1.now }
 {

@@ -10,7 +10,7 @@ use std::alloc::Global;
 use std::hash::{Hash, Hasher};
 use std::marker::Model;
 
-/// The pieces that are left, one after the other. A contract sees the list.
+/// An iterator over the remaining pieces. A contract sees the list.
 #[derive(Drop)]
 pub struct PieceRefs<'a> {
     rest: &'a [u8],
@@ -29,7 +29,7 @@ impl<'a> Model for PieceRefs<'a> {
 }
 
 impl<'a> PieceRefs<'a> {
-    /// A copy, which goes on from the same place.
+    /// A copy, which continues from the same place.
     pub fn clone(&self) -> PieceRefs<'a>
         ensures { result ≡ self.now }
     {
@@ -73,7 +73,7 @@ impl Model for Pieces {
 }
 
 impl Pieces {
-    /// No pieces, which takes no memory yet.
+    /// No pieces. Doesn't allocate.
     pub fn new(alloc: Global) -> Pieces
         ensures { result ≡ [] }
     {
@@ -82,7 +82,10 @@ impl Pieces {
         }
     }
 
-    /// No pieces, with room for so many bytes of them, as `size_of` counts them.
+    /// No pieces, with room for `bytes` bytes of them, as `size_of` counts them.
+    ///
+    /// # Errors
+    /// Out of memory.
     pub fn with_room(alloc: Global, bytes: usize) -> Result<Pieces, OutOfMemory>
         ensures { IfOk result (λ pieces. pieces ≡ []) }
     {
@@ -102,22 +105,22 @@ impl Pieces {
         }
     }
 
-    /// Whether there is no piece.
+    /// Whether there are no pieces.
     pub fn is_empty(&self) -> bool
         ensures { IsTrue result ↔ (self.now ≡ []) }
     {
         self.iter().next().is_none()
     }
 
-    /// How many pieces there are.
+    /// The number of pieces.
     pub fn len(&self) -> usize
         ensures { result ≡ length self.now }
     {
         self.iter().count()
     }
 
-    /// How many bytes a piece takes: its own, and its length, which takes a byte for each 255 in it
-    /// and one more.
+    /// The number of bytes that a piece takes: its own, and those of its length, which takes one
+    /// byte for each 255 in it and one more.
     pub fn size_of(piece: &[u8]) -> usize
         ensures { length piece.now < 2 ^ 62 → result ≡ length (pieces_spelling (piece.now ∷ [])) }
     {
@@ -125,28 +128,31 @@ impl Pieces {
         length.saturating_add(length / 255).saturating_add(1)
     }
 
-    /// How many bytes are held: what `size_of` counts of each piece.
+    /// The number of bytes held: the sum of `size_of` over the pieces.
     pub fn size(&self) -> usize
         ensures { result ≡ length (pieces_spelling self.now) }
     {
         self.bytes.len()
     }
 
-    /// Lets go of all pieces, and keeps their room.
+    /// Removes all pieces, and keeps their room.
     pub fn clear(&mut self)
         ensures { self.new ≡ [] }
     {
         self.bytes.clear();
     }
 
-    /// Gives back the room beyond what is held, where the allocator takes it.
+    /// Gives spare room back, if the allocator takes it.
     pub fn shrink_to_fit(&mut self)
         ensures { self.new ≡ self.old }
     {
         self.bytes.shrink_to_fit();
     }
 
-    /// Adds a piece after the others.
+    /// Appends a piece to the others.
+    ///
+    /// # Errors
+    /// Out of memory.
     pub fn push(&mut self, piece: &[u8]) -> Result<(), OutOfMemory>
         ensures ok { OnOk result (self.new ≡ self.old ++ piece.now ∷ []) }
         ensures err { OnErr result (self.new ≡ self.old) }
@@ -159,7 +165,10 @@ impl Pieces {
         Ok(())
     }
 
-    /// Adds other pieces after them.
+    /// Appends other pieces.
+    ///
+    /// # Errors
+    /// Out of memory.
     pub fn append(&mut self, pieces: &PieceRefs<'_>) -> Result<(), OutOfMemory>
         ensures ok { OnOk result (self.new ≡ self.old ++ pieces.now) }
         ensures err { OnErr result (self.new ≡ self.old) }
@@ -167,7 +176,7 @@ impl Pieces {
         self.append_spelled(pieces.rest)
     }
 
-    /// Adds the pieces that bytes spell.
+    /// Appends the pieces that bytes encode.
     pub(crate) fn append_spelled(&mut self, bytes: &[u8]) -> Result<(), OutOfMemory>
         requires { SpellPieces bytes.now }
         ensures ok { OnOk result (self.new ≡ self.old ++ pieces_of bytes.now) }
@@ -178,7 +187,7 @@ impl Pieces {
     }
 }
 
-/// The length that stands here, and the bytes after it, which are as many at least.
+/// The length at the front, and the bytes after it, of which there are at least as many.
 fn read_length(bytes: &[u8]) -> Option<(usize, &[u8])>
     requires stands { length_at bytes.now ≡ None → bytes.now ≡ [] }
     requires fits { IfSome (length_at bytes.now) (λ found. found.0 ≤ length found.1) }
@@ -197,7 +206,7 @@ fn read_length(bytes: &[u8]) -> Option<(usize, &[u8])>
     None
 }
 
-/// Adds a length. Where there is no memory, a part of it may have been added.
+/// Appends a length. If allocation fails, part of it may have been appended.
 fn add_length(bytes: &mut Seq<u8>, len: usize) -> Result<(), OutOfMemory>
     ensures ok { OnOk result (bytes.new ≡ bytes.old ++ length_spelling len) }
     ensures err { OnErr result (take (length bytes.old) bytes.new ≡ bytes.old) }
@@ -209,7 +218,7 @@ fn add_length(bytes: &mut Seq<u8>, len: usize) -> Result<(), OutOfMemory>
     bytes.push((len % 255) as u8)
 }
 
-/// Adds a piece after its length. Where there is no memory, a part of it may have been added.
+/// Appends a piece after its length. If allocation fails, part of it may have been appended.
 fn add_piece(bytes: &mut Seq<u8>, piece: &[u8]) -> Result<(), OutOfMemory>
     ensures ok { OnOk result
         (bytes.new ≡ bytes.old ++ (length_spelling (length piece.now) ++ piece.now)) }

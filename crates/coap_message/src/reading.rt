@@ -16,7 +16,7 @@ use std::alloc::Global;
 /// The byte between the options and a payload.
 pub(crate) const PAYLOAD_MARKER: u8 = 0xFF;
 
-/// From here on, four bits say how a delta or a length is extended (RFC 7252, 3.1).
+/// From this value on, the four bits say how a delta or a length is extended (RFC 7252, 3.1).
 pub(crate) const EXTENDED: u8 = 13;
 
 /// An option in a datagram, and the bytes after it.
@@ -27,7 +27,7 @@ pub(crate) struct Parsed<'a> {
     pub(crate) rest: &'a [u8],
 }
 
-/// What stands after the header of a message.
+/// What follows the header of a message.
 #[derive(Drop)]
 struct BodyRef<'a> {
     token: &'a [u8],
@@ -48,9 +48,8 @@ fn read_extended(bits: u8, bytes: &[u8]) -> Option<(usize, &[u8])>
     }
 }
 
-/// The option after one of the number `before`, and the bytes after it. Most options extend neither
-/// their delta nor their length, and many have the number `before`: those are read where they are
-/// asked for.
+/// The option after one with the number `before`, and the bytes after it. Most options extend
+/// neither their delta nor their length, and many have the number `before`: those are read inline.
 #[inline(always)]
 #[tactic(auto, unfolding(crate::specs::Reading::option_at))]
 pub(crate) fn read_option(before: u16, bytes: &[u8]) -> Option<Parsed<'_>>
@@ -69,7 +68,7 @@ pub(crate) fn read_option(before: u16, bytes: &[u8]) -> Option<Parsed<'_>>
     read_long_option(before, delta, len, rest)
 }
 
-/// The option of these bits for the delta and the length, and what stands after it.
+/// The option with these bits for the delta and the length, and what follows it.
 #[inline(never)]
 fn read_long_option(before: u16, delta: u8, len: u8, bytes: &[u8]) -> Option<Parsed<'_>>
     ensures exact { option_map parsed result ≡ option_behind before delta len bytes.now }
@@ -80,7 +79,7 @@ fn read_long_option(before: u16, delta: u8, len: u8, bytes: &[u8]) -> Option<Par
     cut_option(before, delta, len, rest)
 }
 
-/// The option of this delta whose value is the next so many bytes.
+/// The option with this delta whose value is the next `len` bytes.
 #[inline(always)]
 fn cut_option(before: u16, delta: usize, len: usize, bytes: &[u8]) -> Option<Parsed<'_>>
     requires delta { delta ≤ 65804 }
@@ -154,17 +153,21 @@ fn read_content(code: Code, token_length: usize, bytes: &[u8]) -> Option<BodyRef
 }
 
 impl<'a> MessageRef<'a> {
-    /// The message that the bytes spell (RFC 7252, 3), all of the bytes. Its options and its
-    /// payload are lent as they stand there, so that it takes no memory.
+    /// The message that all of the bytes encode (RFC 7252, 3). Its options and its payload are
+    /// borrowed from them, so it doesn't allocate.
     ///
     /// # Errors
-    /// 1. `Short`: fewer than four bytes. 2. `Version`: a version other than 1. 3. `Format`: no
-    /// message is spelled so. It is never `OutOfMemory`.
+    /// 1. `Short`: fewer than four bytes.
+    /// 2. `Version`: a version other than 1.
+    /// 3. `Format`: the bytes aren't a well-formed message.
+    ///
+    /// It is never `OutOfMemory`.
     pub fn read(bytes: &'a [u8]) -> Result<MessageRef<'a>, DecodeError>
-        // What is read is spelled so, and what is spelled so is read.
+        // A message that is read is encoded by the bytes, and a message that the bytes encode is
+        // read.
         ensures spelled { (m : Message) → (result ≡ Ok m) ↔ Spells bytes.now m }
 
-        // Which refusal it is.
+        // Which error it is.
         ensures short { (result ≡ Err DecodeError.Short) ↔ (length bytes.now < 4) }
         ensures version { (result ≡ Err DecodeError.Version)
             ↔ ((4 ≤ length bytes.now) × (IsVersionOne bytes.now → ⊥)) }
@@ -172,7 +175,7 @@ impl<'a> MessageRef<'a> {
             ↔ ((4 ≤ length bytes.now) × IsVersionOne bytes.now × SpellsNone bytes.now) }
         ensures memory { result ≢ Err DecodeError.OutOfMemory }
 
-        // The same by the function that reads.
+        // The same, by the function that reads.
         ensures exact { result ≡ read_message bytes.now }
     {
         read_lent(bytes)
@@ -209,16 +212,20 @@ fn read_copy(alloc: Global, bytes: &[u8]) -> Result<Message, DecodeError>
     Ok(message.to_message(alloc)?)
 }
 
-/// The message that the bytes spell (RFC 7252, 3), all of the bytes, as a copy.
+/// A copy of the message that all of the bytes encode (RFC 7252, 3).
+///
+/// # Errors
+/// As those of `MessageRef::read`, or `OutOfMemory`.
 pub fn decode(alloc: Global, bytes: &[u8]) -> Result<Message, DecodeError>
-    // What is read is spelled so, and what is spelled so is read, unless memory runs out.
+    // A message that is read is encoded by the bytes, and a message that the bytes encode is read,
+    // unless memory runs out.
     ensures spelled { IfOk result (λ m. Spells bytes.now m) }
     ensures read { (m : Message)
         → Spells bytes.now m
         → MatchResult result (λ found. found ≡ m) (λ e. e ≡ DecodeError.OutOfMemory) }
 
-    // Which refusal it is. A format error comes only where no message spells the bytes, and want of
-    // memory is answered only where one does.
+    // Which error it is. A format error comes only if the bytes encode no message, and it runs out
+    // of memory only if they encode one.
     ensures short { (result ≡ Err DecodeError.Short) ↔ (length bytes.now < 4) }
     ensures version { (result ≡ Err DecodeError.Version)
         ↔ ((4 ≤ length bytes.now) × (IsVersionOne bytes.now → ⊥)) }
@@ -226,14 +233,14 @@ pub fn decode(alloc: Global, bytes: &[u8]) -> Result<Message, DecodeError>
         ↔ ((4 ≤ length bytes.now) × IsVersionOne bytes.now × SpellsNone bytes.now) }
     ensures memory { result ≡ Err DecodeError.OutOfMemory → (m : Message) × Spells bytes.now m }
 
-    // The same by the function that reads.
+    // The same, by the function that reads.
     ensures exact { Decodes result (read_message bytes.now) }
 {
     read_copy(alloc, bytes)
 }
 
-/// What any datagram of four bytes or more and version 1 begins with, whether or not a message is
-/// spelled after it.
+/// The start of any datagram of at least four bytes and version 1, whether or not what follows is
+/// well-formed.
 pub fn head_of(bytes: &[u8]) -> Option<Head>
     ensures { result ≡ head_at bytes.now }
 {

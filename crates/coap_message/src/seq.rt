@@ -24,7 +24,7 @@ impl<T> Model for Seq<T> {
 }
 
 impl<T> Seq<T> {
-    /// An empty list, which takes no memory yet.
+    /// An empty list. Doesn't allocate.
     pub fn new(alloc: Global) -> Seq<T>
         ensures { result ≡ [] }
     {
@@ -33,7 +33,10 @@ impl<T> Seq<T> {
         }
     }
 
-    /// An empty list with room for so many items.
+    /// An empty list with room for `items` items.
+    ///
+    /// # Errors
+    /// Out of memory.
     pub fn with_capacity(alloc: Global, items: usize) -> Result<Seq<T>, OutOfMemory>
         ensures { IfOk result (λ seq. seq ≡ []) }
     {
@@ -42,7 +45,7 @@ impl<T> Seq<T> {
         })
     }
 
-    /// The list of a `Vec`, without copying.
+    /// Wraps a `Vec`, without copying.
     pub fn from_vec(items: Vec<T>) -> Seq<T>
         ensures { result ≡ items.items }
     {
@@ -71,7 +74,7 @@ impl<T> Seq<T> {
         self.items.len()
     }
 
-    /// Whether there is no item.
+    /// Whether there are no items.
     pub fn is_empty(&self) -> bool
         ensures { IsTrue result ↔ (self.now ≡ []) }
     {
@@ -80,28 +83,31 @@ impl<T> Seq<T> {
 }
 
 impl<T: Drop> Seq<T> {
-    /// Lets go of the items after the first `count`.
+    /// Drops the items after the first `count`.
     pub fn truncate(&mut self, count: usize)
         ensures { self.new ≡ take count self.old }
     {
         self.items.truncate(count);
     }
 
-    /// Lets go of all items, and keeps their room.
+    /// Drops all items, and keeps their room.
     pub fn clear(&mut self)
         ensures { self.new ≡ [] }
     {
         self.items.clear();
     }
 
-    /// Gives back the room beyond the items, where the allocator takes it.
+    /// Gives spare room back, if the allocator takes it.
     pub fn shrink_to_fit(&mut self)
         ensures { self.new ≡ self.old }
     {
         self.items.shrink_to_fit();
     }
 
-    /// Adds an item at the end.
+    /// Appends an item.
+    ///
+    /// # Errors
+    /// Out of memory.
     pub fn push(&mut self, item: T) -> Result<(), OutOfMemory>
         ensures ok { OnOk result (self.new ≡ self.old ++ item ∷ []) }
         ensures err { OnErr result (self.new ≡ self.old) }
@@ -112,8 +118,7 @@ impl<T: Drop> Seq<T> {
 }
 
 impl<T: Copy> Seq<T> {
-    /// Writes an item in place of the one that stands at this place, counted from 0. It takes no
-    /// memory.
+    /// Replaces the item at `place`, counted from 0. Doesn't allocate.
     pub fn set(&mut self, place: usize, item: T)
         requires { place < length self.old }
         ensures { self.new ≡ slice_set self.old place item }
@@ -121,7 +126,10 @@ impl<T: Copy> Seq<T> {
         self.items[place] = item;
     }
 
-    /// Adds the items of a slice at the end.
+    /// Appends the items of a slice.
+    ///
+    /// # Errors
+    /// Out of memory.
     pub fn append(&mut self, items: &[T]) -> Result<(), OutOfMemory>
         ensures ok { OnOk result (self.new ≡ self.old ++ items.now) }
         ensures err { OnErr result (self.new ≡ self.old) }
@@ -130,7 +138,10 @@ impl<T: Copy> Seq<T> {
         Ok(())
     }
 
-    /// A copy of a slice, in a block of just its length.
+    /// A copy of a slice, in a block of exactly its length.
+    ///
+    /// # Errors
+    /// Out of memory.
     pub fn from_slice(alloc: Global, items: &[T]) -> Result<Seq<T>, OutOfMemory>
         ensures { IfOk result (λ seq. seq ≡ items.now) }
     {

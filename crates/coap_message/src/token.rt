@@ -31,7 +31,7 @@ impl Model for Token {
 }
 
 impl Token {
-    /// The most bytes that a token has.
+    /// The greatest number of bytes in a token.
     pub const MOST: usize = 8;
 
     /// The empty token.
@@ -44,7 +44,7 @@ impl Token {
         }
     }
 
-    /// The token of these bytes.
+    /// The token with these bytes.
     pub fn new(bytes: &[u8]) -> Token
         requires { length bytes.now ≤ 8 }
         ensures { result ≡ bytes.now }

@@ -13,7 +13,7 @@ use crate::reading::PAYLOAD_MARKER;
 use crate::seq::Seq;
 use crate::token::Token;
 
-/// Adds bytes, if at most `room` bytes are held then.
+/// Appends bytes, if the datagram then holds at most `room` bytes.
 fn append(out: &mut Datagram, room: usize, bytes: &[u8]) -> Result<(), Full>
     requires { room ≤ out.old.room }
     ensures { Appends out.old out.new room bytes.now result }
@@ -38,7 +38,7 @@ pub(crate) fn bits(n: usize) -> u8
     }
 }
 
-/// Adds the bytes that extend a delta or a length.
+/// Appends the bytes that extend a delta or a length.
 fn put_more(out: &mut Datagram, room: usize, n: usize) -> Result<(), Full>
     requires room { room ≤ out.old.room }
     requires within { n ≤ 65804 }
@@ -51,9 +51,11 @@ fn put_more(out: &mut Datagram, room: usize, n: usize) -> Result<(), Full>
     }
 }
 
-/// Adds an option after one of the number `before` (RFC 7252, 3.1), 0 for the first, if at most
-/// `room` bytes are held then. It takes no memory. Where it is `Full`, a part of the option may
-/// have been added.
+/// Appends an option after one with the number `before`, or 0 for the first (RFC 7252, 3.1), if the
+/// datagram then holds at most `room` bytes. Doesn't allocate.
+///
+/// # Errors
+/// `Full`. Part of the option may have been appended then.
 pub fn put_option(
     out: &mut Datagram,
     room: usize,
@@ -75,8 +77,11 @@ pub fn put_option(
     append(out, room, value)
 }
 
-/// Adds the options of a message, all of them, if at most `room` bytes are held then. It takes no
-/// memory. Where it is `Full`, none of them was added.
+/// Appends all the options of a message, if the datagram then holds at most `room` bytes. Doesn't
+/// allocate.
+///
+/// # Errors
+/// `Full`. None of them was appended then.
 pub fn put_options(out: &mut Datagram, room: usize, options: &Options<'_>) -> Result<(), Full>
     requires { room ≤ out.old.room }
     ensures { Appends out.old out.new room (options_spelling 0 options.now) result }
@@ -84,8 +89,11 @@ pub fn put_options(out: &mut Datagram, room: usize, options: &Options<'_>) -> Re
     append(out, room, options.bytes())
 }
 
-/// Adds a payload after its marker, if there is a payload and at most `room` bytes are held then.
-/// It takes no memory. Where it is `Full`, the marker may have been added.
+/// Appends a payload after its marker, if there is a payload and the datagram then holds at most
+/// `room` bytes. Doesn't allocate.
+///
+/// # Errors
+/// `Full`. The marker may have been appended then.
 pub fn put_payload(out: &mut Datagram, room: usize, payload: &[u8]) -> Result<(), Full>
     requires { room ≤ out.old.room }
     ensures { Appends out.old out.new room (payload_spelling payload.now) result }
@@ -108,7 +116,11 @@ fn header_of(head: Head, token_length: usize) -> [u8; 4]
 }
 
 /// Begins a message: clears the datagram, and writes the header and the token (RFC 7252, 3), if
-/// they are at most `room` bytes. Options and a payload are added after them. It takes no memory.
+/// they are at most `room` bytes. Options and a payload are to be appended after them. Doesn't
+/// allocate.
+///
+/// # Errors
+/// `Full`. Part of them may have been written then.
 pub fn put_head(out: &mut Datagram, room: usize, head: Head, token: &Token) -> Result<(), Full>
     requires { room ≤ out.old.room }
     ensures written { Appends (holding out.old []) out.new room (head_spelling head token.now)
@@ -122,12 +134,12 @@ pub fn put_head(out: &mut Datagram, room: usize, head: Head, token: &Token) -> R
     append(out, room, token)
 }
 
-/// Writes the message of these parts (RFC 7252, 3), if it is at most `room` bytes. The datagram is
-/// cleared first. It takes no memory.
+/// Clears the datagram and writes the message with these parts (RFC 7252, 3), if it is at most
+/// `room` bytes. Doesn't allocate.
 ///
 /// # Errors
-/// `Full`, exactly where the message is longer than `room` bytes. Then a part of it may have been
-/// written.
+/// `Full`, exactly if the message is longer than `room` bytes. Part of it may have been written
+/// then.
 #[tactic(auto, unfolding(crate::specs::Spelling::spelling))]
 pub fn put_message(
     out: &mut Datagram,
@@ -147,7 +159,11 @@ pub fn put_message(
     put_payload(out, room, payload)
 }
 
-/// Writes the one spelling of a message, which takes no memory. The datagram is cleared first.
+/// Clears the datagram and writes the unique encoding of a message, if it is at most `room` bytes.
+/// Doesn't allocate.
+///
+/// # Errors
+/// `Full`, exactly if the encoding is longer than `room` bytes. The datagram is empty then.
 pub fn encode_into(message: &Message, out: &mut Datagram, room: usize) -> Result<(), Full>
     requires { room ≤ out.old.room }
     ensures ok { OnOk result (out.new ≡ holding out.old (spelling message.now)) }
@@ -169,8 +185,8 @@ pub fn encode_into(message: &Message, out: &mut Datagram, room: usize) -> Result
     Ok(())
 }
 
-/// Writes a message id in place of the one that a form has: its two bytes, the high one first (RFC
-/// 7252, 3). A form of fewer than four bytes stays as it is. It takes no memory.
+/// Replaces the message id in an encoded message: two bytes, the high one first (RFC 7252, 3). A
+/// message of fewer than four bytes is left unchanged. Doesn't allocate.
 #[tactic(auto, unfolding(crate::specs::Spelling::with_id))]
 pub fn set_id(form: &mut Seq<u8>, id: u16)
     ensures { form.new ≡ with_id id form.old }
