@@ -5,6 +5,7 @@ ghost use Rattle.coap_exchange.specs.Index.{queue_of, end_of, got_of, id_of, key
 ghost use Rattle.coap_exchange.specs.Roll.{empty_roll};
 ghost use Rattle.coap_exchange.specs.Table.{first_that, item_at, passes, IsRising, IsTable};
 
+use crate::buckets::Buckets;
 use crate::exchange::Exchange;
 use crate::listed::Listed;
 use crate::roll::Roll;
@@ -18,7 +19,7 @@ use std::alloc::Global;
 #[derive(Drop)]
 pub(crate) struct Index {
     /// By the message id that they were sent with.
-    pub(crate) ids: Roll,
+    pub(crate) ids: Buckets,
     /// By the moment when their answer came.
     pub(crate) dones: Roll,
     /// By the moment of their admission, until their answer comes.
@@ -26,12 +27,12 @@ pub(crate) struct Index {
     /// By the end of the current timeout.
     pub(crate) ends: Roll,
     /// By the digest of their endpoint, while they wait for their turn.
-    pub(crate) queues: Roll,
+    pub(crate) queues: Buckets,
     /// GETs by the digest of their cache key, until they are tainted or their answer comes.
-    pub(crate) keys: Roll,
+    pub(crate) keys: Buckets,
     /// By the digest of their target, from when they are sent until they are tainted or their
     /// answer comes.
-    pub(crate) targets: Roll,
+    pub(crate) targets: Buckets,
 }
 
 /// What one exchange is looked up by.
@@ -85,13 +86,13 @@ impl Index {
         ensures targets { IfOk result (λ index. index.targets ≡ empty_roll limit) }
     {
         Ok(Index {
-            ids: Roll::new(alloc, limit)?,
+            ids: Buckets::new(alloc, limit)?,
             dones: Roll::new(alloc, limit)?,
             openings: Roll::new(alloc, limit)?,
             ends: Roll::new(alloc, limit)?,
-            queues: Roll::new(alloc, limit)?,
-            keys: Roll::new(alloc, limit)?,
-            targets: Roll::new(alloc, limit)?,
+            queues: Buckets::new(alloc, limit)?,
+            keys: Buckets::new(alloc, limit)?,
+            targets: Buckets::new(alloc, limit)?,
         })
     }
 
@@ -192,7 +193,7 @@ fn end_of(exchange: &Exchange) -> Option<u64>
 /// owner.
 pub(crate) fn first_sought(
     exchanges: &Table<Listed>,
-    roll: &Roll,
+    roll: &Buckets,
     owner: u64,
     sought: &Sought,
 ) -> Option<u64>

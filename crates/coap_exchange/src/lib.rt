@@ -2,6 +2,7 @@
 //! 5.2).
 #![tactic(auto)]
 
+mod buckets;
 mod digests;
 mod due;
 pub mod examples;

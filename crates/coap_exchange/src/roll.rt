@@ -141,7 +141,8 @@ impl Roll {
         }
     }
 
-    fn put(&mut self, owner: u64, number: u64)
+    /// Adds the pair of this owner and number, which isn't there. There is room for it.
+    pub(crate) fn put(&mut self, owner: u64, number: u64)
         requires room { length self.old.pairs < self.old.limit }
         requires absent { is_in (owner, number) self.old.pairs ≡ false }
         ensures limit { self.new.limit ≡ self.old.limit }
@@ -153,7 +154,8 @@ impl Roll {
         self.row.insert(place, (owner, number));
     }
 
-    fn take(&mut self, owner: u64, number: u64)
+    /// Removes the pair of this owner and number, which is there.
+    pub(crate) fn take(&mut self, owner: u64, number: u64)
         requires there { is_in (owner, number) self.old.pairs ≡ true }
         ensures limit { self.new.limit ≡ self.old.limit }
         ensures length { length self.new.pairs + 1 ≡ length self.old.pairs }

@@ -14,6 +14,7 @@ ghost use Rattle.coap_exchange.specs.Table.{empty_table, item_at, admitted_to, w
 ghost use Rattle.coap_exchange.specs.Tally.{tally, AreTallied};
 ghost use Rattle.coap_exchange.specs.Waiters.{awaited_by, changed_by, delivered, due_after, fire_at, fired_waiter, is_waiting, waits_for, was_sent_as, CanChange, IsDue};
 
+use crate::buckets::Buckets;
 use crate::due::{due_under, sooner};
 use crate::exchanges::Exchanges;
 use crate::marks::marks_at;
@@ -36,9 +37,9 @@ pub struct Waiters {
     /// The number of waiters for each exchange, by the exchange's number.
     by_exchange: BTreeMap<u64, usize>,
     /// Those that wait, by the exchange that they wait for.
-    by_awaited: Roll,
+    by_awaited: Buckets,
     /// Those that were sent their response, by its message id.
-    by_id: Roll,
+    by_id: Buckets,
     /// The same, by the end of the current timeout.
     by_end: Roll,
     alloc: Global,
@@ -91,8 +92,8 @@ impl Waiters {
             table,
             waiting: 0,
             by_exchange: BTreeMap::new(alloc),
-            by_awaited: Roll::new(alloc, limit)?,
-            by_id: Roll::new(alloc, limit)?,
+            by_awaited: Buckets::new(alloc, limit)?,
+            by_id: Buckets::new(alloc, limit)?,
             by_end: Roll::new(alloc, limit)?,
             alloc,
         })
