@@ -1,11 +1,10 @@
 -- Buckets: where a pair stands, and what the change of one of them does to all.
-use Rattle.std.proofs.Common.{◌≡◌, ℕ, zero, suc, ◌+◌, ◌-◌, ◌*◌, ◌/◌, ◌<◌, ◌≤◌, ◌%◌, ◌∙◌, ◌&&◌, ◌||◌, Bool, List, [], ◌∷◌, ◌++◌, Option, Some, None, true, false, ap, refl, sym, subst, length, get_or, set, arith, length-append}
+use Rattle.std.proofs.Common.{◌≡◌, ℕ, zero, suc, ◌+◌, ◌<◌, ◌≤◌, ◌%◌, ◌∙◌, ◌&&◌, ◌||◌, Bool, List, [], ◌∷◌, ◌++◌, Option, Some, None, true, false, ap, refl, sym, subst, length, get_or, set, arith, length-append}
 use Rattle.std.specs.Prelude.{not}
 use Rattle.std.specs.List.{AllByRecursion}
-use Rattle.std.proofs.lemmas.Bool.Decides.{nat_tests}
 use Rattle.coap_exchange.specs.Buckets.{pairs_of, AreBuckets, IsBucket}
 use Rattle.coap_exchange.specs.Roll.{Pair, Roll, empty_roll, is_in, is_pair, IsNextOf}
-use Rattle.coap_exchange.proofs.Rolling.{pair_itself, pair_only}
+use Rattle.coap_exchange.proofs.Rolling.{pair_only}
 
 -- ---- where a pair stands
 

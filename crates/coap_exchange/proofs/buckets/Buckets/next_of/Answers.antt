@@ -1,6 +1,6 @@
-use Rattle.std.proofs.Common.{◌≡◌, ◌<◌, ◌%◌, ◌+◌, ◌∙◌, rules, arith, length, get_or, sym, ap, subst}
+use Rattle.std.proofs.Common.{◌≡◌, ◌<◌, ◌%◌, ◌+◌, ◌∙◌, rules, arith, length, sym, ap}
 use Rattle.coap_exchange.specs.Buckets.{pairs_of}
-use Rattle.coap_exchange.specs.Roll.{Pair, Roll, is_in, IsNextOf}
+use Rattle.coap_exchange.specs.Roll.{Roll, is_in}
 use Rattle.coap_exchange.proofs.Bucketing.{in-own, next-alike}
 use Rattle.coap_exchange.proofs.buckets.Buckets.next_of.Goals as goal
 

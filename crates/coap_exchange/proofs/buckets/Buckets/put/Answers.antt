@@ -1,7 +1,5 @@
-use Rattle.std.proofs.Common.{◌≡◌, ◌<◌, ◌%◌, ◌+◌, ◌∙◌, ℕ, rules, arith, length, get_or, set, sym, ap, subst, false}
+use Rattle.std.proofs.Common.{◌≡◌, ◌<◌, ◌%◌, ◌+◌, ◌∙◌, rules, arith, length, get_or, set, sym, ap}
 use Rattle.std.specs.Prelude.{◌||◌}
-use Rattle.std.proofs.lemmas.List.{length-set}
-use Rattle.coap_exchange.specs.Buckets.{pairs_of, AreBuckets}
 use Rattle.coap_exchange.specs.Roll.{Pair, Roll, is_in, is_pair}
 use Rattle.coap_exchange.proofs.Bucketing.{bucket-at, bucket-more, buckets-set, in-own, length-set-one, length-one, more-set}
 use Rattle.coap_exchange.proofs.buckets.Buckets.put.Goals as goal

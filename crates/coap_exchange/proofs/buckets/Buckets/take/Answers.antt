@@ -1,7 +1,5 @@
-use Rattle.std.proofs.Common.{◌≡◌, ◌<◌, ◌%◌, ◌+◌, ◌∙◌, ℕ, rules, arith, length, get_or, set, sym, ap, subst, true}
+use Rattle.std.proofs.Common.{◌≡◌, ◌<◌, ◌%◌, ◌+◌, ◌∙◌, rules, arith, length, get_or, set, sym, ap}
 use Rattle.std.specs.Prelude.{◌&&◌, not}
-use Rattle.std.proofs.lemmas.List.{length-set}
-use Rattle.coap_exchange.specs.Buckets.{pairs_of, AreBuckets}
 use Rattle.coap_exchange.specs.Roll.{Pair, Roll, is_in, is_pair}
 use Rattle.coap_exchange.proofs.Bucketing.{bucket-at, bucket-less, buckets-set, in-own, length-set-one, less-set}
 use Rattle.coap_exchange.proofs.buckets.Buckets.take.Goals as goal
