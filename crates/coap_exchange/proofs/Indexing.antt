@@ -39,6 +39,14 @@ module _ {A : Type 0} where
           let other : eqb n x.0 ≡ false = ne_eqb n x.0 (λ g. eqb-false x.0 n f (sym g)) in
           ap (λ (b : Bool). cond b (Some x.1) (item_at n (without n xs))) other ∙ i
 
+  -- the last that was withdrawn is gone
+  pub withdrawn-gone : (t : Table A) → item_at t.admitted (withdrawn t).items ≡ None
+  withdrawn-gone t = go (item_at t.admitted t.items) refl
+    where
+      go : (o : Option A) → item_at t.admitted t.items ≡ o → item_at t.admitted (withdrawn_at o t).items ≡ None
+      go None e = e
+      go (Some a) e = without-gone t.admitted t.items
+
   pub moves-without : (n : ℕ) (t : Table A) → IsTable t → Moves n t.items (without n t.items)
   moves-without n t is = record {
     others = λ q e. without-others n q t.items e;
@@ -196,3 +204,14 @@ all-have-passed n limit xs ys old new moves is have rising = record {
   keys = has-passed key_of n limit xs ys old.keys new.keys moves is.keys have.keys;
   targets = has-passed target_of n limit xs ys old.targets new.targets moves is.targets have.targets;
 }
+
+-- ---- the same, where what stood under the number and what stands there are known
+
+module _ (n limit : ℕ) (xs ys : List (Numbered Exchange)) (index : Index) (moves : Moves n xs ys) (are : AreIndexed xs limit index) (was is : Option Exchange) (there : item_at n xs ≡ was) (then : item_at n ys ≡ is) where
+  pub can-pass-as : length ys ≤ limit → CanPassAll index n (owners_at was) (owners_at is)
+  can-pass-as few = rw (← there, ← then) (all-can-pass n limit xs ys index moves few are)
+
+  pub have-passed-as : (next : Index) → HavePassed index next n (owners_at was) (owners_at is) → IsRising 0 ys → AreIndexed ys limit next
+  have-passed-as next have rising =
+      let passed : HavePassed index next n (owners_at (item_at n xs)) (owners_at (item_at n ys)) = rw (there, then) have in
+      all-have-passed n limit xs ys index next moves are passed rising

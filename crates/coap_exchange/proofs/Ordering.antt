@@ -305,14 +305,6 @@ at-without n xs at = subst (IsAt at) (sym (without-gone n xs)) tt
 pub without-off : (n : ℕ) (xs : List (Numbered Exchange)) → passes is_queued (item_at n (without n xs)) ≡ false
 without-off n xs = ap (passes is_queued) (without-gone n xs)
 
--- the last that was withdrawn is gone
-pub withdrawn-gone : (t : Table Exchange) → item_at t.admitted (withdrawn t).items ≡ None
-withdrawn-gone t = go (item_at t.admitted t.items) refl
-  where
-    go : (o : Option Exchange) → item_at t.admitted t.items ≡ o → item_at t.admitted (withdrawn_at o t).items ≡ None
-    go None e = e
-    go (Some a) e = without-gone t.admitted t.items
-
 module _ (n : ℕ) (xs ys : List (Numbered Exchange)) (at : Option Endpoint) (moves : Moves n xs ys) (rx : IsRising 0 xs) (ry : IsRising 0 ys) (wx : IsAt at (item_at n xs)) (wy : IsAt at (item_at n ys)) (turns : Turns) (are : AreTurns xs turns) where
   -- the head that comes doesn't stand in the roll, unless it was there
   pub turns-free : IfSome (head_in ys at) (λ p. is_in p turns.heads.pairs ≡ true → head_in xs at ≡ Some p)

@@ -1,7 +1,7 @@
 //! Tables of exchanges: which are admitted, sent, answered and closed, and which is due.
 ghost use Rattle.std.specs.Prelude.{◌≡◌, ◌+◌, ◌-◌, ◌<◌, ◌≤◌, ◌^◌, ◌↔◌, ◌&&◌, length, if◌then◌else◌, true, false, None, OnOk, OnErr, IfOk, IfErr, IfSome, IfNone};
 ghost use Rattle.std.specs.Map.{set_value};
-ghost use Rattle.std.specs.Option.{option_copied};
+ghost use Rattle.std.specs.Option.{option_copied, option_map};
 ghost use Rattle.std.specs.BTreeMap.{get, is_at};
 ghost use Rattle.std.specs.Ordering.{nat_cmp};
 ghost use Rattle.coap_endpoint.specs.declared.endpoint.Endpoint.{Endpoint};
@@ -9,7 +9,7 @@ ghost use Rattle.coap_exchange.specs.Answered.{IsFirstGot, IsNextGot};
 ghost use Rattle.coap_exchange.specs.declared.table.AdmitError.TheVariants.{Full};
 ghost use Rattle.coap_exchange.specs.Due.{due_row, first_due};
 ghost use Rattle.coap_exchange.specs.Exchanges.{acked, answer_in, answered, changed_by, due_among, fire_at, fired_exchange, is_acked, is_done, is_joinable, is_queued, is_sent, is_sent_to, is_timely, opened, sent, tainted_by, was_sent_as, AreTimely, CanChange, IsDue, IsFireDue};
-ghost use Rattle.coap_exchange.specs.Index.{turn_among, AreIndexed};
+ghost use Rattle.coap_exchange.specs.Index.{owners_at, turn_among, AreIndexed};
 ghost use Rattle.coap_exchange.specs.Lines.{is_queued_to, is_with, open_in, queued_in, sent_in, AreLined};
 ghost use Rattle.coap_exchange.specs.Table.{empty_table, item_at, admitted_to, without, withdrawn, changed_at, all_changed, count, first_that, passes, IsTable};
 ghost use Rattle.coap_exchange.specs.Turns.{AreTurns};
@@ -17,7 +17,7 @@ ghost use Rattle.coap_exchange.specs.Turns.{AreTurns};
 use crate::digests::{digest_of_key, digest_of_target};
 use crate::due::{later, sooner};
 use crate::exchange::{Change, Exchange, Sending};
-use crate::index::{Index, Sought, first_sought, owners_at, owners_in};
+use crate::index::{Index, Owners, Sought, first_sought, owners_at, owners_in, owners_of};
 use crate::lines::{Line, Stage, close_one, has_turn, line_to, lowered, move_one, open_one};
 use crate::listed::Listed;
 use crate::peer::Peer;
@@ -233,11 +233,11 @@ impl Exchanges {
         let Ok(()) = open_one(&mut self.lines, at) else {
             return Err(AdmitError::OutOfMemory);
         };
-        let was = owners_at(&self.table, self.table.admitted() + 1);
+        let (was, is) = (owners_in(None), owners_of(&listed));
         match self.table.admit(listed) {
             Ok(number) => {
                 self.queued += 1;
-                self.index.pass(number, was, owners_at(&self.table, number));
+                self.index.pass(number, was, is);
                 let next = head_of(&self.table, &self.index, &self.lines, &Some(at));
                 self.turns.heads.replace(head, next);
                 self.turns.note(now);
@@ -268,7 +268,7 @@ impl Exchanges {
         let was = owners_in(found);
         self.queued = queued;
         self.table.withdraw();
-        self.index.pass(number, was, owners_at(&self.table, number));
+        self.index.pass(number, was, owners_in(None));
         let next = head_of(&self.table, &self.index, &self.lines, &at);
         self.turns.heads.replace(head, next);
     }
@@ -285,7 +285,7 @@ impl Exchanges {
         let was = owners_in(found);
         self.queued = queued;
         self.table.close(number);
-        self.index.pass(number, was, owners_at(&self.table, number));
+        self.index.pass(number, was, owners_in(None));
         let next = head_of(&self.table, &self.index, &self.lines, &at);
         self.turns.heads.replace(head, next);
     }
@@ -362,20 +362,24 @@ impl Exchanges {
         recount(&mut self.lines, &self.table, number, found, &change);
         let was = owners_in(found);
         self.queued = queued;
-        self.table.change(number, change);
-        self.index.pass(number, was, owners_at(&self.table, number));
+        let is = self.table.change(number, change);
+        self.index.pass(number, was, is);
         let next = head_of(&self.table, &self.index, &self.lines, &at);
         self.turns.heads.replace(head, next);
     }
 }
 
 impl Table<Listed> {
-    fn change(&mut self, number: u64, change: Change)
+    /// Changes the exchange numbered `number`, if there is one, and returns what it is looked up by
+    /// then.
+    fn change(&mut self, number: u64, change: Change) -> Owners
         requires { IfSome (item_at number self.old.items) (CanChange change) }
-        ensures { self.new
+        ensures changed { self.new
             ≡ record self.old { items = changed_at number (changed_by change) self.old.items } }
+        ensures owners { result
+            ≡ owners_at (option_map (changed_by change) (item_at number self.old.items)) }
     {
-        change_under(&mut self.items, number, change);
+        change_under(&mut self.items, number, change)
     }
 
     fn taint(&mut self, number: u64, target: &Target)
@@ -477,16 +481,22 @@ impl Table<Listed> {
     }
 }
 
-fn change_under(exchanges: &mut BTreeMap<u64, Listed>, number: u64, change: Change)
+fn change_under(exchanges: &mut BTreeMap<u64, Listed>, number: u64, change: Change) -> Owners
     requires { IfSome (get nat_cmp exchanges.old number) (CanChange change) }
     ensures found { IfSome (get nat_cmp exchanges.old number) (λ x.
         exchanges.new.entries
         ≡ set_value (is_at (nat_cmp number)) exchanges.old.entries (changed_by change x)) }
     ensures missing { IfNone (get nat_cmp exchanges.old number)
         (exchanges.new.entries ≡ exchanges.old.entries) }
+    ensures owners { result
+        ≡ owners_at (option_map (changed_by change) (get nat_cmp exchanges.old number)) }
 {
-    if let Some(exchange) = exchanges.get_mut(&number) {
-        exchange.change(change);
+    match exchanges.get_mut(&number) {
+        Some(exchange) => {
+            exchange.change(change);
+            owners_of(exchange)
+        }
+        None => owners_in(None),
     }
 }
 

@@ -119,7 +119,7 @@ pub(crate) fn owners_at(exchanges: &Table<Listed>, number: u64) -> Owners
     owners_in(exchanges.get(number))
 }
 
-/// What an exchange is found by, if there is one.
+/// What an exchange is looked up by, if there is one.
 pub(crate) fn owners_in(found: Option<&Listed>) -> Owners
     ensures exact { result ≡ owners_at (option_copied found.entry) }
 {
@@ -137,7 +137,8 @@ pub(crate) fn owners_in(found: Option<&Listed>) -> Owners
     }
 }
 
-fn owners_of(listed: &Listed) -> Owners
+/// What an exchange is looked up by.
+pub(crate) fn owners_of(listed: &Listed) -> Owners
     ensures exact { result ≡ owners_at (Some listed.now) }
 {
     let exchange = listed.exchange();

@@ -1,14 +1,27 @@
 //! What waiters are looked up by.
-ghost use Rattle.std.specs.Prelude.{◌≡◌};
-ghost use Rattle.coap_exchange.specs.Answered.{awaited_of};
-ghost use Rattle.coap_exchange.specs.Marks.{end_of, id_of};
-ghost use Rattle.coap_exchange.specs.Index.{owner_at};
-ghost use Rattle.coap_exchange.specs.Table.{item_at, IsTable};
+ghost use Rattle.std.specs.Prelude.{◌≡◌, IfOk};
+ghost use Rattle.std.specs.Option.{option_copied};
+ghost use Rattle.coap_exchange.specs.Marks.{marks_at, CanPassMarks, HavePassedMarks};
+ghost use Rattle.coap_exchange.specs.Roll.{empty_roll};
 
-use crate::table::Table;
+use crate::buckets::Buckets;
+use crate::roll::Roll;
 use crate::waiter::{Waiter, WaiterState};
+use coap_message::OutOfMemory;
+use std::alloc::Global;
 
-/// What a waiter is looked up by.
+/// Numbers of waiters, by what they are looked up by. Room for all of them is allocated up front.
+#[derive(Drop)]
+pub(crate) struct WaiterIndex {
+    /// Those that wait, by the exchange that they wait for.
+    pub(crate) awaited: Buckets,
+    /// Those that were sent their response, by its message id.
+    pub(crate) ids: Buckets,
+    /// The same, by the end of the current timeout.
+    pub(crate) ends: Roll,
+}
+
+/// What one waiter is looked up by.
 #[derive(Clone, Copy)]
 pub(crate) struct Marks {
     /// The exchange that it waits for.
@@ -19,14 +32,39 @@ pub(crate) struct Marks {
     pub(crate) end: Option<u64>,
 }
 
-/// What the waiter numbered `number` is looked up by, if there is one.
-pub(crate) fn marks_at(waiters: &Table<Waiter>, number: u64) -> Marks
-    ensures awaited { result.awaited ≡ owner_at awaited_of (item_at number waiters.now.items) }
-    ensures id { result.id ≡ owner_at id_of (item_at number waiters.now.items) }
-    ensures end { result.end ≡ owner_at end_of (item_at number waiters.now.items) }
-    ensures sound { IsTable waiters.now }
+impl WaiterIndex {
+    /// An empty index with room for `limit` waiters.
+    ///
+    /// # Errors
+    /// Out of memory.
+    pub(crate) fn new(alloc: Global, limit: usize) -> Result<WaiterIndex, OutOfMemory>
+        ensures awaited { IfOk result (λ index. index.awaited ≡ empty_roll limit) }
+        ensures ids { IfOk result (λ index. index.ids ≡ empty_roll limit) }
+        ensures ends { IfOk result (λ index. index.ends ≡ empty_roll limit) }
+    {
+        Ok(WaiterIndex {
+            awaited: Buckets::new(alloc, limit)?,
+            ids: Buckets::new(alloc, limit)?,
+            ends: Roll::new(alloc, limit)?,
+        })
+    }
+
+    /// Updates what the waiter numbered `number` is looked up by, from `was` to `is`.
+    pub(crate) fn pass(&mut self, number: u64, was: Marks, is: Marks)
+        requires { CanPassMarks self.old number was is }
+        ensures exact { HavePassedMarks self.old self.new number was is }
+    {
+        self.awaited.pass(number, was.awaited, is.awaited);
+        self.ids.pass(number, was.id, is.id);
+        self.ends.pass(number, was.end, is.end);
+    }
+}
+
+/// What a waiter is looked up by, if there is one.
+pub(crate) fn marks_in(found: Option<&Waiter>) -> Marks
+    ensures exact { result ≡ marks_at (option_copied found.entry) }
 {
-    match waiters.get(number) {
+    match found {
         Some(waiter) => marks_of(waiter),
         None => Marks {
             awaited: None,
@@ -36,10 +74,9 @@ pub(crate) fn marks_at(waiters: &Table<Waiter>, number: u64) -> Marks
     }
 }
 
-fn marks_of(waiter: &Waiter) -> Marks
-    ensures awaited { result.awaited ≡ awaited_of waiter.now }
-    ensures id { result.id ≡ id_of waiter.now }
-    ensures end { result.end ≡ end_of waiter.now }
+/// What a waiter is looked up by.
+pub(crate) fn marks_of(waiter: &Waiter) -> Marks
+    ensures exact { result ≡ marks_at (Some waiter.now) }
 {
     match &waiter.state {
         WaiterState::Waiting(exchange) => Marks {

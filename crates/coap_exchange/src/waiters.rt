@@ -2,23 +2,21 @@
 //! due.
 ghost use Rattle.std.specs.Prelude.{◌≡◌, ◌+◌, ◌-◌, ◌<◌, ◌≤◌, ◌^◌, ◌↔◌, ℕ, length, if◌then◌else◌, true, false, OnOk, OnErr, IfOk, IfErr, IfSome, IfNone};
 ghost use Rattle.std.specs.Map.{set_value};
-ghost use Rattle.std.specs.Option.{option_copied};
+ghost use Rattle.std.specs.Option.{option_copied, option_map};
 ghost use Rattle.std.specs.BTreeMap.{get, is_at};
 ghost use Rattle.std.specs.Ordering.{nat_cmp};
 ghost use Rattle.coap_exchange.specs.declared.table.AdmitError.TheVariants.{Full};
 ghost use Rattle.coap_exchange.specs.declared.waiter.WaiterState.TheVariants.{Waiting};
 ghost use Rattle.coap_exchange.specs.Answered.{due_at};
 ghost use Rattle.coap_exchange.specs.Due.{due_row, first_due};
-ghost use Rattle.coap_exchange.specs.Marks.{answered_of};
+ghost use Rattle.coap_exchange.specs.Marks.{answered_of, marks_at};
 ghost use Rattle.coap_exchange.specs.Table.{empty_table, item_at, admitted_to, without, withdrawn, changed_at, count, first_that, passes, IsTable};
 ghost use Rattle.coap_exchange.specs.Tally.{tally, AreTallied};
 ghost use Rattle.coap_exchange.specs.Waiters.{awaited_by, changed_by, delivered, due_after, fire_at, fired_waiter, is_waiting, waits_for, was_sent_as, CanChange, IsDue};
 
-use crate::buckets::Buckets;
 use crate::due::{due_under, sooner};
 use crate::exchanges::Exchanges;
-use crate::marks::marks_at;
-use crate::roll::Roll;
+use crate::marks::{Marks, WaiterIndex, marks_in, marks_of};
 use crate::table::{AdmitError, Table};
 use crate::tally::{count_one, counted, discount_one};
 use crate::timer::{Fire, Timer};
@@ -36,12 +34,8 @@ pub struct Waiters {
     waiting: usize,
     /// The number of waiters for each exchange, by the exchange's number.
     by_exchange: BTreeMap<u64, usize>,
-    /// Those that wait, by the exchange that they wait for.
-    by_awaited: Buckets,
-    /// Those that were sent their response, by its message id.
-    by_id: Buckets,
-    /// The same, by the end of the current timeout.
-    by_end: Roll,
+    /// What they are looked up by.
+    index: WaiterIndex,
     alloc: Global,
 }
 
@@ -51,9 +45,7 @@ impl Drop for Waiters {
             table: _,
             waiting: _,
             by_exchange: _,
-            by_awaited: _,
-            by_id: _,
-            by_end: _,
+            index: _,
             alloc: _,
         } = self;
     }
@@ -61,9 +53,7 @@ impl Drop for Waiters {
 
 impl Model for Waiters {
     ghost use Rattle.coap_exchange.specs.declared.waiter.Waiter.{Waiter};
-    ghost use Rattle.coap_exchange.specs.Answered.{awaited_of};
-    ghost use Rattle.coap_exchange.specs.Marks.{end_of, id_of};
-    ghost use Rattle.coap_exchange.specs.Index.{IsRollOf};
+    ghost use Rattle.coap_exchange.specs.Marks.{AreMarked};
     ghost use Rattle.coap_exchange.specs.Table.{Table, IsTable};
     ghost use Rattle.coap_exchange.specs.Tally.{AreWaiters};
 
@@ -73,10 +63,8 @@ impl Model for Waiters {
 
     ghost invariant = { λ w.
         AreWaiters w.table.items w.waiting w.by_exchange
-        × IsRollOf id_of w.table.items w.table.limit w.by_id
-        × IsRollOf end_of w.table.items w.table.limit w.by_end
-        × IsTable w.table
-        × IsRollOf awaited_of w.table.items w.table.limit w.by_awaited };
+        × AreMarked w.table.items w.table.limit w.index
+        × IsTable w.table };
 }
 
 impl Waiters {
@@ -92,9 +80,7 @@ impl Waiters {
             table,
             waiting: 0,
             by_exchange: BTreeMap::new(alloc),
-            by_awaited: Buckets::new(alloc, limit)?,
-            by_id: Buckets::new(alloc, limit)?,
-            by_end: Roll::new(alloc, limit)?,
+            index: WaiterIndex::new(alloc, limit)?,
             alloc,
         })
     }
@@ -142,7 +128,7 @@ impl Waiters {
         ensures exact { result ≡ first_that (was_sent_as at id now) self.now.items }
     {
         let mut after = 0;
-        while let Some(number) = self.by_id.next_of(u64::from(id), after) {
+        while let Some(number) = self.index.ids.next_of(u64::from(id), after) {
             if self.was_sent_as(number, at, id, now) {
                 return Some(number);
             }
@@ -166,7 +152,7 @@ impl Waiters {
     pub fn due(&self, exchanges: &Exchanges) -> Option<(u64, u64)>
         ensures exact { result ≡ first_due (due_after exchanges.now.items) self.now.items }
     {
-        sooner(self.by_end.first(), self.first_answered(exchanges))
+        sooner(self.index.ends.first(), self.first_answered(exchanges))
     }
 
     /// Which waiter is due first because an answer has come. Those whose answer came first are
@@ -180,7 +166,7 @@ impl Waiters {
         let mut first = None;
         let mut after = 0;
         while let Some(exchange) = exchanges.next_got(moment, after) {
-            let number = self.by_awaited.next_of(exchange, 0);
+            let number = self.index.awaited.next_of(exchange, 0);
             first = sooner(first, due_at(moment, number));
             after = exchange;
         }
@@ -238,10 +224,11 @@ impl Waiters {
             tags,
             state: WaiterState::Waiting(exchange),
         };
+        let (was, is) = (marks_in(None), marks_of(&waiter));
         match self.table.admit(waiter) {
             Ok(number) => {
                 self.waiting += 1;
-                self.by_awaited.pass(number, None, Some(exchange));
+                self.index.pass(number, was, is);
                 Ok(number)
             }
             Err(error) => {
@@ -261,28 +248,26 @@ impl Waiters {
             → self.new ≡ before }
     {
         let number = self.table.admitted();
-        self.waiting = waiting_without(self.waiting, &self.table, number);
-        stop_waiting(&mut self.by_exchange, &self.table, number);
-        let was = marks_at(&self.table, number);
+        let found = self.table.get(number);
+        let waiting = waiting_without(self.waiting, &self.table, number, found);
+        stop_waiting(&mut self.by_exchange, &self.table, number, found);
+        let was = marks_in(found);
+        self.waiting = waiting;
         self.table.withdraw();
-        let is = marks_at(&self.table, number);
-        self.by_id.pass(number, was.id, is.id);
-        self.by_end.pass(number, was.end, is.end);
-        self.by_awaited.pass(number, was.awaited, is.awaited);
+        self.index.pass(number, was, marks_in(None));
     }
 
     /// Removes the waiter numbered `number`, if there is one.
     pub fn close(&mut self, number: u64)
         ensures closed { self.new ≡ record self.old { items = without number self.old.items } }
     {
-        self.waiting = waiting_without(self.waiting, &self.table, number);
-        stop_waiting(&mut self.by_exchange, &self.table, number);
-        let was = marks_at(&self.table, number);
+        let found = self.table.get(number);
+        let waiting = waiting_without(self.waiting, &self.table, number, found);
+        stop_waiting(&mut self.by_exchange, &self.table, number, found);
+        let was = marks_in(found);
+        self.waiting = waiting;
         self.table.close(number);
-        let is = marks_at(&self.table, number);
-        self.by_id.pass(number, was.id, is.id);
-        self.by_end.pass(number, was.end, is.end);
-        self.by_awaited.pass(number, was.awaited, is.awaited);
+        self.index.pass(number, was, marks_in(None));
     }
 
     /// Marks the waiter numbered `number`, which was waiting for an exchange, as being sent its
@@ -297,15 +282,14 @@ impl Waiters {
                   changed_at number (delivered bytes id timer) self.old.items;
             } }
     {
-        self.waiting = waiting_without(self.waiting, &self.table, number);
-        stop_waiting(&mut self.by_exchange, &self.table, number);
-        let was = marks_at(&self.table, number);
+        let found = self.table.get(number);
+        let waiting = waiting_without(self.waiting, &self.table, number, found);
+        stop_waiting(&mut self.by_exchange, &self.table, number, found);
+        let was = marks_in(found);
+        self.waiting = waiting;
         let change = WaiterChange::Deliver { bytes, id, timer };
-        self.table.change(number, change, self.alloc);
-        let is = marks_at(&self.table, number);
-        self.by_id.pass(number, was.id, is.id);
-        self.by_end.pass(number, was.end, is.end);
-        self.by_awaited.pass(number, was.awaited, is.awaited);
+        let is = self.table.change(number, change, self.alloc);
+        self.index.pass(number, was, is);
     }
 
     /// Fires the timer of the waiter numbered `number`, which was sent its response, and returns
@@ -318,28 +302,31 @@ impl Waiters {
         ensures fired { self.new
             ≡ record self.old { items = changed_at number (fired_waiter now) self.old.items } }
     {
-        let fire = match self.get(number) {
+        let found = self.table.get(number);
+        let fire = match found {
             Some(waiter) => waiter.fire_of(now),
             None => Fire::GiveUp,
         };
-        let was = marks_at(&self.table, number);
-        self.table
+        let was = marks_in(found);
+        let is = self
+            .table
             .change(number, WaiterChange::Fire(now), self.alloc);
-        let is = marks_at(&self.table, number);
-        self.by_id.pass(number, was.id, is.id);
-        self.by_end.pass(number, was.end, is.end);
-        self.by_awaited.pass(number, was.awaited, is.awaited);
+        self.index.pass(number, was, is);
         fire
     }
 }
 
 impl Table<Waiter> {
-    fn change(&mut self, number: u64, change: WaiterChange, alloc: Global)
+    /// Changes the waiter numbered `number`, if there is one, and returns what it is looked up by
+    /// then.
+    fn change(&mut self, number: u64, change: WaiterChange, alloc: Global) -> Marks
         requires { IfSome (item_at number self.old.items) (CanChange change) }
-        ensures { self.new
+        ensures changed { self.new
             ≡ record self.old { items = changed_at number (changed_by change) self.old.items } }
+        ensures marks { result
+            ≡ marks_at (option_map (changed_by change) (item_at number self.old.items)) }
     {
-        change_under(&mut self.items, number, change, alloc);
+        change_under(&mut self.items, number, change, alloc)
     }
 
     fn first_answered(&self, exchanges: &Exchanges) -> Option<(u64, u64)>
@@ -376,52 +363,73 @@ fn change_under(
     number: u64,
     change: WaiterChange,
     alloc: Global,
-)
+) -> Marks
     requires { IfSome (get nat_cmp waiters.old number) (CanChange change) }
     ensures found { IfSome (get nat_cmp waiters.old number) (λ w.
         waiters.new.entries
         ≡ set_value (is_at (nat_cmp number)) waiters.old.entries (changed_by change w)) }
     ensures missing { IfNone (get nat_cmp waiters.old number)
         (waiters.new.entries ≡ waiters.old.entries) }
+    ensures marks { result
+        ≡ marks_at (option_map (changed_by change) (get nat_cmp waiters.old number)) }
 {
-    if let Some(waiter) = waiters.get_mut(&number) {
-        waiter.change(change, alloc);
+    match waiters.get_mut(&number) {
+        Some(waiter) => {
+            waiter.change(change, alloc);
+            marks_of(waiter)
+        }
+        None => marks_in(None),
     }
 }
 
-/// The number of waiters that wait for an exchange, once the one numbered `number` no longer does.
-fn waiting_without(waiting: usize, waiters: &Table<Waiter>, number: u64) -> usize
-    requires { waiting ≡ count is_waiting waiters.now.items }
+/// The number of waiters that wait for an exchange, once `found`, which is the waiter numbered
+/// `number`, no longer does.
+fn waiting_without(
+    waiting: usize,
+    waiters: &Table<Waiter>,
+    number: u64,
+    found: Option<&Waiter>,
+) -> usize
+    requires waiting { waiting ≡ count is_waiting waiters.now.items }
+    requires found { option_copied found ≡ item_at number waiters.now.items }
     ensures fewer { result + (if passes is_waiting (item_at number waiters.now.items) then 1 else 0)
         ≡ waiting }
     ensures sound { IsTable waiters.now }
 {
-    match waiters.get(number) {
+    let _sound = waiters.is_full();
+    match found {
         Some(waiter) if waiter.is_waiting() => waiting - 1,
         _ => waiting,
     }
 }
 
-/// The exchange that the waiter numbered `number` waits for, if it does.
-fn awaited_by(waiters: &Table<Waiter>, number: u64) -> Option<u64>
-    ensures exact { result ≡ awaited_by (item_at number waiters.now.items) }
-    ensures sound { IsTable waiters.now }
+/// The exchange that a waiter waits for, if there is a waiter and it does.
+fn awaited_by(found: Option<&Waiter>) -> Option<u64>
+    ensures exact { result ≡ awaited_by (option_copied found.entry) }
 {
-    match waiters.get(number) {
+    match found {
         Some(waiter) => waiter.exchange(),
         None => None,
     }
 }
 
-/// Stops counting the waiter numbered `number` for the exchange that it waits for.
-fn stop_waiting(by_exchange: &mut BTreeMap<u64, usize>, waiters: &Table<Waiter>, number: u64)
-    requires { AreTallied waiters.now.items by_exchange.old }
+/// Stops counting `found`, which is the waiter numbered `number`, for the exchange that it waits
+/// for.
+fn stop_waiting(
+    by_exchange: &mut BTreeMap<u64, usize>,
+    waiters: &Table<Waiter>,
+    number: u64,
+    found: Option<&Waiter>,
+)
+    requires tallied { AreTallied waiters.now.items by_exchange.old }
+    requires found { option_copied found ≡ item_at number waiters.now.items }
     ensures fewer { (e : ℕ)
         → tally by_exchange.new e
         + (if passes (waits_for e) (item_at number waiters.now.items) then 1 else 0)
         ≡ tally by_exchange.old e }
 {
-    if let Some(exchange) = awaited_by(waiters, number) {
+    let _sound = waiters.is_full();
+    if let Some(exchange) = awaited_by(found) {
         discount_one(by_exchange, exchange);
     }
 }

@@ -1,11 +1,13 @@
 use Rattle.std.proofs.Common.{◌∙◌, ◌+◌, arith, refl, sym}
-use Rattle.coap_exchange.specs.Exchanges.{is_queued}
+use Rattle.coap_exchange.specs.declared.exchange.Exchange.{Exchange}
+use Rattle.coap_exchange.specs.Exchanges.{is_queued, opened}
+use Rattle.coap_exchange.specs.Table.{admitted_to}
 use Rattle.coap_exchange.specs.Lines.{is_with}
 use Rattle.coap_exchange.proofs.Counts.{count-length}
-use Rattle.coap_exchange.proofs.Indexing.{all-can-pass, all-have-passed, moves-admitted}
+use Rattle.coap_exchange.proofs.Indexing.{can-pass-as, have-passed-as, moves-admitted}
 use Rattle.coap_exchange.proofs.Lining.{lined-push, one-itself, queued-few, queued-less, sent-less}
 use Rattle.coap_exchange.proofs.Ordering.{admitted-free, turns-more}
-use Rattle.coap_exchange.proofs.Tables.{admitted-is, room-there}
+use Rattle.coap_exchange.proofs.Tables.{admitted-is, item_at-fresh, item_at-last, room-there}
 use Rattle.coap_exchange.proofs.Timely.{exchanges-push}
 use Rattle.coap_exchange.proofs.exchanges.Exchanges.admit.Goals as goal
 
@@ -25,17 +27,20 @@ overflow_add-self c = omega (arith, count-length is_queued c.self.inside.table.i
 pub pass-requires : goal.pass-requires
 pass-requires c =
     let is = c.is_full.ensures.sound in
-    let room = room-there c.self.inside.table is (sym c.is_full.ensures.exact ∙ c.if-is_full.false) in
-    rw (c.owners_at-was.ensures.exact, c.owners_at.ensures.exact, c.in-Ok-admit.ensures.ok, c.in-Ok-admit.ensures.number, c.admitted.ensures.exact)
-    (all-can-pass (c.self.inside.table.admitted + 1) c.self.inside.table.limit c.self.inside.table.items _ c.self.inside.index (moves-admitted c.self.inside.table _ is) (admitted-is c.self.inside.table _ is room).within c.self.invariant.2)
+    let t = c.self.inside.table in
+    let x = c.new-listed.result in
+    let room = room-there t is (sym c.is_full.ensures.exact ∙ c.if-is_full.false) in
+    rw (c.owners_in-was.ensures.exact, c.owners_of-is.ensures.exact, c.in-Ok-admit.ensures.number)
+    (can-pass-as (t.admitted + 1) t.limit t.items (admitted_to x t).items c.self.inside.index (moves-admitted t x is) c.self.invariant.2 _ _ (item_at-fresh t is) (item_at-last t.admitted (t.admitted + 1) t.items x (omega arith) is.below) (admitted-is t x is room).within)
 
 pub head_of-next-requires-clause-indexed : goal.head_of-next-requires-clause-indexed
 head_of-next-requires-clause-indexed c =
     let is = c.is_full.ensures.sound in
     let t = c.self.inside.table in
+    let x : Exchange = opened c.args.key c.args.is_get c.args.form c.args.copy c.args.now in
     let room = room-there t is (sym c.is_full.ensures.exact ∙ c.if-is_full.false) in
-    let passed = rw (c.owners_at-was.ensures.exact, c.owners_at.ensures.exact, c.in-Ok-admit.ensures.ok, c.new-listed.ensures.exact, c.opened.ensures.exact, c.in-Ok-admit.ensures.number, c.admitted.ensures.exact) at c.pass.ensures.exact in
-    rw (c.in-Ok-admit.ensures.ok, c.new-listed.ensures.exact, c.opened.ensures.exact) (all-have-passed (t.admitted + 1) t.limit t.items _ c.self.inside.index c.pass.new.self (moves-admitted t _ is) c.self.invariant.2 passed (admitted-is t _ is room).rising)
+    let passed = rw (c.owners_in-was.ensures.exact, c.owners_of-is.ensures.exact, c.new-listed.ensures.exact, c.opened.ensures.exact, c.in-Ok-admit.ensures.number) at c.pass.ensures.exact in
+    rw (c.in-Ok-admit.ensures.ok, c.new-listed.ensures.exact, c.opened.ensures.exact) (have-passed-as (t.admitted + 1) t.limit t.items (admitted_to x t).items c.self.inside.index (moves-admitted t x is) c.self.invariant.2 _ _ (item_at-fresh t is) (item_at-last t.admitted (t.admitted + 1) t.items x (omega arith) is.below) c.pass.new.self passed (admitted-is t x is room).rising)
 
 pub head_of-next-requires-clause-lined : goal.head_of-next-requires-clause-lined
 head_of-next-requires-clause-lined c =
@@ -54,14 +59,15 @@ pub invariant_of-self-in-Ok-admit : goal.invariant_of-self-in-Ok-admit
 invariant_of-self-in-Ok-admit c =
     let is = c.is_full.ensures.sound in
     let t = c.self.inside.table in
+    let x : Exchange = opened c.args.key c.args.is_get c.args.form c.args.copy c.args.now in
     let room = room-there t is (sym c.is_full.ensures.exact ∙ c.if-is_full.false) in
-    let passed = rw (c.owners_at-was.ensures.exact, c.owners_at.ensures.exact, c.in-Ok-admit.ensures.ok, c.new-listed.ensures.exact, c.opened.ensures.exact, c.in-Ok-admit.ensures.number, c.admitted.ensures.exact) at c.pass.ensures.exact in
+    let passed = rw (c.owners_in-was.ensures.exact, c.owners_of-is.ensures.exact, c.new-listed.ensures.exact, c.opened.ensures.exact, c.in-Ok-admit.ensures.number) at c.pass.ensures.exact in
     let len = rw (c.head_of-head.ensures.exact, c.head_of-next.ensures.exact, c.peer-at.ensures.exact, c.in-Ok-admit.ensures.ok, c.new-listed.ensures.exact, c.opened.ensures.exact) at c.replace.ensures.length in
     let replaced = rw (c.head_of-head.ensures.exact, c.head_of-next.ensures.exact, c.peer-at.ensures.exact, c.in-Ok-admit.ensures.ok, c.new-listed.ensures.exact, c.opened.ensures.exact) at c.replace.ensures.replaced in
     rw (c.in-Ok-admit.ensures.ok, c.new-listed.ensures.exact, c.opened.ensures.exact, c.note.ensures.exact) (
       exchanges-push t.items c.self.inside.queued _ refl c.requires.now refl c.self.invariant.0,
       lined-push t.items c.self.inside.lines c.open_one.new.lines _ _ refl refl c.self.invariant.1 (rw (c.peer-at.ensures.exact, c.new-listed.ensures.exact, c.opened.ensures.exact) at c.in-Ok-open_one.ensures.all) c.in-Ok-open_one.ensures.sent (rw (c.peer-at.ensures.exact, c.new-listed.ensures.exact, c.opened.ensures.exact) at c.in-Ok-open_one.ensures.queued),
-      all-have-passed (t.admitted + 1) t.limit t.items _ c.self.inside.index c.pass.new.self (moves-admitted t _ is) c.self.invariant.2 passed (admitted-is t _ is room).rising,
+      have-passed-as (t.admitted + 1) t.limit t.items (admitted_to x t).items c.self.inside.index (moves-admitted t x is) c.self.invariant.2 _ _ (item_at-fresh t is) (item_at-last t.admitted (t.admitted + 1) t.items x (omega arith) is.below) c.pass.new.self passed (admitted-is t x is room).rising,
       turns-more t _ is room c.self.inside.turns c.self.invariant.3 c.make_room.new.self c.in-Ok.ensures.ok c.in-Ok.ensures.room c.replace.new.self c.replace.ensures.limit len replaced,
     )
 

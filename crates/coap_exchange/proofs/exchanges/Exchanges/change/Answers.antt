@@ -6,42 +6,42 @@ use Rattle.coap_exchange.specs.Table.{Table, changed_at, item_at}
 use Rattle.coap_exchange.specs.Turns.{endpoint_in}
 use Rattle.coap_exchange.proofs.Changes.{changed_at-is}
 use Rattle.coap_exchange.proofs.Heads.{at-its}
-use Rattle.coap_exchange.proofs.Indexing.{all-can-pass, all-have-passed, moves-changed}
+use Rattle.coap_exchange.proofs.Indexing.{can-pass-as, changed-at, have-passed-as, moves-changed}
 use Rattle.coap_exchange.proofs.Lining.{lined-changed}
 use Rattle.coap_exchange.proofs.Ordering.{admitted-after, at-changed, changed-off, endpoint-after, kept-changed, turns-free, turns-moved, turns-room}
 use Rattle.coap_exchange.proofs.Timely.{changeable, exchanges-changed}
 use Rattle.coap_exchange.proofs.exchanges.Exchanges.change.Goals as goal
 
-pub change-requires : goal.change-requires
-change-requires c =
+pub change-is-requires : goal.change-is-requires
+change-is-requires c =
     let due : IsFireDue c.args.change (item_at c.args.number c.self.inside.table.items) = subst (λ (t : Table Exchange). IsFireDue c.args.change (item_at c.args.number t.items)) (sym c.self.view_is) c.requires.due in
     changeable c.args.number c.args.change c.self.inside.table.items c.self.inside.queued c.self.invariant.0 c.requires.timely due
 
 pub pass-requires : goal.pass-requires
 pass-requires c =
     let is = c.get-found.ensures.sound in
-    rw (c.owners_in-was.ensures.exact, c.get-found.ensures.exact, c.owners_at.ensures.exact, c.change.ensures)
-    (all-can-pass c.args.number c.self.inside.table.limit c.self.inside.table.items _ c.self.inside.index (moves-changed c.args.number (changed_by c.args.change) c.self.inside.table is) (changed_at-is c.args.number (changed_by c.args.change) c.self.inside.table is).within c.self.invariant.2)
+    rw (c.owners_in-was.ensures.exact, c.get-found.ensures.exact, c.change-is.ensures.owners)
+    (can-pass-as c.args.number c.self.inside.table.limit c.self.inside.table.items (changed_at c.args.number (changed_by c.args.change) c.self.inside.table.items) c.self.inside.index (moves-changed c.args.number (changed_by c.args.change) c.self.inside.table is) c.self.invariant.2 _ _ refl (changed-at c.args.number (changed_by c.args.change) c.self.inside.table.items) (changed_at-is c.args.number (changed_by c.args.change) c.self.inside.table is).within)
 
 pub head_of-next-requires-clause-indexed : goal.head_of-next-requires-clause-indexed
 head_of-next-requires-clause-indexed c =
     let is = c.get-found.ensures.sound in
-    let passed = rw (c.owners_in-was.ensures.exact, c.get-found.ensures.exact, c.owners_at.ensures.exact, c.change.ensures) at c.pass.ensures.exact in
-    rw c.change.ensures (all-have-passed c.args.number c.self.inside.table.limit c.self.inside.table.items _ c.self.inside.index c.pass.new.self (moves-changed c.args.number (changed_by c.args.change) c.self.inside.table is) c.self.invariant.2 passed (changed_at-is c.args.number (changed_by c.args.change) c.self.inside.table is).rising)
+    let passed = rw (c.owners_in-was.ensures.exact, c.get-found.ensures.exact, c.change-is.ensures.owners) at c.pass.ensures.exact in
+    rw c.change-is.ensures.changed (have-passed-as c.args.number c.self.inside.table.limit c.self.inside.table.items (changed_at c.args.number (changed_by c.args.change) c.self.inside.table.items) c.self.inside.index (moves-changed c.args.number (changed_by c.args.change) c.self.inside.table is) c.self.invariant.2 _ _ refl (changed-at c.args.number (changed_by c.args.change) c.self.inside.table.items) c.pass.new.self passed (changed_at-is c.args.number (changed_by c.args.change) c.self.inside.table is).rising)
 
 pub head_of-next-requires-clause-lined : goal.head_of-next-requires-clause-lined
 head_of-next-requires-clause-lined c =
     let off : IfSome (item_at c.args.number c.self.inside.table.items) (λ x. is_queued (changed_by c.args.change x) ≡ false) =
     subst (λ (t : Table Exchange). IfSome (item_at c.args.number t.items) (λ x. is_queued (changed_by c.args.change x) ≡ false)) (sym c.self.view_is) c.requires.queued in
     let is = c.get-found.ensures.sound in
-    rw c.change.ensures (lined-changed c.args.number c.args.change c.self.inside.table c.self.inside.lines c.recount.new.lines is c.self.invariant.1 c.recount.ensures.all c.recount.ensures.sent off c.recount.ensures.queued)
+    rw c.change-is.ensures.changed (lined-changed c.args.number c.args.change c.self.inside.table c.self.inside.lines c.recount.new.lines is c.self.invariant.1 c.recount.ensures.all c.recount.ensures.sent off c.recount.ensures.queued)
 
 pub replace-requires-clause-free : goal.replace-requires-clause-free
 replace-requires-clause-free c =
     let is = c.get-found.ensures.sound in
     let n = c.args.number in
     let f = changed_by c.args.change in
-    rw (c.head_of-head.ensures.exact, c.head_of-next.ensures.exact, c.peer_of-at.ensures.exact, c.get-found.ensures.exact, c.change.ensures)
+    rw (c.head_of-head.ensures.exact, c.head_of-next.ensures.exact, c.peer_of-at.ensures.exact, c.get-found.ensures.exact, c.change-is.ensures.changed)
     (turns-free n c.self.inside.table.items (changed_at n f c.self.inside.table.items) (endpoint_in (item_at n c.self.inside.table.items)) (moves-changed n f c.self.inside.table is) is.rising (changed_at-is n f c.self.inside.table is).rising (at-its (item_at n c.self.inside.table.items)) (at-changed n f c.self.inside.table.items (endpoint-after c.args.change)) c.self.inside.turns c.self.invariant.3)
 
 pub replace-requires-clause-room : goal.replace-requires-clause-room
@@ -51,22 +51,22 @@ replace-requires-clause-room c =
     let is = c.get-found.ensures.sound in
     let n = c.args.number in
     let f = changed_by c.args.change in
-    rw (c.head_of-head.ensures.exact, c.head_of-next.ensures.exact, c.peer_of-at.ensures.exact, c.get-found.ensures.exact, c.change.ensures)
+    rw (c.head_of-head.ensures.exact, c.head_of-next.ensures.exact, c.peer_of-at.ensures.exact, c.get-found.ensures.exact, c.change-is.ensures.changed)
     (turns-room n c.self.inside.table.items (changed_at n f c.self.inside.table.items) (endpoint_in (item_at n c.self.inside.table.items)) (moves-changed n f c.self.inside.table is) is.rising (changed_at-is n f c.self.inside.table is).rising (at-its (item_at n c.self.inside.table.items)) (at-changed n f c.self.inside.table.items (endpoint-after c.args.change)) c.self.inside.turns c.self.invariant.3 (changed-off n f c.self.inside.table.items off))
 
 pub invariant_of-self : goal.invariant_of-self
 invariant_of-self c =
     let off : IfSome (item_at c.args.number c.self.inside.table.items) (λ x. is_queued (changed_by c.args.change x) ≡ false) =
     subst (λ (t : Table Exchange). IfSome (item_at c.args.number t.items) (λ x. is_queued (changed_by c.args.change x) ≡ false)) (sym c.self.view_is) c.requires.queued in
-    let passed = rw (c.owners_in-was.ensures.exact, c.get-found.ensures.exact, c.owners_at.ensures.exact, c.change.ensures) at c.pass.ensures.exact in
+    let passed = rw (c.owners_in-was.ensures.exact, c.get-found.ensures.exact, c.change-is.ensures.owners) at c.pass.ensures.exact in
     let is = c.get-found.ensures.sound in
     let n = c.args.number in
     let f = changed_by c.args.change in
-    let len = rw (c.head_of-head.ensures.exact, c.head_of-next.ensures.exact, c.peer_of-at.ensures.exact, c.get-found.ensures.exact, c.change.ensures) at c.replace.ensures.length in
-    let replaced = rw (c.head_of-head.ensures.exact, c.head_of-next.ensures.exact, c.peer_of-at.ensures.exact, c.get-found.ensures.exact, c.change.ensures) at c.replace.ensures.replaced in
-    rw c.change.ensures (
+    let len = rw (c.head_of-head.ensures.exact, c.head_of-next.ensures.exact, c.peer_of-at.ensures.exact, c.get-found.ensures.exact, c.change-is.ensures.changed) at c.replace.ensures.length in
+    let replaced = rw (c.head_of-head.ensures.exact, c.head_of-next.ensures.exact, c.peer_of-at.ensures.exact, c.get-found.ensures.exact, c.change-is.ensures.changed) at c.replace.ensures.replaced in
+    rw c.change-is.ensures.changed (
       exchanges-changed c.args.number c.args.change c.self.inside.table.items c.self.inside.queued c.queued_without-queued.result c.self.inside.table refl is c.self.invariant.0 c.requires.timely off c.queued_without-queued.ensures.fewer,
       lined-changed c.args.number c.args.change c.self.inside.table c.self.inside.lines c.recount.new.lines is c.self.invariant.1 c.recount.ensures.all c.recount.ensures.sent off c.recount.ensures.queued,
-      all-have-passed c.args.number c.self.inside.table.limit c.self.inside.table.items _ c.self.inside.index c.pass.new.self (moves-changed c.args.number (changed_by c.args.change) c.self.inside.table is) c.self.invariant.2 passed (changed_at-is c.args.number (changed_by c.args.change) c.self.inside.table is).rising,
+      have-passed-as c.args.number c.self.inside.table.limit c.self.inside.table.items (changed_at c.args.number (changed_by c.args.change) c.self.inside.table.items) c.self.inside.index (moves-changed c.args.number (changed_by c.args.change) c.self.inside.table is) c.self.invariant.2 _ _ refl (changed-at c.args.number (changed_by c.args.change) c.self.inside.table.items) c.pass.new.self passed (changed_at-is c.args.number (changed_by c.args.change) c.self.inside.table is).rising,
       turns-moved n c.self.inside.table.items (changed_at n f c.self.inside.table.items) (endpoint_in (item_at n c.self.inside.table.items)) (moves-changed n f c.self.inside.table is) is.rising (changed_at-is n f c.self.inside.table is).rising (at-its (item_at n c.self.inside.table.items)) (at-changed n f c.self.inside.table.items (endpoint-after c.args.change)) c.self.inside.turns c.self.invariant.3 (kept-changed n f c.self.inside.table.items (admitted-after c.args.change) (moves-changed n f c.self.inside.table is)) (changed-off n f c.self.inside.table.items off) c.replace.new.self c.replace.ensures.limit len replaced,
     )

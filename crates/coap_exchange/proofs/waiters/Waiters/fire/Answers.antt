@@ -1,45 +1,41 @@
-use Rattle.std.proofs.Common.{◌∙◌, subst, sym}
+use Rattle.std.proofs.Common.{◌∙◌, refl, subst, sym}
 use Rattle.std.specs.Prelude.{IfSome}
 use Rattle.coap_exchange.specs.declared.waiter.Waiter.{Waiter}
-use Rattle.coap_exchange.specs.Table.{Table, item_at}
+use Rattle.coap_exchange.specs.Table.{Table, changed_at, item_at}
 use Rattle.coap_exchange.specs.Waiters.{fired_waiter, is_waiting, IsDue}
+use Rattle.coap_exchange.proofs.Changes.{changed_at-is}
 use Rattle.coap_exchange.proofs.Counts.{count-kept}
+use Rattle.coap_exchange.proofs.Indexing.{changed-at}
+use Rattle.coap_exchange.proofs.Steps.{step-changed_at, marks-can-pass, marks-passed}
 use Rattle.coap_exchange.proofs.Waiting.{fireable, fired-waiting, short-fired, tallied-fired}
-use Rattle.coap_exchange.specs.Answered.{awaited_of}
-use Rattle.coap_exchange.specs.Marks.{end_of, id_of}
-use Rattle.coap_exchange.proofs.Steps.{IsStep, step-changed_at, room-step, roll-step}
 use Rattle.coap_exchange.proofs.waiters.Waiters.fire.Goals as goal
 
-pub change-requires : goal.change-requires
-change-requires c =
+pub change-is-requires : goal.change-is-requires
+change-is-requires c =
     let due : IfSome (item_at c.args.number c.self.inside.table.items) (IsDue c.args.now) = subst (λ (t : Table Waiter). IfSome (item_at c.args.number t.items) (IsDue c.args.now)) (sym c.self.view_is) c.requires.due in
     fireable c.args.number c.args.now c.self.inside.table.items c.requires.now c.self.invariant.0.short due
 
-pub pass-requires-clause-room : goal.pass-requires-clause-room
-pass-requires-clause-room c =
-    let step : IsStep c.args.number c.self.inside.table c.change.new.self = subst (IsStep c.args.number c.self.inside.table) (sym c.change.ensures) (step-changed_at c.self.inside.table c.marks_at-was.ensures.sound c.args.number (fired_waiter c.args.now)) in
-    room-step id_of c.args.number c.self.inside.table c.change.new.self c.self.inside.by_id step c.self.invariant.1 c.marks_at-was.result.id c.marks_at-is.result.id c.marks_at-was.ensures.id c.marks_at-is.ensures.id
-
-pub pass-requires-2-clause-room : goal.pass-requires-2-clause-room
-pass-requires-2-clause-room c =
-    let step : IsStep c.args.number c.self.inside.table c.change.new.self = subst (IsStep c.args.number c.self.inside.table) (sym c.change.ensures) (step-changed_at c.self.inside.table c.marks_at-was.ensures.sound c.args.number (fired_waiter c.args.now)) in
-    room-step end_of c.args.number c.self.inside.table c.change.new.self c.self.inside.by_end step c.self.invariant.2 c.marks_at-was.result.end c.marks_at-is.result.end c.marks_at-was.ensures.end c.marks_at-is.ensures.end
-
-pub pass-requires-3-clause-room : goal.pass-requires-3-clause-room
-pass-requires-3-clause-room c =
-    let step : IsStep c.args.number c.self.inside.table c.change.new.self = subst (IsStep c.args.number c.self.inside.table) (sym c.change.ensures) (step-changed_at c.self.inside.table c.marks_at-was.ensures.sound c.args.number (fired_waiter c.args.now)) in
-    room-step awaited_of c.args.number c.self.inside.table c.change.new.self c.self.inside.by_awaited step c.self.invariant.4 c.marks_at-was.result.awaited c.marks_at-is.result.awaited c.marks_at-was.ensures.awaited c.marks_at-is.ensures.awaited
+pub pass-requires : goal.pass-requires
+pass-requires c =
+    let n = c.args.number in
+    let t = c.self.inside.table in
+    let f = fired_waiter c.args.now in
+    rw (c.marks_in-was.ensures.exact, c.get-found.ensures.exact, c.change-is.ensures.marks)
+    (marks-can-pass n t (record t { items = changed_at n f t.items }) (step-changed_at t c.get-found.ensures.sound n f) c.self.inside.index c.self.invariant.1 _ _ refl (changed-at n f t.items))
 
 pub invariant_of-self : goal.invariant_of-self
 invariant_of-self c =
-    let step : IsStep c.args.number c.self.inside.table c.change.new.self = subst (IsStep c.args.number c.self.inside.table) (sym c.change.ensures) (step-changed_at c.self.inside.table c.marks_at-was.ensures.sound c.args.number (fired_waiter c.args.now)) in (
-      rw c.change.ensures (record {
-        waiting = c.self.invariant.0.waiting ∙ sym (count-kept is_waiting c.args.number (fired_waiter c.args.now) c.self.inside.table.items (fired-waiting c.args.now));
-        tallied = tallied-fired c.args.number c.args.now c.self.inside.table.items c.self.inside.by_exchange c.self.invariant.0.tallied;
-        short = short-fired c.args.number c.args.now c.self.inside.table.items c.self.invariant.0.short;
-      }),
-      roll-step id_of c.args.number c.self.inside.table c.change.new.self c.self.inside.by_id step c.self.invariant.1 c.pass.new.self c.marks_at-was.result.id c.marks_at-is.result.id c.marks_at-was.ensures.id c.marks_at-is.ensures.id c.pass.ensures.limit c.pass.ensures.length c.pass.ensures.passed,
-      roll-step end_of c.args.number c.self.inside.table c.change.new.self c.self.inside.by_end step c.self.invariant.2 c.pass-2.new.self c.marks_at-was.result.end c.marks_at-is.result.end c.marks_at-was.ensures.end c.marks_at-is.ensures.end c.pass-2.ensures.limit c.pass-2.ensures.length c.pass-2.ensures.passed,
-      c.marks_at-is.ensures.sound,
-      roll-step awaited_of c.args.number c.self.inside.table c.change.new.self c.self.inside.by_awaited step c.self.invariant.4 c.pass-3.new.self c.marks_at-was.result.awaited c.marks_at-is.result.awaited c.marks_at-was.ensures.awaited c.marks_at-is.ensures.awaited c.pass-3.ensures.limit c.pass-3.ensures.length c.pass-3.ensures.passed,
+    let n = c.args.number in
+    let t = c.self.inside.table in
+    let f = fired_waiter c.args.now in
+    let is = c.get-found.ensures.sound in
+    let passed = rw (c.marks_in-was.ensures.exact, c.get-found.ensures.exact, c.change-is.ensures.marks) at c.pass.ensures.exact in
+    rw c.change-is.ensures.changed (
+      record {
+        waiting = c.self.invariant.0.waiting ∙ sym (count-kept is_waiting n f t.items (fired-waiting c.args.now));
+        tallied = tallied-fired n c.args.now t.items c.self.inside.by_exchange c.self.invariant.0.tallied;
+        short = short-fired n c.args.now t.items c.self.invariant.0.short;
+      },
+      marks-passed n t (record t { items = changed_at n f t.items }) (step-changed_at t is n f) c.self.inside.index c.self.invariant.1 _ _ refl (changed-at n f t.items) c.pass.new.self passed,
+      changed_at-is n f t is,
     )

@@ -8,21 +8,21 @@ use Rattle.coap_exchange.proofs.Marking.{unsent}
 use Rattle.coap_exchange.proofs.waiters.Waiters.sent_as.Goals as goal
 
 pub loop-number-init : goal.loop-number-init
-loop-number-init c = (omega arith, none-start id_of (was_sent_as c.args.at c.args.id c.args.now) c.args.id (unsent c.args.at c.args.id c.args.now) c.self.inside.table c.self.inside.by_id c.self.invariant.3 c.self.invariant.1)
+loop-number-init c = (omega arith, none-start id_of (was_sent_as c.args.at c.args.id c.args.now) c.args.id (unsent c.args.at c.args.id c.args.now) c.self.inside.table c.self.inside.index.ids c.self.invariant.2 c.self.invariant.1.ids)
 
 pub returns-then-was_sent_as : goal.returns-then-was_sent_as
 returns-then-was_sent_as c =
-    let next : IsNextOf c.args.id c.loop-number.after c.self.inside.by_id.pairs (Some c.in-Some.number) = subst (λ (o : ℕ). IsNextOf o c.loop-number.after c.self.inside.by_id.pairs (Some c.in-Some.number)) c.from.ensures c.in-Some.ensures.exact in
+    let next : IsNextOf c.args.id c.loop-number.after c.self.inside.index.ids.pairs (Some c.in-Some.number) = subst (λ (o : ℕ). IsNextOf o c.loop-number.after c.self.inside.index.ids.pairs (Some c.in-Some.number)) c.from.ensures c.in-Some.ensures.exact in
     let on : passes (was_sent_as c.args.at c.args.id c.args.now) (item_at c.in-Some.number c.self.inside.table.items) ≡ true = rw c.self.view_is (sym c.if-was_sent_as.ensures.exact) in
-    record { exact = rw (← c.self.view_is) (sym (first-found id_of (was_sent_as c.args.at c.args.id c.args.now) c.args.id (unsent c.args.at c.args.id c.args.now) c.self.inside.table c.self.inside.by_id c.self.invariant.3 c.self.invariant.1 c.loop-number.after c.in-Some.number c.loop-number.invariant.1 next on)) }
+    record { exact = rw (← c.self.view_is) (sym (first-found id_of (was_sent_as c.args.at c.args.id c.args.now) c.args.id (unsent c.args.at c.args.id c.args.now) c.self.inside.table c.self.inside.index.ids c.self.invariant.2 c.self.invariant.1.ids c.loop-number.after c.in-Some.number c.loop-number.invariant.1 next on)) }
 
 pub loop-number-preserved : goal.loop-number-preserved
 loop-number-preserved c =
-    let next : IsNextOf c.args.id c.loop-number.after c.self.inside.by_id.pairs (Some c.in-Some.number) = subst (λ (o : ℕ). IsNextOf o c.loop-number.after c.self.inside.by_id.pairs (Some c.in-Some.number)) c.from.ensures c.in-Some.ensures.exact in
+    let next : IsNextOf c.args.id c.loop-number.after c.self.inside.index.ids.pairs (Some c.in-Some.number) = subst (λ (o : ℕ). IsNextOf o c.loop-number.after c.self.inside.index.ids.pairs (Some c.in-Some.number)) c.from.ensures c.in-Some.ensures.exact in
     let off : passes (was_sent_as c.args.at c.args.id c.args.now) (item_at c.in-Some.number c.self.inside.table.items) ≡ false = rw c.self.view_is (sym c.if-was_sent_as.ensures.exact) in
-    (search rules, none-next id_of (was_sent_as c.args.at c.args.id c.args.now) c.args.id (unsent c.args.at c.args.id c.args.now) c.self.inside.table c.self.inside.by_id c.self.invariant.3 c.self.invariant.1 c.loop-number.after c.in-Some.number c.loop-number.invariant.1 next off)
+    (search rules, none-next id_of (was_sent_as c.args.at c.args.id c.args.now) c.args.id (unsent c.args.at c.args.id c.args.now) c.self.inside.table c.self.inside.index.ids c.self.invariant.2 c.self.invariant.1.ids c.loop-number.after c.in-Some.number c.loop-number.invariant.1 next off)
 
 pub returns : goal.returns
 returns c =
-    let next : IsNextOf c.args.id c.loop-number.after c.self.inside.by_id.pairs None = subst (λ (o : ℕ). IsNextOf o c.loop-number.after c.self.inside.by_id.pairs None) c.from.ensures c.in_default.ensures.exact in
-    record { exact = rw (← c.self.view_is) (sym (first-missing id_of (was_sent_as c.args.at c.args.id c.args.now) c.args.id (unsent c.args.at c.args.id c.args.now) c.self.inside.table c.self.inside.by_id c.self.invariant.3 c.self.invariant.1 c.loop-number.after c.loop-number.invariant.1 next)) }
+    let next : IsNextOf c.args.id c.loop-number.after c.self.inside.index.ids.pairs None = subst (λ (o : ℕ). IsNextOf o c.loop-number.after c.self.inside.index.ids.pairs None) c.from.ensures c.in_default.ensures.exact in
+    record { exact = rw (← c.self.view_is) (sym (first-missing id_of (was_sent_as c.args.at c.args.id c.args.now) c.args.id (unsent c.args.at c.args.id c.args.now) c.self.inside.table c.self.inside.index.ids c.self.invariant.2 c.self.invariant.1.ids c.loop-number.after c.loop-number.invariant.1 next)) }
