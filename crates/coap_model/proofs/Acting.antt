@@ -1,4 +1,4 @@
--- What is due by the tables is what is due by the history, and it is done in the same order.
+-- What is due according to the tables is what is due according to the history, in the same order.
 use Rattle.std.proofs.Common.{◌≡◌, ◌⊎◌, inl, inr, ⊎_elim, ℕ, ◌+◌, ◌<◌, ◌≤◌, min, Bool, true, false, cond, leb, List, [], ◌∷◌, Option, Some, None, refl, sym, ap, ◌∙◌, subst, arith}
 use Rattle.std.specs.Prelude.{◌==◌, option_map, find}
 use Rattle.std.specs.List.{AllByRecursion}
@@ -40,51 +40,51 @@ use Rattle.coap_model.proofs.Room.{sent-count}
 use Rattle.coap_model.proofs.Seen.{stage-found, found-stage, service-found, found-service}
 use Rattle.coap_model.proofs.Tables.{Has-item, Has-number, at-number, item-holds, one-item}
 
--- what an item is in the history
+-- the act that an item is in the history
 abbrev pub act_of : DueItem → Act
 act_of (OfExchange at number) = moves number
 act_of (OfWaiter at number) = serves number
 
--- when an exchange of a world is due
+-- when an exchange of a proxy is due
 abbrev pub due_of : World → Exchange → Option ℕ
 due_of w = due_among w.setting.limits.nstart w.setting.limits.exchange_ms w.exchanges
 
 -- ---- small facts
 
--- the end of the timeout that runs is when the message is to be sent again
+-- a running timeout ends when the message is due to be retransmitted
 pub timer-due : (t : Timer) (es : List Entry) → IsTimer t es → t.due ≡ next_send es
 timer-due t [] h = absurd h
 timer-due t (e ∷ es) h = h.3 ∙ ap (λ (n : ℕ). e.now + n) h.2
 
--- the lesser of two is one of them
+-- the lesser of two numbers is one of them
 pub min-cases : (a b at : ℕ) → min a b ≡ at → (at ≡ a) ⊎ (at ≡ b)
 min-cases a b at e = ⊎_elim (λ (lt : a < b). inl (omega (arith, e, lt))) (λ (le : b ≤ a). inr (omega (arith, e, le))) (cases_lt a b)
 
--- what may be asked for has one key
+-- two requests with equal verdicts have equal keys
 one_key : {a b : CacheKey} → may_ask a ≡ may_ask b → a ≡ b
 one_key e = cc
 
 -- ---- the stage of an exchange
 
--- the history has each exchange at its stage
+-- each exchange of the tables has its stage in the history
 pub stage-is : (w : World) (history : List Deed) → Bears history w → (x : Numbered Exchange) → Has x w.exchanges → stage_of x.0 history ≡ Some (stage_at x.1.key.target.at x.1.state)
 stage-is w history c x there = ap (λ (os : List Open). option_map (λ (o : Open). o.stage) (find (λ (o : Open). o.number == x.0) os)) (sym c.whole.exchanges) ∙ stage-found x.0 w.exchanges x.1 (Has-item 0 w.exchanges x c.whole.rising there)
 
--- where the history has a stage, there is the exchange
+-- if the history has a stage for an exchange, the exchange is in the table
 pub staged-there : (w : World) (history : List Deed) → Bears history w → (n : ℕ) (stage : Stage) → stage_of n history ≡ Some stage → HasNumber n w.exchanges
 staged-there w history c n stage is = found-stage n w.exchanges (λ none. let e = sym none ∙ ap (λ (os : List Open). option_map (λ (o : Open). o.stage) (find (λ (o : Open). o.number == n) os)) c.whole.exchanges ∙ is in cc)
 
--- how far the history served each client
+-- each client of the tables has its stage in the history
 pub service-is : (w : World) (history : List Deed) → Bears history w → (v : Numbered Waiter) → Has v w.waiters → service_of v.0 history ≡ Some (service_in v.1.state)
 service-is w history c v there = ap (λ (ss : List Standing). option_map (λ (s : Standing). s.service) (find (λ (s : Standing). s.number == v.0) ss)) (sym c.whole.waiters) ∙ service-found v.0 w.waiters v.1 (Has-item 0 w.waiters v c.whole.waiters_rise there)
 
--- where the history says how far one was served, there is the client
+-- if the history has a stage for a client, the client is in the table
 pub served-there : (w : World) (history : List Deed) → Bears history w → (n : ℕ) (service : Service) → service_of n history ≡ Some service → HasNumber n w.waiters
 served-there w history c n service is = found-service n w.waiters (λ none. let e = sym none ∙ ap (λ (ss : List Standing). option_map (λ (s : Standing). s.service) (find (λ (s : Standing). s.number == n) ss)) c.whole.waiters ∙ is in cc)
 
--- ---- what is due by the tables is due by the history
+-- ---- what is due according to the tables is due according to the history
 
--- an exchange that is due is to be sent, to be sent again, or to end
+-- an exchange that is due is due to be sent, to be retransmitted, or to end
 pub exchange-due : (w : World) (history : List Deed) → Bears history w → (x : Numbered Exchange) → Has x w.exchanges → IsExchangeOf w.setting history x → (at : ℕ) → due_of w x.1 ≡ Some at → IsDueAt w.setting history (moves x.0) at
 exchange-due w history c x there f at due = go x.1.state refl f.state due
   where
@@ -123,7 +123,7 @@ exchange-due w history c x there f at due = go x.1.state refl f.state due
     go Acked is state e = ending state.unended (sym (same_Some last at e))
     go (Done a) is state e = absurd cc
 
--- what the answer of a number says of its exchange
+-- an exchange that has an answer is done, and has the property that all exchanges have
 pub answer-of : (P : Numbered Exchange → Type 0) (n : ℕ) (xs : List (Numbered Exchange)) (a : Answer) → AllByRecursion P xs → answer_in n xs ≡ Some a → (x : Exchange) × P (n, x) × (x.state ≡ Done a) × (item_at n xs ≡ Some x)
 answer-of P n xs a all e = go (item_at n xs) refl e
   where
@@ -137,7 +137,7 @@ answer-of P n xs a all e = go (item_at n xs) refl e
     go None is f = absurd cc
     go (Some x) is f = (x, item-holds P n xs x all is, state x x.state refl f, is)
 
--- a client that is due is to be served, or to be served again
+-- a client that is due is due to be served, or to be served again
 pub client-due : (w : World) (history : List Deed) → Bears history w → (v : Numbered Waiter) → Has v w.waiters → IsWaiterOf w.setting history v → (at : ℕ) → due_after w.exchanges v.1 ≡ Some at → IsDueAt w.setting history (serves v.0) at
 client-due w history c v there f at due = go v.1.state refl f due
   where
@@ -159,13 +159,13 @@ client-due w history c v there f at due = go v.1.state refl f due
     go (Waiting exchange) is g e = to_serve (moment exchange g (answer_in exchange w.exchanges) refl e)
     go (Delivering bytes id timer) is g e = to_serve_again (record { service = service-is w history c v there ∙ ap (λ (s : WaiterState). Some (service_in s)) is; at_is = sym (same_Some timer.due at e) ∙ timer-due timer _ g.timer_is })
 
--- ---- what is due by the history is due by the tables, or was due before
+-- ---- what is due according to the history is due according to the tables, or was due before
 
 pub data IsListed (w : World) (a : Act) (m : ℕ) : Type 0 where
   of_exchange : (x : Numbered Exchange) (k : ℕ) → Has x w.exchanges → moves x.0 ≡ a → due_of w x.1 ≡ Some k → k ≤ m → IsListed w a m
   of_client : (v : Numbered Waiter) (k : ℕ) → Has v w.waiters → serves v.0 ≡ a → due_after w.exchanges v.1 ≡ Some k → k ≤ m → IsListed w a m
 
--- an exchange of the history's is in the table, as the history says it
+-- an exchange of the history is in the table, with its stage
 record IsThere (w : World) (history : List Deed) (x : ℕ) : Type 0 where
   pub y : Numbered Exchange
   pub number : x ≡ y.0
@@ -175,7 +175,7 @@ record IsThere (w : World) (history : List Deed) (x : ℕ) : Type 0 where
 is-there : (w : World) (history : List Deed) → Bears history w → (x : ℕ) → HasNumber x w.exchanges → IsThere w history x
 is-there w history c x has = let f = at-number (IsExchangeOf w.setting history) x w.exchanges has c.exchanges in record { y = f.0; number = f.1; is = f.2; there = f.3 }
 
--- a request that is to be sent is due by the tables
+-- a request that is due to be sent is due according to the tables
 send-listed : (w : World) (history : List Deed) → Bears history w → (x at : ℕ) → IsToSend w.setting history x at → IsListed w (moves x) at
 send-listed w history c x at d = go y.1.state refl
   where
@@ -214,11 +214,11 @@ send-listed w history c x at d = go y.1.state refl
     go Acked is = absurd (let e = ap (λ (s : ExchangeState). Some (stage_at y.1.key.target.at s)) (sym is) ∙ stage in cc)
     go (Done a) is = absurd (let e = ap (λ (s : ExchangeState). Some (stage_at y.1.key.target.at s)) (sym is) ∙ stage in cc)
 
--- when one that was sent is due: at the end of the timeout that runs, or at its deadline
+-- when an exchange that was sent is due: at the end of its running timeout, or at its deadline
 sent-due : (w : World) (history : List Deed) (y : Numbered Exchange) → y.1.state ≡ Sent → (s : Sending) → y.1.sending ≡ Some s → due_of w y.1 ≡ Some (min s.timer.due (deadline w.setting.limits.exchange_ms y.1))
 sent-due w history y is s sending = ap (λ (t : ExchangeState). due_in t (is_blocked w.setting.limits.nstart w.exchanges y.1) w.setting.limits.exchange_ms y.1) is ∙ ap (λ (o : Option Sending). Some (timer_or (deadline w.setting.limits.exchange_ms y.1) o)) sending
 
--- one that is to be sent again is due by the tables
+-- a request that is due to be retransmitted is due according to the tables
 repeat-listed : (w : World) (history : List Deed) → Bears history w → (x at : ℕ) → IsToRepeat w.setting history x at → IsListed w (moves x) at
 repeat-listed w history c x at d = go y.1.state refl t.is.state
   where
@@ -239,7 +239,7 @@ repeat-listed w history c x at d = go y.1.state refl t.is.state
     go Acked is state = absurd (let e = ap (λ (s : ExchangeState). Some (stage_at y.1.key.target.at s)) (sym is) ∙ stage in cc)
     go (Done a) is state = absurd (let e = ap (λ (s : ExchangeState). Some (stage_at y.1.key.target.at s)) (sym is) ∙ stage in cc)
 
--- and so is one that is to end
+-- and so is an exchange that is due to end
 end-listed : (w : World) (history : List Deed) → Bears history w → (x at : ℕ) → IsToEnd w.setting history x at → IsListed w (moves x) at
 end-listed w history c x at d = go y.1.state refl t.is.state
   where
@@ -262,7 +262,7 @@ end-listed w history c x at d = go y.1.state refl t.is.state
     go Acked is state = of_exchange y (deadline w.setting.limits.exchange_ms y.1) t.there (ap moves (sym t.number)) (ap (λ (s : ExchangeState). due_in s (is_blocked w.setting.limits.nstart w.exchanges y.1) w.setting.limits.exchange_ms y.1) is) (let l = last in omega (arith, l))
     go (Done a) is state = absurd (Never-at (Ends x) history state.ending d.unended state.was_ended (subst (λ (n : ℕ). Ends n state.ending) (sym t.number) state.ends))
 
--- a client that is to be served is due by the tables
+-- a client that is due to be served is due according to the tables
 serve-listed : (w : World) (history : List Deed) → Bears history w → (v at : ℕ) → IsToServe w.setting history v at → IsListed w (serves v) at
 serve-listed w history c v at d = go u.1.state refl t.2
   where
@@ -304,7 +304,7 @@ serve-listed w history c v at d = go u.1.state refl t.2
         answered exchange is g (subst (λ (s : WaiterState). HasExchange s w.exchanges) is (subst (λ (a : Waiter). HasExchange a.state w.exchanges) same has.2))
     go (Delivering bytes id timer) is g = absurd (Never-at (Serves v) history g.serving d.unserved g.was_served (subst (λ (n : ℕ). Serves n g.serving) (sym t.1) g.is_serving))
 
--- one that is to be served again is due by the tables
+-- a client that is due to be served again is due according to the tables
 serve-again-listed : (w : World) (history : List Deed) → Bears history w → (v at : ℕ) → IsToServeAgain history v at → IsListed w (serves v) at
 serve-again-listed w history c v at d = go u.1.state refl t.2
   where
@@ -323,7 +323,7 @@ serve-again-listed w history c v at d = go u.1.state refl t.2
         let moment : timer.due ≡ at = timer-due timer _ g.timer_is ∙ ap (λ (n : ℕ). next_send (sends_by (serves n) history)) (sym t.1) ∙ sym d.at_is in
         of_client u timer.due t.3 (ap serves (sym t.1)) (ap (λ (s : WaiterState). waiters.due_in s w.exchanges) is) (omega (arith, moment))
 
--- whatever is due by the history is due by the tables
+-- everything that is due according to the history is due according to the tables
 pub listed : (w : World) (history : List Deed) → Bears history w → (a : Act) (at : ℕ) → IsDueAt w.setting history a at → IsListed w a at
 listed w history c no_item at d = absurd d
 listed w history c (admits v x) at d = absurd d
@@ -335,7 +335,7 @@ listed w history c (serves v) at (to_serve_again d) = serve-again-listed w histo
 
 -- ---- what is due first
 
--- which of the two tables has what is due first
+-- which of the two tables has the item that is due first
 data IsChosen (o p : Option Due) (i : DueItem) : Type 0 where
   an_exchange : (x : Due) → o ≡ Some x → i ≡ OfExchange x.0 x.1 → ((v : Due) → p ≡ Some v → x.0 ≤ v.0) → IsChosen o p i
   a_client : (v : Due) → p ≡ Some v → i ≡ OfWaiter v.0 v.1 → ((x : Due) → o ≡ Some x → v.0 < x.0) → IsChosen o p i
@@ -350,7 +350,7 @@ chosen (Some x) (Some v) i e = go (leb x.0 v.0) refl e
     go true t f = an_exchange x refl (sym (same_Some (OfExchange x.0 x.1) i f)) (λ u g. subst (λ (z : Due). x.0 ≤ z.0) (same_Some v u g) (leb-true _ _ t))
     go false t f = a_client v refl (sym (same_Some (OfWaiter v.0 v.1) i f)) (λ y g. subst (λ (z : Due). v.0 < z.0) (same_Some x y g) (leb-false _ _ t))
 
--- an item has one moment and one number
+-- an item has exactly one moment and one number
 exchange_parts : (a b m n : ℕ) → OfExchange a m ≡ OfExchange b n → ◌≡◌ {A = Due} (b, n) (a, m)
 exchange_parts a b m n e = let p : a ≡ b = cc in let q : m ≡ n = cc in λ i. (sym p i, sym q i)
 
@@ -358,7 +358,7 @@ client_parts : (a b m n : ℕ) → OfWaiter a m ≡ OfWaiter b n → ◌≡◌ {
 client_parts a b m n e = let p : a ≡ b = cc in let q : m ≡ n = cc in λ i. (sym p i, sym q i)
 
 module _ (w : World) (history : List Deed) (c : Bears history w) where
-  -- what is due first of the exchanges is due by the history
+  -- the exchange that is due first is due according to the history
   exchange-first : (d : Due) → exchange_due w ≡ Some d → IsDueAt w.setting history (moves d.1) d.0
   exchange-first d e =
       let f = first_due-holds (λ y. IsExchangeOf w.setting history y × Has y w.exchanges) (due_of w) w.exchanges d (All-there (IsExchangeOf w.setting history) w.exchanges c.exchanges) e in
@@ -369,7 +369,7 @@ module _ (w : World) (history : List Deed) (c : Bears history w) where
       let f = first_due-holds (λ u. IsWaiterOf w.setting history u × Has u w.waiters) (due_after w.exchanges) w.waiters d (All-there (IsWaiterOf w.setting history) w.waiters c.waiters) e in
       subst (λ (n : ℕ). IsDueAt w.setting history (serves n) d.0) f.2 (client-due w history c f.0 f.1.1 f.1.0 d.0 f.3)
 
-  -- what is due first is due by the history
+  -- the item that is due first is due according to the history
   pub least-due : (i : DueItem) → item_due w ≡ Some i → IsDueAt w.setting history (act_of i) (ticks.moment_of i)
   least-due i e = go (chosen (exchange_due w) (waiter_due w) i e)
     where
@@ -377,7 +377,7 @@ module _ (w : World) (history : List Deed) (c : Bears history w) where
       go (an_exchange x due is first) = subst (λ (j : DueItem). IsDueAt w.setting history (act_of j) (ticks.moment_of j)) (sym is) (exchange-first x due)
       go (a_client v due is first) = subst (λ (j : DueItem). IsDueAt w.setting history (act_of j) (ticks.moment_of j)) (sym is) (client-first v due)
 
-  -- what is due first of both is due first of its table
+  -- the item that is due first of both tables is due first in its table
   pub exchange-turn : (at number : ℕ) → item_due w ≡ Some (OfExchange at number) → exchange_due w ≡ Some (at, number)
   exchange-turn at number e = go (chosen (exchange_due w) (waiter_due w) (OfExchange at number) e)
     where
@@ -392,14 +392,14 @@ module _ (w : World) (history : List Deed) (c : Bears history w) where
       go (an_exchange x due is first) = absurd cc
       go (a_client v due is first) = due ∙ (λ i. Some (client_parts at v.0 number v.1 is i))
 
-  -- an exchange isn't due before the first of them
+  -- no exchange is due before the first of them
   exchange-later : (d : Due) → exchange_due w ≡ Some d → (x : Numbered Exchange) (k : ℕ) → Has x w.exchanges → due_of w x.1 ≡ Some k → NotBefore d (k, x.0)
   exchange-later d e x k there due = Has-holds (IsNotBefore (due_of w) d) w.exchanges x (first_due-least (due_of w) w.exchanges d e) there k due
 
   client-later : (d : Due) → waiter_due w ≡ Some d → (v : Numbered Waiter) (k : ℕ) → Has v w.waiters → due_after w.exchanges v.1 ≡ Some k → NotBefore d (k, v.0)
   client-later d e v k there due = Has-holds (IsNotBefore (due_after w.exchanges) d) w.waiters v (first_due-least (due_after w.exchanges) w.waiters d e) there k due
 
-  -- and some is first where one is due
+  -- and there is a first one if any is due
   exchange-some : (x : Numbered Exchange) (k : ℕ) → Has x w.exchanges → due_of w x.1 ≡ Some k → (d : Due) × (exchange_due w ≡ Some d)
   exchange-some x k there due = go (exchange_due w) refl
     where
@@ -452,7 +452,7 @@ module _ (w : World) (history : List Deed) (c : Bears history w) where
       go (a_client v due is first) (of_exchange y k there act when le) = subst (λ (j : DueItem). ¬ IsSooner a m (act_of j) (ticks.moment_of j)) (sym is) (subst (λ (b : Act). ¬ IsSooner b m (serves v.1) v.0) act (exchange-client v first y k there when le))
       go (a_client v due is first) (of_client y k there act when le) = subst (λ (j : DueItem). ¬ IsSooner a m (act_of j) (ticks.moment_of j)) (sym is) (subst (λ (b : Act). ¬ IsSooner b m (serves v.1) v.0) act (clients v due y k there when le))
 
-  -- where nothing is due first, nothing is due
+  -- if no item is due first, nothing is due
   pub nothing-due : item_due w ≡ None → (a : Act) (m : ℕ) → ¬ IsDueAt w.setting history a m
   nothing-due e a m d = go (listed w history c a m d) (exchange_due w) refl (waiter_due w) refl e
     where
@@ -467,7 +467,7 @@ module _ (w : World) (history : List Deed) (c : Bears history w) where
           both true h = absurd cc
           both false h = absurd cc
 
-  -- the first item is due no later than anything
+  -- the first item isn't due later than anything
   pub due-no_later : (i : DueItem) → item_due w ≡ Some i → (a : Act) (m : ℕ) → IsDueAt w.setting history a m → ticks.moment_of i ≤ m
   due-no_later i e a m d = go (leb (ticks.moment_of i) m) refl
     where
@@ -475,7 +475,7 @@ module _ (w : World) (history : List Deed) (c : Bears history w) where
       go true t = leb-true _ _ t
       go false t = absurd (none-sooner i e a m d (inl (leb-false _ _ t)))
 
-  -- what is due at a moment is what is due first, and its moment has come
+  -- the item that is done at a moment is the one that is due first, and its moment has come
   pub turn-is : (now : ℕ) (i : DueItem) → if_due now (item_due w) ≡ Some i → (item_due w ≡ Some i) × (ticks.moment_of i ≤ now)
   turn-is now i e = go (item_due w) refl e
     where
@@ -487,7 +487,7 @@ module _ (w : World) (history : List Deed) (c : Bears history w) where
       go None is f = absurd cc
       go (Some j) is f = let h = test j (leb (ticks.moment_of j) now) refl f in (is ∙ ap (λ (k : DueItem). Some k) h.0, h.1)
 
-  -- a tick that does what is due does what is due first
+  -- a tick that acts on an item does what is due first
   abbrev pub acting : (now : ℕ) (i : DueItem) → if_due now (item_due w) ≡ Some i → (d : Deed) → d.act ≡ act_of i → d.entry.event ≡ tick → d.entry.now ≡ now → IsActing w.setting history d
   acting now i due d act ticked moment =
       let first = turn-is now i due in
@@ -499,7 +499,7 @@ module _ (w : World) (history : List Deed) (c : Bears history w) where
         first = λ a m e sooner. none-sooner i first.0 a m e (subst (λ (b : Act). IsSooner a m b (ticks.moment_of i)) act sooner);
       }
 
-  -- where nothing is due yet by the tables, nothing is by the history
+  -- if nothing is due yet according to the tables, nothing is due according to the history
   pub idling-due : (now : ℕ) → if_due now (item_due w) ≡ None → (a : Act) (m : ℕ) → IsDueAt w.setting history a m → now < m
   idling-due now nothing a m d = go (item_due w) refl nothing
     where
@@ -511,7 +511,7 @@ module _ (w : World) (history : List Deed) (c : Bears history w) where
       go None is f = absurd (nothing-due is a m d)
       go (Some i) is f = let lt = later i (leb (ticks.moment_of i) now) refl f in let le = due-no_later i is a m d in omega (arith, lt, le)
 
-  -- the least moment at which something is due
+  -- the next moment is the least at which something is due
   pub next-is : (at : ℕ) → next_due w ≡ Some at → IsNextDue w.setting history at
   next-is at e = go (item_due w) refl e
     where
@@ -525,7 +525,7 @@ module _ (w : World) (history : List Deed) (c : Bears history w) where
             least = λ a m d. subst (λ (n : ℕ). n ≤ m) same (due-no_later i is a m d);
           }
 
-  -- where no tick is wanted, nothing is due
+  -- if no tick is needed, nothing is due
   pub no-next : next_due w ≡ None → (a : Act) (m : ℕ) → ¬ IsDueAt w.setting history a m
   no-next e a m d = go (item_due w) refl e
     where
@@ -533,6 +533,6 @@ module _ (w : World) (history : List Deed) (c : Bears history w) where
       go None is f = nothing-due is a m d
       go (Some i) is f = absurd cc
 
--- what is due first is due at one moment
+-- the moment at which something is due first is unique
 pub one-next : (setting : Setting) (past : List Deed) (a b : ℕ) → IsNextDue setting past a → IsNextDue setting past b → a ≡ b
 one-next setting past a b p q = let below = p.least q.act b q.due in let above = q.least p.act a p.due in omega (arith, below, above)

@@ -1,4 +1,4 @@
--- An answer that is got keeps what is carried.
+-- An answer that arrives preserves what is carried.
 use Rattle.std.specs.Prelude.{◌||◌, ◌&&◌}
 use Rattle.std.proofs.Common.{◌≡◌, inl, ℕ, Bool, ◌≤◌, true, false, List, [], ◌∷◌, Option, Some, None, refl, sym, ap, ◌∙◌, subst, arith}
 use Rattle.coap_message.specs.declared.kind.Kind.TheVariants.{Con, Non}
@@ -52,22 +52,22 @@ use Rattle.coap_model.proofs.Stores.{store-otherwise}
 
 -- ---- one request
 
--- ids don't come back too soon
+-- message ids aren't reused too soon
 pub differ : (w : World) (history : List Deed) → Bears history w → IdsDiffer history
 differ w history c = ids-differ w.setting.first_id history c.ids.are_ids c.ids.windows c.clock.in_order
 
--- the last moment has come
+-- the last moment isn't later than now
 pub last-now : (w : World) (history : List Deed) → Bears history w → (now : ℕ) → w.last ≤ now → last_of history ≤ now
 last-now w history c now onward = let h = c.clock.last in omega (arith, h, onward)
 
 -- ---- the answer
 
--- an answer that is got keeps what is carried, whatever is sent at once and remembered
+-- an answer that arrives preserves what is carried, whatever is sent immediately and remembered
 module _ (w : World) (history : List Deed) (c : Bears history w) (now draw : ℕ) (source : Endpoint) (bytes : List ℕ) (grown : Bool) (m : Message) (x : Numbered Exchange) (storing : Storing) (store : List Entry) (send : Option Endpoint) (told : List ℕ) (con non : Records) where
   abbrev answer_deed : Deed
   answer_deed = doing (moves x.0) (record { now = now; draw = draw; event = arrival source bytes; report = record { send = send; outcome = Answered storing }; bytes = told })
 
-  -- the exchanges, after what the answer changes
+  -- the exchanges, after the answer's changes are tainted
   abbrev others : List (Numbered Exchange)
   others = tainted_all (changed_by x.1.key.target m) w.exchanges
 
@@ -131,7 +131,7 @@ module _ (w : World) (history : List Deed) (c : Bears history w) (now draw : ℕ
       remembered
       (answered-so w history c now m x e refl flight refl refl brings a.1 fits grown storing store answer stored, c.past)
 
--- an answer that isn't Confirmable keeps what is carried
+-- a message that isn't Confirmable and gives an answer preserves what is carried
 pub keeps_answering : (w : World) (history : List Deed) (c : Bears history w) → (now draw : ℕ) (source : Endpoint) (bytes : List ℕ) (grown : Bool) (m : Message) (x : Numbered Exchange) (storing : Storing) (store : List Entry) → w.last ≤ now → IsBytes bytes → message_in w.setting.limits.datagram bytes ≡ Some m → IsAnswerFor w now source m x → is_con m.kind ≡ false → IsStoring (changed_world w m x) now grown x (answer_for w now m x.1) storing store
     → Bears (doing (moves x.0) (entry_of now draw (arrival source bytes) (silent (Answered storing) (answered_world (changed_world w m x) now x.0 (answer_for w now m x.1) store))) ∷ history) (answered_world (changed_world w m x) now x.0 (answer_for w now m x.1) store)
 keeps_answering w history c now draw source bytes grown m x storing store onward fits read for other stored =
@@ -144,7 +144,7 @@ keeps_answering w history c now draw source bytes grown m x storing store onward
       remembered-on e since (answer-leaves w bytes m Non e source storing fits read other refl refl) c.non_records,
     )
 
--- and one that is, which is acknowledged and remembered
+-- and so does a Confirmable one, which is acknowledged and remembered
 pub keeps_answering_con : (w : World) (history : List Deed) (c : Bears history w) → (now draw : ℕ) (source : Endpoint) (bytes : List ℕ) (grown : Bool) (m : Message) (x : Numbered Exchange) (storing : Storing) (store : List Entry) → w.last ≤ now → IsBytes bytes → Recorded w bytes m → IsAnswerFor w now source m x → is_con m.kind ≡ true → known_of w now source m ≡ None → has_record_room w now m.kind ≡ true → IsStoring (changed_world w m x) now grown x (answer_for w now m x.1) storing store
     → Bears (doing (moves x.0) (entry_of now draw (arrival source bytes) (says (Answered storing) source (acknowledgement m.id) (answered_world (changed_world w m x) now x.0 (answer_for w now m x.1) store))) ∷ history) (remembers now source m (says (Answered storing) source (acknowledgement m.id) (answered_world (changed_world w m x) now x.0 (answer_for w now m x.1) store))).world
 keeps_answering_con w history c now draw source bytes grown m x storing store onward fits recorded for con unknown room stored =
@@ -158,7 +158,7 @@ keeps_answering_con w history c now draw source bytes grown m x storing store on
 
 -- ---- an acknowledgement
 
--- an exchange whose request is acknowledged keeps what is carried
+-- acknowledging the request of an exchange preserves what is carried
 pub keeps_acknowledging : (w : World) (history : List Deed) (c : Bears history w) → (now draw : ℕ) (source : Endpoint) (bytes : List ℕ) (m : Message) (x : Numbered Exchange) → w.last ≤ now → IsBytes bytes → message_in w.setting.limits.datagram bytes ≡ Some m → IsAbout w now source m x → is_ack m.kind ≡ true
     → Bears (doing (moves x.0) (entry_of now draw (arrival source bytes) (acknowledges w now x.0)) ∷ history) (acknowledges w now x.0).world
 keeps_acknowledging w history c now draw source bytes m x onward fits read about ack =

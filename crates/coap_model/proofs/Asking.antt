@@ -1,4 +1,4 @@
--- What a request that is sent on has of the client's.
+-- What a forwarded request has of the client's request.
 use Rattle.std.proofs.Common.{◌≡◌, List, sym, ap, ◌∙◌}
 use Rattle.coap_message.specs.Message.{Message}
 use Rattle.coap_message.specs.Spelling.{Spells}
@@ -15,7 +15,7 @@ use Rattle.coap_model.specs.Justified.{IsForwarding}
 use Rattle.coap_model.proofs.Keys.{key-forwarded}
 use Rattle.coap_model.proofs.Verdicts.{askable}
 
--- the request that is sent on for an exchange has the cache key of the client's
+-- the request that is forwarded for an exchange has the cache key of the client's request
 pub key-kept : (setting : Setting) (past : List Deed) (d : Deed) (f : IsForwarding setting past d) (m : Message) → AreRoutes setting.routes → Spells d.entry.bytes m → key_sent f.to_send.key.target.at m ≡ f.to_send.key
 key-kept setting past d f m routes spells =
     let key = f.to_send.key in

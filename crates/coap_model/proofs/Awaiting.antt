@@ -1,4 +1,5 @@
--- What is awaited: what the history awaits is found in the tables, and what is found there the history awaits.
+-- What is awaited: what the history awaits is found in the tables, and what is found there is
+-- awaited by the history.
 use Rattle.std.proofs.Common.{◌≡◌, ◌⊎◌, inl, inr, ⊎_elim, ℕ, ◌-◌, ◌<◌, ◌≤◌, Bool, true, false, List, length, Option, Some, None, refl, sym, ap, ◌∙◌, subst, arith}
 use Rattle.std.specs.Prelude.{◌&&◌, ◌||◌, ◌==◌, find, nat_lt, if◌then◌else◌, option_map}
 use Rattle.std.proofs.lemmas.Cmp.{nat_list_eq_equiv}
@@ -55,7 +56,7 @@ use Rattle.coap_model.proofs.Rules as rules
 use Rattle.coap_model.proofs.Remembering.{known-is}
 use Rattle.coap_model.proofs.Rules.{IsAbout, IsOfAnswer, IsAnswerFor, IsNothing, recorded-kind, request-brings}
 
--- what was asked was opened before
+-- an exchange whose request was sent was opened before
 pub asked-opened : (setting : Setting) (history : List Deed) → AllJustified setting history → (x : ℕ) (p : Place) → IsPlaceOf history p → Sends setting.salt x p → Somewhere (Opens x) history
 asked-opened setting history all x p at s =
     let f = justified-at setting history p SentRequest all at s.outcome in
@@ -65,7 +66,7 @@ asked-opened setting history all x p at s =
 
 -- ---- from the tables to the history
 
--- what is known of an exchange that was sent, and not answered
+-- what is known of an exchange whose request was sent, and that isn't answered
 pub record IsHere (w : World) (history : List Deed) (source : Endpoint) (x : Numbered Exchange) : Type 0 where
   pub exchange : IsExchangeOf w.setting history x
   pub there : Has x w.exchanges
@@ -74,7 +75,7 @@ pub record IsHere (w : World) (history : List Deed) (source : Endpoint) (x : Num
   pub going : is_in_flight x.1 ≡ true
   pub source_is : x.1.key.target.at ≡ source
 
--- one that tests as such is on its way
+-- an exchange that passes this test is in flight
 in-flight : (setting : Setting) (history : List Deed) (x : Numbered Exchange) (s : ExchangeState) → IsState setting history x s → (is_sent_state s || is_acked_state s) ≡ true → IsInFlight setting history x
 in-flight setting history x Queued state e = absurd cc
 in-flight setting history x Sent state e = state
@@ -87,14 +88,14 @@ sent_state Sent e = refl
 sent_state Acked e = absurd cc
 sent_state (Done a) e = absurd cc
 
--- what is an acknowledgement, or a response of another type
+-- a response of a type that can bring it answers the request, if its token and id match
 response-matches : (k : Kind) (m : Message) (token : List ℕ) (id : ℕ) → m.kind ≡ k → brings_responses k ≡ true → is_response m.code ≡ true → m.token ≡ token → (is_ack k ≡ true → m.id ≡ id) → Matches token id m
 response-matches Con m token id is e code same ack = separate (ap brings_requests is) code same
 response-matches Non m token id is e code same ack = separate (ap brings_requests is) code same
 response-matches Ack m token id is e code same ack = in_acknowledgement is code same (ack refl)
 response-matches Rst m token id is e code same ack = absurd cc
 
--- a message without more that is no acknowledgement is a Reset
+-- a bare message that isn't an acknowledgement is a Reset
 rst-is : (k : Kind) → (is_ack k || is_rst k) ≡ true → is_ack k ≡ false → k ≡ Rst
 rst-is Con e other = absurd cc
 rst-is Non e other = absurd cc
@@ -107,7 +108,7 @@ ack-is Non e = absurd cc
 ack-is Ack e = refl
 ack-is Rst e = absurd cc
 
--- no response comes in a Reset
+-- a Reset brings no response
 rst-brings : (k : Kind) → k ≡ Rst → brings_responses k ≡ true → ⊥
 rst-brings Con is e = absurd cc
 rst-brings Non is e = absurd cc
@@ -119,7 +120,7 @@ pub empty-is : (m : Message) → is_bare m ≡ true → m.code ≡ EMPTY
 empty-is m bare = code-same m.code EMPTY (eqb-true m.code.0 0 (and_parts (is_empty m.code) (is_ack m.kind || is_rst m.kind) bare).0)
 
 module _ (w : World) (history : List Deed) (c : Bears history w) (now : ℕ) (source : Endpoint) (m : Message) (x : Numbered Exchange) where
-  -- what the search for a response finds awaits it
+  -- the exchange that the search for a response finds awaits it
   response-here : awaiting w source m ≡ Some x → IsHere w history source x × (has_id m x.1.sending ≡ true) × (m.token ≡ token_of w.setting.salt x.0)
   response-here found =
       let f = find-holds (λ y. IsExchangeOf w.setting history y × Has y w.exchanges) (awaits w.setting.salt source m) w.exchanges x (All-there (IsExchangeOf w.setting history) w.exchanges c.exchanges) found in
@@ -138,7 +139,7 @@ module _ (w : World) (history : List Deed) (c : Bears history w) (now : ℕ) (so
         sym (same_text _ _ (sym more.1)),
       )
 
--- the one that a search finds passes the test
+-- the exchange that a search finds passes the test
 first-passes : (test : Exchange → Bool) (xs : List (Numbered Exchange)) (least : ℕ) (x : Numbered Exchange) → IsRising least xs → first_that test xs ≡ Some x.0 → Has x xs → test x.1 ≡ true
 first-passes test xs least x rising first there = go (find (λ (y : Numbered Exchange). test y.1) xs) refl first
   where
@@ -149,7 +150,7 @@ first-passes test xs least x rising first there = go (find (λ (y : Numbered Exc
         let one = one-item least xs y x rising f.0 there (same_Some y.0 x.0 e) in
         subst (λ (b : Exchange). test b ≡ true) one f.1
 
--- what is known of one that an Empty message is about
+-- what is known of the exchange whose request an Empty message refers to
 pub record IsSentAs (w : World) (history : List Deed) (now : ℕ) (source : Endpoint) (m : Message) (x : Numbered Exchange) : Type 0 where
   pub here : IsHere w history source x
   pub state_is : x.1.state ≡ Sent
@@ -157,7 +158,7 @@ pub record IsSentAs (w : World) (history : List Deed) (now : ℕ) (source : Endp
   pub soon : now - here.flight.sending.timer.started < 247000
 
 module _ (w : World) (history : List Deed) (c : Bears history w) (now : ℕ) (source : Endpoint) (m : Message) (x : Numbered Exchange) where
-  -- what an Empty message is about is there, and was sent with its id
+  -- the exchange that an Empty message refers to is there, and was sent with its id
   pub about-here : IsAbout w now source m x → IsSentAs w history now source m x
   about-here a =
       let there = item-Has x.0 w.exchanges x.1 a.found in
@@ -182,7 +183,7 @@ module _ (w : World) (history : List Deed) (c : Bears history w) (now : ℕ) (so
         soon = ltb-true (now - flight.sending.timer.started) 247000 both.1;
       }
 
-  -- so its request is one that waits for an acknowledgement
+  -- so its request waits for an acknowledgement
   pub sent-unsettled : (a : IsSentAs w history now source m x) → IsUnsettled history now x.0 a.here.flight.asked.asking
   sent-unsettled a =
       let flight = a.here.flight in
@@ -194,7 +195,7 @@ module _ (w : World) (history : List Deed) (c : Bears history w) (now : ℕ) (so
         soon = omega (arith, soon, since);
       }
 
-  -- what gives an exchange its answer answers its request
+  -- a message that gives an exchange its answer answers its request
   pub answer-here : IsAnswerFor w now source m x → (h : IsHere w history source x) × Matches (token_of w.setting.salt x.0) h.flight.asked.asks.sends.message.id m × (m.kind ≡ Rst → IsUnsettled history now x.0 h.flight.asked.asking)
   answer-here (rules.by_response response found) =
       let h = response-here w history c now source m x found in
@@ -207,11 +208,11 @@ module _ (w : World) (history : List Deed) (c : Bears history w) (now : ℕ) (so
       let flight = a.here.flight in
       (a.here, by_reset (rst-is m.kind (and_parts (is_empty m.code) (is_ack m.kind || is_rst m.kind) about.bare).1 other) (empty-is m about.bare) (sym a.id_is ∙ flight.asked.id_is), λ rst. sent-unsettled a)
 
-  -- the endpoint is the one that was asked
+  -- the source is the endpoint that the request was sent to
   pub from-here : (h : IsHere w history source x) → source ≡ h.flight.asked.asks.sends.to
   from-here h = sym (h.flight.asked.to ∙ h.source_is)
 
-  -- it brings the answer to the request of that exchange
+  -- the event brings the answer to the request of that exchange
   abbrev pub meets-here : (h : IsHere w history source x) → Matches (token_of w.setting.salt x.0) h.flight.asked.asks.sends.message.id m → (bytes : List ℕ) → Spells bytes m → length bytes ≤ w.setting.limits.datagram → Meets w.setting x.0 history (arrival source bytes)
   meets-here h matches bytes spells short = record {
     asking = h.flight.asked.asking;
@@ -235,18 +236,18 @@ module _ (w : World) (history : List Deed) (c : Bears history w) (now : ℕ) (so
 
 -- ---- from the history to the tables
 
--- a message that comes in these doesn't come in an acknowledgement
+-- a message of a type that brings requests isn't an acknowledgement
 not_ack : (k : Kind) → brings_requests k ≡ true → is_ack k ≡ true → ⊥
 not_ack Con e f = absurd cc
 not_ack Non e f = absurd cc
 not_ack Ack e f = absurd cc
 not_ack Rst e f = absurd cc
 
--- what is Empty and of this type is without more
+-- an Empty acknowledgement or Reset is bare
 bare-so : (m : Message) → m.code ≡ EMPTY → (is_ack m.kind || is_rst m.kind) ≡ true → is_bare m ≡ true
 bare-so m code kind = and_from (is_empty m.code) (is_ack m.kind || is_rst m.kind) (ap is_empty code) kind
 
--- it was sent with the id that is wanted
+-- the request was sent with the expected id
 has-id-so : (m : Message) (o : Option Sending) (s : Sending) → o ≡ Some s → (is_ack m.kind ≡ true → s.id ≡ m.id) → has_id m o ≡ true
 has-id-so m o s is id = go (is_ack m.kind) refl
   where
@@ -254,7 +255,7 @@ has-id-so m o s is id = go (is_ack m.kind) refl
     go true ack = ap (was_sent_with m.id) is ∙ eq-eqb s.id m.id (id ack)
     go false other = refl
 
--- of one place there is one endpoint and one id
+-- equal places have the same endpoint and the same id
 same-sending : (salt x y : ℕ) (p q : Place) → p ≡ q → (f : Sends salt x p) (g : Sends salt y q) → (f.to ≡ g.to) × (f.message.id ≡ g.message.id)
 same-sending salt x y p q e f g =
     let sent : Some f.to ≡ Some g.to = sym f.sent ∙ ap (λ (r : Place). r.deed.entry.report.send) e ∙ g.sent in
@@ -267,7 +268,7 @@ found-asked setting history y m (Done answer) was asks unended state = absurd (N
 found-asked setting history y m Sent was asks unended state = (refl, (state, first-once (Sends setting.salt y.0) history state.asked.asking m state.asked.was_asked was state.asked.asks.sends asks.sends state.asked.asks.first asks.first))
 found-asked setting history y m Acked was asks unended state = (refl, (state, first-once (Sends setting.salt y.0) history state.asked.asking m state.asked.was_asked was state.asked.asks.sends asks.sends state.asked.asks.first asks.first))
 
--- what is at this stage was sent
+-- an exchange in this stage was sent
 sent-stage : (at to : Endpoint) (s : ExchangeState) → stage_at at s ≡ sent to → s ≡ Sent
 sent-stage at to Queued e = absurd cc
 sent-stage at to Sent e = refl
@@ -275,20 +276,20 @@ sent-stage at to Acked e = absurd cc
 sent-stage at to (Done a) e = absurd cc
 
 module _ (w : World) (history : List Deed) (c : Bears history w) (now : ℕ) (source : Endpoint) (bytes : List ℕ) (onward : w.last ≤ now) (none : IsNothing w now source bytes) where
-  -- a message that comes is read
+  -- the message that an event brings is the one that is read
   read-here : {to : Endpoint} {m : Message} → (b : Brings w.setting.limits.datagram to m (arrival source bytes)) → (source ≡ to) × (message_in w.setting.limits.datagram bytes ≡ Some m)
   read-here {to} {m} b =
       let came = arrival-same source to bytes b.bytes b.came in
       (came.0, message_in-again w.setting.limits.datagram bytes m (ap read_message came.1 ∙ read_again b.bytes m b.spells) (rw came.1 b.short))
 
-  -- nothing that is ignored is a duplicate
+  -- a message that is ignored isn't a duplicate
   pub not-known : (other : Endpoint) (m : Message) → Comes w.setting other m (arrival source bytes) → known_of history now other m ≡ None
   not-known other m comes =
       let read = read-here comes.brings in
       let unknown = (none m read.1).unknown comes.recorded in
       ap (record_of other m.id) (sym (known-is w history c now other bytes m onward m.kind (recorded-kind m comes.recorded))) ∙ ap (λ (e : Endpoint). record_of e m.id (living_at now (records_of m.kind w))) (sym read.0) ∙ unknown
 
-  -- no Empty message that is ignored is about a request that waits for its acknowledgement
+  -- an Empty message that is ignored doesn't refer to a request that waits for its acknowledgement
   not-about : (x : ℕ) (asking : Place) → IsPlaceOf history asking → (asks : Asks w.setting.salt x asking) → IsUnsettled history now x asking → (m : Message) → Brings w.setting.limits.datagram asks.sends.to m (arrival source bytes) → is_bare m ≡ true → m.id ≡ asks.sends.message.id → ⊥
   not-about x asking was asks u m brings bare id = in_table (staged-there w history c x (sent u.to) u.stage)
     where
@@ -320,7 +321,7 @@ module _ (w : World) (history : List Deed) (c : Bears history w) (now : ℕ) (so
           let again = subst (λ (n : ℕ). Asks w.setting.salt n asking) f.1 asks in
           waits f.0 f.2 f.3 state again (same-sending w.setting.salt f.0.0 x asking asking refl again.sends asks.sends)
 
-  -- no response that is ignored is awaited
+  -- a response that is ignored isn't awaited
   not-response : (x : ℕ) → (a : IsAwaited w.setting history now x (arrival source bytes)) → brings_responses a.meets.message.kind ≡ true → is_response a.meets.message.code ≡ true → a.meets.message.token ≡ token_of w.setting.salt x → (is_ack a.meets.message.kind ≡ true → a.meets.message.id ≡ a.meets.asks.sends.message.id) → ⊥
   not-response x a kind code token id = in_table (c.whole.unended x (asked-opened w.setting history c.past x a.meets.asking a.meets.was_asked a.meets.asks.sends) a.unended)
     where
@@ -351,7 +352,7 @@ module _ (w : World) (history : List Deed) (c : Bears history w) (now : ℕ) (so
           let f = at-number (λ y. IsExchangeOf w.setting history y × (awaits w.setting.salt source a.meets.message y ≡ false)) x w.exchanges has (All-both (IsExchangeOf w.setting history) (λ y. awaits w.setting.salt source a.meets.message y ≡ false) w.exchanges c.exchanges (none-found (awaits w.setting.salt source a.meets.message) w.exchanges unfound)) in
           one f.0 f.1 f.2.0 f.2.1 (subst (λ (n : ℕ). Asks w.setting.salt n a.meets.asking) f.1 a.meets.asks) (subst (λ (n : ℕ). Never (Ends n) history) f.1 a.unended)
 
-  -- nothing that is ignored is awaited
+  -- no message that is ignored is awaited
   pub not-ignored : (x : ℕ) → IsAwaited w.setting history now x (arrival source bytes) → ⊥
   not-ignored x a = go a.meets.matches
     where
@@ -364,9 +365,9 @@ module _ (w : World) (history : List Deed) (c : Bears history w) (now : ℕ) (so
   pub not-settled : (x : ℕ) → Acknowledges w.setting history now x (arrival source bytes) → ⊥
   not-settled x a = not-about x a.asking a.was_asked a.asks a.unsettled a.message a.brings (bare-so a.message a.empty (ap (λ (k : Kind). is_ack k || is_rst k) a.kind)) a.id_is
 
--- ---- the answers of clients
+-- ---- the answers to clients
 
--- a client was given its answer in these bytes, with this id, by this timer
+-- a client was sent its answer in these bytes, with this id, by this timer
 pub record WasDelivered (setting : Setting) (history : List Deed) (v : Numbered Waiter) : Type 0 where
   pub bytes : List ℕ
   pub id : ℕ
@@ -374,7 +375,7 @@ pub record WasDelivered (setting : Setting) (history : List Deed) (v : Numbered 
   pub state_is : v.1.state ≡ Delivering bytes id timer
   pub delivering : IsDelivering setting history v bytes id timer
 
--- one that has still to acknowledge its answer was
+-- so was a client that hasn't acknowledged its answer yet
 pub told-delivered : (setting : Setting) (history : List Deed) (v : Numbered Waiter) → IsWaiterOf setting history v → service_in v.1.state ≡ told → WasDelivered setting history v
 told-delivered setting history v f e = go v.1.state refl e f
   where
@@ -382,7 +383,7 @@ told-delivered setting history v f e = go v.1.state refl e f
     go (Waiting exchange) is e g = absurd cc
     go (Delivering bytes id timer) is e g = record { bytes = bytes; id = id; timer = timer; state_is = is; delivering = g }
 
--- and one that was sent its answer with an id was
+-- and so was a client whose answer was sent with an id
 sent-delivered : (setting : Setting) (history : List Deed) (v : Numbered Waiter) (id now : ℕ) → IsWaiterOf setting history v → is_delivered_as id now v.1.state ≡ true → WasDelivered setting history v
 sent-delivered setting history v id now f e = go v.1.state refl e f
   where
@@ -392,7 +393,7 @@ sent-delivered setting history v id now f e = go v.1.state refl e f
 
 -- ---- from the table to the history
 
--- what brings no more than this is an acknowledgement or a Reset
+-- a bare message is an acknowledgement or a Reset
 bare-kind : (k : Kind) → (is_ack k || is_rst k) ≡ true → (k ≡ Ack) ⊎ (k ≡ Rst)
 bare-kind Con e = absurd cc
 bare-kind Non e = absurd cc
@@ -400,7 +401,7 @@ bare-kind Ack e = inl refl
 bare-kind Rst e = inr refl
 
 module _ (w : World) (history : List Deed) (c : Bears history w) (now : ℕ) (source : Endpoint) (bytes : List ℕ) where
-  -- an Empty message closes the client whose answer went there with its id
+  -- an Empty message closes the client that was sent its answer with this id at its source
   closes-one : (m : Message) (v : Numbered Waiter) → IsBytes bytes → message_in w.setting.limits.datagram bytes ≡ Some m → is_bare m ≡ true → IsWaiterOf w.setting history v → Has v w.waiters → waiters.was_sent_as source m.id now v.1 ≡ true → Closes w.setting history now v.0 (arrival source bytes)
   closes-one m v fits read bare f there passes =
       let came = message_in-is w.setting.limits.datagram bytes m fits read in
@@ -439,14 +440,14 @@ module _ (w : World) (history : List Deed) (c : Bears history w) (now : ℕ) (so
           let f = find-holds (λ u. IsWaiterOf w.setting history u × Has u w.waiters) (λ (u : Numbered Waiter). waiters.was_sent_as source m.id now u.1) w.waiters v (All-there (IsWaiterOf w.setting history) w.waiters c.waiters) is in
           subst (λ (k : ℕ). Closes w.setting history now k (arrival source bytes)) (same_Some v.0 n e) (closes-one m v fits read about.bare f.0.0 f.0.1 f.1)
 
-  -- what is read of a datagram that closes a client
+  -- what is read from a datagram that closes a client
   closing-read : {n : ℕ} (k : Closes w.setting history now n (arrival source bytes)) → (source ≡ k.to) × (message_in w.setting.limits.datagram bytes ≡ Some k.message)
   closing-read k =
       let b = k.brings in
       let came = arrival-same source k.to bytes b.bytes b.came in
       (came.0, message_in-again w.setting.limits.datagram bytes k.message (ap read_message came.1 ∙ read_again b.bytes k.message b.spells) (rw came.1 b.short))
 
-  -- it is Empty
+  -- the message that closes a client is bare
   closing-bare : {n : ℕ} (k : Closes w.setting history now n (arrival source bytes)) → is_bare k.message ≡ true
   closing-bare k =
       bare-so k.message k.empty
@@ -468,7 +469,7 @@ module _ (w : World) (history : List Deed) (c : Bears history w) (now : ℕ) (so
       let test : is_delivered_as k.message.id now (Delivering was.bytes was.id was.timer) ≡ true = and_from (was.id == k.message.id) (nat_lt (now - was.timer.started) 247000) (eq-eqb was.id k.message.id id) (lt-ltb (now - was.timer.started) 247000 (omega (arith, soon, began, moment))) in
       and_from (same_endpoint v.1.client source) (is_delivered_as k.message.id now v.1.state) ((Tells-both same_endpoint Tells-endpoint v.1.client source).1 (to ∙ sym (closing-read k).0)) (ap (is_delivered_as k.message.id now) was.state_is ∙ test)
 
-  -- so nothing that is ignored closes a client
+  -- so a message that is ignored closes no client
   pub not-closed : IsNothing w now source bytes → (n : ℕ) → Closes w.setting history now n (arrival source bytes) → ⊥
   not-closed none n k = in_table (served-there w history c n told k.service)
     where

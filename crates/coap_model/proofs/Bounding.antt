@@ -1,4 +1,4 @@
--- What is due next isn't far ahead, where moments and draws are within their ranges.
+-- What is due next isn't far ahead, if moments and draws are within their ranges.
 use Rattle.std.proofs.Common.{◌≡◌, ⊎_elim, ℕ, zero, suc, ◌+◌, ◌^◌, ◌≤◌, Bool, true, false, cond, List, [], ◌∷◌, length, Some, ap, subst, sym, arith}
 use Rattle.std.specs.Prelude.{filter}
 use Rattle.std.proofs.lemmas.Nat.{mul-le}
@@ -14,7 +14,7 @@ use Rattle.coap_model.specs.Ranges.{AreInRange, IsInRange}
 use Rattle.coap_model.specs.Ticks.{next_due}
 use Rattle.coap_model.proofs.Acting.{next-is}
 
--- what was done at a place was done at a moment within the range
+-- the moment of each place is within the range
 at-place : (deeds : List Deed) (p : Place) → AreInRange (told_by deeds) → IsPlaceOf deeds p → p.deed.entry.now ≤ 2 ^ 62
 at-place [] p r at = absurd at
 at-place (d ∷ past) p r at =
@@ -23,7 +23,7 @@ at-place (d ∷ past) p r at =
     (λ (there : IsPlaceOf past p). at-place past p r.1 there)
     at
 
--- what was sent for an act was sent within the ranges
+-- the transmissions for an act are within the ranges
 sends-in : (act : Act) (deeds : List Deed) → AreInRange (told_by deeds) → AreInRange (sends_by act deeds)
 sends-in act [] r = tt
 sends-in act (d ∷ deeds) r = go (sends_for act d) (sends-in act deeds r.1)
@@ -32,12 +32,12 @@ sends-in act (d ∷ deeds) r = go (sends_for act d) (sends-in act deeds r.1)
     go true rest = (r.0, rest)
     go false rest = rest
 
--- the draw of the first sending too
+-- so is the draw of the first transmission
 oldest-in : (e : Entry) (es : List Entry) → IsInRange e → AreInRange es → (oldest e es).draw ≤ 1000
 oldest-in e [] i r = i.1
 oldest-in e (before ∷ es) i r = oldest-in before es r.0 r.1
 
--- twice as long each time, up to four times
+-- the timeout doubles at most four times
 doubled : (n : ℕ) → n ≤ 4 → 2 ^ n ≤ 16
 doubled zero le = omega arith
 doubled (suc zero) le = omega arith
@@ -46,7 +46,7 @@ doubled (suc (suc (suc zero))) le = omega arith
 doubled (suc (suc (suc (suc zero)))) le = omega arith
 doubled (suc (suc (suc (suc (suc n))))) le = absurd (omega (arith, le))
 
--- the next sending is within a minute of the last
+-- the next transmission is due within ten minutes after the greatest moment
 next-in : (es : List Entry) → length es ≤ 5 → AreInRange es → next_send es ≤ 2 ^ 62 + 600000
 next-in [] few r = omega arith
 next-in (e ∷ es) few r =
@@ -55,7 +55,7 @@ next-in (e ∷ es) few r =
     let timeout = mul-le (2000 + (oldest e es).draw) (2 ^ length es) 3000 16 (omega (arith, draw)) times in
     omega (arith, timeout, r.0.0)
 
--- whatever is due is due by then
+-- everything that is due is due by then
 due-in : (setting : Setting) (deeds : List Deed) → AreSchedules deeds → AreInRange (told_by deeds) → setting.limits.exchange_ms ≤ 600000 → (act : Act) (at : ℕ) → IsDueAt setting deeds act at → at ≤ 2 ^ 62 + 600000
 due-in setting deeds schedules r most no_item at due = absurd due
 due-in setting deeds schedules r most (admits v x) at due = absurd due
@@ -65,7 +65,7 @@ due-in setting deeds schedules r most (moves x) at (to_end due) = omega (arith, 
 due-in setting deeds schedules r most (serves v) at (to_serve due) = omega (arith, due.at_is, at-place deeds due.ending r due.was_ended)
 due-in setting deeds schedules r most (serves v) at (to_serve_again due) = omega (arith, due.at_is, next-in (sends_by (serves v) deeds) (schedules (serves v)).few (sends-in (serves v) deeds r))
 
--- so is what is due next
+-- so is the next moment at which something is due
 pub next-bounded : (w : World) (history : List Entry) (at : ℕ) → Carries history w → AreInRange history → AreLimits w.setting.limits → next_due w ≡ Some at → at ≤ 2 ^ 62 + 600000
 next-bounded w history at c r limits next =
     let is = next-is w c.deeds c.bears at next in

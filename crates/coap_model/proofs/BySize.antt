@@ -1,4 +1,4 @@
--- How an answer is stored goes by its size; what is kept stands first.
+-- Whether an answer is stored depends on its size; an answer that is kept comes first.
 use Rattle.std.proofs.Common.{◌≡◌, inl, inr, ℕ, ◌<◌, ◌≤◌, Bool, true, false, List, [], ◌∷◌, refl, ap, ◌∙◌, subst, arith}
 use Rattle.coap_option.specs.Selection.{tags_of}
 use Rattle.coap_endpoint.specs.declared.target.Target.{Target}
@@ -26,7 +26,7 @@ use Rattle.coap_model.proofs.OneStoring.{one-former, one-size}
 use Rattle.coap_model.proofs.Owing.{given_again, given_dropped, given_no_room, given_hit}
 
 module _ (setting : Setting) (past : List Deed) (d : Deed) where
-  -- what is small is kept, memory aside
+  -- an answer that is small enough is kept, unless memory runs out
   small-so : (o : Outcome) → JustifiedBy o setting past d → takes o ≡ true → (h : IsObtainedHere setting past d) → size_here h ≤ setting.limits.cache_bytes → IsKeptIfGrown o
   small-so (Answered Kept) j t h small = inl refl
   small-so (Answered NoMemory) j t h small = inr refl
@@ -34,7 +34,7 @@ module _ (setting : Setting) (past : List Deed) (d : Deed) where
   small-so (Answered NotStored) j t h small = absurd (j.none h)
   small-so _ j t h small = absurd cc
 
-  -- what is large is too large
+  -- an answer that is larger than the limit is too large
   large-so : (o : Outcome) → JustifiedBy o setting past d → takes o ≡ true → (h : IsObtainedHere setting past d) → setting.limits.cache_bytes < size_here h → o ≡ Answered TooLarge
   large-so (Answered Kept) j t h large = absurd (let small = j.small in let same = one-size h j.here in omega (arith, small, large, same))
   large-so (Answered NoMemory) j t h large = absurd (let small = j.small in let same = one-size h j.here in omega (arith, small, large, same))
@@ -42,7 +42,7 @@ module _ (setting : Setting) (past : List Deed) (d : Deed) where
   large-so (Answered NotStored) j t h large = absurd (j.none h)
   large-so _ j t h large = absurd cc
 
-  -- what isn't obtained isn't stored
+  -- an answer that wasn't obtained isn't stored
   other-so : (o : Outcome) → JustifiedBy o setting past d → takes o ≡ true → ¬ IsObtainedHere setting past d → o ≡ Answered NotStored
   other-so (Answered Kept) j t none = absurd (none j.here)
   other-so (Answered NoMemory) j t none = absurd (none j.here)
@@ -50,7 +50,7 @@ module _ (setting : Setting) (past : List Deed) (d : Deed) where
   other-so (Answered NotStored) j t none = refl
   other-so _ j t none = absurd cc
 
-  -- a deed that is justified gave what the cache owed
+  -- a justified deed did what the cache owed
   pub owed-by : JustifiedBy d.entry.report.outcome setting past d → IsOwed setting past d
   owed-by j =
       let o = d.entry.report.outcome in
@@ -64,18 +64,18 @@ module _ (setting : Setting) (past : List Deed) (d : Deed) where
         other = other-so o j;
       }
 
--- all gave it
+-- all deeds of a justified history did
 pub all-owed : (setting : Setting) (deeds : List Deed) → AllJustified setting deeds → AllOwed setting deeds
 all-owed setting [] all = tt
 all-owed setting (d ∷ past) all = (owed-by setting past d all.0, all-owed setting past all.1)
 
--- ---- what is kept stands first
+-- ---- what is kept comes first
 
--- of what is cut the first stays, if it fits
+-- cutting a list keeps its first element, if that fits
 first-of-cut : (bytes count : ℕ) (x : Cached) (xs : List Cached) → cached_size x ≤ bytes → 1 ≤ count → StandsFirst x (cut cached_size bytes count (x ∷ xs))
 first-of-cut bytes count x xs small some = rw (cut-fits cached_size bytes count x xs small some) refl
 
--- an answer that is kept stands first in the cache
+-- an answer that is kept comes first in the cache
 pub kept-first : (setting : Setting) (past : List Deed) (d : Deed) (cached : List Cached) → 1 ≤ setting.limits.cache_entries → JustifiedBy d.entry.report.outcome setting past d → d.entry.report.outcome ≡ Answered Kept → (o : IsObtainedHere setting past d) → IsCacheOf setting (d ∷ past) cached
     → StandsFirst (entry_here o) cached
 kept-first setting past d _ some j is o (kept {cached = cs} {former = former} _ x gets opening also was opens at c) =
@@ -91,7 +91,7 @@ kept-first setting past d _ some j is o (too_large _ x gets also c) = absurd (ap
 kept-first setting past d _ some j is o (hit _ client request target entry also came to found c) = absurd (apart _ _ _ (λ f. cc) is also)
 kept-first setting past d _ some j is o (otherwise _ leaving c) = absurd (clash _ _ is refl leaving)
 
--- the store has what is kept of the first first
+-- the first entry of the store corresponds to this entry
 pub record FirstStored (setting : Setting) (history : List Deed) (c : Cached) (store : List Entry) : Type 0 where
   pub stored : Entry
   pub is_first : StandsFirst stored store
@@ -103,7 +103,7 @@ first-stored setting history [] (x ∷ xs) c each first = absurd each
 first-stored setting history (s ∷ ss) [] c each first = absurd first
 first-stored setting history (s ∷ ss) (x ∷ xs) c each first = record { stored = s; is_first = refl; stored_is = subst (IsStored setting history s) first each.0 }
 
--- what is stored of an answer that is kept isn't marked
+-- the stored entry of an answer that is kept isn't marked
 newest-unmarked : (setting : Setting) (past : List Deed) (d : Deed) (o : IsObtainedHere setting past d) (stored : Entry) → IsStored setting (d ∷ past) stored (entry_here o) → stored ≡ entry_of_cached (entry_here o)
 newest-unmarked setting past d o stored is = is.same ∙ ap (λ (b : Bool). entry_marked b (entry_here o)) (go stored.1.marked is.told)
   where
@@ -123,7 +123,7 @@ newest-unmarked setting past d o stored is = is.same ∙ ap (λ (b : Bool). entr
     go false t = refl
     go true t = absurd (told-contrary gets.meets.asking unchanged t)
 
--- and in the store of a proxy
+-- and it comes first in the store of a proxy
 pub stored-first : (w : World) (history : List Told) (c : Carries history w) (past : List Deed) (d : Deed) → AreLimits w.setting.limits → c.deeds ≡ d ∷ past → d.entry.report.outcome ≡ Answered Kept → (o : IsObtainedHere w.setting past d) → StandsFirst (entry_of_cached (entry_here o)) w.store
 stored-first w history c past d limits deeds is o =
     let store = subst (λ (ds : List Deed). IsStoreOf w.setting ds w.store) deeds c.bears.store in

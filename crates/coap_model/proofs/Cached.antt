@@ -1,4 +1,4 @@
--- The cache of a history: it is one, and what holds of each entry that is kept holds of all of it.
+-- The cache of a history is unique, and what holds of each entry that is kept holds of all entries.
 use Rattle.std.proofs.Common.{◌≡◌, ◌≢◌, ℕ, ◌-◌, ◌&&◌, true, false, Bool, cond, nat_le, List, [], ◌∷◌, Some, Result, Ok, refl, sym, ap, ◌∙◌, subst}
 use Rattle.std.specs.List.{AllByRecursion}
 use Rattle.coap_message.specs.Message.{Message}
@@ -24,34 +24,34 @@ use Rattle.coap_model.proofs.Changing.{one-getting}
 use Rattle.coap_model.proofs.Lists.{find-holds, All-filter}
 use Rattle.coap_model.proofs.Places.{here, Opens-unique, one-brought}
 
--- ---- the cache is one
+-- ---- the cache is unique
 
--- what leaves the cache isn't what moves an entry
+-- an outcome that leaves the cache isn't one that moves an entry
 pub clash : (o p : Outcome) → o ≡ p → leaves p ≡ false → leaves o ≡ true → ⊥
 clash o p same no_leave leaving = let e : true ≡ false = sym leaving ∙ ap leaves same ∙ no_leave in cc
 
--- two outcomes that differ aren't of one entry
+-- an entry doesn't have two different outcomes
 pub apart : (o p q : Outcome) → p ≢ q → o ≡ p → o ≡ q → ⊥
 apart o p q differ is also = differ (sym is ∙ also)
 
--- one target is told
+-- equal results have equal targets
 same_Ok : (a b : Target) → ◌≡◌ {A = Result Target TargetError} (Ok a) (Ok b) → a ≡ b
 same_Ok a b e = cc
 
--- a request of an event has one key
+-- the request of an event has only one key
 one-key : (setting : Setting) (d : Deed) (a b : Endpoint) (r s : Message) (t u : Target) → Brings setting.limits.datagram a r d.entry.event → Brings setting.limits.datagram b s d.entry.event → request_target setting.routes r ≡ Ok t → request_target setting.routes s ≡ Ok u → request_key t r ≡ request_key u s
 one-key setting d a b r s t u p q e f =
     let request = (one-brought p q).1 in
     let target = same_Ok t u (sym e ∙ ap (request_target setting.routes) request ∙ f) in
     rw (request, target) refl
 
--- so the entry that an answer makes is one
+-- so the entry for an answer is unique
 pub same-entry : {setting : Setting} {x y : ℕ} {past : List Deed} {d : Deed} (g : Gets setting x (here past d)) (h : Gets setting y (here past d)) (a b : List Cached) → a ≡ b → entry_got a g ≡ entry_got b h
 same-entry {setting = setting} {past = past} {d = d} g h a b former =
     let one = one-getting g h in
     λ i. cached_here (one.key i) (answer_of setting.limits.datagram (is_get (one.asked i).code) (copied (tags_of (one.asked i)) (one.key i) (former i)) d.entry.now (one.message i)).message (one.asking i) past d
 
--- a history has one cache
+-- a history has at most one cache
 pub cache-unique : (setting : Setting) (history : List Deed) (a b : List Cached) → IsCacheOf setting history a → IsCacheOf setting history b → a ≡ b
 cache-unique setting _ _ _ empty empty = refl
 cache-unique setting _ _ _ (kept {past = past} {cached = xs} {former = old} d x g opening is was opens at c) (kept {cached = ys} {former = older} _ y h other also before begins from e) =
@@ -83,7 +83,7 @@ cache-unique setting _ _ _ (otherwise d leaving c) (too_large _ y h also e) = ab
 cache-unique setting _ _ _ (otherwise d leaving c) (hit _ client request target entry also came to found e) = absurd (clash _ _ also refl leaving)
 cache-unique setting _ _ _ (otherwise {past = past} {cached = xs} d leaving c) (otherwise {cached = ys} _ also e) = cache-unique setting past xs ys c e
 
--- the cache that there was when an exchange was opened is one
+-- the cache when an exchange was opened is unique
 pub former-once : {setting : Setting} {past : List Deed} {x : ℕ} {a b : List Cached} → WasCacheAt setting past x a → WasCacheAt setting past x b → a ≡ b
 former-once {setting} {past} {x} {a} {b} p q =
     let place = Opens-unique past p.opening q.opening x p.was_opened q.was_opened p.opens q.opens in
@@ -91,11 +91,11 @@ former-once {setting} {past} {x} {a} {b} p q =
 
 -- ---- what holds of each entry
 
--- some of the entries
+-- the entries with other keys
 All-others : (P : Cached → Type 0) (k : CacheKey) (cs : List Cached) → AllByRecursion P cs → AllByRecursion P (others cached_key k cs)
 All-others P k cs all = All-weaken (λ c. P c × (has_other_key cached_key k c ≡ true)) P (others cached_key k cs) (λ c h. h.0) (All-filter P (has_other_key cached_key k) cs all)
 
--- those that are cut
+-- the entries that are left after a cut
 All-cut : (P : Cached → Type 0) (bytes count : ℕ) (cs : List Cached) → AllByRecursion P cs → AllByRecursion P (cut cached_size bytes count cs)
 All-cut P bytes count [] all = tt
 All-cut P bytes count (c ∷ cs) all = go (nat_le (cached_size c) bytes && nat_le 1 count) (All-cut P (bytes - cached_size c) (count - 1) cs all.1)
@@ -104,11 +104,12 @@ All-cut P bytes count (c ∷ cs) all = go (nat_le (cached_size c) bytes && nat_l
     go true rest = (all.0, rest)
     go false rest = tt
 
--- those of which one was moved to the front
+-- the entries after one was moved to the front
 All-used : (P : Cached → Type 0) (k : CacheKey) (cs : List Cached) (c : Cached) → of_key cached_key k cs ≡ Some c → AllByRecursion P cs → AllByRecursion P (used cached_key k cs)
 All-used P k cs c found all = rw found ((find-holds P (has_key cached_key k) cs c all found).0, All-others P k cs all)
 
--- What holds of each entry that an answer makes, where it held of those that there were when its exchange was opened, and goes on to hold, holds of each entry of the cache.
+-- If a property holds of the entry for each answer, provided that it held of the entries when the
+-- exchange was opened, and keeps holding, it holds of each entry of the cache.
 pub cache-holds : (setting : Setting) (P : List Deed → Cached → Type 0)
     → ((past : List Deed) (d : Deed) (c : Cached) → P past c → P (d ∷ past) c)
     → ((past : List Deed) (d : Deed) (x : ℕ) (gets : Gets setting x (here past d)) (former : List Cached) (was : WasCacheAt setting gets.meets.asking.before x former) → d.entry.report.outcome ≡ Answered Kept → AllByRecursion (P was.opening.before) former → P (d ∷ past) (entry_got former gets))
@@ -126,6 +127,6 @@ cache-holds setting P on new _ _ (hit {past = past} {cached = cs} d client reque
 cache-holds setting P on new _ _ (otherwise {past = past} {cached = cs} d leaving c) =
     All-weaken (P past) (P (d ∷ past)) cs (on past d) (cache-holds setting P on new past cs c)
 
--- so it holds of what is found in it
+-- so it holds of an entry that is found in the cache
 pub found-holds : (P : Cached → Type 0) (cached : List Cached) (key : CacheKey) (c : Cached) → AllByRecursion P cached → of_key cached_key key cached ≡ Some c → P c
 found-holds P cached key c all found = (find-holds P (has_key cached_key key) cached c all found).0

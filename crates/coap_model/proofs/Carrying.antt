@@ -1,4 +1,5 @@
--- Each step of a proxy that carries a history leaves one that carries the history with the step's entry.
+-- Each step of a proxy that carries a history leaves one that carries the history with the step's
+-- entry in front.
 use Rattle.std.proofs.Common.{◌≡◌, ℕ, Bool, true, false, cond, eqb, ◌+◌, ◌≤◌, List, [], ◌∷◌, refl, ap, arith}
 use Rattle.std.specs.Prelude.{◌/◌}
 use Rattle.coap_target.specs.Routes.{AreRoutes}
@@ -22,12 +23,12 @@ use Rattle.coap_model.proofs.Answering.{keeps_answering, keeps_answering_con, ke
 use Rattle.coap_model.proofs.Delivering.{keeps_delivering}
 use Rattle.coap_model.proofs.Clients.{keeps_closing, keeps_redelivering, keeps_abandoning}
 
--- the tables after an entry are what it did, in front of what was done before
+-- the tables after an entry agree with its deed in front of the deeds before it
 pub record IsKept (history : List Deed) (e : Entry) (w : World) : Type 0 where
   pub act : Act
   pub bears : Bears (doing act e ∷ history) w
 
--- each case of a step keeps what is carried
+-- each case of a step preserves what is carried
 keeps_rule : {w : World} {now draw : ℕ} {grown : Bool} {event : Event} {s : Step} (history : List Deed) → Bears history w → w.last ≤ now → Rule w now draw grown event s → IsKept history (entry_of now draw event s) s.world
 keeps_rule {w = w} {now = now} {draw = draw} history c onward (refusing client bytes m code first denied free) = record { act = no_item; bears = keeps_refusing w history c now draw client bytes m onward first code denied free }
 keeps_rule {w = w} {now = now} {draw = draw} history c onward (lacking client bytes m first free) = record { act = no_item; bears = keeps_lacking w history c now draw client bytes m onward first free }
@@ -52,18 +53,18 @@ keeps_rule {w = w} {now = now} {draw = draw} history c onward (abandoning at num
 keeps_rule {w = w} {now = now} {draw = draw} history c onward (idling nothing) = record { act = no_item; bears = keeps_idling w history c now draw onward nothing }
 keeps_rule {w = w} {now = now} {draw = draw} history c onward (stuck s) = not-stuck w history c now s
 
--- a step goes on from what was done before
+-- a step continues the deeds before it
 pub keeps_deeds : (w : World) (history : List Deed) (now draw : ℕ) (grown : Bool) (event : Event) → Bears history w → w.last ≤ now → IsEvent event → IsKept history (entry_of now draw event (step_of w now draw grown event)) (step_of w now draw grown event).world
 keeps_deeds w history now draw grown event c onward fits = keeps_rule history c onward (rule_of w now draw grown event fits)
 
--- so a step does
+-- so each step preserves what is carried
 pub keeps_step : (w : World) (history : List Entry) (now draw : ℕ) (grown : Bool) (event : Event) → Carries history w → w.last ≤ now → IsEvent event → Carries (entry_of now draw event (step_of w now draw grown event) ∷ history) (step_of w now draw grown event).world
 keeps_step w history now draw grown event c onward fits =
     let e = entry_of now draw event (step_of w now draw grown event) in
     let k = keeps_deeds w c.deeds now draw grown event c.bears onward fits in
     record { deeds = doing k.act e ∷ c.deeds; told = ap (λ (past : List Entry). e ∷ past) c.told; bears = k.bears }
 
--- of ids a new proxy has given none
+-- a new proxy has given out no ids
 new_ids-are : (setting : Setting) → Ids [] (new_world setting)
 new_ids-are setting = record { following = omega arith; given = λ now later. none (eqb 0 (now / 247000)); windows = λ v. omega arith; are_ids = tt }
   where

@@ -1,4 +1,4 @@
--- Changes: what a mark or a taint tells stays right as the history goes on.
+-- Changes: what a mark or a taint says stays right as the history grows.
 use Rattle.std.proofs.Common.{◌≡◌, ◌≢◌, ◌⊎◌, inl, inr, ⊎_elim, ℕ, ◌<◌, ◌≤◌, Bool, true, false, List, [], ◌∷◌, refl, sym, ap, ◌∙◌, subst, arith}
 use Rattle.std.specs.Prelude.{◌||◌, ◌&&◌, ◌/◌, ◌==◌, cond, not, nat_lt, if◌then◌else◌, Option}
 use Rattle.std.proofs.lemmas.Bool.{eqb-true, and_parts}
@@ -20,9 +20,9 @@ use Rattle.coap_model.specs.Changed.{asked_of, key_asked, to_get, Changes, Chang
 use Rattle.coap_message.proofs.WholeMessages.{one_message}
 use Rattle.coap_model.proofs.Places.{here, index_below, same_moves, first-once, one-brought, never-from, Never-at}
 
--- ---- an answer that was got was got once
+-- ---- the answer at a place is unique
 
--- what two say that the answer of an exchange was got at a place
+-- two accounts of the answer of an exchange at a place agree
 pub record AreOneGetting {setting : Setting} {x y : ℕ} {p : Place} (g : Gets setting x p) (h : Gets setting y p) : Type 0 where
   pub exchange : x ≡ y
   pub asking : g.meets.asking ≡ h.meets.asking
@@ -30,7 +30,7 @@ pub record AreOneGetting {setting : Setting} {x y : ℕ} {p : Place} (g : Gets s
   pub key : key_asked g ≡ key_asked h
   pub message : g.meets.message ≡ h.meets.message
 
--- they say the same
+-- any two accounts agree
 pub one-getting : {setting : Setting} {x y : ℕ} {p : Place} (g : Gets setting x p) (h : Gets setting y p) → AreOneGetting g h
 one-getting {setting} {x} {y} {p} g h =
     record {
@@ -55,20 +55,20 @@ one-getting {setting} {x} {y} {p} g h =
     one : g.meets.asks.sends.message ≡ h.meets.asks.sends.message
     one = one_message h.meets.asking.deed.entry.bytes g.meets.asks.sends.message h.meets.asks.sends.message (subst (λ (q : Place). Spells q.deed.entry.bytes g.meets.asks.sends.message) place g.meets.asks.sends.spells) h.meets.asks.sends.spells
 
--- ---- entries that get no answer
+-- ---- entries that accept no answer
 
--- where no answer is got, nothing is changed
+-- an entry that accepts no answer changes nothing
 pub quiet-unchanged : {setting : Setting} {history : List Deed} {d : Deed} {target : Target} → takes d.entry.report.outcome ≡ false → Changes setting target (here history d) → ⊥
 quiet-unchanged none c = let e = sym none ∙ c.gets.outcome in absurd cc
 
--- so what a mark tells stays
+-- so what a mark says stays right
 pub told-stays : (told : Bool) (setting : Setting) (target : Target) (since : Place) (history : List Deed) (d : Deed) → takes d.entry.report.outcome ≡ false → IsTold told setting target since history → IsTold told setting target since (d ∷ history)
 told-stays false setting target since history d none t = ((λ c. quiet-unchanged none c.0), t)
 told-stays true setting target since history d none t = record { place = t.place; is_there = inr t.is_there; holds = t.holds }
 
--- ---- an answer that is got
+-- ---- an entry that accepts an answer
 
--- what was told of a target is told again, or now, where the answer changes it
+-- a mark stays right after an answer: it stays set, or is set if the answer changes the target
 pub told-on : {setting : Setting} {x : ℕ} {history : List Deed} {d : Deed} (told : Bool) (target : Target) (since : Place) (gets : Gets setting x (here history d)) → index since < index (here history d) → IsTold told setting target since history
     → IsTold (told || concerns (changed_by (key_asked gets).target gets.meets.message) target) setting target since (d ∷ history)
 told-on {setting} {x} {history} {d} told target since gets before t = go told (concerns (changed_by (key_asked gets).target gets.meets.message) target) refl t
@@ -85,19 +85,19 @@ told-on {setting} {x} {history} {d} told target since gets before t = go told (c
             let e = sym h.concerned ∙ same ∙ is in
             absurd cc
 
--- ---- both tell the contrary
+-- ---- a target isn't both changed and unchanged
 
 -- a target that was changed isn't unchanged
 pub told-contrary : {setting : Setting} {target : Target} (since : Place) {history : List Deed} → Unchanged setting target since history → WasChanged setting target since history → ⊥
 told-contrary {setting} {target} since {history} never was = Never-at (ChangesAfter setting target since) history was.place never was.is_there was.holds
 
--- nothing was changed after what is newest
+-- nothing was changed after the newest place
 pub newest-unchanged : (setting : Setting) (target : Target) (history : List Deed) (d : Deed) → takes d.entry.report.outcome ≡ false → Unchanged setting target (here history d) (d ∷ history)
 newest-unchanged setting target history d none = ((λ c. quiet-unchanged none c.0), never-from (ChangesAfter setting target (here history d)) history (λ p at c. let lower = index_below history p at in let above = c.1 in omega (arith, lower, above)))
 
--- ---- what is stored changes nothing
+-- ---- an answer that may be stored changes nothing
 
--- a code that says that something was changed
+-- the codes that say that something was changed
 change-code : (code : Code) → is_change code ≡ true → (code.0 ≡ 65) ⊎ (code.0 ≡ 66) ⊎ (code.0 ≡ 68)
 change-code code e = go (is_code code CREATED) refl (is_code code DELETED) refl (is_code code CHANGED) refl e
   where
@@ -107,7 +107,7 @@ change-code code e = go (is_code code CREATED) refl (is_code code DELETED) refl 
     go false f false g true h any = inr (inr (eqb-true code.0 68 h))
     go false f false g false h any = absurd cc
 
--- one that is told with a Max-Age says none of this, nor does 2.03
+-- a code with a Max-Age isn't one of these, nor is 2.03
 lasting-code : (code : Code) → tells_age code ≡ true → is_change code ≡ true → ⊥
 lasting-code code e change = go (is_content code) refl (code.0 / 32 == 4) refl (code.0 / 32 == 5) refl e
   where
@@ -128,7 +128,7 @@ valid-code code e change =
     let is = eqb-true code.0 67 e in
     ⊎_elim (λ (a : code.0 ≡ 65). omega (arith, a, is)) (λ (bc : (code.0 ≡ 66) ⊎ (code.0 ≡ 68)). ⊎_elim (λ (b : code.0 ≡ 66). omega (arith, b, is)) (λ (c : code.0 ≡ 68). omega (arith, c, is)) bc) (change-code code change)
 
--- so what may be stored of a message says of none
+-- so the code of a response that may be stored isn't one of them
 storable-code : (most now : ℕ) (to_get : Bool) (copy : Option Message) (m : Message) → is_storable (answer_of most to_get copy now m) ≡ true → is_change m.code ≡ true → ⊥
 unfolding answer_of
 storable-code most now to_get copy m e change = go (not (is_rst m.kind) && is_passed_on most to_get m) (validates to_get m) refl e
@@ -139,7 +139,7 @@ storable-code most now to_get copy m e change = go (not (is_rst m.kind) && is_pa
     go true true is f = valid-code m.code (and_parts to_get (is_code m.code VALID) is).1 change
     go true false is f = lasting-code m.code (and_parts (tells_age m.code) (nat_lt 0 (max_age_of (without_observe m))) f).0 change
 
--- and changes none
+-- and the response changes no target
 pub storable-quiet : (most now : ℕ) (to_get : Bool) (copy : Option Message) (m : Message) (t u : Target) → is_storable (answer_of most to_get copy now m) ≡ true → concerns (changed_by t m) u ≡ false
 unfolding changed_by
 storable-quiet most now to_get copy m t u e = go (is_change m.code) refl

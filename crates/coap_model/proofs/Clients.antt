@@ -1,4 +1,4 @@
--- A step that changes one client, which was given its answer, or closes it, keeps what is carried.
+-- A step that changes one client that was sent its answer, or closes it, preserves what is carried.
 use Rattle.std.proofs.Common.{◌≡◌, ◌≢◌, inr, ⊎_elim, ℕ, ◌<◌, ◌≤◌, Bool, true, false, eqb, List, ◌∷◌, length, map, Some, refl, sym, ap, ◌∙◌, subst, arith}
 use Rattle.std.specs.Prelude.{not, if◌then◌else◌}
 use Rattle.std.specs.List.{AllByRecursion}
@@ -53,7 +53,7 @@ use Rattle.coap_model.proofs.Seen.{gone-seen, served-seen}
 use Rattle.coap_model.proofs.Stores.{store-otherwise}
 use Rattle.coap_model.proofs.Tables.{item-Has, item-holds, Has-item, at-number, one-item, without-fewer, HasNumber-without, HasNumber-changed, changed-cases}
 
--- what an entry must be that acts on the client of a number
+-- what must hold of an entry that acts on the client with this number
 pub record IsService (n : ℕ) (e : Deed) : Type 0 where
   pub act : e.act ≡ serves n
   pub opens : opens_one e.entry.report.outcome ≡ 0
@@ -63,7 +63,7 @@ pub record IsService (n : ℕ) (e : Deed) : Type 0 where
   pub leaving : leaves e.entry.report.outcome ≡ true
   pub leaves_open : (standing : List Standing) (xs : List Open) → open_by e.entry.report.outcome e.act e.entry.report.send standing xs ≡ xs
 
--- what is known of the clients that are left: as many wait for each exchange as before
+-- what is known of the remaining clients: as many wait for each exchange as before
 pub record AreLeft (w : World) (left : List (Numbered Waiter)) : Type 0 where
   pub rising : IsRising 0 left
   pub fewer : length left ≤ length w.waiters
@@ -71,7 +71,7 @@ pub record AreLeft (w : World) (left : List (Numbered Waiter)) : Type 0 where
   pub waits : (x : ℕ) → count (waits_for x) left ≡ count (waits_for x) w.waiters
   pub awaited : AllByRecursion (λ v. HasExchange v.1.state w.exchanges) left
 
--- such a step keeps what is carried
+-- such a step preserves what is carried
 pub keeps_service : (w : World) (history : List Deed) (c : Bears history w) (e : Deed) (n : ℕ) (left : List (Numbered Waiter)) → IsService n e → ((k : Kind) → is_remembered e.entry.report.outcome k ≡ false) → w.last ≤ e.entry.now → Somewhere (Serves n) history
     → AreLeft w left
     → map standing_seen left ≡ standing_in (e ∷ history)
@@ -117,13 +117,13 @@ keeps_service w history c e n left s none onward served are seen there each numb
       past = past;
     }
 
--- ---- what was given to a client
+-- ---- what was sent to a client
 
--- the client that is due was given its answer
+-- the client that is due was sent its answer
 pub told-is : (w : World) (history : List Deed) (c : Bears history w) (n id : ℕ) (v : Waiter) (bytes : List ℕ) (timer : Timer) → item_at n w.waiters ≡ Some v → v.state ≡ Delivering bytes id timer → IsDelivering w.setting history (n, v) bytes id timer
 told-is w history c n id v bytes timer found state = subst (IsWaiterIn w.setting history (n, v)) state (item-holds (IsWaiterOf w.setting history) n w.waiters v c.waiters found)
 
--- it is to be given it again from when its timer is due
+-- it is due to be sent it again when its timer is due
 pub to-serve-again : (w : World) (history : List Deed) (c : Bears history w) (now at n id : ℕ) (v : Waiter) (bytes : List ℕ) (timer : Timer) → IsTurnOfTold w now at n v bytes id timer → IsToServeAgain history n at × (timer.due ≡ at) × (at ≤ now)
 to-serve-again w history c now at n id v bytes timer turn =
     let g = told-is w history c n id v bytes timer turn.found turn.state in
@@ -139,7 +139,7 @@ to-serve-again w history c now at n id v bytes timer turn =
       (turn-is w history c now (OfWaiter at n) turn.due).1,
     )
 
--- ---- clients that are left
+-- ---- the remaining clients
 
 module _ (w : World) (history : List Deed) (c : Bears history w) (n : ℕ) where
   -- the others stay as they were
@@ -152,7 +152,7 @@ module _ (w : World) (history : List Deed) (c : Bears history w) (n : ℕ) where
       other : (m : ℕ) → not (eqb m n) ≡ true → m ≢ n
       other m t same = let f : false ≡ true = subst (λ (b : Bool). not b ≡ true) (eq-eqb m n same) t in cc
 
-  -- where one goes that was given its answer, as many wait as before
+  -- if a client that was sent its answer is removed, as many wait as before
   pub left-gone : (v : Waiter) (bytes : List ℕ) (id : ℕ) (timer : Timer) → item_at n w.waiters ≡ Some v → v.state ≡ Delivering bytes id timer → AreLeft w (without n w.waiters)
   left-gone v bytes id timer found state =
       record {
@@ -163,7 +163,7 @@ module _ (w : World) (history : List Deed) (c : Bears history w) (n : ℕ) where
         awaited = All-weaken (λ u. HasExchange u.1.state w.exchanges × (not (eqb u.0 n) ≡ true)) (λ u. HasExchange u.1.state w.exchanges) (without n w.waiters) (λ u h. h.0) (All-filter (λ u. HasExchange u.1.state w.exchanges) (λ u. not (eqb u.0 n)) w.waiters c.whole.awaited);
       }
 
-  -- and so do they where its timer is fired
+  -- and so they do if its timer is fired
   pub left-fired : (now : ℕ) → AreLeft w (changed_at n (fired_waiter now) w.waiters)
   left-fired now =
       record {
@@ -191,7 +191,7 @@ module _ (w : World) (history : List Deed) (c : Bears history w) (n : ℕ) where
 
 -- ---- the rules
 
--- giving a client its answer again keeps what is carried
+-- sending a client its answer again preserves what is carried
 pub keeps_redelivering : (w : World) (history : List Deed) (c : Bears history w) (now draw at n : ℕ) (v : Waiter) (bytes : List ℕ) (id : ℕ) (timer : Timer) → w.last ≤ now → IsTurnOfTold w now at n v bytes id timer → fire_of now timer ≡ Again
     → Bears (doing (serves n) (entry_of now draw tick (redelivers w now n v bytes)) ∷ history) (redelivers w now n v bytes).world
 keeps_redelivering w history c now draw at n v bytes id timer onward turn fire =
@@ -253,7 +253,7 @@ keeps_redelivering w history c now draw at n v bytes id timer onward turn fire =
     still-so (Waiting exchange) = refl
     still-so (Delivering bytes id timer) = refl
 
--- and so does giving a client up
+-- and so does giving up a client
 pub keeps_abandoning : (w : World) (history : List Deed) (c : Bears history w) (now draw at n : ℕ) (v : Waiter) (bytes : List ℕ) (id : ℕ) (timer : Timer) → w.last ≤ now → IsTurnOfTold w now at n v bytes id timer → fire_of now timer ≡ GiveUp
     → Bears (doing (serves n) (entry_of now draw tick (abandons w now n)) ∷ history) (abandons w now n).world
 keeps_abandoning w history c now draw at n v bytes id timer onward turn fire =
@@ -272,7 +272,7 @@ keeps_abandoning w history c now draw at n v bytes id timer onward turn fire =
     (schedules_frame history e refl c.schedules)
     (unacknowledged n (acting w history c now (OfWaiter at n) turn.due e refl refl refl) refl t.0 (may-not now (sends_by (serves n) history) timer g.timer_is (goes-no_more now timer fire)) (record { sent = refl; bytes = refl }), c.past)
 
--- and so does closing a client that has acknowledged its answer
+-- and so does closing a client that acknowledged its answer
 pub keeps_closing : (w : World) (history : List Deed) (c : Bears history w) (now draw : ℕ) (source : Endpoint) (bytes : List ℕ) (m : Message) (n : ℕ) → w.last ≤ now → IsBytes bytes → message_in w.setting.limits.datagram bytes ≡ Some m → IsOfAnswer w now source m n
     → Bears (doing (serves n) (entry_of now draw (arrival source bytes) (closes w now n)) ∷ history) (closes w now n).world
 keeps_closing w history c now draw source bytes m n onward fits read about =

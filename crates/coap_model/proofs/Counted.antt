@@ -1,4 +1,4 @@
--- Counted: what a proxy counts of its store and of its records is what the history left.
+-- The counts of a proxy's store and records agree with the history.
 use Rattle.std.proofs.Common.{◌≡◌, List, length, ap, ◌∙◌, arith}
 use Rattle.coap_message.specs.declared.kind.Kind.{Kind}
 use Rattle.coap_dedup.specs.Records.{Records, living_at}
@@ -18,15 +18,15 @@ pub store-entries : (deeds : List Deed) (w : World) (cached : List Cached) → B
 store-entries deeds w cached c is =
     Pairs-length (IsStored w.setting deeds) w.store c.store.cached c.store.each ∙ ap length (cache-unique w.setting deeds c.store.cached cached c.store.is_cache is)
 
--- what is stored counts as the entry of the cache, marked or not
+-- a stored entry has the size of the entry of the cache, marked or not
 same-size : (setting : Setting) (history : List Deed) (e : Entry) (c : Cached) → IsStored setting history e c → entry_size e ≡ cached_size c
 same-size setting history e c s = ap entry_size s.same
 
--- and counts as many bytes
+-- and the store has as many bytes
 pub store-bytes : (deeds : List Deed) (w : World) (cached : List Cached) → Bears deeds w → IsCacheOf w.setting deeds cached → total entry_size w.store ≡ total cached_size cached
 store-bytes deeds w cached c is =
     Pairs-total (IsStored w.setting deeds) entry_size cached_size w.store c.store.cached (same-size w.setting deeds) c.store.each ∙ ap (total cached_size) (cache-unique w.setting deeds c.store.cached cached c.store.is_cache is)
 
--- as many records live as requests are still remembered
+-- the number of living records is the number of messages that are still remembered
 pub records-living : (deeds : List Deed) (w : World) (kind : Kind) (records : Records) → Bears deeds w → AreRemembered w.setting deeds kind records → length (living_at w.last records) ≡ length (remembered_at kind w.last deeds)
 records-living deeds w kind records c are = let last = c.clock.last in ap length (are.same w.last (omega arith))

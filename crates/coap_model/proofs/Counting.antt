@@ -1,4 +1,4 @@
--- The bytes held as values count are at most those that are kept of them.
+-- The bytes held as the values count are at most those that are kept for them.
 use Rattle.std.proofs.Common.{ℕ, ◌+◌, ◌≤◌, List, [], ◌∷◌, length, Option, Some, None, arith}
 use Rattle.std.specs.List.{sum_by}
 use Rattle.std.proofs.lemmas.List.Sums.{sum_by-cons, sum_by-le-sum_by}
@@ -21,22 +21,22 @@ use Rattle.coap_exchange.specs.Table.{Numbered}
 use Rattle.coap_model.specs.World.{World}
 use Rattle.coap_model.specs.Held.{host_bytes, key_bytes, response_bytes, copy_bytes, state_bytes, exchange_bytes, answer_bytes, waiter_bytes, held, response_size, answer_size, copy_size, exchange_size, waiter_size, bytes_held}
 
--- values, each with a byte more, are at most the pieces that are kept
+-- values, each with one extra byte, take at most as much as the pieces that are kept
 values-kept : (values : List (List ℕ)) → values_size values ≤ length (pieces_spelling values)
 values-kept [] = omega arith
 values-kept (v ∷ values) = omega (arith, sum_by-cons value_size v values, pieces-length v values, values-kept values)
 
--- and without a byte more all the less
+-- and so they do without the extra byte
 tags-kept : (tags : List (List ℕ)) → sum_by length tags ≤ length (pieces_spelling tags)
 tags-kept [] = omega arith
 tags-kept (tag ∷ tags) = omega (arith, sum_by-cons length tag tags, pieces-length tag tags, tags-kept tags)
 
--- the values of options are at most their spelling
+-- the values of options are at most their encoding
 options-count : (before : ℕ) (os : List Opt) → options_size os ≤ options_length before os
 options-count before [] = omega arith
 options-count before (o ∷ os) = omega (arith, sum_by-cons (λ (o : Opt). value_size o.value) o os, options-count o.number os)
 
--- options count at most their bytes
+-- options count at most the bytes of their encoding
 options-kept : (os : List Opt) → options_size os ≤ length (options_spelling 0 os)
 options-kept os = omega (arith, options-count 0 os, options-length 0 os)
 
@@ -69,12 +69,12 @@ answer-kept (Done a) = response-kept a.message
 exchange-kept : (x : Numbered Exchange) → exchange_size x ≤ exchange_bytes x
 exchange-kept x = omega (arith, key-kept x.1.key, copy-kept x.1.copy, answer-kept x.1.state)
 
--- a client that waits
+-- a waiting client
 waiter-kept : (v : Waiter) (state : WaiterState) → waiter_size v state ≤ length v.token + length (pieces_spelling v.tags) + answer_bytes state
 waiter-kept v (Waiting exchange) = omega (arith, tags-kept v.tags)
 waiter-kept v (Delivering bytes id timer) = omega arith
 
--- so it is of all that is held
+-- and everything that is held
 pub bytes-kept : (w : World) → bytes_held w ≤ held w
 bytes-kept w =
     omega (

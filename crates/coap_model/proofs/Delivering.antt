@@ -1,4 +1,4 @@
--- Serving a client keeps what is carried.
+-- Serving a client preserves what is carried.
 use Rattle.std.proofs.Common.{◌≡◌, ◌≢◌, ◌⊎◌, inl, ⊎_elim, ℕ, ◌+◌, ◌<◌, ◌≤◌, Bool, true, false, cond, eqb, List, [], ◌∷◌, length, map, Option, Some, None, refl, sym, ap, ◌∙◌, subst, arith}
 use Rattle.std.specs.Prelude.{not}
 use Rattle.std.specs.List.{AllByRecursion, list_any}
@@ -79,7 +79,7 @@ done-by setting history x a Sent e state = absurd cc
 done-by setting history x a Acked e state = absurd cc
 done-by setting history x a (Done b) e state = subst (IsDone setting history x) (same_Some b a e) state
 
--- a client whose exchange has its answer is served with that
+-- a client whose exchange has its answer is served with it
 pub served : (w : World) (history : List Deed) (c : Bears history w) (number exchange : ℕ) (v : Waiter) (x : Exchange) (a : Answer) → item_at number w.waiters ≡ Some v → v.state ≡ Waiting exchange → item_at exchange w.exchanges ≡ Some x → answer_at x ≡ Some a → IsServed w history number exchange v x a
 served w history c number exchange v x a found waits there answer =
     let g : IsWaiting w.setting history (number, v) exchange = subst (IsWaiterIn w.setting history (number, v)) waits (item-holds (IsWaiterOf w.setting history) number w.waiters v c.waiters found) in
@@ -92,23 +92,23 @@ served w history c number exchange v x a found waits there answer =
       short = subst (λ (t : List ℕ). length t ≤ 8) (sym g.token_is) g.admitted.asked.brings.spells.message.token;
     }
 
--- ---- what is told
+-- ---- what is sent
 
--- what an exchange ends with is shown as a message
+-- the answer of an exchange is sent as a message
 pub ending-is : (w : World) (kind : Kind) (to_get : Bool) (now id x : ℕ) (key : CacheKey) (p : Place) (a : Answer) (token : List ℕ) (tags : List (List ℕ)) → EndsWith w.setting x key p a → length token ≤ 8 → IsMessage (shown_as kind to_get now a id token tags)
 ending-is w kind to_get now id x key p a token tags ending short = shown-is w.setting.limits.datagram kind to_get now a id token tags (ending-holdable w.setting x key p a ending) short
 
--- and is no longer than the longest datagram, or than a short one
+-- and is no longer than the limit of datagrams, or than 128 bytes
 pub ending-fits : (w : World) (kind : Kind) (to_get : Bool) (now id x : ℕ) (key : CacheKey) (p : Place) (a : Answer) (token : List ℕ) (tags : List (List ℕ)) (most : ℕ) → EndsWith w.setting x key p a → length token ≤ 8 → 128 ≤ most → w.setting.limits.datagram ≤ most → length (spelling (shown_as kind to_get now a id token tags)) ≤ most
 ending-fits w kind to_get now id x key p a token tags most ending short wide long = shown-fits w.setting.limits.datagram most kind to_get now a id token tags wide long (ending-holdable w.setting x key p a ending) short
 
--- it goes out in a Confirmable message where the client asked in one
+-- it is sent in a Confirmable message if the client's request was Confirmable
 con-told : (bytes : List ℕ) (m : Message) → Spells bytes m → is_con_datagram bytes ≡ is_con m.kind
 con-told bytes m spells = ap (λ (o : Option Head). option_map_or (λ h. is_con h.kind) o false) (head_read bytes m (read_again bytes m spells))
 
--- ---- the clients that are left
+-- ---- the remaining clients
 
--- what is known of the clients that are left where one was served: one less waits, for its exchange
+-- what is known of the remaining clients after one was served: one fewer waits, for its exchange
 pub record IsServing (w : World) (number exchange : ℕ) (left : List (Numbered Waiter)) : Type 0 where
   pub rising : IsRising 0 left
   pub fewer : length left ≤ length w.waiters
@@ -118,7 +118,7 @@ pub record IsServing (w : World) (number exchange : ℕ) (left : List (Numbered 
   pub numbers : (u : ℕ) → u ≢ number → HasNumber u w.waiters → HasNumber u left
 
 module _ (w : World) (history : List Deed) (c : Bears history w) (number exchange : ℕ) (v : Waiter) (found : item_at number w.waiters ≡ Some v) (waits : v.state ≡ Waiting exchange) where
-  -- it waited
+  -- it waited before
   waited_here : one_if (passes is_waiting (item_at number w.waiters)) ≡ 1
   waited_here = ap (λ (b : Bool). one_if b) (ap (passes is_waiting) found ∙ ap is_waiting_state waits)
 
@@ -126,7 +126,7 @@ module _ (w : World) (history : List Deed) (c : Bears history w) (number exchang
   waited_not : (x : ℕ) → x ≢ exchange → one_if (passes (waits_for x) (item_at number w.waiters)) ≡ 0
   waited_not x other = ap one_if (ap (passes (waits_for x)) found ∙ ap (waits_in_state x) waits ∙ ne_eqb exchange x (λ same. other (sym same)))
 
-  -- one that is done with is gone
+  -- a client that is finished is removed
   serving-done : IsServing w number exchange (without number w.waiters)
   serving-done =
       record {
@@ -138,7 +138,7 @@ module _ (w : World) (history : List Deed) (c : Bears history w) (number exchang
         numbers = λ u other has. HasNumber-without number u w.waiters other has;
       }
 
-  -- one that is to acknowledge its answer waits no more
+  -- one that has to acknowledge its answer no longer waits
   serving-told : (bytes : List ℕ) (id : ℕ) (timer : Timer) → IsServing w number exchange (changed_at number (delivered bytes id timer) w.waiters)
   serving-told bytes id timer =
       let f = delivered bytes id timer in
@@ -158,7 +158,7 @@ module _ (w : World) (history : List Deed) (c : Bears history w) (number exchang
       no-more test none None = refl
       no-more test none (Some u) = ap one_if (none u)
 
--- ---- the exchanges that are left
+-- ---- the remaining exchanges
 
 module _ (w : World) (history : List Deed) (c : Bears history w) (number exchange : ℕ) (left : List (Numbered Waiter)) (r : IsServing w number exchange left) where
   -- as many wait for another exchange as before
@@ -168,7 +168,7 @@ module _ (w : World) (history : List Deed) (c : Bears history w) (number exchang
       let some = Has-holds (λ z. 0 < count (waits_for z.0) w.waiters) w.exchanges y c.whole.waited there in
       omega arith
 
-  -- the exchange stays as long as somebody waits for it
+  -- the exchange stays as long as a client waits for it
   data IsLeft (xs : List (Numbered Exchange)) : Type 0 where
     closed : count (waits_for exchange) left ≡ 0 → xs ≡ without exchange w.exchanges → IsLeft xs
     kept : 0 < count (waits_for exchange) left → xs ≡ w.exchanges → IsLeft xs
@@ -180,7 +180,7 @@ module _ (w : World) (history : List Deed) (c : Bears history w) (number exchang
       go true e = closed (eqb-true _ _ e) refl
       go false e = kept (let n = eqb-false _ _ e in omega (arith, n)) refl
 
-  -- so the history has it
+  -- so the remaining exchanges are those of the history
   left-seen : (xs : List (Numbered Exchange)) → IsLeft xs → map stage_seen xs ≡ awaited (map standing_seen left) (map stage_seen w.exchanges)
   left-seen xs (closed none is) =
       ap (map stage_seen) is
@@ -206,12 +206,12 @@ module _ (w : World) (history : List Deed) (c : Bears history w) (number exchang
       each [] all = tt
       each (y ∷ ys) all = (waited y all.0, each ys all.1)
 
-  -- what holds of each exchange holds of each that is left
+  -- what holds of each exchange holds of each remaining one
   left-all : (P : Numbered Exchange → Type 0) (xs : List (Numbered Exchange)) → IsLeft xs → AllByRecursion P w.exchanges → AllByRecursion P xs
   left-all P xs (closed none is) all = subst (AllByRecursion P) (sym is) (All-weaken (λ y. P y × (not (eqb y.0 exchange) ≡ true)) P (without exchange w.exchanges) (λ y h. h.0) (All-filter P (λ y. not (eqb y.0 exchange)) w.exchanges all))
   left-all P xs (kept some is) all = subst (AllByRecursion P) (sym is) all
 
-  -- another exchange is still there
+  -- the other exchanges are still there
   left-number : (xs : List (Numbered Exchange)) → IsLeft xs → (n : ℕ) → ((count (waits_for exchange) left ≡ 0) → n ≢ exchange) → HasNumber n w.exchanges → HasNumber n xs
   left-number xs (closed none is) n other has = subst (HasNumber n) (sym is) (HasNumber-without exchange n w.exchanges (other none) has)
   left-number xs (kept some is) n other has = subst (HasNumber n) (sym is) has
@@ -228,7 +228,7 @@ module _ (w : World) (history : List Deed) (c : Bears history w) (number exchang
   left-count test xs (closed none is) = let e = ap (count test) is in let l = count-without test exchange 0 w.exchanges c.whole.rising in omega arith
   left-count test xs (kept some is) = let e = ap (count test) is in omega arith
 
-  -- somebody waits for each that is left
+  -- a client waits for each remaining exchange
   left-waited : (xs : List (Numbered Exchange)) → IsLeft xs → AllByRecursion (λ y. 0 < count (waits_for y.0) left) xs
   left-waited xs (closed none is) =
       subst (AllByRecursion (λ y. 0 < count (waits_for y.0) left)) (sym is)
@@ -241,7 +241,7 @@ module _ (w : World) (history : List Deed) (c : Bears history w) (number exchang
       by_number y there true e = subst (λ (n : ℕ). 0 < count (waits_for n) left) (sym (eqb-true _ _ e)) some
       by_number y there false e = others-waited y there (eqb-false _ _ e)
 
-  -- the exchange of each client that is left is there
+  -- the exchange of each remaining client is there
   left-awaited : (xs : List (Numbered Exchange)) → IsLeft xs → AllByRecursion (λ u. HasExchange u.1.state xs) left
   left-awaited xs l = All-weaken (λ u. HasExchange u.1.state w.exchanges × Has u left) (λ u. HasExchange u.1.state xs) left (λ u h. still u h.1 u.1.state refl h.0) (All-there (λ u. HasExchange u.1.state w.exchanges) left r.awaited)
     where
@@ -255,7 +255,7 @@ module _ (w : World) (history : List Deed) (c : Bears history w) (number exchang
           omega arith)
           has
 
--- it is to be served since the end of its exchange
+-- it is due to be served since the end of its exchange
 served-at : (w : World) (history : List Deed) (c : Bears history w) (at number exchange : ℕ) (v : Waiter) (x : Exchange) (a : Answer) (f : IsServed w history number exchange v x a) → item_due w ≡ Some (OfWaiter at number) → item_at number w.waiters ≡ Some v → v.state ≡ Waiting exchange → item_at exchange w.exchanges ≡ Some x → answer_at x ≡ Some a → at ≡ f.done.ending.deed.entry.now
 served-at w history c at number exchange v x a f due found waits there answer =
     let d = first_due-holds (λ u. Has u w.waiters) (due_after w.exchanges) w.waiters (at, number) (Has-all w.waiters) (client-turn w history c at number due) in
@@ -274,7 +274,7 @@ to-serve w history c at number exchange v x a f moment =
       at_is = moment;
     }
 
--- the exchange ended after the client had come
+-- the exchange ended after the client was admitted
 ended-later : (w : World) (history : List Deed) (number exchange : ℕ) (v : Waiter) (x : Exchange) (a : Answer) (f : IsServed w history number exchange v x a) → IsPlaceOf f.done.ending.before f.waits.admitted.admission
 ended-later w history number exchange v x a f =
     ⊎_elim
@@ -296,7 +296,8 @@ ended-later w history number exchange v x a f =
 
 -- ---- the client
 
--- where it is done with, the others stay; where it is to acknowledge its answer, it was given that once
+-- if it is finished, the others stay as they are; if it has to acknowledge its answer, it was sent
+-- it once
 module _ (w : World) (history : List Deed) (c : Bears history w) (now draw at number exchange : ℕ) (v : Waiter) (x : Exchange) (a : Answer) (found : item_at number w.waiters ≡ Some v) (waits : v.state ≡ Waiting exchange) (f : IsServed w history number exchange v x a) where
   abbrev reply : Message
   reply = given_to w now v x.is_get a
@@ -332,7 +333,7 @@ module _ (w : World) (history : List Deed) (c : Bears history w) (now draw at nu
         tags_gone = refl;
       }
 
-  -- what is known of the clients that are left
+  -- what is known of the remaining clients
   record AreServed (left : List (Numbered Waiter)) : Type 0 where
     pub serving : IsServing w number exchange left
     pub seen : map standing_seen left ≡ standing_in (served_deed left ∷ history)
@@ -367,7 +368,7 @@ module _ (w : World) (history : List Deed) (c : Bears history w) (now draw at nu
 
 -- ---- the rule
 
--- serving a client keeps what is carried
+-- serving a client preserves what is carried
 pub keeps_delivering : (w : World) (history : List Deed) (c : Bears history w) (now draw at number exchange : ℕ) (v : Waiter) (x : Exchange) (a : Answer) (left : List (Numbered Waiter)) → w.last ≤ now → if_due now (item_due w) ≡ Some (OfWaiter at number) → item_at number w.waiters ≡ Some v → v.state ≡ Waiting exchange → item_at exchange w.exchanges ≡ Some x → answer_at x ≡ Some a → IsTold w now draw number (given_to w now v x.is_get a) left
     → Bears (doing (serves number) (entry_of now draw tick (tells w now v exchange (given_to w now v x.is_get a) left)) ∷ history) (tells w now v exchange (given_to w now v x.is_get a) left).world
 keeps_delivering w history c now draw at number exchange v x a left onward due found waits there answer told =

@@ -1,4 +1,5 @@
--- What is remembered, by places: each record was left at a place, and what is left at a place is found as long as it lives.
+-- What is remembered, in terms of places: each record was added at a place, and what was added at a
+-- place is found as long as it lives.
 use Rattle.std.proofs.Common.{◌≡◌, inl, inr, refl, ⊎_elim, ℕ, ◌+◌, ◌<◌, ◌&&◌, Bool, true, false, List, [], ◌∷◌, ◌++◌, Option, Some, None, sym, ap, ◌∙◌, subst}
 use Rattle.std.specs.Prelude.{filter, if◌then◌else◌}
 use Rattle.std.specs.List.{AllByRecursion}
@@ -22,9 +23,9 @@ use Rattle.coap_model.specs.Duplicates.{Repeats, IsRememberedAt}
 use Rattle.coap_endpoint.proofs.Lists.{none-found}
 use Rattle.coap_model.proofs.Lists.{find-holds, All-filter}
 
--- ---- each record was left at a place
+-- ---- each record was added at a place
 
--- where it was left
+-- the place where a record was added
 record WasLeft (kind : Kind) (history : List Deed) (r : Record) : Type 0 where
   pub place : Place
   pub there : IsPlaceOf history place
@@ -38,7 +39,7 @@ record WasLeft (kind : Kind) (history : List Deed) (r : Record) : Type 0 where
   pub reply : r.reply ≡ told_again former.kind place.deed.entry.bytes
   pub remembered : is_remembered place.deed.entry.report.outcome former.kind ≡ true
 
--- what an entry leaves was left there
+-- the record that an entry adds was added there
 left-by : (kind : Kind) (past : List Deed) (d : Deed) → AllByRecursion (WasLeft kind (d ∷ past)) (kept_by kind d.entry)
 left-by kind past d = brought d.entry.event refl
   where
@@ -56,7 +57,7 @@ left-by kind past d = brought d.entry.event refl
     brought (arrival source bytes) came = headed source bytes came (head_at bytes) refl
     brought tick came = tt
 
--- so was all that is left
+-- so were all records that were added
 all-left : (kind : Kind) (history : List Deed) → AllByRecursion (WasLeft kind history) (kept_in kind history)
 all-left kind [] = tt
 all-left kind (d ∷ past) =
@@ -66,7 +67,7 @@ all-left kind (d ∷ past) =
     (all-left kind past))
     (left-by kind past d)
 
--- types that go together are one
+-- types that are remembered together are equal
 pub goes-same : (k l : Kind) → goes_with k l ≡ true → l ≡ k
 goes-same Con Con e = refl
 goes-same Con Non e = absurd cc
@@ -79,7 +80,7 @@ goes-same Non Rst e = absurd cc
 goes-same Ack l e = absurd cc
 goes-same Rst l e = absurd cc
 
--- what is known of a message is what was left of it at a place
+-- the record of a message was added at a place that the message repeats
 pub known-place : (past : List Deed) (now : ℕ) (source : Endpoint) (m : Message) (known : Record) → record_of source m.id (remembered_at m.kind now past) ≡ Some known → Somewhere (IsRememberedAt now source m known) past
 known-place past now source m known found =
     let kind = m.kind in
@@ -107,14 +108,14 @@ known-place past now source m known found =
       };
     }
 
--- ---- what is left at a place is found
+-- ---- what was added at a place is found
 
--- what holds of all of two lists holds of all of each
+-- what holds of all elements of two joined lists holds of all elements of each
 both-parts : {X : Type 0} (P : X → Type 0) (xs ys : List X) → AllByRecursion P (xs ++ ys) → AllByRecursion P xs × AllByRecursion P ys
 both-parts P [] ys all = (tt, all)
 both-parts P (x ∷ xs) ys all = let rest = both-parts P xs ys all.1 in ((all.0, rest.0), rest.1)
 
--- what holds of all that pass a test holds of each where it passes
+-- what holds of all elements that pass a test holds of each element if it passes
 unfilter : {X : Type 0} (P : X → Type 0) (test : X → Bool) (xs : List X) → AllByRecursion P (filter test xs) → AllByRecursion (λ x. test x ≡ true → P x) xs
 unfilter P test [] all = tt
 unfilter P test (x ∷ xs) all = go (test x) refl all (unfilter P test xs)
@@ -123,18 +124,18 @@ unfilter P test (x ∷ xs) all = go (test x) refl all (unfilter P test xs)
     go true e rest more = ((λ f. rest.0), more rest.1)
     go false e rest more = ((λ f. absurd (let g = sym f ∙ e in cc)), more rest)
 
--- a type goes with itself
+-- a type is remembered with itself
 goes-itself : (k : Kind) → brings_requests k ≡ true → goes_with k k ≡ true
 goes-itself Con e = refl
 goes-itself Non e = refl
 goes-itself Ack e = absurd cc
 goes-itself Rst e = absurd cc
 
--- what an entry leaves of a message that it brought
+-- the record that an entry adds for a message that it brought
 left-is : (kind : Kind) (e : Entry) (source : Endpoint) (bytes : List ℕ) (former : Head) → is_remembered e.report.outcome former.kind ≡ true → e.event ≡ arrival source bytes → head_at bytes ≡ Some former → goes_with kind former.kind ≡ true → kept_by kind e ≡ record { from = source; id = former.id; at = e.now; reply = told_again former.kind e.bytes } ∷ []
 left-is kind e source bytes former kept came head goes = rw (came, head, goes, kept) refl
 
--- so a message that repeats one is known
+-- so a message that repeats a place is known
 pub place-known : (past : List Deed) (now : ℕ) (source : Endpoint) (m : Message) (p : Place) → brings_requests m.kind ≡ true → IsPlaceOf past p → Repeats now source m p → record_of source m.id (remembered_at m.kind now past) ≡ None → ⊥
 place-known past now source m p brings at r none = go past at (unfilter (λ x. is_of source m.id x ≡ false) (is_living lifetime now) (kept_in kind past) (none-found (is_of source m.id) (remembered_at kind now past) none))
   where

@@ -1,4 +1,4 @@
--- What is kept, and what exchanges end with, can be shown.
+-- The kept responses, and the answers of exchanges, can be sent to clients.
 use Rattle.std.proofs.Common.{◌≡◌, ℕ, List, [], ◌∷◌, Option, Some, None, refl, sym, subst}
 use Rattle.std.specs.Prelude.{option_map, IfSome}
 use Rattle.std.specs.List.{AllByRecursion}
@@ -14,7 +14,7 @@ use Rattle.coap_model.specs.Justified.{EndsWith, got, given_up}
 use Rattle.coap_model.proofs.Cached.{cache-holds, found-holds}
 use Rattle.coap_model.proofs.Showing.{IsHoldable, answer-holdable, matches-response, timeout-is}
 
--- what is kept for a key can be, where all that is kept can
+-- the response that is kept for a key can be sent, if all kept responses can
 pub kept-holdable : (setting : Setting) (key : CacheKey) (cached : List Cached) → AllByRecursion (λ c. IsHoldable setting.limits.datagram c.response) cached → IfSome (kept_for key cached) (IsHoldable setting.limits.datagram)
 kept-holdable setting key cached all = go (of_key cached_key key cached) refl
   where
@@ -22,25 +22,25 @@ kept-holdable setting key cached all = go (of_key cached_key key cached) refl
     go None e = tt
     go (Some c) e = found-holds (λ d. IsHoldable setting.limits.datagram d.response) cached key c all e
 
--- so can what a request may renew
+-- so can the one that a request may renew
 copied-holdable : (setting : Setting) (tags : List (List ℕ)) (key : CacheKey) (former : List Cached) → AllByRecursion (λ c. IsHoldable setting.limits.datagram c.response) former → IfSome (copied tags key former) (IsHoldable setting.limits.datagram)
 copied-holdable setting [] key former all = tt
 copied-holdable setting (tag ∷ tags) key former all = kept-holdable setting key former all
 
--- and what is got
+-- and the answer that arrives
 got-holdable : (setting : Setting) (x : ℕ) (p : Place) (gets : Gets setting x p) (former : List Cached) → AllByRecursion (λ c. IsHoldable setting.limits.datagram c.response) former → IsHoldable setting.limits.datagram (answer_got former gets).message
 got-holdable setting x p gets former all =
     let m = gets.meets in
     answer-holdable setting.limits.datagram p.deed.entry.now (to_get gets) (copied (tags_of (asked_of gets)) (key_asked gets) former) m.brings.bytes m.message gets.bytes m.brings.spells (matches-response m.matches) (copied-holdable setting (tags_of (asked_of gets)) (key_asked gets) former all)
 
--- all that a cache has can be shown
+-- all responses of a cache can be sent
 pub cache-holdable : (setting : Setting) (history : List Deed) (cached : List Cached) → IsCacheOf setting history cached → AllByRecursion (λ c. IsHoldable setting.limits.datagram c.response) cached
 cache-holdable setting history cached is =
     cache-holds setting (λ past c. IsHoldable setting.limits.datagram c.response) (λ past d c holdable. holdable)
     (λ past d x gets former was kept old. got-holdable setting x (record { before = past; deed = d }) gets former old)
     history cached is
 
--- what an exchange ends with can be
+-- the answer with which an exchange ends can be sent
 pub ending-holdable : (setting : Setting) (x : ℕ) (key : CacheKey) (p : Place) (a : Answer) → EndsWith setting x key p a → IsHoldable setting.limits.datagram a.message
 ending-holdable setting x key p a (got gets former was asked is) =
     subst (λ (b : Answer). IsHoldable setting.limits.datagram b.message) (sym is) (got-holdable setting x p gets former (cache-holdable setting was.opening.before former was.is_cache))

@@ -1,4 +1,4 @@
--- No datagram that a proxy sends is longer than a datagram may be.
+-- No datagram that a proxy sends is longer than the limit.
 use Rattle.std.proofs.Common.{◌≡◌, ℕ, Bool, ◌≤◌, true, List, length, Option, Some, None, refl, subst, arith}
 use Rattle.coap_message.specs.Spelling.{spelling}
 use Rattle.coap_message.proofs.Spellings.{spelling-length}
@@ -38,7 +38,7 @@ reset-short id = omega (arith, spelling-length (reset id))
 
 -- ---- each case
 
--- in each case of a step its datagram fits
+-- in each case of a step, its datagram fits
 rule_fits : {w : World} {now draw : ℕ} {grown : Bool} {event : Event} {s : Step} (history : List Deed) → Bears history w → AreLimits w.setting.limits → Rule w now draw grown event s → length s.bytes ≤ w.setting.limits.datagram
 rule_fits {w = w} history c are (refusing client bytes m code first denied free) = let came = request-came w client bytes m first.fits first.asked in omega (arith, (are Datagram).0, own-short m code (next_id w) m.token came.brings.spells.message.token)
 rule_fits {w = w} history c are (lacking client bytes m first free) = omega arith

@@ -38,26 +38,26 @@ use Rattle.coap_model.proofs.Places.{here, same_moves, same_serves, arrival-same
 use Rattle.coap_model.proofs.Sorts.{token-or-reset}
 use Rattle.coap_model.proofs.CacheExamples.{get_read, get_spelled}
 
--- the waiter that is served is that of the act
+-- the waiter that is served is the one of the act
 pub for_nobody : ¬ IsDelivery setting past (delivery (client 1) (content_for_client 7) no_item)
 for_nobody s = let e = s.act in absurd cc
 
--- it was admitted
+-- the waiter was admitted
 pub for_another : ¬ IsDelivery setting past (delivery (client 1) (content_for_client 7) (serves 2))
 for_another s =
     let same = same_serves 2 s.waiter s.act in
     let i = admitted-number s.to_serve.admitted in
     omega (arith, same, i.1)
 
--- it wasn't served
+-- the waiter wasn't served before
 pub again : ¬ IsDelivery setting (right ∷ past) right
 again s = s.to_serve.unserved.0 (record { act = s.act; outcome = refl })
 
--- what is no end of an exchange
+-- a deed that ends no exchange
 no_end : (d : Deed) (before : List Deed) (p : Place) (x : ℕ) → ends d.entry.report.outcome ≡ false → here before d ≡ p → Ends x p → ⊥
 no_end d before p x not same e = let o = sym not ∙ ap (λ (q : Place). ends q.deed.entry.report.outcome) same ∙ e.outcome in cc
 
--- its exchange was got
+-- the exchange has its answer
 pub nothing_got : ¬ IsDelivery setting (asked ∷ opened ∷ []) right
 nothing_got s =
     let p = s.to_serve in
@@ -66,11 +66,11 @@ nothing_got s =
     (λ (t : IsPlaceOf (opened ∷ []) p.ending). ⊎_elim (λ (e : here [] opened ≡ p.ending). no_end opened [] p.ending p.admitted.exchange refl e p.ends) (λ (h : ⊥). h) t)
     p.was_ended
 
--- what is no admission
+-- a deed that admits no client
 no_admission : (d : Deed) (before : List Deed) (p : Place) (v x : ℕ) → admits_one d.entry.report.outcome ≡ 0 → here before d ≡ p → Admits v x p → ⊥
 no_admission d before p v x not same a = let o : 0 ≡ 1 = sym not ∙ ap (λ (q : Place). admits_one q.deed.entry.report.outcome) same ∙ a.outcome in omega (arith, o)
 
--- what was got before its client asked is no answer to it
+-- an answer that arrived before the client's request isn't delivered to it
 pub early : ¬ IsDelivery setting (opened ∷ answered ∷ asked ∷ []) right
 early s =
     let p = s.to_serve in
@@ -85,7 +85,7 @@ early s =
     unadmitted : IsPlaceOf (asked ∷ []) s.to_serve.admitted.admission → ⊥
     unadmitted at = ⊎_elim (λ (e : here [] asked ≡ s.to_serve.admitted.admission). no_admission asked [] s.to_serve.admitted.admission s.waiter s.to_serve.admitted.exchange refl e s.to_serve.admitted.admits) (λ (h : ⊥). h) at
 
--- who was admitted in a past of three, whatever was asked
+-- the client that is admitted by the first of three deeds, whatever was requested
 one_admission : (o d : Deed) (p : Place) (v x : ℕ) → admits_one d.entry.report.outcome ≡ 0 → IsPlaceOf (answered ∷ d ∷ o ∷ []) p → Admits v x p → p ≡ here [] o
 one_admission o d p v x not at a =
     ⊎_elim
@@ -96,7 +96,7 @@ one_admission o d p v x not at a =
     t)
     at
 
--- and what ended in this past
+-- the exchange that ended in this past
 one_end : (p : Place) (x : ℕ) → IsPlaceOf past p → Ends x p → p ≡ here (asked ∷ opened ∷ []) answered
 one_end p x at e =
     ⊎_elim
@@ -107,7 +107,7 @@ one_end p x at e =
     t)
     at
 
--- the client is the one that asked
+-- the delivery goes to the client that sent the request
 pub to_another : ¬ IsDelivery setting past (delivery (client 2) (content_for_client 7) (serves 1))
 to_another s =
     let a = s.to_serve.admitted in
@@ -117,11 +117,11 @@ to_another s =
     let port = ap (λ (e : Endpoint). e.port) to in
     omega (arith, port)
 
--- it happens at a tick
+-- a delivery happens at a tick
 pub untimely : ¬ IsDelivery setting past (at_an_arrival right)
 untimely s = let e = s.acting.ticked in absurd cc
 
--- what is due before it was done before it
+-- what is due earlier is done earlier
 pub out_of_turn : ¬ IsDelivery setting (opened_too ∷ past) right
 unfolding verdict_of request_target mapped_target
 out_of_turn s =
@@ -147,12 +147,12 @@ out_of_turn s =
     moment p at e is =
         ⊎_elim (λ (same : here past opened_too ≡ p). is ∙ sym (ap (λ (q : Place). q.deed.entry.now) same)) (λ (t : IsPlaceOf past p). is ∙ ap (λ (q : Place). q.deed.entry.now) (one_end p s.to_serve.admitted.exchange t e)) at
 
--- the Max-Age that a message tells
+-- the Max-Age in a message
 abbrev told_by : Result Message DecodeError → ℕ
 told_by (Ok m) = max_age_of m
 told_by (Err e) = 0
 
--- the Max-Age that is to be told of an answer
+-- the Max-Age that has to be sent for an answer
 abbrev owed_by : ℕ → Message → Result Message DecodeError → ℕ
 owed_by id request (Ok m) = max_age_of (shown_as request.kind true 2500 (answer_of 1500 true None 0 m) id request.token (tags_of request))
 owed_by id request (Err e) = 0
@@ -166,7 +166,7 @@ abbrev tags_told : Result Message DecodeError → List (List ℕ)
 tags_told (Ok m) = tags_of m
 tags_told (Err e) = []
 
--- where its request was sent
+-- the place where the request was sent
 sent_there : (p : Place) (x : ℕ) → IsPlaceOf (asked ∷ opened ∷ []) p → Sends 0 x p → p ≡ here (opened ∷ []) asked
 sent_there p x at s =
     ⊎_elim
@@ -174,7 +174,7 @@ sent_there p x at s =
     (λ (t : IsPlaceOf (opened ∷ []) p). ⊎_elim (λ (e : here [] opened ≡ p). absurd (let f = ap (λ (q : Place). q.deed.entry.report.outcome) e ∙ s.outcome in cc)) (λ (h : ⊥). absurd h) t)
     at
 
--- what was got there is an answer to a GET without tags, and its Max-Age is that of what came
+-- the answer that arrived there answers a GET without tags, and has the Max-Age of its response
 got_age : (x : ℕ) (key : CacheKey) (p : Place) (answer : Answer) (id : ℕ) (request : Message) → is_get request.code ≡ true → p ≡ here (asked ∷ opened ∷ []) answered → EndsWith setting x key p answer → max_age_of (shown_as request.kind (is_get request.code) 2500 answer id request.token (tags_of request)) ≡ 7
 unfolding read_message body_at options_within option_at extended answer_of spelling option_spelling uint_spelling
 got_age x key p answer id request get place (got gets former was asked_key is) =
@@ -189,7 +189,7 @@ got_age x key p answer id request get place (got gets former was asked_key is) =
     (λ i. max_age_of (shown_as request.kind (get i) 2500 (answer_is i) id request.token (tags_of request))) ∙ sym (ap (owed_by id request) read)
 got_age x key p answer id request get place (given_up gives is) = absurd (let e = ap (λ (q : Place). q.deed.entry.report.outcome) (sym place) ∙ gives.outcome in cc)
 
--- the Max-Age that is told is what is left: seven seconds, and not ten
+-- the Max-Age that is sent is the rest: seven seconds, and not ten
 pub another_age : ¬ IsDelivery setting past (delivery (client 1) (content_for_client 10) (serves 1))
 unfolding read_message body_at options_within option_at extended
 another_age s =
@@ -203,14 +203,14 @@ another_age s =
     let ten : 10 ≡ 7 = ap told_by told ∙ got_age a.exchange s.key p.ending s.answer s.id a.request (sym get) place s.ended in
     omega (arith, ten)
 
--- ---- the type of the message that was asked in
+-- ---- the type of the client's request
 
 -- whether a message is Confirmable
 abbrev con_told : Result Message DecodeError → Bool
 con_told (Ok m) = is_con m.kind
 con_told (Err e) = false
 
--- what is shown is of the type of the request that admitted the client, which came in these bytes
+-- a delivery has the type of the request that admitted the client, which is in these bytes
 kind_asked : (o : Deed) (bytes told : List ℕ) → o.entry.event ≡ arrival (client 1) bytes → (s : IsDelivery setting (answered ∷ asked ∷ o ∷ []) (delivery (client 1) told (serves 1))) → con_told (read_message bytes) ≡ con_told (read_message told)
 kind_asked o bytes told came s =
     let a = s.to_serve.admitted in
@@ -220,34 +220,34 @@ kind_asked o bytes told came s =
     let shown_again = read_again told (shown_as a.request.kind (is_get a.request.code) 2500 s.answer s.id a.request.token (tags_of a.request)) s.tells.spells in
     ap con_told read ∙ sym (ap con_told shown_again)
 
--- a client that asked in a Non-confirmable message is given none that is Confirmable
+-- a client with a Non-confirmable request isn't sent a Confirmable answer
 pub con_for_non : ¬ IsDelivery setting past in_con
 unfolding read_message body_at options_within option_at extended
 con_for_non s = let e : false ≡ true = kind_asked opened (get_t []) (content_in 0x40 7) refl s in cc
 
--- nor is one that asked in a Confirmable message given another
+-- nor is one with a Confirmable request sent another
 pub non_for_con : ¬ IsDelivery setting past_con right
 unfolding read_message body_at options_within option_at extended
 non_for_con s = let e : true ≡ false = kind_asked opened_con (0x40 ∷ 1 ∷ 0 ∷ 7 ∷ 0xB1 ∷ 0x74 ∷ []) (content_for_client 7) refl s in cc
 
--- ---- the key that was asked for
+-- ---- the key of the client's request
 
--- the segments that a request tells to its origin
+-- the number of path segments that are sent to the origin server
 abbrev segments_sent : Result Message DecodeError → ℕ
 segments_sent (Ok m) = length (key_sent origin m).target.path
 segments_sent (Err e) = 0
 
--- the segments of the target of what may be asked for
+-- the number of path segments of the target in a verdict
 abbrev segments_of : Verdict → ℕ
 segments_of (may_ask key) = length key.target.path
 segments_of (refused_with code) = 0
 
--- those of the target of a request
+-- that of the target of a request
 abbrev segments_aimed : Result Message DecodeError → ℕ
 segments_aimed (Ok m) = segments_of (verdict_of setting.routes m)
 segments_aimed (Err e) = 0
 
--- where anything was sent
+-- the place where the request was sent
 elsewhere_sent : (p : Place) (x : ℕ) → IsPlaceOf past_elsewhere p → Sends 0 x p → p ≡ here (opened ∷ []) asked_elsewhere
 elsewhere_sent p x at s =
     ⊎_elim
@@ -269,7 +269,7 @@ elsewhere_kept p x at g =
     t)
     at
 
--- the answer to it is for the key of that
+-- the answer is for the key of the forwarded request
 key_elsewhere : (x : ℕ) (key : CacheKey) (p : Place) (answer : Answer) → IsPlaceOf past_elsewhere p → EndsWith setting x key p answer → 2 ≡ length key.target.path
 unfolding read_message body_at options_within option_at extended key_sent target_sent
 key_elsewhere x key p answer at (got gets former was asked_key is) =
@@ -282,7 +282,7 @@ key_elsewhere x key p answer at (got gets former was asked_key is) =
     told ∙ ap (λ (k : CacheKey). length k.target.path) asked_key
 key_elsewhere x key p answer at (given_up gives is) = absurd (elsewhere_kept p x at gives)
 
--- the request that was sent for it has the key of the client's
+-- the forwarded request has the key of the client's request
 pub elsewhere : ¬ IsDelivery setting past_elsewhere right
 unfolding read_message body_at options_within option_at extended verdict_of request_target mapped_target
 elsewhere s =
@@ -297,7 +297,7 @@ elsewhere s =
 
 -- ---- entries
 
--- an entry of a cache was got in the history
+-- the response of a cache entry arrived in the history
 pub not_got_yet : ¬ WasObtained setting (asked ∷ opened ∷ []) first_entry
 not_got_yet o =
     ⊎_elim
@@ -310,12 +310,12 @@ abbrev token_told : Result Message DecodeError → ℕ
 token_told (Ok m) = sum_by (λ b. b) m.token
 token_told (Err e) = 0
 
--- whether it is a Reset
+-- whether a message is a Reset
 abbrev is_reset : Result Message DecodeError → Bool
 is_reset (Ok m) = is_rst m.kind
 is_reset (Err e) = false
 
--- what answers another request was not obtained by this one
+-- an answer to another request doesn't make this one obtained
 pub not_its_answer : ¬ IsObtained setting key_of_temp (content_for 1 2) (here (opened ∷ []) asked) (here (asked ∷ opened ∷ []) (record (cached.answered 5 1 2 (Answered Kept)) { act = moves 1 }))
 unfolding read_message body_at options_within option_at extended token_of
 not_its_answer o =

@@ -1,4 +1,4 @@
--- Forged acknowledgements of an answer: they close nothing.
+-- Forged acknowledgements of an answer close no client.
 use Rattle.std.proofs.Common.{◌≡◌, inl, inr, ℕ, [], ◌∷◌, codes, Some, refl, sym, ap, ◌∙◌, subst, arith}
 use Rattle.std.proofs.lemmas.Option.{same_Some}
 use Rattle.coap_endpoint.specs.declared.endpoint.Endpoint.{Endpoint}
@@ -18,7 +18,7 @@ use Rattle.coap_model.specs.Forged.{setting, asked, answered, opened_con, past_c
 use Rattle.coap_model.proofs.CacheExamples.{are-bytes}
 use Rattle.coap_model.proofs.Places.{here, one-brought}
 
--- an acknowledgement says nothing but an id
+-- an acknowledgement with nothing but an id
 abbrev empty_of : ℕ → Message
 empty_of id = record { kind = Ack; code = EMPTY; id = id; token = []; options = []; payload = [] }
 
@@ -27,16 +27,16 @@ second_spelled : Spells (0x60 ∷ 0 ∷ 0 ∷ 2 ∷ []) (empty_of 2)
 unfolding read_message body_at options_within option_at extended
 second_spelled = read_is (0x60 ∷ 0 ∷ 0 ∷ 2 ∷ []) (empty_of 2) (are-bytes (0x60 ∷ 0 ∷ 0 ∷ 2 ∷ []) refl) refl
 
--- and one with another
+-- and one with another id
 third_spelled : Spells (0x60 ∷ 0 ∷ 0 ∷ 3 ∷ []) (empty_of 3)
 unfolding read_message body_at options_within option_at extended
 third_spelled = read_is (0x60 ∷ 0 ∷ 0 ∷ 3 ∷ []) (empty_of 3) (are-bytes (0x60 ∷ 0 ∷ 0 ∷ 3 ∷ []) refl) refl
 
--- what the client was given has the id 2
+-- the answer that the client was sent has the id 2
 abbrev told_to_client : Message
 told_to_client = record { kind = Con; code = CONTENT; id = 2; token = []; options = option_of MAX_AGE (7 ∷ []) ∷ []; payload = codes "21" }
 
--- the answer as it was sent
+-- the datagram encodes the answer
 told_spelled : Spells (content_in 0x40 7) told_to_client
 unfolding read_message body_at options_within option_at extended
 told_spelled = read_is (content_in 0x40 7) told_to_client (are-bytes (content_in 0x40 7) refl) refl

@@ -1,4 +1,5 @@
--- Forged replies from the cache: what was changed is shown no more, and what a change overtook isn't kept.
+-- Forged replies from the cache: an entry that was changed isn't used any more, and an answer that
+-- a change overtook isn't kept.
 use Rattle.std.proofs.Common.{◌≡◌, inl, inr, ℕ, ◌+◌, Bool, true, false, ◌<◌, List, [], ◌∷◌, ◌++◌, length, Some, None, Result, Ok, Err, refl, sym, ap, ◌∙◌, subst, arith}
 use Rattle.std.specs.Option.{option_map_or}
 use Rattle.std.specs.Prelude.{if◌then◌else◌, get_or, ◌&&◌}
@@ -55,12 +56,12 @@ use Rattle.coap_model.proofs.Places.{here, same_moves, request-unique}
 
 -- ---- the change
 
--- what comes for the second exchange says so
+-- the response to the second exchange says that its target was changed
 change_spelled : Spells change_told changed_message
 unfolding read_message body_at options_within option_at extended token_of
 change_spelled = read_is change_told changed_message (are-bytes change_told refl) refl
 
--- it is got there
+-- it arrives there
 abbrev change_gets : (past : List Deed) (asking : Place) → IsPlaceOf past asking → (asks : Asks 0 2 asking) → asks.sends.to ≡ origin → asks.sends.message ≡ get_for 3 2 → Gets setting 2 (here past change)
 change_gets past asking was_asked asks to message = record {
   act = refl;
@@ -76,21 +77,21 @@ change_gets past asking was_asked asks to message = record {
   bytes = are-bytes change_told refl;
 }
 
--- the target of what was asked is changed
+-- the target of the request is changed
 changed-there : Changes setting key_of_temp.target (here asked_past change)
 unfolding changed_by token_of target_options target_sent key_sent uint_spelling spelling option_spelling
 changed-there = record { exchange = 2; gets = change_gets asked_past (here opened_past asks_again) (inl refl) second_asks refl refl; concerned = refl }
 
--- so it was changed since the first answer was asked for
+-- so it was changed since the request for the first answer was sent
 pub was_changed : WasChanged setting key_of_temp.target first_entry.asking changed_past
 was_changed = record { place = here asked_past change; is_there = inl refl; holds = (changed-there, omega arith) }
 
--- and not before that
+-- the first answer itself changes nothing
 content-quiet : concerns (changed_by (key_asked (first_gets Kept)).target (first_gets Kept).meets.message) key_of_temp.target ≡ false
 unfolding changed_by
 content-quiet = refl
 
--- so nothing changed it before that
+-- so nothing changed the target before that
 pub was_unchanged : Unchanged setting key_of_temp.target first_entry.asking asked_past
 was_unchanged =
     told-stays false setting key_of_temp.target first_entry.asking opened_past asks_again refl
@@ -101,13 +102,13 @@ was_unchanged =
     (told-stays false setting key_of_temp.target first_entry.asking (opened ∷ []) asked refl
     (told-stays false setting key_of_temp.target first_entry.asking [] opened refl tt))))))
 
--- ---- what is shown
+-- ---- what is sent from the cache
 
--- the cache is the same after it
+-- the cache is the same after the change
 cache_changed : IsCacheOf setting changed_past (first_entry ∷ [])
 cache_changed = otherwise change refl cache_asked_again
 
--- whatever is found in a cache of one is that
+-- whatever is found in a cache with one entry is that entry
 found-one : (key : CacheKey) (c d : Cached) → of_key cached_key key (c ∷ []) ≡ Some d → c ≡ d
 found-one key c d found = go (same_key (cached_key c) key) refl found
   where
@@ -115,18 +116,18 @@ found-one key c d found = go (same_key (cached_key c) key) refl found
     go true e is = same_Some c d is
     go false e is = absurd cc
 
--- so a hit shows it
+-- so a hit uses that entry
 hit-shows : (past : List Deed) (d : Deed) → IsCacheOf setting past (first_entry ∷ []) → (hit : IsHit setting past d) → first_entry ≡ hit.entry
 hit-shows past d cache hit =
     let one = cache-unique setting past hit.cached (first_entry ∷ []) hit.is_cache cache in
     found-one hit.key first_entry hit.entry (subst (λ (cs : List Cached). of_key cached_key hit.key cs ≡ Some hit.entry) one hit.found)
 
--- what is unchanged and fresh is shown with what is left of its Max-Age
+-- an unchanged and fresh entry is sent with the rest of its Max-Age
 reply_spelled : Spells (reply 25 9).entry.bytes (at_once get_read (shown 25 (stored_answer (entry_of_cached first_entry).1) 4 [] (tags_of get_read)))
 unfolding read_message body_at options_within option_at extended uint_spelling
 reply_spelled = read_is (reply 25 9).entry.bytes _ (are-bytes (reply 25 9).entry.bytes refl) refl
 
--- the client asks for it
+-- the client requests it
 abbrev reply_asked : (now left : ℕ) → IsRequestOf setting (client 4) get_read (reply now left).entry.event
 reply_asked now left = record { brings = record { bytes = get_t []; came = refl; spells = get_spelled; short = omega arith }; kind = refl; method = refl }
 
@@ -152,13 +153,13 @@ as_it_is = record {
   tells = record { sent = refl; spells = reply_spelled };
 }
 
--- what was changed isn't
+-- an entry that was changed isn't a hit
 pub after_a_change : ¬ IsHit setting changed_past (reply 25 9)
 after_a_change hit =
     let same = hit-shows changed_past (reply 25 9) cache_changed hit in
     told-contrary first_entry.asking (subst (λ (c : Cached). Unchanged setting c.key.target c.asking changed_past) (sym same) hit.usable.unchanged) was_changed
 
--- ---- what is a reply from the cache
+-- ---- replies from the cache
 
 -- the first answer was fetched
 first_fetched : IsFetched setting key_of_temp first_entry.asking first_entry.getting
@@ -178,7 +179,7 @@ first_obtained : (past : List Deed) → IsPlaceOf past first_entry.asking → Is
 unfolding first_fetched token_of
 first_obtained past was_asked was_got = record { was_asked = was_asked; was_got = was_got; obtained = first_hand first_fetched refl (record { code = refl; age = omega arith }) }
 
--- what is unchanged is a reply from the cache, before the change and after it
+-- if it is unchanged, it is a reply from the cache, both before the change and after it
 from_cache_if : (past : List Deed) → IsPlaceOf past first_entry.asking → IsPlaceOf past first_entry.getting → Unchanged setting key_of_temp.target first_entry.asking past → IsFromCache setting past (reply 25 9).entry
 unfolding verdict_of request_target mapped_target
 from_cache_if past was_asked was_got unchanged = record {
@@ -202,7 +203,7 @@ from_cache = from_cache_if asked_past (inr (inr (inr (inr (inl refl))))) (inr (i
 pub from_cache_but_for_the_change : Unchanged setting key_of_temp.target first_entry.asking changed_past → IsFromCache setting changed_past (reply 25 9).entry
 from_cache_but_for_the_change = from_cache_if changed_past (inr (inr (inr (inr (inr (inl refl)))))) (inr (inr (inr (inr (inl refl)))))
 
--- what the change brought can't be kept
+-- the response that made the change can't be kept
 not-of-the-change : {key : CacheKey} {response : Message} {asking : Place} → IsObtained setting key response asking (here asked_past change) → ⊥
 not-of-the-change (first_hand {response = response} fetched is lasting) =
     let one = one-getting fetched.gets (change_gets asked_past (here opened_past asks_again) (inl refl) second_asks refl refl) in
@@ -217,12 +218,12 @@ not-of-the-change (validated {old = old} fetched tag obtained behind tagged sent
     not-valid : false ≡ true → ⊥
     not-valid e = absurd cc
 
--- what the first answer brought was asked for by the first request
+-- an entry with the first answer was requested by the first request
 asked-first : {key : CacheKey} {response : Message} {asking : Place} → IsObtained setting key response asking first_entry.getting → asking ≡ first_entry.asking
 asked-first (first_hand fetched is lasting) = sym fetched.asking_is ∙ (one-getting fetched.gets (first_gets Kept)).asking
 asked-first (validated fetched tag obtained behind tagged sent is renewal fit lasting) = sym fetched.asking_is ∙ (one-getting fetched.gets (first_gets Kept)).asking
 
--- an answer is got at no other place
+-- an answer arrives at no other place
 got-elsewhere : {key : CacheKey} {response : Message} {asking getting : Place} (p : Place) → takes p.deed.entry.report.outcome ≡ false → p ≡ getting → IsObtained setting key response asking getting → ⊥
 got-elsewhere {key} {response} {asking} {getting} p none same obtained = go (subst (λ (q : Place). IsObtained setting key response asking q) (sym same) obtained)
   where
@@ -230,7 +231,7 @@ got-elsewhere {key} {response} {asking} {getting} p none same obtained = go (sub
     go (first_hand fetched is lasting) = absurd (let e = sym fetched.gets.outcome ∙ none in cc)
     go (validated fetched tag other behind tagged sent is renewal fit lasting) = absurd (let e = sym fetched.gets.outcome ∙ none in cc)
 
--- so what was obtained was asked for before the change
+-- so an obtained entry was requested before the change
 obtained-first : {key : CacheKey} {response : Message} {asking getting : Place} → IsPlaceOf changed_past getting → IsObtained setting key response asking getting → asking ≡ first_entry.asking
 obtained-first {key} {response} {asking} {getting} (inl e) o = absurd (not-of-the-change (subst (λ (q : Place). IsObtained setting key response asking q) (sym e) o))
 obtained-first (inr (inl e)) o = absurd (got-elsewhere (here opened_past asks_again) refl e o)
@@ -241,12 +242,12 @@ obtained-first (inr (inr (inr (inr (inr (inl e)))))) o = absurd (got-elsewhere (
 obtained-first (inr (inr (inr (inr (inr (inr (inl e))))))) o = absurd (got-elsewhere (here [] opened) refl e o)
 obtained-first (inr (inr (inr (inr (inr (inr (inr none))))))) o = absurd none
 
--- the request is of the key
+-- the request has the key
 key-asked : (key : CacheKey) → verdict_on setting get_read ≡ may_ask key → key ≡ key_of_temp
 unfolding verdict_of request_target mapped_target
 key-asked key is = let e : may_ask key_of_temp ≡ may_ask key = is in let same : key_of_temp ≡ key = cc in sym same
 
--- so what was changed is no reply from the cache
+-- so an entry that was changed isn't a reply from the cache
 pub not_from_cache : ¬ IsFromCache setting changed_past (reply 25 9).entry
 not_from_cache f =
     let one = request-unique setting (reply 25 9).entry.event f.client (client 4) f.request get_read f.asked (reply_asked 25 9) in
@@ -256,9 +257,9 @@ not_from_cache f =
     let unchanged = subst (λ (t : Target). Unchanged setting t f.cached.asking changed_past) target f.usable.unchanged in
     told-contrary first_entry.asking (subst (λ (p : Place). Unchanged setting key_of_temp.target p changed_past) asking unchanged) was_changed
 
--- ---- what is too late, or shown wrongly
+-- ---- entries that are stale, or sent wrongly
 
--- nor what is stale by a millisecond
+-- an entry that is stale by a millisecond isn't a hit
 pub too_late : ¬ IsHit setting asked_past (reply 10006 0)
 too_late hit =
     let same = hit-shows asked_past (reply 10006 0) cache_asked_again hit in
@@ -266,12 +267,12 @@ too_late hit =
     let stale : is_fresh 10006 (entry_of_cached first_entry).1 ≡ false = refl in
     absurd (let e = sym fresh ∙ stale in cc)
 
--- the Max-Age that a message tells
+-- the Max-Age in a message
 abbrev age_told : Result Message DecodeError → ℕ
 age_told (Ok m) = max_age_of m
 age_told (Err e) = 0
 
--- nor is it shown with the Max-Age that it had
+-- an entry isn't sent with its original Max-Age
 pub as_received : ¬ IsHit setting asked_past (reply 25 10)
 unfolding read_message body_at options_within option_at extended uint_spelling
 as_received hit =
@@ -283,39 +284,39 @@ as_received hit =
 
 -- ---- what is kept
 
--- the second exchange is asked before the first is answered
+-- the second request is sent before the first is answered
 early_unsent : Never (Sends 0 2) (opens_again ∷ asked ∷ opened ∷ [])
 early_unsent = (unsent 2 (asked ∷ opened ∷ []) opens_again (λ e. cc), (other, (unsent 2 [] opened (λ e. cc), tt)))
   where
     other : ¬ Sends 0 2 (here (opened ∷ []) asked)
     other s = let e = same_moves 1 2 s.act in omega (arith, e)
 
--- so it was asked there
+-- so it was first sent there
 abbrev early_asks : Asks 0 2 (here (opens_again ∷ asked ∷ opened ∷ []) asks_again)
 early_asks = record {
   sends = record { act = refl; outcome = refl; to = origin; sent = refl; message = get_for 3 2; spells = second_sent; token = refl };
   first = early_unsent;
 }
 
--- its answer changes the target after the first was asked
+-- its answer changes the target after the first request was sent
 early-changed : Changes setting key_of_temp.target (here (asks_again ∷ opens_again ∷ asked ∷ opened ∷ []) change)
 unfolding changed_by token_of target_options target_sent key_sent uint_spelling spelling option_spelling
 early-changed = record { exchange = 2; gets = change_gets (asks_again ∷ opens_again ∷ asked ∷ opened ∷ []) (here (opens_again ∷ asked ∷ opened ∷ []) asks_again) (inl refl) early_asks refl refl; concerned = refl }
 
--- so the target was changed since the first was asked
+-- so the target was changed since the first request was sent
 overtaken : WasChanged setting key_of_temp.target (here (opened ∷ []) asked) overtaken_past
 overtaken = record { place = here (asks_again ∷ opens_again ∷ asked ∷ opened ∷ []) change; is_there = inl refl; holds = (early-changed, omega arith) }
 
--- the first answer comes after that
+-- the first answer arrives after that
 abbrev late_gets : Gets setting 1 (here overtaken_past keeps_overtaken)
 late_gets = content_gets overtaken_past 25 1 1 Kept (here (opened ∷ []) asked) (inr (inr (inr (inl refl)))) first_asks refl refl (are-bytes (limited.got 1 1) refl) first_got (omega arith)
 
--- what was asked for is of the key
+-- the request has the key
 asked-temp : key_asked late_gets ≡ key_of_temp
 unfolding token_of target_options target_sent key_sent uint_spelling spelling option_spelling
 asked-temp = refl
 
--- so it isn't kept
+-- so the answer isn't kept
 pub overtaken_kept : ¬ IsKept setting overtaken_past keeps_overtaken
 overtaken_kept kept =
     let one = one-getting kept.here.gets late_gets in
@@ -323,9 +324,9 @@ overtaken_kept kept =
     let unchanged = subst (λ (t : Target). Unchanged setting t kept.here.gets.meets.asking overtaken_past) target kept.here.unchanged in
     told-contrary (here (opened ∷ []) asked) (subst (λ (p : Place). Unchanged setting key_of_temp.target p overtaken_past) one.asking unchanged) overtaken
 
--- ---- a word that isn't kept
+-- ---- a promise that isn't kept
 
--- the first of two is open when the second is opened
+-- the first of two exchanges is open when the second is opened
 two-open : (setting : Setting) (past : List Deed) (d e : Deed) → d.entry.report.outcome ≡ Opened → e.entry.report.outcome ≡ Opened → AllJustified setting (e ∷ d ∷ past) → 1 < setting.limits.exchanges
 two-open setting past d e first second all =
     let j : IsOpening setting past d = subst (λ (o : Outcome). JustifiedBy o setting past d) first all.1.0 in
@@ -335,7 +336,7 @@ two-open setting past d e first second all =
     let room = k.room.exchange in
     omega (arith, ap (λ (xs : List Open). length xs) there, more, room)
 
--- so with room for one this isn't what a proxy did that keeps its word
+-- so with room for one, this isn't the history of a proxy that keeps its promise
 pub two_exchanges : (w : World) → w.setting.limits.exchanges ≡ 1 → ¬ KeepsItsWord opens_two w
 two_exchanges w one word = go word.deeds word.told word.justified
   where

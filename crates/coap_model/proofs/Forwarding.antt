@@ -1,4 +1,4 @@
--- Sending a request on keeps what is carried.
+-- Forwarding a request preserves what is carried.
 use Rattle.std.proofs.Common.{◌≡◌, inl, ℕ, ◌+◌, ◌<◌, ◌≤◌, List, [], ◌∷◌, Bool, true, false, cond, Option, Some, None, refl, sym, ap, ◌∙◌, subst, arith}
 use Rattle.std.specs.Prelude.{◌&&◌, is_some, IfSome}
 use Rattle.coap_message.specs.Spelling.{Spells, spelling, with_id}
@@ -58,13 +58,13 @@ use Rattle.coap_model.proofs.Verdicts.{askable}
 
 -- ---- timers
 
--- a timer that was started now is that of one sending
+-- a timer that was started now is that of one transmission
 started-is : (e : Entry) → IsTimer (started e.now e.draw) (e ∷ [])
 started-is e = (refl, refl, omega arith, refl)
 
 -- ---- what may be renewed
 
--- the tags of a GET that is sent on are the proxy's, and what it may renew is what it has a copy of
+-- a forwarded GET has only the proxy's tag, and may renew the response that it has a copy of
 sent-copy : (token : List ℕ) (key : CacheKey) (former : List Cached) (tag : Option (List ℕ)) (m : Message) (id : ℕ) → is_get m.code ≡ true → first_refused Request m.options ≡ None → IfSome tag IsTag → cond (is_some tag) (kept_for key former) None ≡ copied (tags_of (forwarded token key.target tag m id)) key former
 sent-copy token key former tag m id get screened is = go tag ∙ sym (ap (λ (ts : List (List ℕ)). copied ts key former) (tags-forwarded token key.target tag m id get screened is))
   where
@@ -74,7 +74,7 @@ sent-copy token key former tag m id get screened is = go tag ∙ sym (ap (λ (ts
 
 -- ---- the rule
 
--- sending a request on keeps what is carried
+-- forwarding a request preserves what is carried
 pub keeps_forwarding : (w : World) (history : List Deed) (c : Bears history w) → (now draw at number : ℕ) (x : Exchange) → w.last ≤ now → IsTurnOf w now at number x → x.state ≡ Queued → now < deadline w.setting.limits.exchange_ms x
     → Bears (doing (moves number) (entry_of now draw tick (sends w now draw number x)) ∷ history) (sends w now draw number x).world
 keeps_forwarding w history c now draw at number x onward turn queued early =

@@ -32,7 +32,7 @@ use Rattle.coap_model.proofs.Places.{here, index_below, opened-later, admitted-l
 
 -- ---- the clock and the numbers
 
--- the clock goes on by an entry
+-- the clock advances by an entry
 pub clock_frame : {history : List Deed} {w v : World} {e : Deed} → Clock history w → w.last ≤ e.entry.now → v.events ≡ w.events + 1 → v.last ≡ e.entry.now → Clock (e ∷ history) v
 clock_frame c onward events last = record { events = let h = c.events in omega arith; last = last; in_order = (let h = c.last in omega arith, c.in_order) }
 
@@ -40,7 +40,7 @@ clock_frame c onward events last = record { events = let h = c.events in omega a
 pub numbers_frame : {history : List Deed} {w v : World} {e : Deed} → Numbers history w → v.opened ≡ w.opened + opens_one e.entry.report.outcome → v.admitted ≡ w.admitted + admits_one e.entry.report.outcome → Numbers (e ∷ history) v
 numbers_frame n opened admitted = record { opened = let h = n.opened in omega arith; admitted = let h = n.admitted in omega arith }
 
--- no more is opened than was done
+-- no more exchanges were opened than there are deeds
 pub opened-few : (history : List Deed) → opened_in history ≤ length history
 opened-few [] = omega arith
 opened-few (e ∷ past) = let i = opened-few past in let one = at_most_one e.entry.report.outcome in omega arith
@@ -49,7 +49,7 @@ opened-few (e ∷ past) = let i = opened-few past in let one = at_most_one e.ent
     at_most_one Opened = omega arith
     at_most_one _ = omega arith
 
--- and no more is admitted
+-- and no more clients were admitted
 pub admitted-few : (history : List Deed) → admitted_in history ≤ length history
 admitted-few [] = omega arith
 admitted-few (e ∷ past) = let i = admitted-few past in let one = at_most_one e.entry.report.outcome in omega arith
@@ -60,7 +60,7 @@ admitted-few (e ∷ past) = let i = admitted-few past in let one = at_most_one e
 
 -- ---- acts
 
--- an act is the same as itself alone
+-- an act is the same only as itself
 pub same_act-true : (a b : Act) → same_act a b ≡ true → a ≡ b
 same_act-true (moves x) (moves y) e = ap moves (eqb-true x y e)
 same_act-true (serves v) (serves u) e = ap serves (eqb-true v u e)
@@ -73,15 +73,15 @@ same_act-true (serves v) (moves y) e = absurd cc
 same_act-true no_item b e = absurd cc
 same_act-true (admits v x) b e = absurd cc
 
--- an act on an exchange is itself
+-- an act on an exchange is the same as itself
 pub same_act-self : (x : ℕ) → same_act (moves x) (moves x) ≡ true
 same_act-self x = eq-eqb x x refl
 
--- and one on a client
+-- and so is one on a client
 pub same_act-client : (v : ℕ) → same_act (serves v) (serves v) ≡ true
 same_act-client v = eq-eqb v v refl
 
--- an entry that acts on another sends nothing for this
+-- an entry with another act sends nothing for this act
 not-for : (a : Act) (d : Deed) → d.act ≢ a → sends_for a d ≡ false
 not-for a d other = go (same_act a d.act) refl
   where
@@ -89,11 +89,11 @@ not-for a d other = go (same_act a d.act) refl
     go true t = absurd (other (sym (same_act-true a d.act t)))
     go false t = refl
 
--- so the sendings stay
+-- so the transmissions stay the same
 pub sends-stay : (a : Act) (history : List Deed) (d : Deed) → d.act ≢ a → sends_by a (d ∷ history) ≡ sends_by a history
 sends-stay a history d other = rw (not-for a d other) refl
 
--- as they do where nothing is sent
+-- as they do if nothing is sent
 pub sends-quiet : (a : Act) (history : List Deed) (d : Deed) → is_sending d.entry.report.outcome ≡ false → sends_by a (d ∷ history) ≡ sends_by a history
 sends-quiet a history d quiet = let none : sends_for a d ≡ false = go (same_act a d.act) in rw none refl
   where
@@ -101,13 +101,13 @@ sends-quiet a history d quiet = let none : sends_for a d ≡ false = go (same_ac
     go true = quiet
     go false = refl
 
--- and they grow where it acts on this and sends
+-- and they grow if the entry has this act and sends something
 pub sends-grow : (a : Act) (history : List Deed) (d : Deed) → same_act a d.act ≡ true → is_sending d.entry.report.outcome ≡ true → sends_by a (d ∷ history) ≡ d.entry ∷ sends_by a history
 sends-grow a history d same sending = let one : sends_for a d ≡ true = rw (same, sending) refl in rw one refl
 
 -- ---- exchanges
 
--- what was asked stays so at an entry that sends nothing for it
+-- a request that was sent stays so at an entry that sends nothing for it
 abbrev pub asked_frame : {setting : Setting} {history : List Deed} {x : ℕ} {key : CacheKey} {form : List ℕ} {s : Sending} (e : Deed) → sends_by (moves x) (e ∷ history) ≡ sends_by (moves x) history → WasAsked setting history x key form s → WasAsked setting (e ∷ history) x key form s
 asked_frame {key = key} {form = form} {s = s} e same a =
     record {
@@ -122,25 +122,26 @@ asked_frame {key = key} {form = form} {s = s} e same a =
       bytes = subst (AreOfBytes key.target.at form) (sym same) a.bytes;
     }
 
--- so does what was sent, or never was
+-- so does an exchange whose request was sent, or never was
 pub sent_frame : (setting : Setting) (history : List Deed) (x : ℕ) (key : CacheKey) (form : List ℕ) (o : Option Sending) (e : Deed) → sends_by (moves x) (e ∷ history) ≡ sends_by (moves x) history → WasSent setting history x key form o → WasSent setting (e ∷ history) x key form o
 sent_frame setting history x key form None e same a = tt
 sent_frame setting history x key form (Some s) e same a = asked_frame e same a
 
--- what a change does to an exchange: one that is on its way is tainted, if its target is changed
+-- what a change does to an exchange: one in flight is tainted, if its target is changed
 abbrev pub is_flying : ExchangeState → Bool
 is_flying s = is_sent_state s || is_acked_state s
 
--- an exchange that is tainted so
+-- an exchange with a taint
 abbrev pub with_taint : Bool → Numbered Exchange → Numbered Exchange
 with_taint b x = (x.0, record x.1 { tainted = b })
 
--- what is known of a taint after an entry: it tells whether the target was changed, where the exchange is on its way, and else it is as before
+-- what is known of a taint after an entry: if the exchange is in flight, it says whether the target
+-- was changed, and otherwise it stays as before
 pub record IsTaint (setting : Setting) (history : List Deed) (e : Deed) (x : Numbered Exchange) (b : Bool) : Type 0 where
   pub flying : is_flying x.1.state ≡ true → (since : Place) → IsPlaceOf history since → IsTold x.1.tainted setting x.1.key.target since history → IsTold b setting x.1.key.target since (e ∷ history)
   pub resting : is_flying x.1.state ≡ false → b ≡ x.1.tainted
 
--- so does an exchange that is on its way, where the entry acts on another
+-- an exchange in flight stays so at an entry that acts on another one
 flight_frame : (setting : Setting) (history : List Deed) (e : Deed) (x : Numbered Exchange) (b : Bool) → e.act ≢ moves x.0 → is_flying x.1.state ≡ true → IsTaint setting history e x b → IsInFlight setting history x → IsInFlight setting (e ∷ history) (with_taint b x)
 flight_frame setting history e x b other flying taint s =
     record {
@@ -155,7 +156,7 @@ flight_frame setting history e x b other flying taint s =
       unended = ((λ h. other h.act), s.unended);
     }
 
--- a state stays at an entry that acts on another
+-- its state stays right at an entry that acts on another one
 state_frame : (setting : Setting) (history : List Deed) (e : Deed) (x : Numbered Exchange) (b : Bool) (s : ExchangeState) → x.1.state ≡ s → e.act ≢ moves x.0 → IsTaint setting history e x b → IsState setting history x s → IsState setting (e ∷ history) (with_taint b x) s
 state_frame setting history e x b Queued is other taint s =
     record {
@@ -177,7 +178,7 @@ state_frame setting history e x b (Done answer) is other taint s =
       was_sent = sent_frame setting history x.0 x.1.key x.1.form x.1.sending e (sends-stay (moves x.0) history e other) s.was_sent;
     }
 
--- an exchange stays at an entry that acts on another
+-- an exchange stays right at an entry that acts on another one
 pub exchange_tainted : (setting : Setting) (history : List Deed) (e : Deed) (x : Numbered Exchange) (b : Bool) → e.act ≢ moves x.0 → IsTaint setting history e x b → IsExchangeOf setting history x → IsExchangeOf setting (e ∷ history) (with_taint b x)
 exchange_tainted setting history e x b other taint f =
     record {
@@ -193,12 +194,12 @@ exchange_tainted setting history e x b other taint f =
       state = state_frame setting history e x b x.1.state refl other taint f.state;
     }
 
--- so it stays as it is where no answer is got
+-- so it stays right without a taint if no answer is accepted
 pub exchange_frame : (setting : Setting) (history : List Deed) (e : Deed) (x : Numbered Exchange) → takes e.entry.report.outcome ≡ false → e.act ≢ moves x.0 → IsExchangeOf setting history x → IsExchangeOf setting (e ∷ history) x
 exchange_frame setting history e x none other f =
     exchange_tainted setting history e x x.1.tainted other (record { flying = λ flying since at told. told-stays x.1.tainted setting x.1.key.target since history e none told; resting = λ resting. refl }) f
 
--- all stay at an entry that gets no answer, and acts on none
+-- all exchanges stay right at an entry that accepts no answer and acts on none of them
 pub exchanges_frame : (setting : Setting) (history : List Deed) (e : Deed) (xs : List (Numbered Exchange)) → takes e.entry.report.outcome ≡ false → ((x : ℕ) → e.act ≢ moves x)
     → AllByRecursion (IsExchangeOf setting history) xs → AllByRecursion (IsExchangeOf setting (e ∷ history)) xs
 exchanges_frame setting history e xs none other all =
@@ -206,11 +207,11 @@ exchanges_frame setting history e xs none other all =
 
 -- ---- changes
 
--- after an answer that changes these targets
+-- an exchange after an answer that changes these targets
 abbrev pub tainted_here : List Target → Numbered Exchange → Numbered Exchange
 tainted_here changed x = with_taint (x.1.tainted || (is_flying x.1.state && concerns changed x.1.key.target)) x
 
--- another exchange is tainted exactly where its target was changed
+-- another exchange is tainted exactly if its target was changed
 pub exchange_changed : {setting : Setting} {n : ℕ} (history : List Deed) (e : Deed) (x : Numbered Exchange) (gets : Gets setting n (here history e)) → e.act ≢ moves x.0 → IsExchangeOf setting history x → IsExchangeOf setting (e ∷ history) (tainted_here (changed_by (key_asked gets).target gets.meets.message) x)
 exchange_changed {setting} history e x gets other f =
     exchange_tainted setting history e x _ other (
@@ -230,7 +231,7 @@ exchange_changed {setting} history e x gets other f =
     still false true e = refl
     still false false e = refl
 
--- one change after the other taints it so
+-- one change after the other taints it the same
 tainted-one : (t : Target) (changed : List Target) (x : Numbered Exchange) → tainted_here changed (x.0, tainted_by t x.1) ≡ tainted_here (t ∷ changed) x
 tainted-one t changed x = go (is_flying x.1.state) refl (same_target x.1.key.target t)
   where
@@ -264,7 +265,7 @@ tainted-all (t ∷ changed) xs = tainted-all changed (all_changed (tainted_by t)
 
 -- ---- clients
 
--- a client stays at an entry that doesn't serve it
+-- a client stays right at an entry that doesn't serve it
 pub waiter_frame : (setting : Setting) (history : List Deed) (e : Deed) (v : Numbered Waiter) → e.act ≢ serves v.0 → IsWaiterOf setting history v → IsWaiterOf setting (e ∷ history) v
 waiter_frame setting history e v other f = go v.1.state f
   where
@@ -304,14 +305,14 @@ waiter_frame setting history e v other f = go v.1.state f
           tags_gone = g.tags_gone;
         }
 
--- clients stay what they are where an entry serves none
+-- all clients stay right at an entry that serves none of them
 pub waiters_frame : (setting : Setting) (history : List Deed) (e : Deed) (vs : List (Numbered Waiter)) → ((v : ℕ) → e.act ≢ serves v) → AllByRecursion (IsWaiterOf setting history) vs → AllByRecursion (IsWaiterOf setting (e ∷ history)) vs
 waiters_frame setting history e vs other all =
     All-weaken (IsWaiterOf setting history) (IsWaiterOf setting (e ∷ history)) vs (λ v f. waiter_frame setting history e v (other v.0) f) all
 
--- ---- numbers that weren't given
+-- ---- numbers that aren't used yet
 
--- what wasn't given stays unused at an entry that acts on none of it
+-- unused numbers stay unused at an entry that doesn't act on them
 pub unused_frame : (setting : Setting) (history : List Deed) (e : Deed) → ((x : ℕ) → opened_in history < x → e.act ≢ moves x) → ((v : ℕ) → admitted_in history < v → e.act ≢ serves v) → AreUnused setting history → AreUnused setting (e ∷ history)
 unused_frame setting history e exchanges clients u =
     record {
@@ -327,11 +328,11 @@ unused_frame setting history e exchanges clients u =
 
 -- ---- schedules
 
--- schedules stay where nothing is sent
+-- schedules stay if nothing is sent
 pub schedules_frame : (history : List Deed) (e : Deed) → is_sending e.entry.report.outcome ≡ false → AreSchedules history → AreSchedules (e ∷ history)
 schedules_frame history e quiet s act = subst IsSchedule (sym (sends-quiet act history e quiet)) (s act)
 
--- and where the schedule of what is sent goes on
+-- and if the schedule of what is sent continues
 pub schedules_with : (history : List Deed) (e : Deed) → IsSchedule (sends_by e.act (e ∷ history)) → AreSchedules history → AreSchedules (e ∷ history)
 schedules_with history e grown s act = go (same_act act e.act) refl
   where
@@ -341,7 +342,7 @@ schedules_with history e grown s act = go (same_act act e.act) refl
 
 -- ---- what was opened and what was admitted
 
--- it was so before an entry that opens nothing
+-- an exchange was opened before an entry that opens nothing
 pub opened-before : (history : List Deed) (e : Deed) (x : ℕ) → opens_one e.entry.report.outcome ≡ 0 → Somewhere (Opens x) (e ∷ history) → Somewhere (Opens x) history
 opened-before history e x none s =
     ⊎_elim
@@ -349,7 +350,7 @@ opened-before history e x none s =
     (λ there. record { place = s.place; is_there = there; holds = s.holds })
     s.is_there
 
--- who was admitted was admitted before an entry that admits nobody
+-- a client was admitted before an entry that admits nobody
 pub admitted-before : (history : List Deed) (e : Deed) (v x : ℕ) → admits_one e.entry.report.outcome ≡ 0 → Somewhere (Admits v x) (e ∷ history) → Somewhere (Admits v x) history
 admitted-before history e v x none s =
     ⊎_elim

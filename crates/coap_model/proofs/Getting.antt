@@ -1,4 +1,4 @@
--- When an answer is got, and what the proxy's own answer is shown as.
+-- When an answer arrives, and as what the proxy's own answer is sent.
 use Rattle.std.proofs.Common.{◌≡◌, ℕ, ◌≤◌, Bool, true, false, cond, List, length, Option, Some, None, refl, arith}
 use Rattle.coap_message.specs.Message.{Message}
 use Rattle.coap_message.specs.Spelling.{IsMessage, spelling}
@@ -10,7 +10,7 @@ use Rattle.coap_forward.specs.Answers.{fits, validates, taken_of, is_passed_on, 
 use Rattle.coap_store.specs.Renewing.{is_validated, renewed}
 use Rattle.coap_model.proofs.Spelled.{own_reply-is}
 
--- an answer is got at the moment of its response
+-- an answer is obtained at the moment of its response
 pub got-is : (most now : ℕ) (to_get : Bool) (copy : Option Message) (m : Message) → (answer_of most to_get copy now m).got ≡ now
 unfolding answer_of
 got-is most now to_get copy m = go (not (is_rst m.kind) && is_passed_on most to_get m) (validates to_get m) (taken_of to_get m) copy
@@ -32,10 +32,10 @@ got-is most now to_get copy m = go (not (is_rst m.kind) && is_passed_on most to_
     go true false taken o = refl
     go false v taken o = refl
 
--- 5.04 is a message as it is shown
+-- a 5.04 as it is sent is a message
 pub timeout-is : (now got id : ℕ) (token : List ℕ) (tags : List (List ℕ)) → length token ≤ 8 → IsMessage (shown now (own_answer got gateway_timeout) id token tags)
 timeout-is now got id token tags short = own_reply-is GATEWAY_TIMEOUT _ id token (λ e. absurd (omega arith)) tt short
 
--- and fits a datagram
+-- and it fits a datagram
 pub timeout-fits : (now got id longest : ℕ) (token : List ℕ) (tags : List (List ℕ)) → length token ≤ 8 → 128 ≤ longest → length (spelling (shown now (own_answer got gateway_timeout) id token tags)) ≤ longest
 timeout-fits now got id longest token tags short wide = omega (arith, wide, short, spelling-length (shown now (own_answer got gateway_timeout) id token tags))

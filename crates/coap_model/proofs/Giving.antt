@@ -1,4 +1,4 @@
--- Message ids: windows, what is given in them, and that none comes back too soon.
+-- Message ids: windows, the ids that are given out in them, and that none is reused too soon.
 use Rattle.std.proofs.Common.{◌≡◌, ◌⊎◌, inl, inr, ⊎_elim, ℕ, ◌+◌, ◌<◌, ◌≤◌, List, [], ◌∷◌, Bool, true, false, cond, eqb, refl, sym, ap, ◌∙◌, subst, arith}
 use Rattle.std.specs.Prelude.{◌/◌, ◌%◌}
 use Rattle.std.proofs.lemmas.Bool.{eqb-true, eqb-false, ne_eqb, cases_lt}
@@ -16,7 +16,7 @@ use Rattle.coap_model.proofs.Moments.{not-later, in-order-at}
 
 -- ---- windows
 
--- nothing was given in a window that hasn't begun
+-- no id was given out in a window that hasn't begun
 none-yet : (history : List Deed) (v : ℕ) → IsInOrder history → last_of history / 247000 < v → window_ids v history ≡ 0
 none-yet [] v o later = refl
 none-yet (d ∷ past) v o later =
@@ -25,11 +25,11 @@ none-yet (d ∷ past) v o later =
     let other : eqb (d.entry.now / 247000) v ≡ false = ne_eqb _ _ (λ same. omega (arith, same, later)) in
     rw other (omega arith)
 
--- the ids that were given in the window of a moment, as the table counts them
+-- the number of ids given out in the window of a moment, as the table counts them
 abbrev pub AreGiven : Given → List Deed → Type 0
 AreGiven ids history = (now : ℕ) → last_of history ≤ now → given_in now ids ≡ window_ids (now / 247000) history
 
--- no more are given in the window of a later moment
+-- no further ids are given out in the window of a later moment
 pub given-later : (ids : Given) (history : List Deed) → AreGiven ids history → IsInOrder history → (now n : ℕ) → last_of history ≤ now → now ≤ n → given_in n ids ≤ given_in now ids
 given-later ids history given o now n first later = go (eqb (now / 247000) (n / 247000)) refl
   where
@@ -45,17 +45,17 @@ given-later ids history given o now n first later = go (eqb (now / 247000) (n / 
         let none = none-yet history (n / 247000) o (⊎_elim (λ (lt : now / 247000 < n / 247000). omega (arith, lt)) (λ (ge : n / 247000 ≤ now / 247000). absurd (other (omega (arith, ge)))) (cases_lt (now / 247000) (n / 247000))) in
         omega arith
 
--- where one is left, one is given
+-- if an id is left, one is given out
 pub called-one : (now : ℕ) (ids : Given) → given_in now ids < 32768 → called now ids ≡ record { following = (ids.following + 1) % 65536; window = window now; given = given_in now ids + 1 }
 called-one now ids less =
     let some : eqb (left_of now ids) 0 ≡ false = ne_eqb _ _ (λ e. omega arith) in
     rw some refl
 
--- so many are given then in the window of a later moment
+-- how many ids are then given out in the window of a later moment
 given-called : (now n : ℕ) (ids : Given) → given_in now ids < 32768 → given_in n (called now ids) ≡ cond (eqb (window now) (window n)) (given_in now ids + 1) 0
 given-called now n ids less = ap (given_in n) (called-one now ids less)
 
--- what is kept for later can still be given, where one is given now
+-- reserved ids can still be given out after one was given out
 pub room-called : (ids : Given) (now kept : ℕ) → given_in now ids + 1 + kept ≤ 32768 → (n : ℕ) → given_in n (called now ids) + kept ≤ 32768
 room-called ids now kept room n = go (eqb (window now) (window n)) (given-called now n ids (omega arith))
   where
@@ -63,13 +63,13 @@ room-called ids now kept room n = go (eqb (window now) (window n)) (given-called
     go true e = omega arith
     go false e = omega arith
 
--- ---- one entry more
+-- ---- one more entry
 
 module _ (history : List Deed) (w v : World) (e : Deed) (clock : Clock history w) (i : Ids history w) (onward : w.last ≤ e.entry.now) (same : v.setting.first_id ≡ w.setting.first_id) where
   since : last_of history ≤ e.entry.now
   since = let h = clock.last in omega arith
 
-  -- an entry that gives none leaves what was given
+  -- an entry that gives out no id leaves the ids as they are
   pub ids-kept : gives_id e.entry ≡ 0 → v.ids ≡ w.ids → Ids (e ∷ history) v
   ids-kept none ids_are =
       record {
@@ -90,7 +90,7 @@ module _ (history : List Deed) (w v : World) (e : Deed) (clock : Clock history w
       few true n le = omega arith
       few false n le = omega arith
 
-  -- an entry that gives one gives the one that is due
+  -- an entry that gives out an id gives out the next one
   pub ids-given : gives_id e.entry ≡ 1 → v.ids ≡ called e.entry.now w.ids → given_in e.entry.now w.ids < 32768 → Gives ((w.setting.first_id + ids_in history) % 65536) e.entry → Ids (e ∷ history) v
   ids-given one ids_are less gives =
       let now = e.entry.now in
@@ -120,13 +120,13 @@ module _ (history : List Deed) (w v : World) (e : Deed) (clock : Clock history w
           omega arith
       full u false t = let h = i.windows u in omega arith
 
--- ---- two that are given
+-- ---- two ids that were given out
 
--- the entry at a place gave an id
+-- the entry at a place gave out an id
 abbrev GivesAt : Place → Type 0
 GivesAt p = gives_id p.deed.entry ≡ 1
 
--- the id at a place is the one that was due there
+-- the id at a place is the one that was next there
 pub id-at : (first : ℕ) (history : List Deed) (p : Place) → AreIds first history → IsPlaceOf history p → GivesAt p → Gives ((first + ids_in p.before) % 65536) p.deed.entry
 id-at first [] p ids h g = absurd h
 id-at first (e ∷ past) p ids h g =
@@ -135,7 +135,7 @@ id-at first (e ∷ past) p ids h g =
     (λ (there : IsPlaceOf past p). id-at first past p ids.1 there g)
     h
 
--- from a place on, ids are of its window and of the next, as long as the next window lasts
+-- from a place on, ids were given out in its window and in the next one, as long as that lasts
 since-place : (history : List Deed) (p : Place) → IsPlaceOf history p → IsInOrder history → last_of history / 247000 ≤ p.deed.entry.now / 247000 + 1
     → ids_in history ≤ ids_in p.before + (window_ids (p.deed.entry.now / 247000) history + window_ids (p.deed.entry.now / 247000 + 1) history)
 since-place [] p at o near = absurd at
@@ -165,7 +165,7 @@ since-place (d ∷ past) p at o near =
         (λ (e : d.entry.now / 247000 ≡ p.deed.entry.now / 247000 + 1). let k = one _ (eqb (d.entry.now / 247000) (p.deed.entry.now / 247000 + 1)) e refl in omega arith)
         h
 
--- fewer ids were given before a place that gave one
+-- fewer ids were given out before a place that gave one out
 ids-below : (history : List Deed) (p : Place) → IsPlaceOf history p → GivesAt p → ids_in p.before < ids_in history
 ids-below [] p h g = absurd h
 ids-below (e ∷ past) p h g =
@@ -177,7 +177,7 @@ ids-below (e ∷ past) p h g =
     (λ (there : IsPlaceOf past p). omega (arith, ids-below past p there g))
     h
 
--- up to a place no more were given in a window than in all
+-- up to a place, no more ids were given out in a window than in the whole history
 window-within : (v : ℕ) (history : List Deed) (q : Place) → IsPlaceOf history q → window_ids v (q.deed ∷ q.before) ≤ window_ids v history
 window-within v [] q at = absurd at
 window-within v (d ∷ past) q at =
@@ -186,7 +186,7 @@ window-within v (d ∷ past) q at =
     (λ (there : IsPlaceOf past q). let i = window-within v past q there in omega arith)
     at
 
--- and moments didn't go back up to it
+-- and moments never decreased up to it
 order-within : (history : List Deed) (q : Place) → IsInOrder history → IsPlaceOf history q → IsInOrder (q.deed ∷ q.before)
 order-within [] q o at = absurd at
 order-within (d ∷ past) q o at =
@@ -195,12 +195,12 @@ order-within (d ∷ past) q o at =
     (λ (there : IsPlaceOf past q). order-within past q o.1 there)
     at
 
--- an entry gives one id
+-- an entry gives out only one id
 one-id : (e : Entry) (a b : ℕ) → Gives a e → Gives b e → a ≡ b
 one-id e a b g h = sym g.id_is ∙ ap (λ (m : Message). m.id) (one_message e.bytes g.message h.message g.spells h.spells) ∙ h.id_is
 
 module _ (first : ℕ) (history : List Deed) (ids : AreIds first history) (windows : (v : ℕ) → window_ids v history ≤ 32768) (o : IsInOrder history) where
-  -- the id of a place doesn't come back less than 247 seconds after it
+  -- the id of a place isn't reused less than 247 seconds after it
   not-again : (p q : Place) (id : ℕ) → IsPlaceOf history q → IsPlaceOf q.before p → GivesId id p → GivesId id q → q.deed.entry.now < p.deed.entry.now + 247000 → ⊥
   not-again p q id at_q before g h soon =
       let at_p = place-before history q p at_q before in
@@ -220,7 +220,7 @@ module _ (first : ℕ) (history : List Deed) (ids : AreIds first history) (windo
       differ : (a b : ℕ) → a % 65536 ≡ b % 65536 → a < b → b < a + 65536 → ⊥
       differ a b same less near = omega arith
 
-  -- so two places of one id, less than 247 seconds apart, are one
+  -- so two places with the same id, less than 247 seconds apart, are the same place
   pub ids-differ : IdsDiffer history
   ids-differ p q id at_p at_q g h ordered soon =
       ⊎_elim

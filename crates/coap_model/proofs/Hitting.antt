@@ -1,4 +1,5 @@
--- A hit keeps what is carried: the client is shown the entry of its key in the cache of the history.
+-- A hit preserves what is carried: the client is sent the entry with its key in the cache of the
+-- history.
 use Rattle.std.proofs.Common.{◌≡◌, ℕ, ◌≤◌, Bool, true, false, length, List, ◌∷◌, Some, refl, sym, ap, subst}
 use Rattle.std.specs.Prelude.{if◌then◌else◌, not}
 use Rattle.std.proofs.lemmas.Bool.{and_parts}
@@ -37,21 +38,21 @@ use Rattle.coap_model.proofs.Cached.{found-holds}
 use Rattle.coap_model.proofs.Stores.{found-cached, store-hit}
 use Rattle.coap_model.proofs.Verdicts.{askable}
 
--- ---- what is shown of an entry
+-- ---- what is sent of an entry
 
--- what is stored for a key, as the history knows it
+-- the entry that is stored for a key, according to the history
 module _ (w : World) (history : List Deed) (c : Bears history w) (key : CacheKey) (entry : Entry) (found : of_key entry_key key w.store ≡ Some entry) where
   abbrev pub cached-entry : IsEntryOf w.setting history c.store.cached key entry
   cached-entry = found-cached w.setting history w.store c.store.cached key entry c.store.each found
 
-  -- it can be shown
+  -- it can be sent to clients
   stored-holdable : IsHoldable w.setting.limits.datagram entry.1.response
   stored-holdable =
       let f = cached-entry in
       let all = cache-holdable w.setting history c.store.cached c.store.is_cache in
       subst (λ (e : Entry). IsHoldable w.setting.limits.datagram e.1.response) (sym f.stored_is.same) (found-holds (λ d. IsHoldable w.setting.limits.datagram d.response) c.store.cached key f.entry all f.is_there)
 
-  -- a client is shown a message
+  -- what is sent to the client is a message
   pub hit-is : (now id : ℕ) (token : List ℕ) (tags : List (List ℕ)) → length token ≤ 8 → IsMessage (shown now (stored_answer entry.1) id token tags)
   hit-is now id token tags short = shown-is w.setting.limits.datagram Non true now (stored_answer entry.1) id token tags stored-holdable short
 
@@ -59,12 +60,12 @@ module _ (w : World) (history : List Deed) (c : Bears history w) (key : CacheKey
   pub hit-fits : (most now : ℕ) (m : Message) (id : ℕ) (token : List ℕ) (tags : List (List ℕ)) → 128 ≤ most → w.setting.limits.datagram ≤ most → length token ≤ 8 → length (spelling (at_once m (shown now (stored_answer entry.1) id token tags))) ≤ most
   hit-fits most now m id token tags wide long short = at_once-long m (shown now (stored_answer entry.1) id token tags) most (shown-fits w.setting.limits.datagram most Non true now (stored_answer entry.1) id token tags wide long stored-holdable short)
 
--- a mark that isn't there
+-- an entry that isn't marked
 unmarked : (b : Bool) → not b ≡ true → b ≡ false
 unmarked true e = absurd cc
 unmarked false e = refl
 
--- what the store may answer with is an entry of the cache that may answer
+-- a usable entry of the store is a usable entry of the cache
 usable-entry : (setting : Setting) (history : List Deed) (cached : List Cached) (key : CacheKey) (entry : Entry) (now : ℕ) (f : IsEntryOf setting history cached key entry) → is_usable now entry.1 ≡ true → IsUsable setting history now f.entry
 usable-entry setting history cached key entry now f usable =
     let parts = and_parts (is_fresh now entry.1) (not entry.1.marked) usable in
@@ -73,7 +74,7 @@ usable-entry setting history cached key entry now f usable =
       unchanged = subst (λ (b : Bool). IsTold b setting f.entry.key.target f.entry.asking history) (unmarked entry.1.marked parts.1) f.stored_is.told;
     }
 
--- a hit keeps what is carried
+-- a hit preserves what is carried
 pub keeps_hitting : (w : World) (history : List Deed) (c : Bears history w) (now draw : ℕ) (client : Endpoint) (bytes : List ℕ) (m : Message) (key : CacheKey) (entry : Entry) → w.last ≤ now → IsFirst w now client bytes m → is_get m.code ≡ true → verdict_in w m ≡ may_ask key → of_key entry_key key w.store ≡ Some entry → is_usable now entry.1 ≡ true → can_reply w now m.kind ≡ true
     → Bears (doing no_item (entry_of now draw (arrival client bytes) (hits w now client m key entry.1)) ∷ history) (remembers now client m (hits w now client m key entry.1)).world
 keeps_hitting w history c now draw client bytes m key entry onward first get verdict found usable free =

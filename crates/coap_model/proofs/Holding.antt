@@ -1,4 +1,4 @@
--- The bytes that a proxy holds are within its bound.
+-- The bytes that a proxy holds are within the bound.
 use Rattle.std.proofs.Common.{◌≡◌, ℕ, ◌+◌, ◌*◌, ◌/◌, ◌≤◌, Bool, true, false, cond, leb, ltb, List, [], ◌∷◌, ◌++◌, map, length, Option, Some, None, refl, sym, ap, ◌∙◌, subst, arith}
 use Rattle.std.specs.Prelude.{◌&&◌, ◌==◌, filter, is_some, option_map, IfSome}
 use Rattle.std.specs.List.{AllByRecursion, sum_by}
@@ -57,9 +57,9 @@ use Rattle.coap_dedup.proofs.Passing.{bytes-bounded}
 use Rattle.coap_model.proofs.Stores.{store-within}
 use Rattle.coap_model.specs.Held.{host_bytes, target_bytes, key_bytes, response_bytes, copy_bytes, state_bytes, exchange_bytes, answer_bytes, waiter_bytes, held, most_held}
 
--- ---- a target is held in no more than its options
+-- ---- a target takes no more bytes than its options
 
--- a short piece takes no more bytes for its length than the option of it
+-- a short piece takes no more bytes for its length than its option does
 short-length : (n : ℕ) → n ≤ 255 → n / 255 ≤ more_length n
 short-length n le = go (ltb n 13) refl (ltb n 269) refl
   where
@@ -68,13 +68,13 @@ short-length n le = go (ltb n 13) refl (ltb n 269) refl
     go false e true f = omega arith
     go false e false f = omega arith
 
--- pieces take no more than the options of these values
+-- pieces take no more bytes than the options with these values
 pieces-short : (before number : ℕ) (values : List (List ℕ)) (os : List Opt) (n : ℕ) → AllByRecursion IsShort values → ((low : ℕ) → n ≤ options_length low os) → length (pieces_spelling values) + n ≤ options_length before (map (option_of number) values ++ os)
 pieces-short before number [] os n are more = omega (arith, more before)
 pieces-short before number (v ∷ values) os n are more =
     omega (arith, pieces-short number number values os n are.1 more, pieces-length v values, short-length (length v) are.0)
 
--- a target takes no more than the options that say it
+-- a target takes no more bytes than its options
 target-short : (before : ℕ) (t : Target) → IsTarget t → target_bytes t ≤ options_length before (target_options t)
 unfolding target_options
 target-short before t is = go t.host
@@ -91,7 +91,7 @@ target-short before t is = go t.host
     go None = omega (arith, path before)
     go (Some h) = omega (arith, path 3)
 
--- so a target and the options beside it take little more than the request that has both
+-- so a target and the other options take little more than the request that has both
 both-short : (t : Target) (others : List Opt) → IsTarget t → AreOptions 0 others → AreUnused others → target_bytes t + options_length 0 others ≤ options_length 0 (merged (target_options t) others) + 4
 both-short t others is are none =
     let whole : List Opt = merged (target_options t) others in
@@ -100,9 +100,9 @@ both-short t others is are none =
     let said = small-numbers 0 (target_options t) (target-options t is) small in
     omega (arith, target-short 0 t is, said, both-apart whole in_order, ap (options_length 0) (others-kept t others none), ap plain_length (target-kept t others is none))
 
--- ---- the key is held in no more than the form
+-- ---- the key takes no more bytes than the form
 
--- its options are among those that go on
+-- the options of the key are among those that are forwarded
 key-held : (form most : ℕ) (token : List ℕ) (t : Target) (tag : Option (List ℕ)) (m : Message) (key : CacheKey) → key ≡ request_key t m → IsTarget t → AreOptions 0 m.options → first_refused Request m.options ≡ None → IfSome tag IsTag → (is_get m.code ≡ false → tag ≡ None) → form ≡ length (spelling (forwarded token t tag m 0)) → form ≤ most → key_bytes key ≤ most + 4
 key-held form most token t tag m key key_is is options screened tag_is other form_is short =
     let others : List Opt = tagged tag (sent_on m) in
@@ -112,19 +112,19 @@ key-held form most token t tag m key key_is is options screened tag_is other for
     let spelled : length (options_spelling 0 key.options) ≡ options_length 0 (filter (in_key m.code) others) = ap (λ (k : CacheKey). length (options_spelling 0 k.options)) key_is ∙ ap (λ (os : List Opt). length (options_spelling 0 os)) (key-among tag m screened tag_is other) ∙ options-length 0 (filter (in_key m.code) others) in
     omega (arith, target, spelled, filter-length (in_key m.code) 0 others are, both-short t others is are none, spelling-length (forwarded token t tag m 0), form_is, short)
 
--- ---- a response is held in no more than a datagram
+-- ---- a response takes no more bytes than a datagram
 
--- one that an answer has
+-- the response of an answer does
 holdable-held : (most : ℕ) (m : Message) → IsHoldable most m → response_bytes m ≤ most
 holdable-held most m is = omega (arith, options-length 0 m.options, holdable-short most m is)
 
--- a copy is, where it is one that was kept
+-- so does a copy, if its response was kept
 copy-held : (most : ℕ) (copy : Option Stored) (o : Option Message) → option_map (λ s. s.response) copy ≡ o → IfSome o (IsHoldable most) → copy_bytes copy ≤ most
 copy-held most None o e holdable = omega arith
 copy-held most (Some s) None e holdable = absurd cc
 copy-held most (Some s) (Some r) e holdable = let same : s.response ≡ r = cc in holdable-held most s.response (subst (IsHoldable most) (sym same) holdable)
 
--- ---- tags are held in no more than the request
+-- ---- tags take no more bytes than the request
 
 -- a tag is short
 tag-short : (side : Side) (p : PlacedOption) → is_of side 4 p ≡ true → length p.option.value ≤ 8
@@ -136,7 +136,7 @@ tag-short side p e =
     go Request f = leb-true _ _ (and_parts (leb 1 (length p.option.value)) (leb (length p.option.value) 8) (and_parts (leb 1 (length p.option.value) && leb (length p.option.value) 8) true f).0).1
     go Response f = leb-true _ _ (and_parts (leb 1 (length p.option.value)) (leb (length p.option.value) 8) (and_parts (leb 1 (length p.option.value) && leb (length p.option.value) 8) (p.before == 0) f).0).1
 
--- so tags take no more than the options
+-- so tags take no more bytes than the options
 tags-held : (side : Side) (low : ℕ) (passed os : List Opt) → length (pieces_spelling (map (λ p. p.option.value) (filter (is_of side 4) (places_behind passed os)))) ≤ options_length low os
 tags-held side low passed [] = omega arith
 tags-held side low passed (o ∷ os) = go (is_of side 4 (record { option = o; before = count_of o.number passed })) refl (tags-held side o.number (passed ++ o ∷ []) os)
@@ -151,7 +151,7 @@ tags-held side low passed (o ∷ os) = go (is_of side 4 (record { option = o; be
 
 -- ---- each element, and all of them
 
--- what an exchange holds is within its part of the bound
+-- what an exchange holds is within its share of the bound
 exchange-held : (setting : Setting) (history : List Deed) → AreRoutes setting.routes → (x : Numbered Exchange) → IsExchangeOf setting history x → exchange_bytes x ≤ 4 * setting.limits.datagram + 256
 exchange-held setting history routes x f = go x.1.state f.state
   where
@@ -190,7 +190,7 @@ exchange-held setting history routes x f = go x.1.state f.state
     go Acked state = omega (arith, key, copy, f.form_short)
     go (Done a) state = omega (arith, key, copy, f.form_short, holdable-held most a.message (ending-holdable setting x.0 x.1.key state.ending a state.with))
 
--- what a waiter holds is within its part
+-- what a waiter holds is within its share
 waiter-held : (setting : Setting) (history : List Deed) (v : Numbered Waiter) → IsWaiterOf setting history v → waiter_bytes v ≤ setting.limits.datagram + 256
 waiter-held setting history v f = go v.1.state refl f
   where
@@ -208,7 +208,7 @@ waiter-held setting history v f = go v.1.state refl f
         let tags : length (pieces_spelling v.1.tags) ≡ 0 = ap (λ (ts : List (List ℕ)). length (pieces_spelling ts)) g.tags_gone in
         omega (arith, ap length g.token_gone, tags, answer, short)
 
--- so what is held is within the bound
+-- so everything that is held is within the bound
 pub within-bound : (history : List Deed) (w : World) → Bears history w → held w ≤ most_held w.setting.limits
 within-bound history w c =
     let d = w.setting.limits.datagram in

@@ -1,4 +1,5 @@
--- A tick with nothing to do keeps what is carried: nothing was due. And nothing is due that isn't there.
+-- A tick with nothing to do preserves what is carried: nothing was due. And nothing is due that
+-- isn't in the tables.
 use Rattle.std.proofs.Common.{◌≡◌, ℕ, ◌≤◌, List, ◌∷◌, Some, None, refl, sym, ap, ◌∙◌, subst, arith}
 use Rattle.std.proofs.lemmas.Option.{same_Some}
 use Rattle.coap_exchange.specs.declared.exchange.ExchangeState.{ExchangeState}
@@ -24,18 +25,18 @@ use Rattle.coap_model.proofs.Rules.{IsStuck, no_exchange, acknowledged, answered
 use Rattle.coap_model.proofs.Tables.{Has-number, item-Has, item-none, one-item}
 use Rattle.coap_model.proofs.Turns.{turn-due}
 
--- an idle tick keeps what is carried
+-- an idle tick preserves what is carried
 pub keeps_idling : (w : World) (history : List Deed) (c : Bears history w) (now draw : ℕ) → w.last ≤ now → if_due now (item_due w) ≡ None → Bears (doing no_item (entry_of now draw tick (idles w now)) ∷ history) (idles w now).world
 keeps_idling w history c now draw onward nothing =
     let e = doing no_item (entry_of now draw tick (idles w now)) in
     keeps_quiet w history c e (record { act = refl; opens = refl; admits = refl; sends = refl; takes = refl; leaves_open = λ standing xs. refl; stands = λ standing. refl }) refl (λ k. refl) onward refl
     (record { act = refl; ticked = refl; nothing = idling-due w history c now nothing; silent = record { sent = refl; bytes = refl } }, c.past)
 
--- a client that is due first is there, and is due since its moment
+-- the client that is due first exists, and is due from its moment on
 pub client-there : (w : World) (history : List Deed) → Bears history w → (now at number : ℕ) → if_due now (item_due w) ≡ Some (OfWaiter at number) → (u : Numbered Waiter) × Has u w.waiters × (u.0 ≡ number) × (due_after w.exchanges u.1 ≡ Some at)
 client-there w history c now at number due = first_due-holds (λ u. Has u w.waiters) (due_after w.exchanges) w.waiters (at, number) (Has-all w.waiters) (client-turn w history c at number (turn-is w history c now (OfWaiter at number) due).0)
 
--- what never comes doesn't come
+-- the cases that never occur
 pub not-stuck : {A : Type 0} (w : World) (history : List Deed) → Bears history w → (now : ℕ) → IsStuck w now → A
 not-stuck w history c now (no_exchange at number due none) =
     let d = first_due-holds (λ y. Has y w.exchanges) (due_of w) w.exchanges (at, number) (Has-all w.exchanges) (exchange-turn w history c at number (turn-is w history c now (OfExchange at number) due).0) in

@@ -1,4 +1,4 @@
--- The target and the cache key are read back off the request that was sent on.
+-- The target and the cache key can be read back from the forwarded request.
 use Rattle.std.proofs.Common.{◌≡◌, ℕ, ◌<◌, Bool, true, false, cond, eqb, leb, List, [], ◌∷◌, ◌++◌, Option, Some, None, refl, sym, ap, subst, ◌∙◌, arith}
 use Rattle.std.specs.Prelude.{◌&&◌, ◌||◌, ◌==◌, not, map, filter, IfSome}
 use Rattle.std.specs.List.{AllByRecursion}
@@ -26,9 +26,9 @@ use Rattle.coap_forward.proofs.Tagging.{key-tagged, filter-merged}
 use Rattle.coap_model.proofs.Verdicts.{code-same}
 use Rattle.coap_model.specs.Keys.{request_key, says_target, beside_target, target_sent, key_sent}
 
--- ---- the target, read off the request
+-- ---- the target, read from the request
 
--- an option more in front, where the values after it are the same
+-- one more option in front, if the remaining values are the same
 values-cons : (number : ℕ) (o : Opt) (os rest : List Opt) → values_of number os ≡ values_of number rest → values_of number (o ∷ os) ≡ values_of number (o ∷ rest)
 values-cons number o os rest same = go (eqb o.number number)
   where
@@ -36,7 +36,7 @@ values-cons number o os rest same = go (eqb o.number number)
     go true = ap (λ (l : List (List ℕ)). o.value ∷ l) same
     go false = same
 
--- options of two numbers, in either order
+-- options with two different numbers, in either order
 values-swap : (number : ℕ) (o p : Opt) (os : List Opt) → p.number < o.number → values_of number (p ∷ o ∷ os) ≡ values_of number (o ∷ p ∷ os)
 values-swap number o p os less = go (eqb p.number number) refl (eqb o.number number) refl
   where
@@ -49,7 +49,7 @@ values-swap number o p os less = go (eqb p.number number) refl (eqb o.number num
     go false e true f = refl
     go false e false f = refl
 
--- an option that is put in counts as one in front
+-- an inserted option counts like one in front
 values-put_in : (number : ℕ) (o : Opt) (os : List Opt) → values_of number (put_in o os) ≡ values_of number (o ∷ os)
 values-put_in number o [] = refl
 values-put_in number o (p ∷ ps) = go (leb o.number p.number) refl (values-put_in number o ps)
@@ -58,12 +58,12 @@ values-put_in number o (p ∷ ps) = go (leb o.number p.number) refl (values-put_
     go true e rest = refl
     go false e rest = values-cons number p (put_in o ps) (o ∷ ps) rest ∙ values-swap number o p ps (let lt = leb-false _ _ e in omega arith)
 
--- where the others have no value of a number, one list with them has those of the first
+-- if the other options have no value with a number, merging them changes none of the values with it
 values-merged : (number : ℕ) (os others : List Opt) → values_of number others ≡ [] → values_of number (merged os others) ≡ values_of number os
 values-merged number [] others none = none
 values-merged number (o ∷ os) others none = values-put_in number o (merged os others) ∙ values-cons number o (merged os others) os (values-merged number os others none)
 
--- there is no value of a number that is used up among options that aren't
+-- options that aren't used up have no value with a number that is
 values-unused : (number : ℕ) (os : List Opt) → is_used_up number ≡ true → AreUnused os → values_of number os ≡ []
 values-unused number [] used none = refl
 values-unused number (o ∷ os) used none = go (eqb o.number number) refl (values-unused number os used none.1)
@@ -72,23 +72,23 @@ values-unused number (o ∷ os) used none = go (eqb o.number number) refl (value
     go true e rest = absurd (let f = sym (ap is_used_up (eqb-true o.number number e)) ∙ none.0 in let g = sym used ∙ f in cc)
     go false e rest = rest
 
--- the values of a number are read back
+-- the values with a number are read back
 values-here : (number : ℕ) (values : List (List ℕ)) (os : List Opt) → eqb number number ≡ true → values_of number (map (option_of number) values ++ os) ≡ values ++ values_of number os
 values-here number [] os same = refl
 values-here number (v ∷ values) os same = rw same (ap (λ (l : List (List ℕ)). v ∷ l) (values-here number values os same))
 
--- and options of another number don't count
+-- and options with another number don't count
 values-other : (number other : ℕ) (values : List (List ℕ)) (os : List Opt) → eqb other number ≡ false → values_of number (map (option_of other) values ++ os) ≡ values_of number os
 values-other number other [] os differ = refl
 values-other number other (v ∷ values) os differ = rw differ (values-other number other values os differ)
 
--- the parts of a target are read back off its options
+-- the parts of a target are read back from its options
 record IsReadBack (t : Target) (os : List Opt) : Type 0 where
   pub host : first_value (values_of 3 os) ≡ t.host
   pub path : values_of 11 os ≡ t.path
   pub query : values_of 15 os ≡ t.query
 
--- the options of a target say that target
+-- the options of a target give that target
 read-back : (t : Target) → IsReadBack t (target_options t)
 unfolding target_options
 read-back t = record { host = host t.host; path = path t.host; query = query t.host }
@@ -117,7 +117,7 @@ read-back t = record { host = host t.host; path = path t.host; query = query t.h
     query None = parts
     query (Some h) = parts
 
--- so the target is read back off the request, whatever else is sent on
+-- so the target is read back from the request, whatever else is forwarded
 target-sent : (token : List ℕ) (t : Target) (tag : Option (List ℕ)) (m : Message) (id : ℕ) → first_refused Request m.options ≡ None → target_sent t.at (forwarded token t tag m id) ≡ t
 unfolding target_sent
 target-sent token t tag m id screened =
@@ -133,9 +133,9 @@ target-sent token t tag m id screened =
     made : {h h' : Option (List ℕ)} {p p' q q' : List (List ℕ)} → h ≡ h' → p ≡ p' → q ≡ q' → ◌≡◌ {A = Target} (record { host = h; at = t.at; path = p; query = q }) (record { host = h'; at = t.at; path = p'; query = q' })
     made e f g = cc
 
--- ---- the key, read off the request
+-- ---- the key, read from the request
 
--- all options of a target say a part of it
+-- all options of a target belong to it
 pub all-say : (t : Target) → AllByRecursion (λ o. says_target o.number ≡ true) (target_options t)
 unfolding target_options
 all-say t = host t.host
@@ -151,7 +151,8 @@ all-say t = host t.host
     host None = values 11 refl t.path (map (option_of 15) t.query) query
     host (Some h) = (refl, values 11 refl t.path (map (option_of 15) t.query) query)
 
--- an option that is kept stands before the others that are, where they have no lower numbers
+-- an inserted option that is kept comes before the other kept options, if they have no lower
+-- numbers
 filter-put_in-kept : (keep : Opt → Bool) (o : Opt) (os : List Opt) → keep o ≡ true → AreOptions o.number (filter keep os) → filter keep (put_in o os) ≡ o ∷ filter keep os
 filter-put_in-kept keep o [] kept are = rw kept refl
 filter-put_in-kept keep o (p ∷ ps) kept are = go (leb o.number p.number) refl (keep p) refl (filter-put_in-kept keep o ps kept) are
@@ -161,14 +162,14 @@ filter-put_in-kept keep o (p ∷ ps) kept are = go (leb o.number p.number) refl 
     go false e true f rest are' = absurd (let le = are'.0 in let lt = leb-false _ _ e in omega arith)
     go false e false f rest are' = rw f (rest are')
 
--- so of two lists as one the first is read back, where all of it is kept and nothing of the other
+-- so of two merged lists, the first is read back if all of it is kept, and nothing of the other
 pub kept-merged : (keep : Opt → Bool) (low : ℕ) (os others : List Opt) → AreOptions low os → AllByRecursion (λ o. keep o ≡ true) os → filter keep others ≡ [] → filter keep (merged os others) ≡ os
 kept-merged keep low [] others are kept none = none
 kept-merged keep low (o ∷ os) others are kept none =
     let rest = kept-merged keep o.number os others are.3 kept.1 none in
     filter-put_in-kept keep o (merged os others) kept.0 (subst (AreOptions o.number) (sym rest) are.3) ∙ ap (λ (l : List Opt). o ∷ l) rest
 
--- what says a part of a target is used up
+-- the options of a target are used up
 says-used : (number : ℕ) → says_target number ≡ true → is_used_up number ≡ true
 says-used number says = go (eqb number 3) refl (eqb number 11) refl (eqb number 15) refl says
   where
@@ -181,7 +182,7 @@ says-used number says = go (eqb number 3) refl (eqb number 11) refl (eqb number 
     go false e false f true g s = of 15 refl g
     go false e false f false g s = absurd cc
 
--- so of what isn't used up all stands beside the target
+-- so all options that aren't used up are among the other options
 unused-beside : (os : List Opt) → AreUnused os → filter (λ o. not (says_target o.number)) os ≡ os
 unused-beside [] none = refl
 unused-beside (o ∷ os) none = go (says_target o.number) refl (unused-beside os none.1)
@@ -190,7 +191,7 @@ unused-beside (o ∷ os) none = go (says_target o.number) refl (unused-beside os
     go true e rest = absurd (let f = sym none.0 ∙ says-used o.number e in cc)
     go false e rest = ap (λ (l : List Opt). o ∷ l) rest
 
--- and nothing of it says a part of the target
+-- and none of them belongs to a target
 unused-silent : (os : List Opt) → AreUnused os → filter (λ o. says_target o.number) os ≡ []
 unused-silent [] none = refl
 unused-silent (o ∷ os) none = go (says_target o.number) refl (unused-silent os none.1)
@@ -199,11 +200,11 @@ unused-silent (o ∷ os) none = go (says_target o.number) refl (unused-silent os
     go true e rest = absurd (let f = sym none.0 ∙ says-used o.number e in cc)
     go false e rest = rest
 
--- so the options of a target are those of the request that say it
+-- so the options of a target are those of the request that belong to a target
 pub target-kept : (t : Target) (others : List Opt) → IsTarget t → AreUnused others → filter (λ o. says_target o.number) (merged (target_options t) others) ≡ target_options t
 target-kept t others is none = kept-merged (λ o. says_target o.number) 0 (target_options t) others (target-options t is) (all-say t) (unused-silent others none)
 
--- of what goes on those in the key are those in the key of all
+-- the forwarded options in the key are those of all options that are in the key
 key-of-sent : (code : Code) (os : List Opt) → filter (in_key code) (filter (goes_on code) os) ≡ filter (in_key code) os
 key-of-sent code [] = refl
 key-of-sent code (o ∷ os) = go (goes_on code o) refl (in_key code o) refl (key-of-sent code os)
@@ -219,11 +220,11 @@ key-of-sent code (o ∷ os) = go (goes_on code o) refl (in_key code o) refl (key
     go false e true f rest = absurd (let g = out (goes_on code o) true e f in cc)
     go false e false f rest = rest
 
--- so what isn't of the target stands beside it
+-- so the others are the options besides the target
 pub others-kept : (t : Target) (others : List Opt) → AreUnused others → filter (λ o. not (says_target o.number)) (merged (target_options t) others) ≡ others
 others-kept t others none = filter-merged (λ o. not (says_target o.number)) (target_options t) others (All-weaken (λ o. says_target o.number ≡ true) (λ o. not (says_target o.number) ≡ false) (target_options t) (λ o says. ap not says) (all-say t)) ∙ unused-beside others none
 
--- the tag isn't part of a key
+-- the tag isn't part of the key
 key-untagged : (tag : Option (List ℕ)) (m : Message) → IfSome tag IsTag → (is_get m.code ≡ false → tag ≡ None) → filter (in_key m.code) (tagged tag (sent_on m)) ≡ filter (in_key m.code) (sent_on m)
 key-untagged tag m is none = go (is_get m.code) refl
   where
@@ -231,11 +232,11 @@ key-untagged tag m is none = go (is_get m.code) refl
     go true get = subst (λ (code : Code). filter (in_key code) (tagged tag (sent_on m)) ≡ filter (in_key code) (sent_on m)) (sym (code-same m.code GET (eqb-true m.code.0 1 get))) (key-tagged tag (sent_on m) is)
     go false other = ap (λ (o : Option (List ℕ)). filter (in_key m.code) (tagged o (sent_on m))) (none other)
 
--- so the options of a key are among those that go on
+-- so the options of a key are among those that are forwarded
 pub key-among : (tag : Option (List ℕ)) (m : Message) → first_refused Request m.options ≡ None → IfSome tag IsTag → (is_get m.code ≡ false → tag ≡ None) → key_of m ≡ filter (in_key m.code) (tagged tag (sent_on m))
 key-among tag m screened is other = key-screened m screened ∙ sym (ap (filter (in_key m.code)) (sent-screened m screened) ∙ key-of-sent m.code m.options) ∙ sym (key-untagged tag m is other)
 
--- the request that is sent on has the client's key: the proxy's tag isn't part of it
+-- the forwarded request has the client's key: the proxy's tag isn't part of it
 pub key-forwarded : (token : List ℕ) (t : Target) (tag : Option (List ℕ)) (m : Message) (id : ℕ) → first_refused Request m.options ≡ None → IfSome tag IsTag → (is_get m.code ≡ false → tag ≡ None) → key_sent t.at (forwarded token t tag m id) ≡ request_key t m
 unfolding key_sent
 key-forwarded token t tag m id screened is other =

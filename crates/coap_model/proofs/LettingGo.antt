@@ -1,4 +1,4 @@
--- Nothing is done for a client that was let go.
+-- Nothing is done for a client that is finished.
 use Rattle.std.proofs.Common.{◌≡◌, ℕ, ◌+◌, ◌≤◌, List, [], ◌∷◌, Some, refl, sym, ap, ◌∙◌, subst, arith}
 use Rattle.std.specs.Prelude.{not}
 use Rattle.std.specs.List.{AllByRecursion}
@@ -15,12 +15,12 @@ use Rattle.coap_model.proofs.Stages.{all-before}
 
 -- ---- what is done for a client
 
--- what is done for one: it is served, or has still to acknowledge that
+-- what is done for a client: it is served, or it hasn't acknowledged its answer yet
 data IsFor (setting : Setting) (past : List Deed) (d : Deed) (v : ℕ) : Outcome → Type 0 where
   serving : (j : IsDelivery setting past d) → j.waiter ≡ v → IsFor setting past d v Delivered
   telling : {o : Outcome} → service_of v past ≡ Some told → IsFor setting past d v o
 
--- it is nothing else
+-- nothing else is
 for-client : (setting : Setting) (past : List Deed) (d : Deed) (v : ℕ) (o : Outcome) → JustifiedBy o setting past d → d.act ≡ serves v → IsFor setting past d v o
 for-client setting past d v Ignored j is = absurd (let e = sym j.act ∙ is in cc)
 for-client setting past d v Rejected j is = absurd (let e = sym j.act ∙ is in cc)
@@ -53,7 +53,7 @@ for-client setting past d v GaveUp j is = go j
 for-client setting past d v Delivered j is = serving j (same_serves j.waiter v (sym j.act ∙ is))
 for-client setting past d v Idle j is = absurd (let e = sym j.act ∙ is in cc)
 
--- a client that was let go at a place was served there or before
+-- a client that is finished at a place was served there or before
 record WasServed (history : List Deed) (v : ℕ) : Type 0 where
   pub place : Place
   pub is_there : IsPlaceOf history place
@@ -76,15 +76,15 @@ gone-number setting history v p all at g =
     let number = Admits-number history a.admission j.waiter a.exchange (place-before history s.place a.admission s.is_there a.was_admitted) a.admits in
     omega (arith, same, number.1)
 
--- ---- who stands
+-- ---- the pending clients
 
--- a client that comes has the next number
+-- a client that is admitted has the next number
 comes-next : (setting : Setting) (past : List Deed) (d : Deed) (v x : ℕ) (o : Outcome) → JustifiedBy o setting past d → admits_one o ≡ 1 → d.act ≡ admits v x → v ≡ admitted_in past + 1
 comes-next setting past d v x Joined j one is = (same_admits v _ x _ (sym is ∙ j.act)).0
 comes-next setting past d v x Opened j one is = (same_admits v _ x _ (sym is ∙ j.act)).0
 comes-next setting past d v x _ j one is = absurd (omega (arith, one))
 
--- none that stands was let go
+-- no pending client is finished
 all-stay : (setting : Setting) (history : List Deed) → AllJustified setting history → AllByRecursion (λ s. Never (LetsGo s.number) history) (standing_in history)
 all-stay setting [] all = tt
 all-stay setting (d ∷ past) all =
@@ -97,7 +97,7 @@ all-stay setting (d ∷ past) all =
     (λ s h stays. ((λ g. stays g.outcome g.act), h))
     (all-stay setting past all.1)
 
--- nothing is done for a client after it was let go
+-- nothing is done for a client after it is finished
 pub gone-for-good : (setting : Setting) (history : List Deed) (v : ℕ) (p : Place) → AllJustified setting history → IsPlaceOf history p → p.deed.act ≡ serves v → Never (LetsGo v) p.before
 gone-for-good setting history v p all at is = go (for-client setting p.before p.deed v p.deed.entry.report.outcome (justified-at setting history p p.deed.entry.report.outcome all at refl) is)
   where

@@ -1,4 +1,4 @@
--- What the tables miss the history misses: what is cached, and exchanges that may be joined.
+-- What isn't in the tables isn't in the history: cached entries, and exchanges that may be joined.
 use Rattle.std.proofs.Common.{◌≡◌, ℕ, ◌≤◌, Bool, true, false, List, Option, Some, None, refl, sym, ap, ◌∙◌, subst}
 use Rattle.std.specs.Prelude.{◌&&◌, not, find, option_map}
 use Rattle.std.proofs.lemmas.Bool.{and_parts, and_from}
@@ -33,13 +33,13 @@ use Rattle.coap_model.proofs.Room.{join-none, room-none}
 use Rattle.coap_model.proofs.Tables.{Has-number, at-number}
 use Rattle.coap_model.proofs.Stores.{cached-found}
 
--- what may answer is fresh, and not marked
+-- a usable entry is fresh, and isn't marked
 usable-of : (fresh marked : Bool) → fresh ≡ true → (fresh && not marked) ≡ false → marked ≡ true
 usable-of true true e f = refl
 usable-of true false e f = absurd cc
 usable-of false marked e f = absurd cc
 
--- what the store misses the cache misses
+-- if the store has no usable entry, the cache has none
 pub missed : (w : World) (history : List Deed) (c : Bears history w) (now : ℕ) (key : CacheKey) → IsMissed w now key → IsMiss w.setting history key now
 missed w history c now key none =
     let s = c.store in
@@ -55,21 +55,21 @@ missed w history c now key none =
 
 -- ---- exchanges that may be joined
 
--- an exchange whose answer hasn't come hasn't ended
+-- an exchange without an answer hasn't ended
 unended-missing : (setting : Setting) (history : List Deed) (x : Numbered Exchange) (s : ExchangeState) → IsState setting history x s → is_missing (answer_in_state s) ≡ true → Never (Ends x.0) history
 unended-missing setting history x Queued s none = s.unended
 unended-missing setting history x Sent s none = s.unended
 unended-missing setting history x Acked s none = s.unended
 unended-missing setting history x (Done a) s none = absurd cc
 
--- and the answer of one that hasn't ended hasn't come
+-- and an exchange that hasn't ended has no answer
 missing-unended : (setting : Setting) (history : List Deed) (x : Numbered Exchange) (s : ExchangeState) → IsState setting history x s → Never (Ends x.0) history → is_missing (answer_in_state s) ≡ true
 missing-unended setting history x Queued s never = refl
 missing-unended setting history x Sent s never = refl
 missing-unended setting history x Acked s never = refl
 missing-unended setting history x (Done a) s never = absurd (Never-at (Ends x.0) history s.ending never s.was_ended s.ends)
 
--- an exchange that isn't tainted was asked before no change of its target
+-- the target of an exchange that isn't tainted wasn't changed since its request was sent
 unchanged-flight : (setting : Setting) (history : List Deed) (x : Numbered Exchange) → IsInFlight setting history x → x.1.tainted ≡ false → (asking : Place) → IsPlaceOf history asking → Asks setting.salt x.0 asking → Unchanged setting x.1.key.target asking history
 unchanged-flight setting history x s clean asking at asks =
     let own = first-once (Sends setting.salt x.0) history s.asked.asking asking s.asked.was_asked at s.asked.asks.sends asks.sends s.asked.asks.first asks.first in
@@ -81,7 +81,7 @@ unchanged-since setting history x Sent s none clean asking at asks = unchanged-f
 unchanged-since setting history x Acked s none clean asking at asks = unchanged-flight setting history x s clean asking at asks
 unchanged-since setting history x (Done a) s none clean asking at asks = absurd cc
 
--- and one whose target is unchanged since it was asked isn't tainted
+-- and an exchange whose target wasn't changed since its request was sent isn't tainted
 pub clean-flight : (setting : Setting) (history : List Deed) (x : Numbered Exchange) (s : IsInFlight setting history x) → Unchanged setting x.1.key.target s.asked.asking history → x.1.tainted ≡ false
 clean-flight setting history x s same = go x.1.tainted refl
   where
@@ -99,7 +99,7 @@ pub not-true : (b : Bool) → not b ≡ true → b ≡ false
 not-true true e = absurd cc
 not-true false e = refl
 
--- what the search finds may be joined by the history too, and is there
+-- the exchange that the search finds may be joined according to the history, and is there
 pub joinable-found : (w : World) (history : List Deed) (c : Bears history w) (key : CacheKey) (n : ℕ) → first_that (is_joinable key) w.exchanges ≡ Some n → IsJoinable w.setting history key n × HasNumber n w.exchanges
 joinable-found w history c key n e = go (find (λ (x : Numbered Exchange). is_joinable key x.1) w.exchanges) refl e
   where
@@ -122,7 +122,7 @@ joinable-found w history c key n e = go (find (λ (x : Numbered Exchange). is_jo
           Has-number w.exchanges x h.0.1,
         )
 
--- where it finds none, none may be joined
+-- if the search finds none, none may be joined
 pub none-joinable : (w : World) (history : List Deed) (c : Bears history w) (key : CacheKey) → first_that (is_joinable key) w.exchanges ≡ None → (x : ℕ) → IsJoinable w.setting history key x → ⊥
 none-joinable w history c key e x j = go (find (λ (y : Numbered Exchange). is_joinable key y.1) w.exchanges) refl e
   where
@@ -146,18 +146,18 @@ none-joinable w history c key e x j = go (find (λ (y : Numbered Exchange). is_j
         same_asked : (a b : CacheKey) → may_ask a ≡ may_ask b → a ≡ b
         same_asked a b f = cc
 
--- so what nothing answers here nothing answers by the history
+-- so a request that has to be forwarded here has to be according to the history
 pub unanswered : (w : World) (history : List Deed) (c : Bears history w) (now : ℕ) (key : CacheKey) (m : Message) → rules.IsUnanswered w now key m → IsUnanswered w.setting history now key m
 unanswered w history c now key m none = record { miss = λ get. missed w history c now key (none.missed get); alone = λ get. none-joinable w history c key (none.alone get) }
 
--- ---- what a request is turned away for
+-- ---- why a request is turned away
 
--- a request that is denied deserves its code
+-- a request that is refused deserves its code
 pub deserves : (w : World) (history : List Deed) (c : Bears history w) (now : ℕ) (m : Message) (code : Code) → IsDenied w now m code → Deserves w.setting history now m code
 deserves w history c now m code (rules.by_verdict verdict) = by_verdict verdict
 deserves w history c now m code (rules.by_length key verdict none long is) = by_length key verdict (unanswered w history c now key m none) long is
 
--- where the tables have no room for it, nor has the history
+-- if the tables have no room for it, there is none according to the history
 pub lacks_room : (w : World) (history : List Deed) (c : Bears history w) (now : ℕ) (key : CacheKey) (m : Message) → w.last ≤ now → IsFull w now key m → LacksRoom w.setting history now key m
 lacks_room w history c now key m onward (rules.to_join exchange get none found full) = to_join exchange get (missed w history c now key none) (joinable-found w history c key exchange found).0 (join-none now history w c onward full)
 lacks_room w history c now key m onward (rules.to_open none short full) = to_open (unanswered w history c now key m none) short (room-none now history w c onward full)

@@ -1,4 +1,4 @@
--- A step that changes one exchange keeps what is carried.
+-- A step that changes one exchange preserves what is carried.
 use Rattle.std.proofs.Common.{◌≡◌, ◌≢◌, inl, inr, ⊎_elim, ℕ, ◌+◌, ◌<◌, ◌≤◌, Bool, true, false, cond, eqb, List, [], ◌∷◌, length, map, Some, refl, sym, ap, ◌∙◌, subst, arith}
 use Rattle.std.specs.Prelude.{◌&&◌, ◌||◌}
 use Rattle.std.specs.List.{AllByRecursion}
@@ -32,14 +32,15 @@ use Rattle.coap_model.proofs.Lists.{Has, All-map, All-there}
 use Rattle.coap_model.proofs.Places.{here, same_moves, opened-number}
 use Rattle.coap_model.proofs.Tables.{item-Has, one-item, changed-cases, HasNumber-changed, HasExchange-on}
 
--- what an entry must be that moves the exchange of a number
+-- what must hold of an entry that acts on the exchange with this number
 pub record IsMove (n : ℕ) (e : Deed) : Type 0 where
   pub act : e.act ≡ moves n
   pub opens : opens_one e.entry.report.outcome ≡ 0
   pub admits : admits_one e.entry.report.outcome ≡ 0
   pub stands : (standing : List Standing) → standing_by e.entry.report.outcome e.act e.entry.bytes standing ≡ standing
 
--- What is known of the exchanges before one of them moves: they are those of the table, but for taints, and the others are right already.
+-- What is known of the exchanges before one of them changes: they are those of the table, except
+-- for taints, and the others are already right.
 pub record AreOthers (w : World) (history : List Deed) (e : Deed) (n : ℕ) (xs : List (Numbered Exchange)) : Type 0 where
   pub rising : IsRising 0 xs
   pub many : length xs ≡ length w.exchanges
@@ -48,7 +49,7 @@ pub record AreOthers (w : World) (history : List Deed) (e : Deed) (n : ℕ) (xs 
   pub waited : AllByRecursion (λ y. 0 < count (waits_for y.0) w.waiters) xs
   pub others : AllByRecursion (λ y. y.0 ≢ n → IsExchangeOf w.setting (e ∷ history) y) xs
 
--- where no answer is got, they are those of the table
+-- if no answer is accepted, they are those of the table
 pub others-quiet : (w : World) (history : List Deed) (c : Bears history w) (e : Deed) (n : ℕ) → e.act ≡ moves n → takes e.entry.report.outcome ≡ false → AreOthers w history e n w.exchanges
 others-quiet w history c e n act none =
     record {
@@ -60,7 +61,7 @@ others-quiet w history c e n act none =
       others = All-weaken (IsExchangeOf w.setting history) (λ y. y.0 ≢ n → IsExchangeOf w.setting (e ∷ history) y) w.exchanges (λ y f other. exchange_frame w.setting history e y none (λ same. other (same_moves y.0 n (sym same ∙ act))) f) c.exchanges;
     }
 
--- where one is, they are tainted as it says
+-- if one is, they are tainted accordingly
 pub others-changed : (w : World) (history : List Deed) (c : Bears history w) (e : Deed) (n : ℕ) (gets : Gets w.setting n (here history e)) → AreOthers w history e n (tainted_all (changed_by (key_asked gets).target gets.meets.message) w.exchanges)
 others-changed w history c e n gets = subst (AreOthers w history e n) (sym (tainted-all changed w.exchanges)) (
     record {
@@ -88,7 +89,7 @@ others-changed w history c e n gets = subst (AreOthers w history e n) (sym (tain
     numbered m [] has = has
     numbered m (x ∷ xs) has = ⊎_elim (λ (same : m ≡ x.0). inl same) (λ (there : HasNumber m xs). inr (numbered m xs there)) has
 
--- what is found of a number is found tainted
+-- the exchange that is found with a number is found tainted
 pub found-tainted : (changed : List Target) (n : ℕ) (xs : List (Numbered Exchange)) (x : Exchange) → item_at n xs ≡ Some x → item_at n (tainted_all changed xs) ≡ Some (tainted_here changed (n, x)).1
 found-tainted changed n xs x e = ap (item_at n) (tainted-all changed xs) ∙ go xs e
   where
@@ -100,7 +101,7 @@ found-tainted changed n xs x e = ap (item_at n) (tainted-all changed xs) ∙ go 
         by_number true rest g = ap (λ (a : Exchange). Some (tainted_here changed (n, a)).1) (same_Some y.1 x g)
         by_number false rest g = rest g
 
--- and as many pass a test that doesn't ask for taints
+-- and as many pass a test that ignores taints
 pub count-tainted : (test : Exchange → Bool) → ((x : Exchange) (b : Bool) → test (record x { tainted = b }) ≡ test x) → (changed : List Target) (xs : List (Numbered Exchange)) → count test (tainted_all changed xs) ≡ count test xs
 count-tainted test blind changed xs = ap (count test) (tainted-all changed xs) ∙ go xs
   where
@@ -108,12 +109,13 @@ count-tainted test blind changed xs = ap (count test) (tainted-all changed xs) �
     go [] = refl
     go (y ∷ ys) = rw (blind y.1 (y.1.tainted || (is_flying y.1.state && concerns changed y.1.key.target)), go ys) refl
 
--- the clock goes on, one of these exchanges changes, these ids are given, and this is stored and remembered
+-- the clock advances, one of these exchanges changes, these ids are given out, and this is stored
+-- and remembered
 abbrev pub moved_world : World → ℕ → List (Numbered Exchange) → ℕ → (Exchange → Exchange) → Given → List cache.Entry → Records → Records → World
 moved_world w now xs n f ids store con non =
     record (later w now) { exchanges = changed_at n f xs; ids = ids; store = store; con_records = con; non_records = non }
 
--- such a step keeps what is carried
+-- such a step preserves what is carried
 pub keeps_moving : (w : World) (history : List Deed) (c : Bears history w) (e : Deed) (xs : List (Numbered Exchange)) (n : ℕ) (x : Exchange) (f : Exchange → Exchange) (ids : Given) (store : List cache.Entry) (con non : Records) → IsMove n e → AreOthers w history e n xs → item_at n xs ≡ Some x → w.last ≤ e.entry.now
     → IsExchangeOf w.setting (e ∷ history) (n, f x)
     → map stage_seen (changed_at n f xs) ≡ open_by e.entry.report.outcome e.act e.entry.report.send (standing_in (e ∷ history)) (map stage_seen xs)

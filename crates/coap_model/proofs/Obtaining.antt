@@ -1,4 +1,4 @@
--- What is obtained is kept by its size, and what a cache has was obtained.
+-- What is obtained is kept depending on its size, and what a cache has was obtained.
 use Rattle.std.proofs.Common.{◌≡◌, inl, inr, ℕ, ◌≤◌, ◌&&◌, Bool, true, false, cond, not, nat_lt, List, [], ◌∷◌, Option, Some, None, refl, sym, ap, ◌∙◌, subst, arith}
 use Rattle.std.specs.Prelude.{option_map}
 use Rattle.std.specs.Option.{option_map_or}
@@ -45,7 +45,7 @@ use Rattle.coap_model.proofs.Places.{here, same_moves, Opens-unique, place-befor
 use Rattle.coap_model.proofs.Stages.{all-before}
 use Rattle.coap_model.proofs.Verdicts.{code-same, askable}
 
--- what counts no more than may be kept is kept, where its key has an entry
+-- an answer that is no larger than the limit is kept, if its key has an entry
 pub kept-there : (o : Outcome) (setting : Setting) (past : List Deed) (d : Deed) (cached : List Cached) (entry : Cached) (h : IsObtainedHere setting past d) → JustifiedBy o setting past d → takes o ≡ true → size_here h ≤ setting.limits.cache_bytes → IsCacheOf setting past cached → of_key cached_key (key_asked h.gets) cached ≡ Some entry → o ≡ Answered Kept
 kept-there (Answered Kept) setting past d cached entry h j took small is found = refl
 kept-there (Answered TooLarge) setting past d cached entry h j took small is found = let same = one-size h j.here in let large = j.large in absurd (omega (arith, small, large, same))
@@ -58,9 +58,9 @@ kept-there (Answered NoMemory) setting past d cached entry h j took small is fou
 kept-there (Answered NotStored) setting past d cached entry h j took small is found = absurd (j.none h)
 kept-there _ setting past d cached entry h j took small is found = absurd cc
 
--- ---- what is stored was obtained
+-- ---- what may be stored was obtained
 
--- how what may be stored came to a GET: as the response came, or as what is validated, renewed
+-- how a response that may be stored arrived: as it is, or as a 2.03 that renews another one
 data IsTaken (most : ℕ) (copy : Option Message) (m response : Message) : Type 0 where
   as_it_came : is_passed_on most true m ≡ true → response ≡ taken_of true m → IsLasting response → IsTaken most copy m response
   renewing : (old : Message)
@@ -72,13 +72,13 @@ data IsTaken (most : ℕ) (copy : Option Message) (m response : Message) : Type 
       → IsLasting response
       → IsTaken most copy m response
 
--- what may be stored lasts
+-- an answer that may be stored is lasting
 lasting-so : (a : Answer) → is_storable a ≡ true → IsLasting a.message
 lasting-so a e =
     let both = and_parts (tells_age a.message.code) (nat_lt 0 (max_age_of a.message)) (and_parts (not a.own) (tells_age a.message.code && nat_lt 0 (max_age_of a.message)) e).1 in
     record { code = both.0; age = ltb-true 0 (max_age_of a.message) both.1 }
 
--- what may be stored came so
+-- an answer that may be stored arrived in one of these ways
 taken-so : (most now : ℕ) (copy : Option Message) (m : Message) → is_storable (answer_of most true copy now m) ≡ true → IsTaken most copy m (answer_of most true copy now m).message
 unfolding answer_of
 taken-so most now copy m e = go (not (is_rst m.kind) && is_passed_on most true m) refl (validates true m) e
@@ -104,14 +104,14 @@ taken-so most now copy m e = go (not (is_rst m.kind) && is_passed_on most true m
     go true is false s = as_it_came (and_parts (not (is_rst m.kind)) (is_passed_on most true m) is).1 refl (lasting-so (origin_answer now (taken_of true m)) s)
     go false is v s = absurd cc
 
--- ---- the tag that was sent
+-- ---- the tag of the forwarded request
 
--- one tag is carried, where a tag is
+-- if a tag is carried, it is the only one
 one-tag : (tag : List ℕ) (tags : List (List ℕ)) (g : Option (List ℕ)) → tag ∷ tags ≡ given g → (g ≡ Some tag) × (tags ≡ [])
 one-tag tag tags None e = absurd cc
 one-tag tag tags (Some v) e = (let f : v ≡ tag = cc in ap Some f, cc)
 
--- the tag of what was kept is carried only where it has that tag
+-- the tag of the kept response is carried only if the response has that tag
 tag-kept : (most : ℕ) (t : Target) (request old : Message) (tag : List ℕ) → tag_for most t request (Some old) ≡ Some tag → tag_of old.options ≡ Some tag
 tag-kept most t request old tag e = go (is_get request.code && is_content old.code) (tag_of old.options) e
   where
@@ -124,13 +124,13 @@ tag-kept most t request old tag e = go (is_get request.code && is_content old.co
     go true (Some v) f = fitting (form_fits most t (Some v) request) v f
     go false g f = absurd cc
 
--- what the request of an exchange asked for, where what it got may be stored
+-- what the request of an exchange was sent for, if its answer may be stored
 record IsAskedSo {setting : Setting} {x : ℕ} {p : Place} (gets : Gets setting x p) (former : List Cached) (old : Message) : Type 0 where
   pub tag : List ℕ
   pub has : tag_of old.options ≡ Some tag
   pub carried : tags_of (asked_of gets) ≡ tag ∷ []
 
--- a GET carries one tag at most: that of what was kept when its exchange was opened
+-- a GET carries at most one tag: that of what was kept when its exchange was opened
 asked-so : {setting : Setting} {x : ℕ} {p : Place} (gets : Gets setting x p) (former : List Cached) (old : Message) → AreRoutes setting.routes → AllJustified setting p.before → to_get gets ≡ true → WasCacheAt setting gets.meets.asking.before x former → copied (tags_of (asked_of gets)) (key_asked gets) former ≡ Some old → IsAskedSo gets former old
 asked-so {setting} {x} {p} gets former old routes all get was is = go (tags_of (asked_of gets)) refl is
   where
@@ -186,11 +186,11 @@ asked-so {setting} {x} {p} gets former old routes all get was is = go (tags_of (
 
 -- ---- what a cache has
 
--- what was obtained stays so
+-- what was obtained stays so as the history grows
 obtained-later : (setting : Setting) (past : List Deed) (d : Deed) (c : Cached) → WasObtained setting past c → WasObtained setting (d ∷ past) c
 obtained-later setting past d c w = record { was_asked = inr w.was_asked; was_got = inr w.was_got; obtained = w.obtained }
 
--- what a cache kept for a key
+-- the response that a cache kept for a key
 record WasKept (key : CacheKey) (cached : List Cached) (response : Message) : Type 0 where
   pub entry : Cached
   pub found : of_key cached_key key cached ≡ Some entry
@@ -203,12 +203,12 @@ kept-of key cached response e = go (of_key cached_key key cached) refl e
     go None f g = absurd cc
     go (Some c) f g = record { entry = c; found = f; is = same_Some c.response response g }
 
--- a copy is of what was kept
+-- a copy is the response that was kept
 copy-kept : (tags : List (List ℕ)) (key : CacheKey) (former : List Cached) (old : Message) → copied tags key former ≡ Some old → kept_for key former ≡ Some old
 copy-kept [] key former old e = absurd cc
 copy-kept (tag ∷ tags) key former old e = e
 
--- what a deed obtains was obtained, where what there was before was
+-- what a deed obtains was obtained, if what was in the cache before was
 here-obtained : (setting : Setting) (past : List Deed) (d : Deed) (o : IsObtainedHere setting past d) → AreRoutes setting.routes → AllJustified setting past → AllByRecursion (WasObtained setting o.was_cache.opening.before) o.former → IsObtained setting (key_asked o.gets) (answer_got o.former o.gets).message o.gets.meets.asking (here past d)
 here-obtained setting past d o routes all old = go (taken-so most now copy m (ap (λ (b : Bool). is_storable (answer_of most b copy now m)) (sym o.method) ∙ o.storable))
   where
@@ -243,7 +243,7 @@ here-obtained setting past d o routes all old = go (taken-so most now copy m (ap
         let of_this : IsObtained setting key response kept.entry.asking kept.entry.getting = subst (λ (r : Message). IsObtained setting key r kept.entry.asking kept.entry.getting) kept.is (subst (λ (k : CacheKey). IsObtained setting k kept.entry.response kept.entry.asking kept.entry.getting) (of_key-key cached_key key o.former kept.entry kept.found) w.obtained) in
         was_validated (fetched passed) asked.tag of_this (place-before o.gets.meets.asking.before o.was_cache.opening kept.entry.getting o.was_cache.was_opened w.was_got) asked.has asked.carried valid (same ∙ is) (ap (fits most) same ∙ short) (subst IsLasting (sym same) lasting)
 
--- what one obtains that stored it is obtained as it was got
+-- what a deed obtains is obtained by any account of how it arrived
 abbrev obtained-as : (setting : Setting) (past : List Deed) (d : Deed) (x : ℕ) (gets : Gets setting x (here past d)) (former : List Cached) → WasCacheAt setting gets.meets.asking.before x former → IsObtainedHere setting past d → IsObtainedHere setting past d
 obtained-as setting past d x gets former was h = record {
   exchange = x;
@@ -272,29 +272,29 @@ cache-obtained setting history cached routes all is =
           obtained = here-obtained setting past d o routes more.1 (All-weaken (λ c. AllJustified setting was.opening.before → WasObtained setting was.opening.before c) (WasObtained setting was.opening.before) former (λ c w. w before) old);
         }
 
--- so was what is found in it
+-- so was an entry that is found in it
 pub found-obtained : (setting : Setting) (history : List Deed) (cached : List Cached) (key : CacheKey) (c : Cached) → AreRoutes setting.routes → AllJustified setting history → IsCacheOf setting history cached → of_key cached_key key cached ≡ Some c → WasObtained setting history c
 found-obtained setting history cached key c routes all is found = found-holds (WasObtained setting history) cached key c (cache-obtained setting history cached routes all is) found
 
--- what a deed obtains was obtained
+-- the entry that a deed obtains was obtained
 pub obtained-here : (setting : Setting) (past : List Deed) (d : Deed) (o : IsObtainedHere setting past d) → AreRoutes setting.routes → AllJustified setting past → IsObtained setting (key_asked o.gets) (entry_here o).response o.gets.meets.asking (here past d)
 obtained-here setting past d o routes all =
     let before = all-before setting o.gets.meets.asking.before o.was_cache.opening (all-before setting past o.gets.meets.asking all o.gets.meets.was_asked) o.was_cache.was_opened in
     here-obtained setting past d o routes all (cache-obtained setting o.was_cache.opening.before o.former routes before o.was_cache.is_cache)
 
--- it was fetched last
+-- an obtained entry was fetched last
 pub obtained-fetched : {s : Setting} {key : CacheKey} {response : Message} {a g : Place} → IsObtained s key response a g → IsFetched s key a g
 obtained-fetched (first_hand fetched is lasting) = fetched
 obtained-fetched (was_validated fetched tag old before its also valid is fits lasting) = fetched
 
--- and lasts
+-- and it is lasting
 pub obtained-lasting : {s : Setting} {key : CacheKey} {response : Message} {a g : Place} → IsObtained s key response a g → IsLasting response
 obtained-lasting (first_hand fetched is lasting) = lasting
 obtained-lasting (was_validated fetched tag old before its also valid is fits lasting) = lasting
 
--- ---- what came so may be stored
+-- ---- what arrives this way may be stored
 
--- an answer that isn't Empty is no Reset
+-- an answer that isn't Empty isn't a Reset
 no_reset : (token : List ℕ) (id : ℕ) (m : Message) → Matches token id m → is_code m.code EMPTY ≡ false → not (is_rst m.kind) ≡ true
 no_reset token id m (in_acknowledgement kind code same with_id) other = rw kind refl
 no_reset token id m (separate kind code same) other = go m.kind kind
@@ -306,7 +306,7 @@ no_reset token id m (separate kind code same) other = go m.kind kind
     go Rst e = absurd cc
 no_reset token id m (by_reset kind code with_id) other = absurd (let e : false ≡ true = sym other ∙ ap (λ (c : Code). is_code c EMPTY) code in cc)
 
--- what is told with an age isn't Empty, nor a 2.03
+-- a code with a Max-Age isn't Empty, nor 2.03
 told-code : (code : Code) → tells_age code ≡ true → (is_code code EMPTY ≡ false) × (is_code code VALID ≡ false)
 told-code code told = (go EMPTY refl, go VALID refl)
   where
@@ -317,11 +317,11 @@ told-code code told = (go EMPTY refl, go VALID refl)
         same_or true e = absurd (let same : tells_age code ≡ tells_age other = ap tells_age (code-same code other (eqb-true code.0 other.0 e)) in let f : true ≡ false = sym told ∙ same ∙ not_told in cc)
         same_or false e = refl
 
--- what lasts may be stored, where an origin sent it
+-- a lasting response from an origin server may be stored
 lasting-storable : (now : ℕ) (r : Message) → IsLasting r → is_storable (origin_answer now r) ≡ true
 lasting-storable now r l = rw (l.code, lt-ltb 0 (max_age_of r) l.age) refl
 
--- what is passed on and lasts may be stored
+-- a response that is passed on and is lasting may be stored
 came-storable : (most now : ℕ) (copy : Option Message) (m : Message) → not (is_rst m.kind) ≡ true → is_passed_on most true m ≡ true → validates true m ≡ false → is_storable (origin_answer now (taken_of true m)) ≡ true → is_storable (answer_of most true copy now m) ≡ true
 unfolding answer_of
 came-storable most now copy m sent passed other storable = go (not (is_rst m.kind)) sent (is_passed_on most true m) passed (validates true m) other
@@ -332,7 +332,7 @@ came-storable most now copy m sent passed other storable = go (not (is_rst m.kin
     go true e false f v g = absurd cc
     go false e p f v g = absurd cc
 
--- so may what a 2.03 renews
+-- so may a response that a 2.03 renews
 renewed-storable : (most now : ℕ) (old m : Message) → not (is_rst m.kind) ≡ true → is_passed_on most true m ≡ true → validates true m ≡ true → is_validated old (taken_of true m) ≡ true → fits most (renewed old (taken_of true m)) ≡ true → is_storable (origin_answer now (renewed old (taken_of true m))) ≡ true → is_storable (answer_of most true (Some old) now m) ≡ true
 unfolding answer_of
 renewed-storable most now old m sent passed valid does fit storable = go (not (is_rst m.kind)) sent (is_passed_on most true m) passed (validates true m) valid (is_validated old (taken_of true m)) does (fits most (renewed old (taken_of true m))) fit
@@ -346,7 +346,7 @@ renewed-storable most now old m sent passed valid does fit storable = go (not (i
     go true e false f v g a h b i = absurd cc
     go false e p f v g a h b i = absurd cc
 
--- the code of what is taken is that of what came
+-- the code of the accepted response is that of the message
 taken-code : (m : Message) → (taken_of true m).code ≡ m.code
 taken-code m = go (validates true m)
   where
@@ -354,7 +354,7 @@ taken-code m = go (validates true m)
     go true = refl
     go false = refl
 
--- what validates is a 2.03
+-- a message that validates is a 2.03
 validated-code : (old valid : Message) → is_validated old valid ≡ true → is_code valid.code VALID ≡ true
 validated-code old valid e = go (is_code old.code CONTENT) (is_code valid.code VALID) refl (option_map_or (λ tag. has_tag tag valid) (tag_of old.options) false) e
   where
@@ -371,7 +371,8 @@ valid-full code e = go (is_code code EMPTY) refl
     go true f = let valid = eqb-true code.0 67 e in let none = eqb-true code.0 0 f in absurd (omega (arith, valid, none))
     go false f = refl
 
--- what came to a GET whose target wasn't changed since, and is passed on, is obtained if it lasts
+-- a response to a GET whose target wasn't changed since, which is passed on, is obtained if it is
+-- lasting
 pub came-obtained : (setting : Setting) (past : List Deed) (d : Deed) (x : ℕ) (gets : Gets setting x (here past d)) (former : List Cached) → to_get gets ≡ true → Unchanged setting (key_asked gets).target gets.meets.asking past → WasCacheAt setting gets.meets.asking.before x former → is_passed_on setting.limits.datagram true gets.meets.message ≡ true → IsLasting (taken_of true gets.meets.message)
     → IsObtainedHere setting past d
 came-obtained setting past d x gets former get unchanged was passed lasting =
@@ -382,7 +383,7 @@ came-obtained setting past d x gets former get unchanged was passed lasting =
     let storable = came-storable most d.entry.now copy m (no_reset (token_of setting.salt x) gets.meets.asks.sends.message.id m gets.meets.matches codes.0) passed codes.1 (lasting-storable d.entry.now (taken_of true m) lasting) in
     record { exchange = x; gets = gets; method = get; unchanged = unchanged; former = former; was_cache = was; storable = ap (λ (b : Bool). is_storable (answer_of most b copy d.entry.now m)) get ∙ storable }
 
--- and so is what a 2.03 renews
+-- and so is a response that a 2.03 renews
 pub renewed-obtained : (setting : Setting) (past : List Deed) (d : Deed) (x : ℕ) (gets : Gets setting x (here past d)) (former : List Cached) (old : Message) → to_get gets ≡ true → Unchanged setting (key_asked gets).target gets.meets.asking past → WasCacheAt setting gets.meets.asking.before x former → is_passed_on setting.limits.datagram true gets.meets.message ≡ true → copied (tags_of (asked_of gets)) (key_asked gets) former ≡ Some old → is_validated old (taken_of true gets.meets.message) ≡ true → fits setting.limits.datagram (renewed old (taken_of true gets.meets.message)) ≡ true → IsLasting (renewed old (taken_of true gets.meets.message))
     → IsObtainedHere setting past d
 renewed-obtained setting past d x gets former old get unchanged was passed has valid fit lasting =

@@ -1,4 +1,4 @@
--- What is done at one place alone.
+-- What is done at only one place.
 use Rattle.std.proofs.Common.{◌≡◌, ⊎_elim, ℕ, ◌+◌, true, List, refl, sym, ap, ◌∙◌, subst}
 use Rattle.coap_model.specs.declared.report.Outcome.{Outcome}
 use Rattle.coap_model.specs.declared.report.Outcome.TheVariants.{Opened, Answered, SentRequest, GaveUp, Delivered}
@@ -11,20 +11,20 @@ use Rattle.coap_model.proofs.Owing.{one_key, taken-so}
 use Rattle.coap_model.proofs.Places.{first-once, same_moves, same_serves, never-before, place-before, in-order, request-unique, justified-at}
 use Rattle.coap_model.proofs.Stages.{all-before, queued-unsent}
 
--- an exchange was never sent before the place where its request is
+-- the request of an exchange wasn't sent before the place where it is first sent
 pub sent-first : (setting : Setting) (history : List Deed) (x : ℕ) (p : Place) → AllJustified setting history → IsPlaceOf history p → Sends setting.salt x p → Never (Sends setting.salt x) p.before
 sent-first setting history x p all at s =
     let j : IsForwarding setting p.before p.deed = justified-at setting history p SentRequest all at s.outcome in
     let same = same_moves j.exchange x (sym j.act ∙ s.act) in
     subst (λ (n : ℕ). Never (Sends setting.salt n) p.before) same (queued-unsent setting p.before j.exchange (all-before setting history p all at) j.to_send.stage)
 
--- what is given up has not ended
+-- an exchange that is given up hasn't ended before
 given_up-first : (setting : Setting) (past : List Deed) (d : Deed) (x : ℕ) → IsGivingUp setting past d → d.act ≡ moves x → Never (Ends x) past
 given_up-first setting past d x (overdue y m acting act to_end come silent) is = subst (λ (n : ℕ). Never (Ends n) past) (same_moves y x (sym act ∙ is)) to_end.unended
 given_up-first setting past d x (unheard y m acting act to_repeat first come stops silent) is = subst (λ (n : ℕ). Never (Ends n) past) (same_moves y x (sym act ∙ is)) first
 given_up-first setting past d x (unacknowledged v acting act to_serve stops silent) is = absurd (let e = sym act ∙ is in cc)
 
--- an exchange has not ended before the place where it does
+-- an exchange hasn't ended before the place where it ends
 pub ended-first : (setting : Setting) (history : List Deed) (x : ℕ) (p : Place) → AllJustified setting history → IsPlaceOf history p → Ends x p → Never (Ends x) p.before
 ended-first setting history x p all at e = go p.deed.entry.report.outcome e.outcome (justified-at setting history p p.deed.entry.report.outcome all at refl)
   where
@@ -35,7 +35,7 @@ ended-first setting history x p all at e = go p.deed.entry.report.outcome e.outc
     go GaveUp is j = given_up-first setting p.before p.deed x j e.act
     go _ is j = absurd cc
 
--- a client was never served before the place where it is
+-- a client wasn't served before the place where it is served
 pub served-first : (setting : Setting) (history : List Deed) (v : ℕ) (p : Place) → AllJustified setting history → IsPlaceOf history p → Serves v p → Never (Serves v) p.before
 served-first setting history v p all at s =
     let j : IsDelivery setting p.before p.deed = justified-at setting history p Delivered all at s.outcome in
@@ -46,7 +46,7 @@ pub sent-once : (setting : Setting) (history : List Deed) (x : ℕ) (a b : Place
 sent-once setting history x a b all at_a at_b sends_a sends_b =
     first-once (Sends setting.salt x) history a b at_a at_b sends_a sends_b (sent-first setting history x a all at_a sends_a) (sent-first setting history x b all at_b sends_b)
 
--- an exchange is got or given up at one place
+-- an exchange is answered or given up at one place
 pub ended-once : (setting : Setting) (history : List Deed) (x : ℕ) (a b : Place) → AllJustified setting history → IsPlaceOf history a → IsPlaceOf history b → Ends x a → Ends x b → a ≡ b
 ended-once setting history x a b all at_a at_b ends_a ends_b =
     first-once (Ends x) history a b at_a at_b ends_a ends_b (ended-first setting history x a all at_a ends_a) (ended-first setting history x b all at_b ends_b)
@@ -56,7 +56,7 @@ pub served-once : (setting : Setting) (history : List Deed) (v : ℕ) (a b : Pla
 served-once setting history v a b all at_a at_b serves_a serves_b =
     first-once (Serves v) history a b at_a at_b serves_a serves_b (served-first setting history v a all at_a serves_a) (served-first setting history v b all at_b serves_b)
 
--- an exchange that may be joined could be joined at each place that came after it was opened
+-- an exchange that may be joined could be joined at each place after it was opened
 joinable-before : (setting : Setting) (history : List Deed) (key : CacheKey) (x : ℕ) (p : Place) → IsPlaceOf history p → (j : IsJoinable setting history key x) → IsPlaceOf p.before j.opened.opening → IsJoinable setting p.before key x
 joinable-before setting history key x p at j before =
     let o = j.opened in
@@ -68,7 +68,7 @@ joinable-before setting history key x p at j before =
       unchanged = λ asking was asks. never-before (ChangesAfter setting key.target asking) history p (j.unchanged asking (place-before history p asking at was) asks) at;
     }
 
--- so none was opened after it for its key
+-- so no exchange was opened after it for its key
 none-after : {A : Type 0} (setting : Setting) (history : List Deed) (key : CacheKey) (x y : ℕ) → AllJustified setting history → (later : IsJoinable setting history key x) (former : IsJoinable setting history key y) → IsPlaceOf later.opened.opening.before former.opened.opening → A
 none-after setting history key x y all later former before =
     let o = later.opened in
@@ -78,7 +78,7 @@ none-after setting history key x y all later former before =
     let same : key ≡ j.key = one_key (sym later.verdict ∙ ap (verdict_on setting) one ∙ j.verdict) in
     absurd (j.unanswered.alone (subst IsGet one later.method) y (subst (λ (k : CacheKey). IsJoinable setting p.before k y) same (joinable-before setting history key y p o.was_opened former before)))
 
--- one exchange of a key may be joined
+-- at most one exchange with a key may be joined
 pub one-joinable : (setting : Setting) (history : List Deed) (key : CacheKey) (x y : ℕ) → AllJustified setting history → IsJoinable setting history key x → IsJoinable setting history key y → x ≡ y
 one-joinable setting history key x y all a b =
     ⊎_elim

@@ -1,4 +1,4 @@
--- What may follow deeds at a turn is one answer.
+-- What may follow given deeds at a turn is unique.
 use Rattle.std.proofs.Common.{◌≡◌, ◌⊎◌, inl, inr, ⊎_elim, ℕ, Bool, ◌+◌, ◌%◌, ◌^◌, ◌<◌, ◌≤◌, true, false, List, [], ◌∷◌, Option, Some, None, refl, sym, ap, ◌∙◌, subst, arith}
 use Rattle.std.proofs.lemmas.Option.{same_Some}
 use Rattle.std.proofs.lemmas.Bool.{cases_lt}
@@ -44,18 +44,18 @@ use Rattle.coap_model.proofs.Arrivals.{request_con}
 use Rattle.coap_model.proofs.Sorts.{recorded-sorts, token-or-reset}
 use Rattle.coap_model.proofs.Owing.{one_key, taken-so, answer-awaited, given_again, given_dropped, given_no_room, given_either, given_hit, given_refused, given_overloaded, given_no_id, given_joined, given_opened, given_answered, given_rejected, given_ignored, given_up-so, OnTick, sent as sending, resent, given_up, delivered, idle, on-tick}
 
--- ---- what is said
+-- ---- what is sent
 
--- two entries send the same to the same endpoint, or both nothing
+-- two entries send the same to the same endpoint, or both send nothing
 record SayTheSame (d e : Entry) : Type 0 where
   pub send : d.report.send ≡ e.report.send
   pub bytes : d.bytes ≡ e.bytes
 
--- silence is silence
+-- two silent entries send the same
 silent-same : (d e : Entry) → IsSilent d → IsSilent e → SayTheSame d e
 silent-same d e s t = record { send = s.sent ∙ sym t.sent; bytes = s.bytes ∙ sym t.bytes }
 
--- one message to one endpoint is one datagram
+-- the same message to the same endpoint is the same datagram
 told-same : (d e : Entry) (a b : Endpoint) (m n : Message) → Tells a m d → Tells b n e → a ≡ b → m ≡ n → SayTheSame d e
 told-same d e a b m n s t to same =
     record {
@@ -63,12 +63,12 @@ told-same d e a b m n s t to same =
       bytes = spelled_once d.bytes m s.spells ∙ ap spelling same ∙ sym (spelled_once e.bytes n t.spells);
     }
 
--- duplicates of one request are told the same
+-- duplicates of the same request get the same
 again-same : (d e : Entry) (client : Endpoint) (reply : Option (List ℕ)) → SaysAgain client reply d → SaysAgain client reply e → SayTheSame d e
 again-same d e client None s t = silent-same d e s t
 again-same d e client (Some reply) s t = record { send = s.0 ∙ sym t.0; bytes = s.1 ∙ sym t.1 }
 
--- what is taken up is acknowledged the same, or met with silence
+-- accepted messages are acknowledged the same, or both get nothing
 taken_up-same : (d e : Entry) (k l : Kind) (a b : Endpoint) (i j : ℕ) → k ≡ l → a ≡ b → i ≡ j → TakesUp k a i d → TakesUp l b j e → SayTheSame d e
 taken_up-same d e k l a b i j kind to id s t = go l (subst (λ (n : Kind). TakesUp n a i d) kind s) t
   where
@@ -78,30 +78,30 @@ taken_up-same d e k l a b i j kind to id s t = go l (subst (λ (n : Kind). Takes
     go Ack s t = silent-same d e s t
     go Rst s t = silent-same d e s t
 
--- what is sent again is what was sent before
+-- retransmissions of the same message send the same
 before-same : (d e : Entry) (es : List Entry) → SaysAsBefore es d → SaysAsBefore es e → SayTheSame d e
 before-same d e [] s t = absurd s
 before-same d e (before ∷ es) s t = record { send = s.0 ∙ sym t.0; bytes = s.1 ∙ sym t.1 }
 
--- replies to one request of one content are one, where they have one id
+-- immediate replies to the same request with the same content and the same id are equal
 at_once-same : (r s reply other : Message) → r.kind ≡ s.kind → reply.code ≡ other.code → reply.token ≡ other.token → reply.options ≡ other.options → reply.payload ≡ other.payload → reply_id r reply.id ≡ reply_id s other.id → at_once r reply ≡ at_once s other
 at_once-same r s reply other kind code token options payload id =
     λ i. record { kind = reply_kind (kind i); code = code i; id = id i; token = token i; options = options i; payload = payload i }
 
--- requests that are sent on for one target and one request, with one token, one tag and one id, are
--- one
+-- forwarded requests for the same target and the same request, with the same token, tag and id, are
+-- equal
 forwarded-same : (salt x y : ℕ) (a b : Target) (g h : Option (List ℕ)) (m n : Message) (i k : ℕ) → x ≡ y → a ≡ b → g ≡ h → m ≡ n → i ≡ k → forwarded (token_of salt x) a g m i ≡ forwarded (token_of salt y) b h n k
 forwarded-same salt x y a b g h m n i k number target tag request id = λ j. forwarded (token_of salt (number j)) (target j) (tag j) (request j) (id j)
 
--- and so is what is shown for one request at one moment of one answer
+-- and so are messages for the same request with the same answer at the same moment
 shown-same : (now later : ℕ) (a b : Answer) (i k : ℕ) (r s : Message) → now ≡ later → a ≡ b → i ≡ k → r ≡ s → shown_as r.kind (is_get r.code) now a i r.token (tags_of r) ≡ shown_as s.kind (is_get s.code) later b k s.token (tags_of s)
 shown-same now later a b i k r s moment answer id request = λ j. shown_as (request j).kind (is_get (request j).code) (moment j) (answer j) (id j) (request j).token (tags_of (request j))
 
--- what is told has the id that is given
+-- a message that is sent with a new id has the id that the entry gives out
 id-told : (e : Entry) (id : ℕ) (to : Endpoint) (m : Message) → Gives id e → Tells to m e → m.id ≡ id
 id-told e id to m g t = ap (λ (k : Message). k.id) (one_message e.bytes m g.message t.spells g.spells) ∙ g.id_is
 
--- entries of one turn with one outcome that say the same are one
+-- entries of the same turn with the same outcome that send the same are equal
 same-entry : (d e : Entry) → AreOfOneTurn d e → d.report.outcome ≡ e.report.outcome → SayTheSame d e → d ≡ e
 same-entry d e turn outcome say = same
   where
@@ -110,7 +110,7 @@ same-entry d e turn outcome say = same
 
 -- ---- which item is served
 
--- of two numbers one is less, or they are equal
+-- two numbers are equal, or one of them is less
 numbers : (m n : ℕ) → (m ≡ n) ⊎ ((m < n) ⊎ (n < m))
 numbers m n =
     ⊎_elim
@@ -118,7 +118,7 @@ numbers m n =
     (λ (no_less : n ≤ m). ⊎_elim (λ (less : n < m). inr (inr less)) (λ (other : m ≤ n). inl (omega (arith, no_less, other))) (cases_lt n m))
     (cases_lt m n)
 
--- of two acts that are due one comes before the other, or they are one
+-- of two acts that are due, one comes before the other, or they are equal
 due-acts : (setting : Setting) (past : List Deed) (a b : Act) (m n : ℕ) → IsDueAt setting past a m → IsDueAt setting past b n → (a ≡ b) ⊎ (ComesBefore a b ⊎ ComesBefore b a)
 due-acts setting past no_item b m n p q = absurd p
 due-acts setting past (admits v x) b m n p q = absurd p
@@ -131,7 +131,7 @@ due-acts setting past (serves v) (admits u y) m n p q = absurd q
 due-acts setting past (serves v) (moves y) m n p q = inr (inr tt)
 due-acts setting past (serves v) (serves u) m n p q = ⊎_elim (λ (e : v ≡ u). inl (ap serves e)) (λ (o : (v < u) ⊎ (u < v)). inr o) (numbers v u)
 
--- what is done at one moment after the same deeds is one act
+-- ticks at the same moment after the same deeds have the same act
 one-act : (setting : Setting) (past : List Deed) (d e : Deed) → IsActing setting past d → IsActing setting past e → d.act ≡ e.act
 one-act setting past d e p q = ⊎_elim (λ (same : d.act ≡ e.act). same) (λ (o : ComesBefore d.act e.act ⊎ ComesBefore e.act d.act). absurd (⊎_elim (λ b. q.first d.act p.at p.due (inr (moments, b))) (λ b. p.first e.act q.at q.due (inr (sym moments, b))) o)) (due-acts setting past d.act e.act p.at q.at p.due q.due)
   where
@@ -140,7 +140,7 @@ one-act setting past d e p q = ⊎_elim (λ (same : d.act ≡ e.act). same) (λ 
 
 -- ---- one answer of each kind
 
--- an exchange ends with one answer at a place
+-- an exchange ends with only one answer at a place
 ending-there : (setting : Setting) (x y : ℕ) (k l : CacheKey) (p : Place) (a b : Answer) → EndsWith setting x k p a → EndsWith setting y l p b → a ≡ b
 ending-there setting x y k l p a b (got g former was key is) (got h older before other also) =
     is ∙ one-gotten g h (one-former g h was before) ∙ sym also
@@ -148,11 +148,11 @@ ending-there setting x y k l p a b (got g former was key is) (was_given_up h als
 ending-there setting x y k l p a b (was_given_up g is) (got h older before other also) = absurd (let e = sym h.outcome ∙ ap takes g.outcome in cc)
 ending-there setting x y k l p a b (was_given_up g is) (was_given_up h also) = is ∙ sym also
 
--- so with one at places that are one
+-- so it does at equal places
 one-ending : (setting : Setting) (x y : ℕ) (k l : CacheKey) (p q : Place) (a b : Answer) → p ≡ q → EndsWith setting x k p a → EndsWith setting y l q b → a ≡ b
 one-ending setting x y k l p q a b same e f = ending-there setting x y k l q a b (subst (λ (r : Place). EndsWith setting x k r a) same e) f
 
--- for one exchange one request is sent
+-- only one request is sent for an exchange
 one-forwarding : (setting : Setting) (past : List Deed) (d e : Deed) (id : ℕ) → Gives id d.entry → Gives id e.entry → IsForwarding setting past d → IsForwarding setting past e → d.act ≡ e.act → SayTheSame d.entry e.entry
 one-forwarding setting past d e id g h j k act =
     let p = j.to_send in
@@ -169,18 +169,18 @@ one-forwarding setting past d e id g h j k act =
     let same = forwarded-same setting.salt j.exchange k.exchange p.key.target q.key.target _ _ p.opened.request q.opened.request j.id k.id number target tag one.2 (sent_id ∙ sym other_id) in
     told-same d.entry e.entry p.key.target.at q.key.target.at _ _ j.tells k.tells (ap (λ (t : Target). t.at) target) same
 
--- the exchange of a response has one of the numbers that were given
+-- the exchange of a response has one of the numbers that were used
 gets-number : (setting : Setting) (past : List Deed) (x : ℕ) (d : Deed) → AllJustified setting past → Gets setting x (here past d) → x ≤ opened_in past
 gets-number setting past x d all g =
     let m = g.meets in
     omega (arith, sent-number setting past m.asking x all m.was_asked m.asks.sends, opened-before past m.asking m.was_asked)
 
--- what is awaited at a turn is awaited by the other entry of the turn
+-- what is awaited at a turn is awaited by the other entry of the turn, too
 abbrev awaited-too : (setting : Setting) (past : List Deed) (d e : Entry) (x : ℕ) → AreOfOneTurn d e → IsAwaited setting past e.now x e.event → IsAwaited setting past d.now x d.event
 awaited-too setting past d e x turn a = subst (λ (event : Event). IsAwaited setting past d.now x event) (sym turn.event) (subst (λ (n : ℕ). IsAwaited setting past n x e.event) (sym turn.now) a)
 
--- an answer is of one exchange: the requests of two were sent with different tokens, and a Reset is
--- meant for one request
+-- an answer is for one exchange: the requests of two were sent with different tokens, and a Reset
+-- is meant for one request
 one-exchange : (setting : Setting) (past : List Deed) → AllJustified setting past → opened_in past < 2 ^ 64 → (d e : Deed) → AreOfOneTurn d.entry e.entry → (a : IsAnswer setting past d) (b : IsAnswer setting past e) → d.act ≡ e.act
 one-exchange setting past all few d e turn a b = a.gets.act ∙ ap moves number ∙ sym b.gets.act
   where
@@ -219,7 +219,7 @@ one-exchange setting past all few d e turn a b = a.gets.act ∙ ap moves number 
         (λ (reset : p.message.kind ≡ Rst). by_reset reset)
         (token-or-reset p.message p.matches)
 
--- to one client one answer is told
+-- only one answer is sent to a client
 one-delivery : (setting : Setting) (past : List Deed) → AllJustified setting past → (d e : Deed) (id : ℕ) → Gives id d.entry → Gives id e.entry → IsDelivery setting past d → IsDelivery setting past e → d.act ≡ e.act → d.entry.now ≡ e.entry.now → SayTheSame d.entry e.entry
 one-delivery setting past all d e id g h j k act now =
     let p = j.to_serve in
@@ -236,22 +236,22 @@ one-delivery setting past all d e id g h j k act now =
 
 -- ---- what an exchange may do
 
--- one that waits for its turn doesn't wait for an acknowledgement
+-- an exchange that waits for its turn doesn't wait for an acknowledgement
 not-both : {A : Type 0} {setting : Setting} {past : List Deed} {x y m : ℕ} → x ≡ y → stage_of x past ≡ Some queued → IsToRepeat setting past y m → A
 not-both {past = past} same stage r = absurd (let e = sym stage ∙ ap (λ (n : ℕ). stage_of n past) same ∙ r.stage in cc)
 
--- one that is in time isn't overdue
+-- an exchange before its deadline isn't overdue
 not-late : {A : Type 0} (setting : Setting) (past : List Deed) (x y now later at : ℕ) → x ≡ y → now ≡ later → InTime setting past x now → IsToEnd setting past y at → at ≤ later → A
 not-late setting past x y now later at same moment timely end come =
     absurd (let before = timely at (subst (λ (n : ℕ). IsToEnd setting past n at) (sym same) end) in omega (arith, before, moment, come))
 
--- one that is sent isn't given up
+-- an exchange whose request is sent isn't given up
 sent-kept : {A : Type 0} (setting : Setting) (past : List Deed) (d e : Deed) → IsForwarding setting past d → IsGivingUp setting past e → d.act ≡ e.act → d.entry.now ≡ e.entry.now → A
 sent-kept setting past d e j (overdue y at acting is end come silent) act now = not-late setting past j.exchange y d.entry.now e.entry.now at (same_moves j.exchange y (sym j.act ∙ act ∙ is)) now j.in_time end come
 sent-kept setting past d e j (unheard y at acting is repeat first come stops silent) act now = not-both (same_moves j.exchange y (sym j.act ∙ act ∙ is)) j.to_send.stage repeat
 sent-kept setting past d e j (unacknowledged v acting is again stops silent) act now = absurd (let f = sym j.act ∙ act ∙ is in cc)
 
--- nor is one that is sent again
+-- nor is one whose request is retransmitted
 resent-kept : {A : Type 0} (setting : Setting) (past : List Deed) (d e : Deed) → IsResending setting past d → IsGivingUp setting past e → d.act ≡ e.act → d.entry.now ≡ e.entry.now → A
 resent-kept {A} setting past d e j given act now = go given
   where
@@ -267,13 +267,13 @@ resent-kept {A} setting past d e j given act now = go given
     go (unheard y at acting is repeat first come stops silent) = absurd (stops goes_on)
     go (unacknowledged v acting is again stops silent) = absurd (stops goes_on)
 
--- what is given up is given up in silence
+-- nothing is sent when something is given up
 given_up-silent : (setting : Setting) (past : List Deed) (d : Deed) → IsGivingUp setting past d → IsSilent d.entry
 given_up-silent setting past d (overdue y at acting is end come silent) = silent
 given_up-silent setting past d (unheard y at acting is repeat first come stops silent) = silent
 given_up-silent setting past d (unacknowledged v acting is again stops silent) = silent
 
--- a client that is to be served isn't given up
+-- a client that is due to be served isn't given up
 served-kept : {A : Type 0} {setting : Setting} {past : List Deed} {d : Deed} {v m : ℕ} → d.act ≡ serves v → IsToServe setting past v m → IsGivingUp setting past d → A
 served-kept act to_serve (overdue y at acting is end come silent) = absurd (let f = sym act ∙ is in cc)
 served-kept act to_serve (unheard y at acting is repeat first come stops silent) = absurd (let f = sym act ∙ is in cc)
@@ -284,37 +284,37 @@ served-first : {A : Type 0} {setting : Setting} {past : List Deed} {d : Deed} {v
 served-first act to_serve (request_again x is repeat timely) = absurd (let f = sym act ∙ is in cc)
 served-first {v = v} act to_serve (answer_again u is again) = serves-apart (same_serves u v (sym is ∙ act)) again to_serve
 
--- what waits for its turn isn't sent again
+-- a request that waits for its turn isn't retransmitted
 sent-first : {A : Type 0} {setting : Setting} {past : List Deed} {d : Deed} {x m : ℕ} → d.act ≡ moves x → stage_of x past ≡ Some queued → IsToSendAgain setting past d m → A
 sent-first {x = x} act stage (request_again y is repeat timely) = not-both (same_moves x y (sym act ∙ is)) stage repeat
 sent-first act stage (answer_again v is again) = absurd (let f = sym act ∙ is in cc)
 
--- what settles either is meant for it
+-- a message that settles a request or an answer is meant for it
 settles-meant : {setting : Setting} {past : List Deed} {d : Deed} → Settles setting past d → IsMeant setting past d.entry.now d.entry.event d.act
 settles-meant (a_request x act k) = to_acknowledge x act k
 settles-meant (an_answer v act k) = to_close v act k
 
 -- ---- one answer
 
--- two deeds did the same: their outcome, what they acted on, and what is said
+-- two deeds did the same: they have the same outcome and act, and send the same
 record DoTheSame (d e : Deed) : Type 0 where
   pub outcome : d.entry.report.outcome ≡ e.entry.report.outcome
   pub act : d.act ≡ e.act
   pub say : SayTheSame d.entry e.entry
 
--- deeds of one entry and one act are one
+-- deeds with the same entry and the same act are equal
 same-deed : (d e : Deed) → d.entry ≡ e.entry → d.act ≡ e.act → d ≡ e
 same-deed d e entry act = same
   where
     same : record { entry = d.entry; act = d.act } ≡ e
     same = rw (entry, act) refl
 
--- what is taken is stored in some way
+-- an outcome that accepts an answer stores it in some way, or not
 taken-some : (o : Outcome) → takes o ≡ true → (s : Storing) × (o ≡ Answered s)
 taken-some (Answered s) e = (s, refl)
 taken-some _ e = absurd cc
 
--- what may follow the same deeds at one turn is one deed
+-- deeds that may follow the same deeds at the same turn are equal
 pub one-answer : (setting : Setting) (past : List Deed) (d e : Deed) → AllJustified setting past → opened_in past < 2 ^ 64 → MayFollow setting past d → MayFollow setting past e → AreOfOneTurn d.entry e.entry → d ≡ e
 one-answer setting past d e all few f g turn =
     let alike = by_outcome d.entry.report.outcome refl f.justified in
@@ -326,12 +326,12 @@ one-answer setting past d e all few f g turn =
     holds : (o : Outcome) → e.entry.report.outcome ≡ o → JustifiedBy o setting past e
     holds o is = subst (λ (u : Outcome). JustifiedBy u setting past e) is g.justified
 
-    -- where a reply takes an id, it is the one that is due
+    -- if a reply takes an id, it is the next one
     taken : (f : Deed) → MayFollow setting past f → (client : Endpoint) (request reply : Message) → IsRequestOf setting client request f.entry.event → is_con request.kind ≡ false → ids_given false f.entry.report.outcome ≡ 1 → Tells client (at_once request reply) f.entry → reply_id request reply.id ≡ due
     taken f may client request reply asked non one tells =
         id-told f.entry due client (at_once request reply) (may.id (ap (λ (b : Bool). ids_given b f.entry.report.outcome) (request_con asked ∙ non) ∙ one)) tells
 
-    -- so replies to one request have one id
+    -- so replies to the same request have the same id
     one_id : (client other : Endpoint) (r s reply again : Message) → IsRequestOf setting client r d.entry.event → IsRequestOf setting other s e.entry.event → r ≡ s → ids_given false d.entry.report.outcome ≡ 1 → ids_given false e.entry.report.outcome ≡ 1 → Tells client (at_once r reply) d.entry → Tells other (at_once s again) e.entry → reply_id r reply.id ≡ reply_id s again.id
     one_id client other r s reply again asked too same one two tells tell = go (is_con r.kind) refl
       where
@@ -345,18 +345,18 @@ one-answer setting past d e all few f g turn =
             let non_too : is_con s.kind ≡ false = sym (ap (λ (m : Message). is_con m.kind) same) ∙ non in
             taken d f client r reply asked non one tells ∙ sym (taken e g other s again too non_too two tell)
 
-    -- what is new at one moment is new for the other
+    -- what is new for one entry is new for the other
     new_too : (client : Endpoint) (request : Message) → IsNew setting past d.entry.now client request → IsNew setting past e.entry.now client request
     new_too client request new = subst (λ (n : ℕ). IsNew setting past n client request) turn.now new
 
     same_request : (client : Endpoint) (request : Message) → IsRequestOf setting client request d.entry.event → IsRequestOf setting client request e.entry.event
     same_request client request r = subst (IsRequestOf setting client request) turn.event r
 
-    -- what was said of one entry of the turn is said of the other
+    -- what holds of one entry of the turn holds of the other
     turned : (P : ℕ → Event → Type 0) → P d.entry.now d.entry.event → P e.entry.now e.entry.event
     turned P h = subst (λ (event : Event). P e.entry.now event) turn.event (subst (λ (n : ℕ). P n d.entry.event) turn.now h)
 
-    -- what can't be processed can't at the other
+    -- what can't be processed in one entry can't be processed in the other
     unprocessable_too : IsUnprocessable setting past d.entry → IsUnprocessable setting past e.entry
     unprocessable_too u =
         let back = sym turn.event in
@@ -369,7 +369,7 @@ one-answer setting past d e all few f g turn =
           no_closing = λ v k. u.no_closing v (subst (λ (event : Event). Closes setting past d.entry.now v event) back (subst (λ (n : ℕ). Closes setting past n v e.entry.event) earlier k));
         }
 
-    -- a message that there is no room to remember isn't remembered by the other
+    -- a message that there is no room to remember isn't remembered by the other entry
     dropped_too : IsDropped setting past d → e.entry.report.outcome ≡ NoRecordRoom
     dropped_too j = ⊎_elim (λ request. by_request request.0 request.1) (λ response. by_answer response.0 (j.wanted response.1)) (recorded-sorts j.message j.comes.recorded)
       where
@@ -391,7 +391,7 @@ one-answer setting past d e all few f g turn =
             let one = one-brought brings a.meets.brings in
             given_no_room e.entry.report.outcome setting past e wanted.0 g.justified a (sym (ap (λ (m : Message). m.kind) one.1) ∙ con) ((λ i. known_of past e.entry.now (sym one.0 i) (sym one.1 i)) ∙ unknown) (subst (λ (m : Message). ¬ HasRecordRoom setting past e.entry.now m) one.1 full)
 
-    -- an answer is taken by the other
+    -- an answer is accepted by the other entry
     answered_too : IsAnswer setting past d → takes e.entry.report.outcome ≡ true
     answered_too a =
         let t = turned (λ n event. (w : IsAwaited setting past n a.exchange event) × (w.meets.message.kind ≡ Con → IsNew setting past n w.meets.asks.sends.to w.meets.message)) (answer-awaited a, a.new) in
@@ -403,7 +403,7 @@ one-answer setting past d e all few f g turn =
     same_ids : (request : Message) → HasIdFor request d.entry.now past → HasIdFor request e.entry.now past
     same_ids request ids = subst (λ (n : ℕ). HasIdFor request n past) turn.now ids
 
-    -- where something is due the other isn't idle
+    -- if something is due, the other entry isn't idle
     not-idle : {A : Type 0} → IsIdle setting past e → IsActing setting past d → A
     not-idle k a = absurd (let now = turn.now in let later = k.nothing d.act a.at a.due in let come = a.come in omega (arith, now, later, come))
 

@@ -1,4 +1,4 @@
--- An Empty message is meant for one request or one answer, where ids don't come back too soon.
+-- An Empty message is meant for only one request or answer, since ids aren't reused too soon.
 use Rattle.std.proofs.Common.{◌≡◌, ⊎_elim, ℕ, ◌+◌, ◌<◌, ◌≤◌, List, sym, ap, ◌∙◌, subst, arith}
 use Rattle.std.proofs.lemmas.Bool.{cases_lt}
 use Rattle.coap_message.specs.Message.{Message}
@@ -12,15 +12,15 @@ use Rattle.coap_model.proofs.Places.{one-brought}
 use Rattle.coap_model.proofs.Moments.{not-later}
 use Rattle.coap_model.proofs.Sorts.{reset-id}
 
--- a request that was sent gave its id
+-- a request that was sent gave out its id
 sent-gives : {salt x id : ℕ} {p : Place} (s : Sends salt x p) → id ≡ s.message.id → Gives id p.deed.entry
 sent-gives {p = p} s id = record { gives = ap (ids_given (comes_con p.deed.entry.event)) s.outcome; message = s.message; spells = s.spells; id_is = sym id }
 
--- and so did an answer that a client was given
+-- and so did an answer that was sent to a client
 served-gives : {setting : Setting} {past : List Deed} {now v id : ℕ} {event : Event} (k : Closes setting past now v event) → id ≡ k.answer.id → Gives id k.serving.deed.entry
 served-gives k id = record { gives = ap (ids_given (comes_con k.serving.deed.entry.event)) k.serves.outcome; message = k.answer; spells = k.spells; id_is = sym id }
 
--- what an event's message is meant for went out at a place that gave its id, not too long ago
+-- what a message is meant for was sent at a place that gave out its id, not too long ago
 record IsMeantFor (setting : Setting) (past : List Deed) (now : ℕ) (event : Event) (act : Act) : Type 0 where
   pub source : Endpoint
   pub message : Message
@@ -66,7 +66,7 @@ meant-for (to_close v act k) =
       soon = k.soon;
     }
 
--- what one event is meant for is one
+-- an event is meant for only one act
 pub one-meant : (setting : Setting) (past : List Deed) (now : ℕ) (event : Event) (a b : Act) → IdsDiffer past → IsInOrder past → last_of past ≤ now → IsMeant setting past now event a → IsMeant setting past now event b → a ≡ b
 one-meant setting past now event a b differ ordered onward j k = sym p.act_is ∙ ap (λ (r : Place). r.deed.act) place ∙ q.act_is
   where
@@ -92,6 +92,6 @@ one-meant setting past now event a b differ ordered onward j k = sym p.act_is �
         (λ (later : q.place.deed.entry.now ≤ p.place.deed.entry.now). sym (differ q.place p.place q.message.id q.is_there p.is_there q.gives gives_p later (let soon = q.soon in omega (arith, soon, p_now, onward))))
         (cases_lt p.place.deed.entry.now q.place.deed.entry.now)
 
--- so what it is meant for is alone
+-- so it is meant for this act alone
 pub meant-alone : (setting : Setting) (past : List Deed) (d : Deed) → IdsDiffer past → IsInOrder past → last_of past ≤ d.entry.now → IsMeant setting past d.entry.now d.entry.event d.act → IsMeantAlone setting past d
 meant-alone setting past d differ ordered onward this other meant = one-meant setting past d.entry.now d.entry.event other d.act differ ordered onward meant this

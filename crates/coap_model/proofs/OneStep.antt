@@ -1,4 +1,4 @@
--- What may follow the deeds of a proxy at a turn is what its step answers.
+-- What may follow the deeds of a proxy at a turn is the entry of its step.
 use Rattle.std.proofs.Common.{◌≡◌, Bool, ◌<◌, ◌≤◌, List, ◌∷◌, refl, ap, subst, arith}
 use Rattle.std.specs.Prelude.{◌^◌}
 use Rattle.coap_model.specs.Setting.{Setting}
@@ -14,7 +14,7 @@ use Rattle.coap_model.proofs.Carrying.{keeps_deeds}
 use Rattle.coap_model.proofs.Running.{setting_stays}
 use Rattle.coap_model.proofs.OneAnswer.{one-answer}
 
--- what may follow is what the step answers, with the same memory
+-- what may follow is the entry of the step, with the same memory
 pub step-answer : (w : World) (history : List Entry) (c : Carries history w) (d : Deed) (grown : Bool) → w.last ≤ d.entry.now → w.opened < 2 ^ 64 → IsEvent d.entry.event → MayFollow w.setting c.deeds d → HaveOneMemory d.entry.report.outcome (step_of w d.entry.now d.entry.draw grown d.entry.event).report.outcome → d.entry ≡ entry_of d.entry.now d.entry.draw d.entry.event (step_of w d.entry.now d.entry.draw grown d.entry.event)
 step-answer w history c d grown onward few fits f memory =
     let now = d.entry.now in

@@ -1,4 +1,4 @@
--- What is done with an answer towards the store is one thing.
+-- What is done with an answer in the store is determined.
 use Rattle.std.proofs.Common.{◌≡◌, ℕ, ◌<◌, ◌≤◌, true, List, refl, sym, ap, ◌∙◌, subst, arith}
 use Rattle.coap_option.specs.Selection.{tags_of}
 use Rattle.coap_model.specs.declared.report.Outcome.TheVariants.{Answered}
@@ -18,30 +18,30 @@ use Rattle.coap_model.proofs.Cached.{same-entry, former-once}
 
 -- ---- at one deed
 
--- what there was for what was got is one
+-- the cache when the exchange of an answer was opened is unique
 pub one-former : {setting : Setting} {x y : ℕ} {p : Place} {a b : List Cached} (g : Gets setting x p) (h : Gets setting y p) → WasCacheAt setting g.meets.asking.before x a → WasCacheAt setting h.meets.asking.before y b → a ≡ b
 one-former {setting} {x} {y} {p} {a} g h was also =
     let one = one-getting g h in
     let there : WasCacheAt setting h.meets.asking.before y a = subst (λ (q : Place). WasCacheAt setting q.before y a) one.asking (subst (λ (n : ℕ). WasCacheAt setting g.meets.asking.before n a) one.exchange was) in
     former-once there also
 
--- so is the answer that was got
+-- so is the answer that arrives
 pub one-answer : {setting : Setting} {x y : ℕ} {p : Place} {a b : List Cached} (g : Gets setting x p) (h : Gets setting y p) → a ≡ b → answer_got a g ≡ answer_got b h
 one-answer {setting} {x} {y} {p} g h former =
     let one = one-getting g h in
     λ i. answer_of setting.limits.datagram (is_get (one.asked i).code) (copied (tags_of (one.asked i)) (one.key i) (former i)) p.deed.entry.now (one.message i)
 
--- what a deed obtains is one entry
+-- the entry that a deed obtains is unique
 pub one-entry : {setting : Setting} {past : List Deed} {d : Deed} (o p : IsObtainedHere setting past d) → entry_here o ≡ entry_here p
 one-entry o p = same-entry o.gets p.gets o.former p.former (one-former o.gets p.gets o.was_cache p.was_cache)
 
--- of one size
+-- and so is its size
 pub one-size : {setting : Setting} {past : List Deed} {d : Deed} (o p : IsObtainedHere setting past d) → size_here o ≡ size_here p
 one-size o p = ap cached_size (one-entry o p)
 
 -- ---- at two deeds of one event
 
--- an answer that an event brings another brings that is the same
+-- a message that is an answer for one deed is the answer for the other deed with the same event
 abbrev meets-over : {setting : Setting} {x : ℕ} {past : List Deed} {a b : Event} → b ≡ a → Meets setting x past a → Meets setting x past b
 meets-over same m = record {
   asking = m.asking;
@@ -52,11 +52,11 @@ meets-over same m = record {
   matches = m.matches;
 }
 
--- so what one deed got another got
+-- so an answer that arrives for one deed arrives for the other
 abbrev gets-over : {setting : Setting} {x : ℕ} {past : List Deed} (d e : Deed) → e.entry.event ≡ d.entry.event → e.act ≡ d.act → takes e.entry.report.outcome ≡ true → Gets setting x (here past d) → Gets setting x (here past e)
 gets-over d e event act took g = record { act = act ∙ g.act; outcome = took; meets = meets-over event g.meets; bytes = g.bytes }
 
--- and what one obtained
+-- and an entry that one obtained is obtained by the other
 abbrev obtained-over : (setting : Setting) (past : List Deed) (d e : Deed) → e.entry.event ≡ d.entry.event → e.entry.now ≡ d.entry.now → e.act ≡ d.act → takes e.entry.report.outcome ≡ true → IsObtainedHere setting past d → IsObtainedHere setting past e
 obtained-over setting past d e event now act took o = record {
   exchange = o.exchange;
@@ -69,17 +69,17 @@ obtained-over setting past d e event now act took o = record {
 }
 
 module _ (setting : Setting) (past : List Deed) (d e : Deed) (event : d.entry.event ≡ e.entry.event) (now : d.entry.now ≡ e.entry.now) (act : d.act ≡ e.act) where
-  -- it counts as many bytes
+  -- it has the same size
   same-size : IsAnswer setting past e → (o : IsObtainedHere setting past d) (p : IsObtainedHere setting past e) → size_here o ≡ size_here p
   same-size k o p =
       let moved : size_here o ≡ size_here (obtained-over setting past d e (sym event) (sym now) (sym act) k.gets.outcome o) = λ i. cached_size (cached_here (key_asked o.gets) (answer_of setting.limits.datagram (to_get o.gets) (copied (tags_of (asked_of o.gets)) (key_asked o.gets) o.former) (now i) o.gets.meets.message).message o.gets.meets.asking past d) in
       moved ∙ one-size (obtained-over setting past d e (sym event) (sym now) (sym act) k.gets.outcome o) p
 
-  -- it isn't small and large
+  -- it isn't both within the limit and too large
   sized : {A : Type 0} → IsAnswer setting past e → (o : IsObtainedHere setting past d) (p : IsObtainedHere setting past e) → size_here o ≤ setting.limits.cache_bytes → setting.limits.cache_bytes < size_here p → A
   sized k o p small large = absurd (let same = same-size k o p in omega (arith, small, large, same))
 
-  -- nor large and small
+  -- nor too large and within the limit
   sized-other : {A : Type 0} → IsAnswer setting past e → (o : IsObtainedHere setting past d) (p : IsObtainedHere setting past e) → setting.limits.cache_bytes < size_here o → size_here p ≤ setting.limits.cache_bytes → A
   sized-other k o p large small = absurd (let same = same-size k o p in omega (arith, small, large, same))
 
@@ -90,7 +90,7 @@ module _ (setting : Setting) (past : List Deed) (d e : Deed) (event : d.entry.ev
   there-too : IsAnswer setting past d → IsObtainedHere setting past e → IsObtainedHere setting past d
   there-too k o = obtained-over setting past e d event now act k.gets.outcome o
 
-  -- answers that are one are stored in one way
+  -- equal answers are stored in the same way
   pub one-storing : (s t : Storing) → JustifiedBy (Answered s) setting past d → JustifiedBy (Answered t) setting past e → HaveOneMemory (Answered s) (Answered t) → s ≡ t
   one-storing Kept Kept j k one = refl
   one-storing Kept TooLarge j k one = sized k.answer j.here k.here j.small k.large

@@ -1,4 +1,4 @@
--- Joining an exchange, and opening one, keep what is carried.
+-- Joining an exchange, and opening one, preserve what is carried.
 use Rattle.std.proofs.Common.{◌≡◌, ◌≢◌, inl, ⊎_elim, ℕ, ◌+◌, ◌<◌, ◌≤◌, Bool, true, false, cond, Option, Some, None, List, [], ◌∷◌, ◌++◌, length, map, length-append, refl, sym, ap, ◌∙◌, subst, arith}
 use Rattle.std.specs.Prelude.{◌&&◌, is_some, option_map}
 use Rattle.std.specs.List.{AllByRecursion}
@@ -56,7 +56,7 @@ use Rattle.coap_model.proofs.Verdicts.{form-short}
 
 -- ---- numbers
 
--- the numbers of exchanges that were opened are at most as many
+-- the numbers of exchanges are at most the number of exchanges that were opened
 exchanges-below : (w : World) (history : List Deed) → Bears history w → AllByRecursion (λ x. x.0 < w.opened + 1) w.exchanges
 exchanges-below w history c =
     All-weaken (IsExchangeOf w.setting history) (λ x. x.0 < w.opened + 1) w.exchanges (λ x f. let i = opened-number f.opened in let h = c.numbers.opened in omega (arith, i.1)) c.exchanges
@@ -75,30 +75,30 @@ waiters-below w history c = All-weaken (IsWaiterOf w.setting history) (λ v. v.0
 -- ---- a client that is admitted
 
 module _ (w : World) (history : List Deed) (c : Bears history w) (e : Deed) (client : Endpoint) (m : Message) (exchange : ℕ) (act : e.act ≡ admits (admitted_in history + 1) exchange) (outcome : admits_one e.entry.report.outcome ≡ 1) where
-  -- the clients that wait then
+  -- the waiting clients then
   abbrev pub clients : List (Numbered Waiter)
   clients = w.waiters ++ new_waiter w client m exchange ∷ []
 
-  -- its number is the next
+  -- its number is the next one
   pub place : w.admitted + 1 ≡ admitted_in history + 1
   place = let h = c.numbers.admitted in omega arith
 
-  -- no exchange comes to another state, and no client is served
+  -- no exchange changes its state, and no client is served
   pub unmoved : (n : ℕ) → e.act ≢ moves n
   unmoved n same = let g = sym act ∙ same in cc
 
   pub unserved : (n : ℕ) → e.act ≢ serves n
   unserved n same = let g = sym act ∙ same in cc
 
-  -- so what wasn't given stays unused
+  -- so unused numbers stay unused
   pub still-unused : AreUnused w.setting (e ∷ history)
   still-unused = unused_frame w.setting history e (λ n above. unmoved n) (λ n above. unserved n) c.unused
 
-  -- it is seen
+  -- the client is in the history
   pub clients-seen : map standing_seen clients ≡ standing_in history ++ record { number = admitted_in history + 1; service = stages.waits exchange } ∷ []
   clients-seen = map-append standing_seen w.waiters (new_waiter w client m exchange ∷ []) ∙ (λ i. c.whole.waiters i ++ record { number = place i; service = stages.waits exchange } ∷ [])
 
-  -- numbers of clients rise
+  -- the numbers of the clients rise
   pub clients-rise : IsRising 0 clients
   clients-rise = IsRising-push 0 (w.admitted + 1) w.waiters (new_waiter w client m exchange).1 (omega arith) (waiters-below w history c) c.whole.waiters_rise
 
@@ -110,20 +110,20 @@ module _ (w : World) (history : List Deed) (c : Bears history w) (e : Deed) (cli
       (λ there. HasNumber-push n w.waiters (new_waiter w client m exchange ∷ []) (c.whole.unserved n k (record { place = was.place; is_there = there; holds = was.holds }) never.1))
       was.is_there
 
-  -- each waits for an exchange that is there
+  -- each client waits for an exchange that exists
   pub clients-awaited : (xs : List (Numbered Exchange)) → HasNumber exchange xs → ((n : ℕ) → HasNumber n w.exchanges → HasNumber n xs) → AllByRecursion (λ u. HasExchange u.1.state xs) clients
   clients-awaited xs own more =
       All-append (λ u. HasExchange u.1.state xs) w.waiters (new_waiter w client m exchange ∷ [])
       (All-weaken (λ u. HasExchange u.1.state w.exchanges) (λ u. HasExchange u.1.state xs) w.waiters (λ u has. HasExchange-on u.1.state w.exchanges xs more has) c.whole.awaited)
       (own, tt)
 
-  -- and for each that was there a client waits
+  -- and each exchange still has a client that waits for it
   pub still-waited : AllByRecursion (λ y. 0 < count (waits_for y.0) clients) w.exchanges
   still-waited =
       All-weaken (λ y. 0 < count (waits_for y.0) w.waiters) (λ y. 0 < count (waits_for y.0) clients) w.exchanges
       (λ y some. let one = count-push (waits_for y.0) w.waiters (new_waiter w client m exchange) in omega arith) c.whole.waited
 
-  -- each is one that the history admitted
+  -- each client is one that the history admitted
   pub clients-are : IsRequestOf w.setting client m e.entry.event → Never (Ends exchange) history → (opened : WasOpened w.setting (e ∷ history) exchange) → is_get opened.request.code ≡ is_get m.code → verdict_on w.setting opened.request ≡ verdict_on w.setting m → AllByRecursion (IsWaiterOf w.setting (e ∷ history)) clients
   clients-are asked unended opened method verdict =
       All-append (IsWaiterOf w.setting (e ∷ history)) w.waiters (new_waiter w client m exchange ∷ []) (waiters_frame w.setting history e w.waiters unserved c.waiters) (
@@ -146,7 +146,7 @@ module _ (w : World) (history : List Deed) (c : Bears history w) (e : Deed) (cli
 
 -- ---- the tag that a request carries
 
--- what fits without a tag fits with the one that goes along
+-- a request that fits without a tag fits with the tag that is added
 carried-fits : (most : ℕ) (t : Target) (m : Message) (kept : Option Message) → form_fits most t None m ≡ true → form_fits most t (tag_for most t m kept) m ≡ true
 carried-fits most t m None e = e
 carried-fits most t m (Some r) e = go (is_get m.code && is_content r.code) (tag_of r.options)
@@ -160,7 +160,7 @@ carried-fits most t m (Some r) e = go (is_get m.code && is_content r.code) (tag_
     go true (Some tag) = fitting tag (form_fits most t (Some tag) m) refl
     go false o = e
 
--- the response of a copy is the copy of the response
+-- the response of the copy is the copy of the response
 copied-response : (most : ℕ) (t : Target) (m : Message) (stored : Option Stored) → option_map (λ s. s.response) (copy_of most t m stored) ≡ copy_for most t m (option_map (λ s. s.response) stored)
 copied-response most t m None = refl
 copied-response most t m (Some s) = go (is_some (tag_to_send most t m s.response))
@@ -170,7 +170,7 @@ copied-response most t m (Some s) = go (is_some (tag_to_send most t m s.response
     go false = refl
 
 module _ (w : World) (history : List Deed) (c : Bears history w) (key : CacheKey) (m : Message) where
-  -- the response of what is stored is the one that is kept
+  -- the stored response is the one that is kept
   stored-response : option_map {T = Stored} (λ s. s.response) (option_map (λ (e : Entry). e.1) (of_key entry_key key w.store)) ≡ kept_for key c.store.cached
   stored-response = go (of_key entry_key key w.store) ∙ stored-kept w.setting history w.store c.store.cached key c.store.each
     where
@@ -178,7 +178,7 @@ module _ (w : World) (history : List Deed) (c : Bears history w) (key : CacheKey
       go None = refl
       go (Some e) = refl
 
-  -- so the tag that is carried is the tag of that
+  -- so the tag that is carried is the tag of that response
   carried-tag : tag_carried w.setting.limits.datagram key.target m (held_for w key m) ≡ tag_for w.setting.limits.datagram key.target m (kept_for key c.store.cached)
   carried-tag = go (is_get m.code) refl
     where
@@ -186,7 +186,7 @@ module _ (w : World) (history : List Deed) (c : Bears history w) (key : CacheKey
       go true get = ap (tag_for w.setting.limits.datagram key.target m) stored-response
       go false other = sym (tag_for-other w.setting.limits.datagram key.target m (kept_for key c.store.cached) other)
 
-  -- and so is the copy
+  -- and so is the copy of it
   carried-copy : copy_for w.setting.limits.datagram key.target m (option_map (λ s. s.response) (held_for w key m)) ≡ copy_for w.setting.limits.datagram key.target m (kept_for key c.store.cached)
   carried-copy = go (is_get m.code) refl
     where
@@ -196,7 +196,7 @@ module _ (w : World) (history : List Deed) (c : Bears history w) (key : CacheKey
 
 -- ---- the rules
 
--- joining an exchange keeps what is carried
+-- joining an exchange preserves what is carried
 pub keeps_joining : (w : World) (history : List Deed) (c : Bears history w) → (now draw : ℕ) (client : Endpoint) (bytes : List ℕ) (m : Message) (key : CacheKey) (exchange : ℕ) (send : Option Endpoint) (told : List ℕ) → w.last ≤ now → IsFirst w now client bytes m → is_get m.code ≡ true → verdict_in w m ≡ may_ask key → IsMissed w now key → first_that (is_joinable key) w.exchanges ≡ Some exchange → has_room_to_join w now ≡ true → IsTakenUp client m send told
     → Bears (doing (admits (admitted_in history + 1) exchange) (entry_of now draw (arrival client bytes) (sending Joined send told (joined_world w now client m exchange))) ∷ history) (remembers now client m (sending Joined send told (joined_world w now client m exchange))).world
 keeps_joining w history c now draw client bytes m key exchange send told onward first get verdict none found may up =

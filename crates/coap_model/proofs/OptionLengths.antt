@@ -1,4 +1,4 @@
--- How many bytes lists of options take: with an option more they are no shorter.
+-- How many bytes lists of options take: with one more option they aren't shorter.
 use Rattle.std.proofs.Common.{◌≡◌, ◌≢◌, ℕ, ◌+◌, ◌-◌, ◌<◌, ◌≤◌, Bool, true, false, cond, eqb, leb, ltb, List, [], ◌∷◌, length, refl, sym, ap, subst, arith}
 use Rattle.std.specs.Prelude.{◌||◌, not, filter}
 use Rattle.std.specs.List.{AllByRecursion}
@@ -9,7 +9,7 @@ use Rattle.coap_message.specs.Spelling.{more_length, options_length}
 use Rattle.coap_store.proofs.Picked.{AreOptions-filter}
 use Rattle.coap_model.specs.Keys.{says_target}
 
--- the bytes that extend a number are at most one more than those of two that add up to it
+-- the bytes that extend a sum are at most one more than those that extend both parts
 more-sum : (a b : ℕ) → more_length (a + b) ≤ 1 + more_length a + more_length b
 more-sum a b = go (ltb (a + b) 13) refl (ltb (a + b) 269) refl (ltb a 13) refl (ltb a 269) (ltb b 13) refl (ltb b 269)
   where
@@ -23,7 +23,7 @@ more-sum a b = go (ltb (a + b) 13) refl (ltb (a + b) 269) refl (ltb a 13) refl (
     go false e false f true g s false h true = omega arith
     go false e false f true g s false h false = omega arith
 
--- options after a lower number take at most what one option takes more
+-- options after a lower number take at most one more byte, and those that extend the difference
 pub lower-length : (low number : ℕ) (os : List Opt) → low ≤ number → AreOptions number os → options_length low os ≤ 1 + more_length (number - low) + options_length number os
 lower-length low number [] le are = omega arith
 lower-length low number (o ∷ os) le are =
@@ -39,14 +39,14 @@ filter-length keep low (o ∷ os) are = go (keep o) (filter-length keep o.number
     go true rest = omega (arith, rest)
     go false rest = omega (arith, rest, lower-length low o.number (filter keep os) are.0 (AreOptions-filter keep o.number os are.3))
 
--- ---- the options that say a target, and the others
+-- ---- the options of a target, and the others
 
--- what options take without their numbers
+-- the bytes that options take without their deltas
 abbrev pub plain_length : List Opt → ℕ
 plain_length [] = 0
 plain_length (o ∷ os) = 1 + more_length (length o.value) + length o.value + plain_length os
 
--- where their numbers are small they take at most a byte more
+-- if their numbers are small, they take at most one more byte in all
 pub small-numbers : (low : ℕ) (os : List Opt) → AreOptions low os → AllByRecursion (λ o. o.number ≤ 15) os → options_length low os ≤ plain_length os + cond (leb low 2) 1 0
 small-numbers low [] are small = omega arith
 small-numbers low (o ∷ os) are small = go (ltb (o.number - low) 13) refl (ltb (o.number - low) 269) refl (leb low 2) refl (leb o.number 2) refl (small-numbers o.number os are.3 small.1)
@@ -62,7 +62,7 @@ small-numbers low (o ∷ os) are small = go (ltb (o.number - low) 13) refl (ltb 
     go false g true i false e b f rest = absurd (omega (arith, ltb-false _ _ g, leb-false _ _ e, small.0))
     go false g false i a e b f rest = absurd (omega (arith, ltb-false _ _ i, small.0))
 
--- a little more makes a number take at most a byte more
+-- adding a small number takes at most one more byte
 more-small : (a b : ℕ) → b ≤ 15 → more_length (a + b) ≤ more_length a + 1
 more-small a b small = go (ltb (a + b) 13) refl (ltb (a + b) 269) refl (ltb a 13) refl (ltb a 269)
   where
@@ -73,7 +73,7 @@ more-small a b small = go (ltb (a + b) 13) refl (ltb (a + b) 269) refl (ltb a 13
     go false e false f false g true = omega arith
     go false e false f false g false = omega arith
 
--- how many of the numbers of a target are still to come
+-- how many of the numbers of target options are still to come
 abbrev ahead : ℕ → ℕ
 ahead low = cond (ltb low 3) 1 0 + cond (ltb low 11) 1 0 + cond (ltb low 15) 1 0
 
@@ -86,7 +86,7 @@ ahead-fewer low n le = omega (arith, one 3 (ltb n 3) refl (ltb low 3) refl, one 
     one k true e false f = absurd (omega (arith, ltb-true _ _ e, ltb-false _ _ f))
     one k false e b f = omega arith
 
--- what says a target has one of three numbers
+-- an option of a target has one of three numbers
 data IsOfTarget : ℕ → Type 0 where
   host : IsOfTarget 3
   path : IsOfTarget 11
@@ -101,7 +101,7 @@ of-target n says = go (eqb n 3) refl (eqb n 11) refl (eqb n 15) refl says
     go false e false f true g s = subst IsOfTarget (sym (eqb-true n 15 g)) query
     go false e false f false g s = absurd cc
 
--- each of them is small
+-- each of these numbers is small
 of-target-small : (n : ℕ) → IsOfTarget n → n ≤ 15
 of-target-small _ host = omega arith
 of-target-small _ path = omega arith
@@ -110,17 +110,17 @@ of-target-small _ query = omega arith
 pub says-small : (n : ℕ) → says_target n ≡ true → n ≤ 15
 says-small n says = of-target-small n (of-target n says)
 
--- and one less is to come after it
+-- and after it there is one fewer to come
 ahead-less : (low n : ℕ) → low < n → IsOfTarget n → ahead n + 1 ≤ ahead low
 ahead-less low _ less host = rw (lt-ltb low 3 less, lt-ltb low 11 (omega arith), lt-ltb low 15 (omega arith)) (omega arith)
 ahead-less low _ less path = rw (lt-ltb low 11 less, lt-ltb low 15 (omega arith)) (omega arith)
 ahead-less low _ less query = rw (lt-ltb low 15 less) (omega arith)
 
--- a number is itself
+-- a number equals itself
 unequal : (n : ℕ) → n ≢ n → n ≤ 15
 unequal n other = absurd (other (refl {a = n}))
 
--- Apart, the options that say a target and the others take little more than together.
+-- Separately, the options of a target and the others take little more than together.
 apart : (behind low : ℕ) (os : List Opt) → behind ≤ low → (behind ≢ low → low ≤ 15) → AreOptions low os
     → options_length behind (filter (λ o. not (says_target o.number)) os) + plain_length (filter (λ o. says_target o.number) os) ≤ options_length low os + cond (eqb behind low) 0 1 + ahead low
 apart behind low [] le near are = omega arith
@@ -132,7 +132,7 @@ apart behind low (o ∷ os) le near are = go (says_target o.number) refl (eqb be
     said : List Opt
     said = filter (λ p. says_target p.number) os
 
-    -- another number, where it isn't of a target
+    -- another number, if it isn't one of a target option
     moved : (a : Bool) → eqb behind low ≡ a → more_length (o.number - behind) ≤ more_length (o.number - low) + cond a 0 1
     moved true e = let same = eqb-true behind low e in subst (λ (k : ℕ). more_length (o.number - k) ≤ more_length (o.number - low) + 0) (sym same) (omega arith)
     moved false e =
@@ -140,7 +140,7 @@ apart behind low (o ∷ os) le near are = go (says_target o.number) refl (eqb be
         let sum : o.number - behind ≡ (o.number - low) + (low - behind) = omega (arith, are.0) in
         omega (arith, ap more_length sum, more-small (o.number - low) (low - behind) (omega (arith, close)))
 
-    -- a number of a target
+    -- the number of a target option
     passed : IsOfTarget o.number → (a : Bool) → eqb behind low ≡ a → (b : Bool) → eqb low o.number ≡ b → cond (eqb behind o.number) 0 1 + ahead o.number ≤ cond a 0 1 + ahead low
     passed is a e true f = let same = eqb-true low o.number f in subst (λ (n : ℕ). cond (eqb behind n) 0 1 + ahead n ≤ cond a 0 1 + ahead low) same (rw e (omega arith))
     passed is a e false f = omega (arith, ahead-less low o.number (let other = eqb-false low o.number f in omega (arith, are.0, other)) is, most (eqb behind o.number))
@@ -160,6 +160,6 @@ apart behind low (o ∷ os) le near are = go (says_target o.number) refl (eqb be
         let here : ◌≡◌ {A = ℕ} (cond (eqb o.number o.number) 0 1) 0 = ap {B = ℕ} (λ (c : Bool). cond c 0 1) (eq-eqb o.number o.number refl) in
         omega (arith, rest, here, moved a e, ahead-fewer low o.number are.0)
 
--- so those of a message take at most three bytes more
+-- so those of a message take at most three more bytes
 pub both-apart : (os : List Opt) → AreOptions 0 os → options_length 0 (filter (λ o. not (says_target o.number)) os) + plain_length (filter (λ o. says_target o.number) os) ≤ options_length 0 os + 3
 both-apart os are = omega (arith, apart 0 0 os (omega arith) (λ other. unequal 0 other) are)

@@ -11,7 +11,7 @@ use Rattle.coap_model.specs.Justified.{known_of, Comes, IsOwed, AllOwed}
 use Rattle.coap_model.proofs.Sorts.{recorded-kind}
 use Rattle.coap_model.proofs.Duplicates.{place-known}
 
--- at each place it was given
+-- at each place it was done
 pub owed-at : (setting : Setting) (history : List Deed) (p : Place) → AllOwed setting history → IsPlaceOf history p → IsOwed setting p.before p.deed
 owed-at setting [] p all at = absurd at
 owed-at setting (d ∷ past) p all at =
@@ -20,7 +20,7 @@ owed-at setting (d ∷ past) p all at =
     (λ (there : IsPlaceOf past p). owed-at setting past p all.1 there)
     at
 
--- a message that repeats a place is told again
+-- a message that repeats a place is handled as a duplicate
 pub again-there : (setting : Setting) (p former : Place) (source : Endpoint) (m : Message) → IsOwed setting p.before p.deed → Comes setting source m p.deed.entry.event → IsPlaceOf p.before former → Repeats p.deed.entry.now source m former → p.deed.entry.report.outcome ≡ Again
 again-there setting p former source m owed comes at repeats = go (known_of p.before p.deed.entry.now source m) refl
   where

@@ -1,4 +1,4 @@
--- What is owed is given: by exclusion, since each deed is justified by its outcome.
+-- What is owed is done: by exclusion, since each deed is justified by its outcome.
 use Rattle.std.proofs.Common.{◌≡◌, ◌≢◌, ◌⊎◌, inl, ⊎_elim, ℕ, ◌≤◌, true, List, Some, None, refl, sym, ap, ◌∙◌, subst, arith}
 use Rattle.coap_message.specs.declared.code.Code.{Code}
 use Rattle.coap_message.specs.declared.kind.Kind.TheVariants.{Con, Non, Ack, Rst}
@@ -30,13 +30,13 @@ use Rattle.coap_model.proofs.Sorts.{empty-no-request, answer-no-request, answer-
 
 -- ---- sorts of messages
 
--- a request is no answer
+-- a request isn't an answer
 no_answer : {A : Type 0} {setting : Setting} {past : List Deed} {x : ℕ} {event : Event} {client : Endpoint} {request : Message} → Meets setting x past event → IsRequestOf setting client request event → A
 no_answer {request = request} meets r =
     let one = (one-brought meets.brings r.brings).1 in
     answer-no-request request (subst (Matches _ _) one meets.matches) r.kind r.method
 
--- an event brings an acknowledgement or a Reset, and no more
+-- an event brings an Empty acknowledgement or a Reset
 record BringsEmpty (setting : Setting) (event : Event) : Type 0 where
   pub source : Endpoint
   pub message : Message
@@ -57,11 +57,11 @@ settling : {setting : Setting} {past : List Deed} {d : Deed} → Settles setting
 settling (a_request x act k) = acknowledging k
 settling (an_answer v act k) = closing k
 
--- what is Empty is no request
+-- an Empty message isn't a request
 no_empty : {A : Type 0} {setting : Setting} {event : Event} {client : Endpoint} {request : Message} → BringsEmpty setting event → IsRequestOf setting client request event → A
 no_empty {request = request} e r = empty-no-request (subst (λ (m : Message). (m.kind ≡ Ack) ⊎ (m.kind ≡ Rst)) (one-brought e.brings r.brings).1 e.kind) r.kind
 
--- an answer is no acknowledgement and no more
+-- an answer isn't an Empty acknowledgement
 not_both : {A : Type 0} {setting : Setting} {past : List Deed} {now x y : ℕ} {event : Event} → Meets setting x past event → Acknowledges setting past now y event → A
 not_both meets k =
     let one = (one-brought meets.brings k.brings).1 in
@@ -71,13 +71,13 @@ not_both meets k =
 not_recorded : {A : Type 0} {setting : Setting} {event : Event} {source : Endpoint} {m : Message} → BringsEmpty setting event → Comes setting source m event → A
 not_recorded {m = m} e comes = empty-no-request (subst (λ (n : Message). (n.kind ≡ Ack) ⊎ (n.kind ≡ Rst)) (one-brought e.brings comes.brings).1 e.kind) (recorded-kind m comes.recorded)
 
--- an answer that closes a client is a Reset
+-- an answer that is a message that may close a client is a Reset
 answer_resets : {setting : Setting} {past : List Deed} {now x v : ℕ} {event : Event} → (meets : Meets setting x past event) → Closes setting past now v event → meets.message.kind ≡ Rst
 answer_resets meets k =
     let one = sym (one-brought meets.brings k.brings).1 in
     answer-reset meets.message meets.matches (subst (λ (m : Message). (m.kind ≡ Ack) ⊎ (m.kind ≡ Rst)) one k.kind) (subst (λ (m : Message). m.code ≡ EMPTY) one k.empty)
 
--- what is meant for one alone settles nothing where it is an answer that is awaited
+-- a message that is meant for one act alone settles nothing else if it is an awaited answer
 not_settled : {A : Type 0} {setting : Setting} {past : List Deed} {d : Deed} {x : ℕ} → IsAwaited setting past d.entry.now x d.entry.event → IsSettled setting past d → A
 not_settled {setting = setting} {past = past} {d = d} {x = x} a k = go k.settles
   where
@@ -85,7 +85,7 @@ not_settled {setting = setting} {past = past} {d = d} {x = x} a k = go k.settles
     go (a_request y act acknowledges) = not_both a.meets acknowledges
     go (an_answer v act closes) = absurd (let e = k.only (moves x) (to_reset x a refl (answer_resets a.meets closes)) ∙ act in cc)
 
--- nor does it close a client where it is one that is taken
+-- nor does it close a client if it is an accepted answer
 not_closed : {A : Type 0} {setting : Setting} {past : List Deed} {d : Deed} {v : ℕ} → IsAnswer setting past d → Closes setting past d.entry.now v d.entry.event → A
 not_closed {v = v} a k = absurd (let e = a.only (answer_resets a.gets.meets k) (serves v) (to_close v refl k) ∙ a.gets.act in cc)
 
@@ -95,20 +95,20 @@ answer_con meets comes = answer-recorded meets.message meets.matches (ap is_reco
 
 -- ---- requests
 
--- an answer, however it is stored
+-- an answer, stored in any way or not
 pub taken-so : (s : Storing) (setting : Setting) (past : List Deed) (d : Deed) → JustifiedBy (Answered s) setting past d → IsAnswer setting past d
 taken-so Kept setting past d j = j.answer
 taken-so TooLarge setting past d j = j.answer
 taken-so NoMemory setting past d j = j.answer
 taken-so NotStored setting past d j = j.answer
 
--- what is given up is due
+-- what is given up was due
 pub given_up-so : (setting : Setting) (past : List Deed) (d : Deed) → IsGivingUp setting past d → IsActing setting past d
 given_up-so setting past d (overdue exchange at acting act to_end come silent) = acting
 given_up-so setting past d (unheard exchange at acting act to_repeat first come stops silent) = acting
 given_up-so setting past d (unacknowledged client acting act to_serve stops silent) = acting
 
--- what becomes of a request
+-- the outcomes of a request
 data OnRequest (setting : Setting) (past : List Deed) (d : Deed) : Outcome → Type 0 where
   refused : (code : Code) → IsRefusal setting past d code → OnRequest setting past d (Refused code)
   overloaded : IsOverload setting past d → OnRequest setting past d Overloaded
@@ -119,8 +119,8 @@ data OnRequest (setting : Setting) (past : List Deed) (d : Deed) : Outcome → T
   repeated : IsRepetition setting past d → OnRequest setting past d Again
   dropped : IsDropped setting past d → OnRequest setting past d NoRecordRoom
 
--- a request is refused, answered from the cache, told to come later, met with silence, joined,
--- opened, a duplicate or not remembered, and nothing else
+-- a request is refused, answered from the cache, turned away, dropped without an id, joins, opens
+-- an exchange, or is a duplicate or isn't remembered, and nothing else
 on-request : (o : Outcome) (setting : Setting) (past : List Deed) (d : Deed) (client : Endpoint) (request : Message) → JustifiedBy o setting past d → IsRequestOf setting client request d.entry.event → OnRequest setting past d o
 on-request Ignored setting past d client request j r = absurd (j.unprocessable.no_request client request r)
 on-request Rejected setting past d client request j r = absurd (j.unprocessable.no_request client request r)
@@ -140,20 +140,20 @@ on-request GaveUp setting past d client request j r = no_tick r.brings.came (giv
 on-request Delivered setting past d client request j r = no_tick r.brings.came j.acting.ticked
 on-request Idle setting past d client request j r = no_tick r.brings.came j.ticked
 
--- what may be asked for has one key
+-- two requests with equal verdicts have equal keys
 pub one_key : {a b : CacheKey} → may_ask a ≡ may_ask b → a ≡ b
 one_key e = cc
 
--- what the cache misses doesn't answer
+-- an entry that is missed in the cache isn't a hit
 pub missed-or-hit : {A : Type 0} (setting : Setting) (past : List Deed) (now : ℕ) (key other : CacheKey) (cached : List Cached) (entry : Cached) → IsMiss setting past key now → key ≡ other → IsCacheOf setting past cached → of_key cached_key other cached ≡ Some entry → IsUsable setting past now entry → A
 missed-or-hit setting past now key other cached entry miss same is found usable =
     absurd (let one = cache-unique setting past cached miss.cached is miss.is_cache in let back = sym same in miss.unusable entry (sym (λ i. of_key cached_key (back i) (one i)) ∙ found) usable)
 
--- where nothing answers a GET, no exchange of its key may be joined
+-- if a GET has to be forwarded, no exchange with its key may be joined
 none-joinable : {A : Type 0} (setting : Setting) (past : List Deed) (now x : ℕ) (key other : CacheKey) (request : Message) → IsUnanswered setting past now key request → IsGet request → key ≡ other → IsJoinable setting past other x → A
 none-joinable setting past now x key other request unanswered get same joinable = absurd (unanswered.alone get x (subst (λ (k : CacheKey). IsJoinable setting past k x) (sym same) joinable))
 
--- a request that fits deserves no code
+-- a request that fits deserves no error code
 fits_well : {A : Type 0} (setting : Setting) (past : List Deed) (now : ℕ) (request : Message) (code : Code) (key : CacheKey) → Deserves setting past now request code → verdict_on setting request ≡ may_ask key → fits_on setting key request ≡ true → A
 fits_well setting past now request code key (by_verdict refusal) verdict short = absurd (let e = sym refusal ∙ verdict in cc)
 fits_well setting past now request code key (by_length other asked unanswered long is) verdict short =
@@ -174,47 +174,47 @@ lacks_well : {A : Type 0} (setting : Setting) (past : List Deed) (now : ℕ) (re
 lacks_well setting past now request code key deserved verdict (to_join x get miss joinable full) = joins_well setting past now x request code key deserved get verdict joinable
 lacks_well setting past now request code key deserved verdict (to_open unanswered short full) = fits_well setting past now request code key deserved verdict short
 
--- where there is no room for a GET, the cache has nothing for it
+-- if there is no room for a GET, the cache has no usable entry for it
 lacks-miss : {setting : Setting} {past : List Deed} {now : ℕ} {key : CacheKey} {request : Message} → IsGet request → LacksRoom setting past now key request → IsMiss setting past key now
 lacks-miss get (to_join x also miss joinable full) = miss
 lacks-miss get (to_open unanswered short full) = unanswered.miss get
 
--- where nothing answers, and there is room to open an exchange, room isn't lacking
+-- if a request has to be forwarded, and there is room to open an exchange, room isn't lacking
 roomy-open : {A : Type 0} (setting : Setting) (past : List Deed) (now : ℕ) (key other : CacheKey) (request : Message) → IsUnanswered setting past now key request → HasRoomToOpen setting.limits now past → key ≡ other → LacksRoom setting past now other request → A
 roomy-open setting past now key other request unanswered room same (to_join x get miss joinable full) = none-joinable setting past now x key other request unanswered get same joinable
 roomy-open setting past now key other request unanswered room same (to_open also short full) = absurd (full room)
 
--- nor is it where an exchange may be joined, and there is room to join it
+-- nor is it if an exchange may be joined, and there is room to join it
 roomy-join : {A : Type 0} (setting : Setting) (past : List Deed) (now x : ℕ) (key other : CacheKey) (request : Message) → IsGet request → IsJoinable setting past key x → HasRoomToJoin setting.limits now past → key ≡ other → LacksRoom setting past now other request → A
 roomy-join setting past now x key other request get joinable room same (to_join y also miss again full) = absurd (full room)
 roomy-join setting past now x key other request get joinable room same (to_open unanswered short full) = none-joinable setting past now x other key request unanswered get (sym same) joinable
 
--- a request deserves one code
+-- a request deserves only one code
 one_code : (setting : Setting) (past : List Deed) (now : ℕ) (request : Message) (a b : Code) → Deserves setting past now request a → Deserves setting past now request b → a ≡ b
 one_code setting past now request a b (by_verdict p) (by_verdict q) = let e = sym p ∙ q in cc
 one_code setting past now request a b (by_verdict p) (by_length key q unanswered long is) = absurd (let e = sym p ∙ q in cc)
 one_code setting past now request a b (by_length key p unanswered long is) (by_verdict q) = absurd (let e = sym p ∙ q in cc)
 one_code setting past now request a b (by_length key p unanswered long is) (by_length other q none longer same) = is ∙ sym same
 
--- an event brings one request, which deserves the same code under either name
+-- an event brings only one request, which deserves the same code in both accounts
 same_deserved : (setting : Setting) (past : List Deed) (now : ℕ) (d : Deed) (a b : Endpoint) (r s : Message) (code : Code) → IsRequestOf setting a r d.entry.event → IsRequestOf setting b s d.entry.event → Deserves setting past now r code → Deserves setting past now s code
 same_deserved setting past now d a b r s code asked again deserved = subst (λ (m : Message). Deserves setting past now m code) (request-unique setting d.entry.event a b r s asked again).1 deserved
 
--- and is for one key
+-- and it has only one key
 key-of : (setting : Setting) (d : Deed) (a b : Endpoint) (r s : Message) (k l : CacheKey) → IsRequestOf setting a r d.entry.event → IsRequestOf setting b s d.entry.event → verdict_on setting r ≡ may_ask k → verdict_on setting s ≡ may_ask l → k ≡ l
 key-of setting d a b r s k l asked again p q = one_key (sym p ∙ ap (verdict_on setting) (request-unique setting d.entry.event a b r s asked again).1 ∙ q)
 
--- where two ids are free, one is
+-- if two ids are free, one is
 fewer_ids : (now : ℕ) (past : List Deed) → HasIds 2 now past → HasIds 1 now past
 fewer_ids now past h = record { free = let f = h.free in omega arith }
 
--- ---- messages that are new
+-- ---- new messages
 
--- what is known of a message is found under either name
+-- the record of a message is the same in both accounts
 pub same_known : (most : ℕ) (past : List Deed) (d : Deed) (a b : Endpoint) (r s : Message) → Brings most a r d.entry.event → Brings most b s d.entry.event → known_of past d.entry.now a r ≡ known_of past d.entry.now b s
 same_known most past d a b r s brings again = let one = one-brought brings again in λ i. known_of past d.entry.now (one.0 i) (one.1 i)
 
--- of what is new nothing is known
+-- a new message has no record
 new-known : {A : Type 0} (most : ℕ) (past : List Deed) (d : Deed) (a b : Endpoint) (r s : Message) (known : Record) → Brings most a r d.entry.event → Brings most b s d.entry.event → known_of past d.entry.now a r ≡ None → known_of past d.entry.now b s ≡ Some known → A
 new-known most past d a b r s known brings again new found = absurd (let e = sym new ∙ same_known most past d a b r s brings again ∙ found in cc)
 
@@ -222,7 +222,7 @@ new-known most past d a b r s known brings again new found = absurd (let e = sym
 new-full : {A : Type 0} (setting : Setting) (past : List Deed) (d : Deed) (a b : Endpoint) (r s : Message) → Brings setting.limits.datagram a r d.entry.event → Brings setting.limits.datagram b s d.entry.event → IsNew setting past d.entry.now a r → ¬ HasRecordRoom setting past d.entry.now s → A
 new-full setting past d a b r s brings again new full = absurd (full (subst (HasRecordRoom setting past d.entry.now) (one-brought brings again).1 new.room))
 
--- what is known of a message is told again
+-- a duplicate of a remembered message gets what is remembered
 pub given_again : (o : Outcome) (setting : Setting) (past : List Deed) (d : Deed) (source : Endpoint) (m : Message) (known : Record) → JustifiedBy o setting past d → Comes setting source m d.entry.event → known_of past d.entry.now source m ≡ Some known → o ≡ Again
 given_again o setting past d source m known j comes found = go o j
   where
@@ -254,24 +254,24 @@ given_again o setting past d source m known j comes found = go o j
     go Delivered k = no_tick comes.brings.came k.acting.ticked
     go Idle k = no_tick comes.brings.came k.ticked
 
--- ---- requests that are new
+-- ---- new requests
 
 module _ (o : Outcome) (setting : Setting) (past : List Deed) (d : Deed) (client : Endpoint) (request : Message) (j : JustifiedBy o setting past d) (r : IsRequestOf setting client request d.entry.event) where
   abbrev now : ℕ
   now = d.entry.now
 
-  -- the request of an entry is this one
+  -- the request of the entry is this one
   one : (other : Endpoint) (m : Message) → IsRequestOf setting other m d.entry.event → m ≡ request
   one other m asked = (request-unique setting d.entry.event other client m request asked r).1
 
-  -- so it is a GET under either name
+  -- so it is a GET in both accounts
   got-too : (other : Endpoint) (m : Message) → IsRequestOf setting other m d.entry.event → IsGet m → IsGet request
   got-too other m asked get = subst IsGet (one other m asked) get
 
   got-there : (other : Endpoint) (m : Message) → IsRequestOf setting other m d.entry.event → IsGet request → IsGet m
   got-there other m asked get = subst IsGet (sym (one other m asked)) get
 
-  -- where there is no room to remember it, there is silence
+  -- if there is no room to remember it, nothing is sent
   pub given_dropped : known_of past d.entry.now client request ≡ None → ¬ HasRecordRoom setting past d.entry.now request → o ≡ NoRecordRoom
   given_dropped unknown full = go (on-request o setting past d client request j r)
     where
@@ -289,7 +289,7 @@ module _ (o : Outcome) (setting : Setting) (past : List Deed) (d : Deed) (client
       go (dropped k) = refl
 
   module _ (new : IsNew setting past d.entry.now client request) where
-    -- a request that is new is no duplicate, and is remembered
+    -- a new request isn't a duplicate, and is remembered
     not-again : {A : Type 0} → IsRepetition setting past d → A
     not-again k = new-known setting.limits.datagram past d client k.source request k.message k.known r.brings k.comes.brings new.unknown k.found
 
@@ -310,7 +310,7 @@ module _ (o : Outcome) (setting : Setting) (past : List Deed) (d : Deed) (client
         go (repeated k) = not-again k
         go (dropped k) = not-dropped k
 
-    -- a GET whose key has an entry that may answer is answered from the cache
+    -- a GET whose key has a usable entry is answered from the cache
     pub given_hit : (key : CacheKey) (cached : List Cached) (entry : Cached) → IsGet request → verdict_on setting request ≡ may_ask key → IsCacheOf setting past cached → of_key cached_key key cached ≡ Some entry → IsUsable setting past d.entry.now entry → HasIdFor request d.entry.now past → o ≡ Hit
     given_hit key cached entry get verdict is found usable ids = go (on-request o setting past d client request j r)
       where
@@ -324,7 +324,7 @@ module _ (o : Outcome) (setting : Setting) (past : List Deed) (d : Deed) (client
         go (repeated k) = not-again k
         go (dropped k) = not-dropped k
 
-    -- one that may be asked for is told to come later where there is no room
+    -- a request that may be forwarded is turned away if there is no room
     pub given_overloaded : (key : CacheKey) → verdict_on setting request ≡ may_ask key → LacksRoom setting past d.entry.now key request → HasIdFor request d.entry.now past → o ≡ Overloaded
     given_overloaded key verdict lacks ids = go (on-request o setting past d client request j r)
       where
@@ -338,7 +338,7 @@ module _ (o : Outcome) (setting : Setting) (past : List Deed) (d : Deed) (client
         go (repeated k) = not-again k
         go (dropped k) = not-dropped k
 
-    -- one that nothing answers, with room, is opened
+    -- a request that has to be forwarded opens an exchange, if there is room
     pub given_opened : (key : CacheKey) → verdict_on setting request ≡ may_ask key → IsUnanswered setting past d.entry.now key request → fits_on setting key request ≡ true → HasRoomToOpen setting.limits d.entry.now past → o ≡ Opened
     given_opened key verdict unanswered short room = go (on-request o setting past d client request j r)
       where
@@ -352,7 +352,8 @@ module _ (o : Outcome) (setting : Setting) (past : List Deed) (d : Deed) (client
         go (repeated k) = not-again k
         go (dropped k) = not-dropped k
 
-    -- a GET that is missed, and whose key has an exchange that may be joined, is joined, with room
+    -- a GET that is missed in the cache, and whose key has an exchange that may be joined, joins
+    -- it, if there is room
     pub given_joined : (key : CacheKey) (x : ℕ) → IsGet request → verdict_on setting request ≡ may_ask key → IsMiss setting past key d.entry.now → IsJoinable setting past key x → HasRoomToJoin setting.limits d.entry.now past → o ≡ Joined
     given_joined key x get verdict miss joinable room = go (on-request o setting past d client request j r)
       where
@@ -370,7 +371,7 @@ module _ (o : Outcome) (setting : Setting) (past : List Deed) (d : Deed) (client
       non : (other : Endpoint) (m : Message) → IsRequestOf setting other m d.entry.event → m.kind ≡ Non
       non other m asked = ap (λ (k : Message). k.kind) (one other m asked) ∙ kind
 
-      -- where no id is free, there is silence
+      -- if no id is free, nothing is sent
       pub given_no_id : ¬ HasIds 1 d.entry.now past → o ≡ NoId
       given_no_id none = go (on-request o setting past d client request j r)
         where
@@ -387,7 +388,7 @@ module _ (o : Outcome) (setting : Setting) (past : List Deed) (d : Deed) (client
 -- ---- answers
 
 module _ (o : Outcome) (setting : Setting) (past : List Deed) (d : Deed) (x : ℕ) (j : JustifiedBy o setting past d) (a : IsAwaited setting past d.entry.now x d.entry.event) where
-  -- an answer that is awaited is taken; one in a Confirmable message where it is new
+  -- an awaited answer is accepted; one in a Confirmable message if it is new
   pub given_answered : (a.meets.message.kind ≡ Con → IsNew setting past d.entry.now a.meets.asks.sends.to a.meets.message) → takes o ≡ true
   given_answered new = go o j
     where
@@ -410,7 +411,8 @@ module _ (o : Outcome) (setting : Setting) (past : List Deed) (d : Deed) (x : �
       go Delivered k = no_tick a.meets.brings.came k.acting.ticked
       go Idle k = no_tick a.meets.brings.came k.ticked
 
-  -- one in a Confirmable message that isn't known, and that there is no room to remember, meets silence
+  -- one in a Confirmable message that isn't known, and that there is no room to remember, gets no
+  -- reply
   pub given_no_room : a.meets.message.kind ≡ Con → known_of past d.entry.now a.meets.asks.sends.to a.meets.message ≡ None → ¬ HasRecordRoom setting past d.entry.now a.meets.message → o ≡ NoRecordRoom
   given_no_room con unknown full = go o j
     where
@@ -456,7 +458,7 @@ given_settled o setting past d x j a = go o j
     go Delivered k = no_tick a.brings.came k.acting.ticked
     go Idle k = no_tick a.brings.came k.ticked
 
--- what closes a client settles its answer
+-- a message that closes a client settles its answer
 pub given_closed : (o : Outcome) (setting : Setting) (past : List Deed) (d : Deed) (v : ℕ) → JustifiedBy o setting past d → Closes setting past d.entry.now v d.entry.event → o ≡ Acked
 given_closed o setting past d v j a = go o j
   where
@@ -479,18 +481,18 @@ given_closed o setting past d v j a = go o j
     go Delivered k = no_tick a.brings.came k.acting.ticked
     go Idle k = no_tick a.brings.came k.ticked
 
--- what settles either is settled
+-- a message that settles a request or an answer is settled
 pub given_either : (o : Outcome) (setting : Setting) (past : List Deed) (d e : Deed) → JustifiedBy o setting past e → d.entry.now ≡ e.entry.now → d.entry.event ≡ e.entry.event → Settles setting past d → o ≡ Acked
 given_either o setting past d e j now event (a_request x act k) = given_settled o setting past e x j (subst (λ (f : Event). Acknowledges setting past e.entry.now x f) event (subst (λ (n : ℕ). Acknowledges setting past n x d.entry.event) now k))
 given_either o setting past d e j now event (an_answer v act k) = given_closed o setting past e v j (subst (λ (f : Event). Closes setting past e.entry.now v f) event (subst (λ (n : ℕ). Closes setting past n v d.entry.event) now k))
 
 -- ---- what isn't processed
 
--- an answer is one that is awaited
+-- an answer that arrives was awaited
 abbrev pub answer-awaited : {setting : Setting} {past : List Deed} {d : Deed} (a : IsAnswer setting past d) → IsAwaited setting past d.entry.now a.exchange d.entry.event
 answer-awaited a = record { meets = a.gets.meets; unended = a.first; unsettled = a.unsettled }
 
--- what is ignored or rejected isn't dropped: no request is, nor an answer that is awaited
+-- what is ignored or rejected isn't dropped: it is neither a request nor an awaited answer
 no_drop : {A : Type 0} {setting : Setting} {past : List Deed} {d : Deed} → IsDropped setting past d → IsUnprocessable setting past d.entry → A
 no_drop k not =
     absurd (⊎_elim
@@ -503,12 +505,12 @@ no_settling : {A : Type 0} {setting : Setting} {past : List Deed} {d : Deed} →
 no_settling (a_request x act k) not = absurd (not.no_settling x k)
 no_settling (an_answer v act k) not = absurd (not.no_closing v k)
 
--- nor is it told again
+-- nor is it a duplicate
 no_again : {A : Type 0} {setting : Setting} {past : List Deed} {d : Deed} → IsRepetition setting past d → IsUnprocessable setting past d.entry → A
 no_again k not = absurd (let e = sym (not.no_duplicate k.source k.message k.comes) ∙ k.found in cc)
 
 module _ (o : Outcome) (setting : Setting) (past : List Deed) (d : Deed) (source : Endpoint) (bytes : List ℕ) (j : JustifiedBy o setting past d) (came : d.entry.event ≡ arrival source bytes) where
-  -- a confirmable datagram that can't be processed is rejected
+  -- a Confirmable datagram that can't be processed is rejected
   pub given_rejected : (head : Head) → head_at bytes ≡ Some head → head.kind ≡ Con → IsUnprocessable setting past d.entry → o ≡ Rejected
   given_rejected head is con not = go o j
     where
@@ -531,7 +533,7 @@ module _ (o : Outcome) (setting : Setting) (past : List Deed) (d : Deed) (source
       go Delivered k = no_tick came k.acting.ticked
       go Idle k = no_tick came k.ticked
 
-  -- what can't be processed and isn't confirmable is ignored
+  -- what can't be processed and isn't Confirmable is ignored
   pub given_ignored : ((head : Head) → head_at bytes ≡ Some head → head.kind ≢ Con) → IsUnprocessable setting past d.entry → o ≡ Ignored
   given_ignored no_con not = go o j
     where
@@ -556,7 +558,7 @@ module _ (o : Outcome) (setting : Setting) (past : List Deed) (d : Deed) (source
 
 -- ---- ticks
 
--- what becomes of a tick
+-- the outcomes of a tick
 pub data OnTick (setting : Setting) (past : List Deed) (d : Deed) : Outcome → Type 0 where
   sent : IsForwarding setting past d → OnTick setting past d SentRequest
   resent : IsResending setting past d → OnTick setting past d Resent
@@ -564,7 +566,8 @@ pub data OnTick (setting : Setting) (past : List Deed) (d : Deed) : Outcome → 
   delivered : IsDelivery setting past d → OnTick setting past d Delivered
   idle : IsIdle setting past d → OnTick setting past d Idle
 
--- a tick sends a request or serves a client, for the first time or again, gives one up or does nothing
+-- a tick sends a request or serves a client, for the first time or again, gives one of them up, or
+-- does nothing
 pub on-tick : (o : Outcome) (setting : Setting) (past : List Deed) (d : Deed) → JustifiedBy o setting past d → d.entry.event ≡ tick → OnTick setting past d o
 on-tick Ignored setting past d j ticked = no_tick j.came ticked
 on-tick Rejected setting past d j ticked = no_tick j.came ticked

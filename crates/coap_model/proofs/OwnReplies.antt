@@ -1,4 +1,4 @@
--- Replies that go out at once: they are messages, short, and have the id that is due.
+-- Immediate replies: they are messages, they are short, and they have the next id.
 use Rattle.std.proofs.Common.{◌≡◌, ℕ, ◌≤◌, true, false, List, [], length, refl, subst, arith}
 use Rattle.std.specs.Prelude.{◌||◌}
 use Rattle.std.proofs.lemmas.Bool.{lt-ltb}
@@ -13,11 +13,11 @@ use Rattle.coap_forward.specs.Messages.{is_con, is_non, brings_requests, own_rep
 use Rattle.coap_model.specs.World.{World, has_ids, can_reply}
 use Rattle.coap_model.proofs.Spelled.{length-uint_spelling}
 
--- what is a message is one that goes out at once
+-- the immediate form of a message is a message
 pub at_once-is : (m reply : Message) → IsMessage reply → IsMessage (at_once m reply)
 at_once-is m reply is = record { token = is.token; options = is.options; bare = record { token = is.bare.token; options = is.bare.options; payload = is.bare.payload } }
 
--- what tests as Non-confirmable is so
+-- what tests as Non-confirmable is Non-confirmable
 pub non_is : (k : Kind) → is_non k ≡ true → k ≡ Non
 non_is Con e = absurd cc
 non_is Non e = refl
@@ -26,11 +26,11 @@ non_is Rst e = absurd cc
 
 -- ---- lengths
 
--- a reply is as long whichever way it goes out
+-- a reply has the same length in either form
 pub at_once-long : (m reply : Message) (most : ℕ) → length (spelling reply) ≤ most → length (spelling (at_once m reply)) ≤ most
 at_once-long m reply most le = omega (arith, spelling-length (at_once m reply), spelling-length reply, le)
 
--- a reply of the proxy's own is short
+-- a reply that the proxy generates is short
 pub own-short : (m : Message) (code : Code) (id : ℕ) (token : List ℕ) → length token ≤ 8 → length (spelling (at_once m (own_reply code [] id token))) ≤ 128
 own-short m code id token short = omega (arith, spelling-length (at_once m (own_reply code [] id token)))
 
@@ -54,7 +54,7 @@ reply-due m next non = rw non refl
 pub free-one : (w : World) (now : ℕ) (kind : Kind) → can_reply w now kind ≡ true → kind ≡ Non → has_ids 1 w now ≡ true
 free-one w now kind free is = subst (λ (k : Kind). (is_con k || has_ids 1 w now) ≡ true) is free
 
--- where none may go out, none is free, and the request is Non-confirmable
+-- if no reply can be sent, no id is free, and the request is Non-confirmable
 pub free-none : (w : World) (now : ℕ) (kind : Kind) → brings_requests kind ≡ true → can_reply w now kind ≡ false → (kind ≡ Non) × (has_ids 1 w now ≡ false)
 free-none w now Con e free = absurd cc
 free-none w now Non e free = (refl, free)

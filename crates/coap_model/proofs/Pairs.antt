@@ -1,4 +1,4 @@
--- Lists of which the elements belong together one by one, and what is done to both.
+-- Lists whose elements are related pairwise, and what is done to both.
 use Rattle.std.proofs.Common.{◌≡◌, ℕ, ◌-◌, ◌&&◌, Bool, true, false, cond, not, nat_le, List, [], ◌∷◌, Option, Some, None, length, map, refl, sym, subst, arith}
 use Rattle.std.specs.List.{list_all}
 use Rattle.std.specs.Option.{option_map_or}
@@ -9,35 +9,35 @@ use Rattle.coap_store.specs.Lists.{has_other_key, are_distinct, of_key, others, 
 use Rattle.coap_model.specs.Pairs.{Pairs, Both}
 
 module _ {X Y : Type 0} (R : X → Y → Type 0) where
-  -- as many
+  -- the lists have the same length
   pub Pairs-length : (xs : List X) (ys : List Y) → Pairs R xs ys → length xs ≡ length ys
   Pairs-length [] [] p = refl
   Pairs-length [] (y ∷ ys) p = absurd p
   Pairs-length (x ∷ xs) [] p = absurd p
   Pairs-length (x ∷ xs) (y ∷ ys) p = omega (arith, Pairs-length xs ys p.1)
 
-  -- what belongs together in one way may do so in another
+  -- related elements may also be related in another way
   pub Pairs-weaken : (S : X → Y → Type 0) (xs : List X) (ys : List Y) → ((x : X) (y : Y) → R x y → S x y) → Pairs R xs ys → Pairs S xs ys
   Pairs-weaken S [] [] less p = tt
   Pairs-weaken S [] (y ∷ ys) less p = p
   Pairs-weaken S (x ∷ xs) [] less p = p
   Pairs-weaken S (x ∷ xs) (y ∷ ys) less p = (less x y p.0, Pairs-weaken S xs ys less p.1)
 
-  -- what is the same of each two is the same of the lists
+  -- what is equal for each pair is equal for the lists
   pub Pairs-same : {Z : Type 0} (f : X → Z) (g : Y → Z) (xs : List X) (ys : List Y) → ((x : X) (y : Y) → R x y → f x ≡ g y) → Pairs R xs ys → map f xs ≡ map g ys
   Pairs-same f g [] [] same p = refl
   Pairs-same f g [] (y ∷ ys) same p = absurd p
   Pairs-same f g (x ∷ xs) [] same p = absurd p
   Pairs-same f g (x ∷ xs) (y ∷ ys) same p = rw (same x y p.0, Pairs-same f g xs ys same p.1) refl
 
-  -- elements of one size count as much
+  -- if related elements have the same size, so do the lists
   pub Pairs-total : (f : X → ℕ) (g : Y → ℕ) (xs : List X) (ys : List Y) → ((x : X) (y : Y) → R x y → f x ≡ g y) → Pairs R xs ys → total f xs ≡ total g ys
   Pairs-total f g [] [] same p = refl
   Pairs-total f g [] (y ∷ ys) same p = absurd p
   Pairs-total f g (x ∷ xs) [] same p = absurd p
   Pairs-total f g (x ∷ xs) (y ∷ ys) same p = omega (arith, same x y p.0, sum_by-cons f x xs, sum_by-cons g y ys, Pairs-total f g xs ys same p.1)
 
-  -- of elements of one size as many are cut
+  -- if related elements have the same size, both lists are cut at the same place
   pub Pairs-cut : (f : X → ℕ) (g : Y → ℕ) (bytes count : ℕ) (xs : List X) (ys : List Y) → ((x : X) (y : Y) → R x y → f x ≡ g y) → Pairs R xs ys → Pairs R (cut f bytes count xs) (cut g bytes count ys)
   Pairs-cut f g bytes count [] [] same p = tt
   Pairs-cut f g bytes count [] (y ∷ ys) same p = absurd p
@@ -49,21 +49,21 @@ module _ {X Y : Type 0} (R : X → Y → Type 0) where
       go false rest = tt
 
   module _ (f : X → CacheKey) (g : Y → CacheKey) (same : (x : X) (y : Y) → R x y → f x ≡ g y) where
-    -- none has this key where none has it there
+    -- if one list has no element with this key, neither has the other
     Pairs-keyless : (k : CacheKey) (xs : List X) (ys : List Y) → Pairs R xs ys → list_all (has_other_key f k) xs ≡ list_all (has_other_key g k) ys
     Pairs-keyless k [] [] p = refl
     Pairs-keyless k [] (y ∷ ys) p = absurd p
     Pairs-keyless k (x ∷ xs) [] p = absurd p
     Pairs-keyless k (x ∷ xs) (y ∷ ys) p = rw (same x y p.0, Pairs-keyless k xs ys p.1) refl
 
-    -- keys are distinct where they are there
+    -- if the keys of one list are distinct, so are those of the other
     pub Pairs-distinct : (xs : List X) (ys : List Y) → Pairs R xs ys → are_distinct f xs ≡ are_distinct g ys
     Pairs-distinct [] [] p = refl
     Pairs-distinct [] (y ∷ ys) p = absurd p
     Pairs-distinct (x ∷ xs) [] p = absurd p
     Pairs-distinct (x ∷ xs) (y ∷ ys) p = rw (same x y p.0, Pairs-keyless (g y) xs ys p.1, Pairs-distinct xs ys p.1) refl
 
-    -- of elements of one key both are found, or none
+    -- if related elements have the same key, both are found, or neither is
     pub Pairs-of_key : (k : CacheKey) (xs : List X) (ys : List Y) → Pairs R xs ys → Both R (of_key f k xs) (of_key g k ys)
     Pairs-of_key k [] [] p = tt
     Pairs-of_key k [] (y ∷ ys) p = absurd p
@@ -74,7 +74,7 @@ module _ {X Y : Type 0} (R : X → Y → Type 0) where
         go true rest = p.0
         go false rest = rest
 
-    -- those of other keys
+    -- the elements with other keys
     pub Pairs-others : (k : CacheKey) (xs : List X) (ys : List Y) → Pairs R xs ys → Pairs R (others f k xs) (others g k ys)
     Pairs-others k [] [] p = tt
     Pairs-others k [] (y ∷ ys) p = absurd p
@@ -85,7 +85,7 @@ module _ {X Y : Type 0} (R : X → Y → Type 0) where
         go true rest = (p.0, rest)
         go false rest = rest
 
-    -- with the one of a key at the front
+    -- the lists with the element of a key moved to the front
     pub Pairs-used : (k : CacheKey) (xs : List X) (ys : List Y) → Pairs R xs ys → Pairs R (used f k xs) (used g k ys)
     Pairs-used k xs ys p = go (of_key f k xs) (of_key g k ys) (Pairs-of_key k xs ys p)
       where
@@ -95,7 +95,7 @@ module _ {X Y : Type 0} (R : X → Y → Type 0) where
         go (Some x) None both = absurd both
         go (Some x) (Some y) both = (both, Pairs-others k xs ys p)
 
-    -- with two new ones
+    -- the lists with two related new elements
     pub Pairs-put : (m : X → ℕ) (n : Y → ℕ) (bytes count : ℕ) (x : X) (y : Y) (xs : List X) (ys : List Y) → ((x : X) (y : Y) → R x y → m x ≡ n y) → R x y → Pairs R xs ys → Pairs R (put f m bytes count x xs) (put g n bytes count y ys)
     Pairs-put m n bytes count x y xs ys sizes new p =
         Pairs-cut m n bytes count (x ∷ others f (f x) xs) (y ∷ others g (g y) ys) sizes (new, subst (λ (k : CacheKey). Pairs R (others f k xs) (others g (g y) ys)) (sym (same x y new)) (Pairs-others (g y) xs ys p))

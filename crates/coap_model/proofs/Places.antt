@@ -14,7 +14,7 @@ use Rattle.coap_model.specs.declared.report.Outcome.{Outcome}
 abbrev pub here : List Deed → Deed → Place
 here past e = record { before = past; deed = e }
 
--- an entry that did this
+-- a deed with this act
 abbrev pub doing : Act → Entry → Deed
 doing act entry = record { entry = entry; act = act }
 
@@ -27,7 +27,7 @@ index_below (e ∷ past) p h =
     (λ (there : IsPlaceOf past p). let i = index_below past p there in omega arith)
     h
 
--- what never is isn't at a place
+-- what never holds doesn't hold at a place
 pub Never-at : (P : Place → Type 0) (history : List Deed) (p : Place) → Never P history → IsPlaceOf history p → P p → ⊥
 Never-at P [] p never h at = h
 Never-at P (e ∷ past) p never h at =
@@ -36,20 +36,20 @@ Never-at P (e ∷ past) p never h at =
     (λ (there : IsPlaceOf past p). Never-at P past p never.1 there at)
     h
 
--- an act is of one exchange
+-- an act is of only one exchange
 pub same_moves : (x y : ℕ) → moves x ≡ moves y → x ≡ y
 same_moves x y e = cc
 
--- and so of one waiter
+-- or of only one waiter
 pub same_serves : (x y : ℕ) → serves x ≡ serves y → x ≡ y
 same_serves x y e = cc
 
--- what is at no place of the history is never
+-- what holds at no place of the history never holds
 pub never-from : (P : Place → Type 0) (history : List Deed) → ((p : Place) → IsPlaceOf history p → ¬ P p) → Never P history
 never-from P [] none = tt
 never-from P (e ∷ past) none = (none (here past e) (inl refl), never-from P past (λ p there. none p (inr there)))
 
--- what came before a place came before all that came after it
+-- what is before a place is before everything after it
 pub place-before : (history : List Deed) (p q : Place) → IsPlaceOf history p → IsPlaceOf p.before q → IsPlaceOf history q
 place-before [] p q at_p at_q = absurd at_p
 place-before (e ∷ past) p q at_p at_q =
@@ -58,7 +58,7 @@ place-before (e ∷ past) p q at_p at_q =
     (λ (there : IsPlaceOf past p). inr (place-before past p q there at_q))
     at_p
 
--- what never was wasn't before a place either
+-- what never holds doesn't hold before a place either
 pub never-before : (P : Place → Type 0) (history : List Deed) (p : Place) → Never P history → IsPlaceOf history p → Never P p.before
 never-before P [] p never at = absurd at
 never-before P (e ∷ past) p never at =
@@ -67,7 +67,7 @@ never-before P (e ∷ past) p never at =
     (λ (there : IsPlaceOf past p). never-before P past p never.1 there)
     at
 
--- of two places one is the other, or came before it
+-- two places are equal, or one of them is before the other
 pub in-order : (history : List Deed) (p q : Place) → IsPlaceOf history p → IsPlaceOf history q → (p ≡ q) ⊎ (IsPlaceOf p.before q ⊎ IsPlaceOf q.before p)
 in-order [] p q at_p at_q = absurd at_p
 in-order (e ∷ past) p q at_p at_q =
@@ -93,7 +93,7 @@ justified-at setting (e ∷ past) p o all at is =
     (λ (there : IsPlaceOf past p). justified-at setting past p o all.1 there is)
     at
 
--- what says more never is either
+-- if a property never holds, a stronger one never holds either
 pub Never-weaken : (P Q : Place → Type 0) (history : List Deed) → ((p : Place) → Q p → P p) → Never P history → Never Q history
 Never-weaken P Q [] less never = tt
 Never-weaken P Q (e ∷ past) less never = ((λ q. never.0 (less _ q)), Never-weaken P Q past less never.1)
@@ -102,7 +102,7 @@ Never-weaken P Q (e ∷ past) less never = ((λ q. never.0 (less _ q)), Never-we
 abbrev pub Nth : (Outcome → ℕ) → ℕ → Place → Type 0
 Nth counts n p = (counts p.deed.entry.report.outcome ≡ 1) × (n ≡ count_in counts p.before + 1)
 
--- numbers count from 1, and none is above the count
+-- numbers count from 1, and none is greater than the count
 pub nth-number : (counts : Outcome → ℕ) (history : List Deed) (p : Place) (n : ℕ) → IsPlaceOf history p → Nth counts n p → (0 < n) × (n ≤ count_in counts history)
 nth-number counts [] p n h o = absurd h
 nth-number counts (e ∷ past) p n h o =
@@ -115,7 +115,7 @@ nth-number counts (e ∷ past) p n h o =
     (λ (there : IsPlaceOf past p). let i = nth-number counts past p n there o in (omega (arith, i.0), omega (arith, i.1)))
     h
 
--- each number is given at one place
+-- each number is given out at only one place
 pub nth-unique : (counts : Outcome → ℕ) (history : List Deed) (p q : Place) (n : ℕ) → IsPlaceOf history p → IsPlaceOf history q → Nth counts n p → Nth counts n q → p ≡ q
 nth-unique counts [] p q n at_p at_q is_p is_q = absurd at_p
 nth-unique counts (e ∷ past) p q n at_p at_q is_p is_q =
@@ -140,23 +140,23 @@ nth-unique counts (e ∷ past) p q n at_p at_q is_p is_q =
     at_q)
     at_p
 
--- numbers of exchanges
+-- the numbers of exchanges
 pub Opens-number : (history : List Deed) (p : Place) (x : ℕ) → IsPlaceOf history p → Opens x p → (0 < x) × (x ≤ opened_in history)
 Opens-number history p x h o = nth-number opens_one history p x h (ap opens_one o.0, o.1)
 
--- an exchange is opened at one place
+-- an exchange is opened at only one place
 pub Opens-unique : (history : List Deed) (p q : Place) (x : ℕ) → IsPlaceOf history p → IsPlaceOf history q → Opens x p → Opens x q → p ≡ q
 Opens-unique history p q x at_p at_q o k = nth-unique opens_one history p q x at_p at_q (ap opens_one o.0, o.1) (ap opens_one k.0, k.1)
 
--- and of clients
+-- the numbers of clients
 pub Admits-number : (history : List Deed) (p : Place) (v x : ℕ) → IsPlaceOf history p → Admits v x p → (0 < v) × (v ≤ admitted_in history)
 Admits-number history p v x h a = nth-number admits_one history p v h (a.outcome, a.number)
 
--- and a client is admitted at one
+-- and a client is admitted at only one place
 pub Admits-unique : (history : List Deed) (p q : Place) (v x y : ℕ) → IsPlaceOf history p → IsPlaceOf history q → Admits v x p → Admits v y q → p ≡ q
 Admits-unique history p q v x y at_p at_q a b = nth-unique admits_one history p q v at_p at_q (a.outcome, a.number) (b.outcome, b.number)
 
--- what never was before is at one place
+-- what never held before holds at only one place
 pub first-once : (P : Place → Type 0) (history : List Deed) (p q : Place) → IsPlaceOf history p → IsPlaceOf history q → P p → P q → Never P p.before → Never P q.before → p ≡ q
 first-once P [] p q at_p at_q is_p is_q first_p first_q = absurd at_p
 first-once P (e ∷ past) p q at_p at_q is_p is_q first_p first_q =
@@ -173,31 +173,31 @@ first-once P (e ∷ past) p q at_p at_q is_p is_q first_p first_q =
     at_q)
     at_p
 
--- an event brings one datagram of one source
+-- an event brings only one datagram from one source
 pub arrival-same : (a b : Endpoint) (xs ys : List ℕ) → arrival a xs ≡ arrival b ys → (a ≡ b) × (xs ≡ ys)
 arrival-same a b xs ys e = (cc, cc)
 
--- an event brings one message of one source
+-- an event brings only one message from one source
 pub one-brought : {event : Event} {most : ℕ} {a b : Endpoint} {m n : Message} → Brings most a m event → Brings most b n event → (a ≡ b) × (m ≡ n)
 one-brought {a = a} {b = b} {m = m} {n = n} p q =
     let same = arrival-same a b p.bytes q.bytes (sym p.came ∙ q.came) in
     (same.0, one_message q.bytes m n (subst (λ (bytes : List ℕ). Spells bytes m) same.1 p.spells) q.spells)
 
--- a request of an event is one request of one client
+-- an event brings only one request from one client
 pub request-unique : (setting : Setting) (event : Event) (a b : Endpoint) (r s : Message) → IsRequestOf setting a r event → IsRequestOf setting b s event → (a ≡ b) × (r ≡ s)
 request-unique setting event a b r s p q = one-brought p.brings q.brings
 
 -- ---- what opened an exchange
 
--- its number is one of those that were given
+-- its number is one of those that were used
 pub opened-number : {setting : Setting} {history : List Deed} {x : ℕ} → WasOpened setting history x → (0 < x) × (x ≤ opened_in history)
 opened-number {history = history} {x = x} o = Opens-number history o.opening x o.was_opened o.opens
 
--- it stays as the history goes on
+-- it stays as the history grows
 abbrev pub opened-later : {setting : Setting} {history : List Deed} {x : ℕ} (e : Deed) → WasOpened setting history x → WasOpened setting (e ∷ history) x
 opened-later e o = record { opening = o.opening; client = o.client; request = o.request; was_opened = inr o.was_opened; opens = o.opens; asked = o.asked }
 
--- an exchange is opened at one place, by one request of one client
+-- an exchange is opened at only one place, by one request from one client
 pub one-opened : {setting : Setting} {history : List Deed} {x y : ℕ} → x ≡ y → (a : WasOpened setting history x) (b : WasOpened setting history y) → (a.opening ≡ b.opening) × (a.client ≡ b.client) × (a.request ≡ b.request)
 one-opened {setting = setting} {history = history} {y = y} number a b =
     let place = Opens-unique history a.opening b.opening y a.was_opened b.was_opened (subst (λ (n : ℕ). Opens n a.opening) number a.opens) b.opens in
@@ -207,7 +207,7 @@ one-opened {setting = setting} {history = history} {y = y} number a b =
 
 -- ---- what admitted a client
 
--- a client that was admitted has one of the numbers that were given
+-- a client that was admitted has one of the numbers that were used
 pub admitted-number : {setting : Setting} {history : List Deed} {v : ℕ} → WasAdmitted setting history v → (0 < v) × (v ≤ admitted_in history)
 admitted-number {history = history} {v = v} a = Admits-number history a.admission v a.exchange a.was_admitted a.admits
 
@@ -215,11 +215,11 @@ admitted-number {history = history} {v = v} a = Admits-number history a.admissio
 abbrev pub admitted-later : {setting : Setting} {history : List Deed} {v : ℕ} (e : Deed) → WasAdmitted setting history v → WasAdmitted setting (e ∷ history) v
 admitted-later e a = record { exchange = a.exchange; admission = a.admission; client = a.client; request = a.request; was_admitted = inr a.was_admitted; admits = a.admits; asked = a.asked }
 
--- an act is of one client and one exchange
+-- an act is of only one client and one exchange
 pub same_admits : (v u x y : ℕ) → admits v x ≡ admits u y → (v ≡ u) × (x ≡ y)
 same_admits v u x y e = (cc, cc)
 
--- a client is admitted at one place, to one exchange, by one request of one endpoint
+-- a client is admitted at only one place, to one exchange, by one request from one endpoint
 pub one-admitted : {setting : Setting} {history : List Deed} {v u : ℕ} → v ≡ u → (a : WasAdmitted setting history v) (b : WasAdmitted setting history u) → (a.admission ≡ b.admission) × (a.client ≡ b.client) × (a.request ≡ b.request) × (a.exchange ≡ b.exchange)
 one-admitted {setting = setting} {history = history} {v = v} {u = u} number a b =
     let place = Admits-unique history a.admission b.admission u a.exchange b.exchange a.was_admitted b.was_admitted (subst (λ (n : ℕ). Admits n a.exchange a.admission) number a.admits) b.admits in

@@ -1,4 +1,4 @@
--- What a proxy promises that carries a history.
+-- What a proxy promises for the history that it carries.
 use Rattle.std.proofs.Common.{ℕ, ◌≤◌, List, length, arith}
 use Rattle.coap_message.specs.declared.kind.Kind.{Kind}
 use Rattle.coap_dedup.specs.Records.{Records, living_at}
@@ -17,13 +17,13 @@ use Rattle.coap_model.proofs.Stores.{store-within}
 
 -- ---- what is remembered
 
--- no more live than may
+-- there are no more living records than the limit
 living-few : {setting : Setting} {history : List Deed} {kind : Kind} {t : Records} (now : ℕ) → AreRemembered setting history kind t → length (living_at now t) ≤ most_remembered kind setting.limits
 living-few {t = t} now s = let within = s.are.within in let limit = s.limit in omega (arith, length-living t.lifetime now t.items, within, limit)
 
 -- ---- all of it
 
--- what is carried is promised
+-- a proxy promises for any history that it carries
 pub promises : (history : List Entry) (w : World) → Carries history w → Promised history w
 promises history w c =
     record {

@@ -1,4 +1,4 @@
--- A step that opens, sends, gets and serves nothing keeps what is carried.
+-- A step that opens, sends, accepts and serves nothing preserves what is carried.
 use Rattle.std.proofs.Common.{◌≡◌, ◌≢◌, ℕ, ◌+◌, ◌≤◌, true, false, List, ◌∷◌, refl, sym, ◌∙◌, arith}
 use Rattle.coap_message.specs.declared.kind.Kind.{Kind}
 use Rattle.coap_message.specs.declared.kind.Kind.TheVariants.{Con, Non}
@@ -19,7 +19,7 @@ use Rattle.coap_model.proofs.Giving.{ids-kept}
 use Rattle.coap_model.proofs.Remembering.{remembered-on, leaves-nothing}
 use Rattle.coap_model.proofs.Stores.{store-otherwise}
 
--- what an entry must be: it acts on nothing, and opens, sends and admits nothing
+-- what must hold of an entry: it acts on nothing, and opens, sends and admits nothing
 pub record IsQuiet (e : Deed) : Type 0 where
   pub act : e.act ≡ no_item
   pub opens : opens_one e.entry.report.outcome ≡ 0
@@ -36,12 +36,13 @@ acts-on-none e act x same = let f = sym act ∙ same in cc
 pub serves-none : (e : Deed) → e.act ≡ no_item → (v : ℕ) → e.act ≢ serves v
 serves-none e act v same = let f = sym act ∙ same in cc
 
--- the clock goes on, these ids are given, and this is stored and remembered
+-- the clock advances, these ids are given out, and this is stored and remembered
 abbrev pub quiet_world : World → ℕ → Given → List cache.Entry → Records → Records → World
 quiet_world w now ids store con non =
     record (later w now) { ids = ids; store = store; con_records = con; non_records = non }
 
--- such a step keeps what is carried, whatever ids it gives, and whatever moves in the store and is remembered
+-- such a step preserves what is carried, whatever ids it gives out, and whatever moves in the store
+-- and is remembered
 pub keeps_still : (w : World) (history : List Deed) (c : Bears history w) (e : Deed) (ids : Given) (store : List cache.Entry) (con non : Records) → IsQuiet e → w.last ≤ e.entry.now
     → Ids (e ∷ history) (quiet_world w e.entry.now ids store con non)
     → ((now : ℕ) → e.entry.now ≤ now → given_in now ids + reserved w ≤ 32768)
@@ -79,17 +80,17 @@ keeps_still w history c e ids store con non q onward given room stored remembere
       past = past;
     }
 
--- what is remembered stays at an entry that leaves nothing
+-- the records stay right at an entry that adds none
 pub remembered-still : (w : World) (history : List Deed) (c : Bears history w) (e : Deed) → w.last ≤ e.entry.now → ((k : Kind) → is_remembered e.entry.report.outcome k ≡ false) → AreRemembered w.setting (e ∷ history) Con w.con_records × AreRemembered w.setting (e ∷ history) Non w.non_records
 remembered-still w history c e onward none =
     let since : last_of history ≤ e.entry.now = let h = c.clock.last in omega (arith, h, onward) in
     (remembered-on e since (leaves-nothing Con e none) c.con_records, remembered-on e since (leaves-nothing Non e none) c.non_records)
 
--- what may still be given may be given later
+-- reserved ids can still be given out later
 pub room-still : (w : World) (history : List Deed) (c : Bears history w) (later : ℕ) → w.last ≤ later → (now : ℕ) → later ≤ now → given_in now w.ids + reserved w ≤ 32768
 room-still w history c later onward now after = c.within.ids now (omega arith)
 
--- so does one that gives no id, and moves and leaves nothing there
+-- so does a step that gives out no id, and moves and adds nothing
 pub keeps_quiet : (w : World) (history : List Deed) (c : Bears history w) (e : Deed) → IsQuiet e → leaves e.entry.report.outcome ≡ true → ((k : Kind) → is_remembered e.entry.report.outcome k ≡ false) → w.last ≤ e.entry.now → gives_id e.entry ≡ 0
     → AllJustified w.setting (e ∷ history) → Bears (e ∷ history) (later w e.entry.now)
 keeps_quiet w history c e q leaving none onward gives past =

@@ -1,4 +1,4 @@
--- An answer that is got: what the history says of it, and what is stored of it.
+-- An answer that arrives: what the history says about it, and what is stored for it.
 use Rattle.std.proofs.Common.{◌≡◌, inr, ℕ, ◌<◌, ◌≤◌, Bool, true, false, List, ◌∷◌, Option, None, refl, sym, ap, ◌∙◌, subst}
 use Rattle.std.specs.Prelude.{◌&&◌, not, option_map}
 use Rattle.std.proofs.lemmas.Bool.{and_parts, and_from}
@@ -31,14 +31,14 @@ use Rattle.coap_model.proofs.Places.{here, index_below}
 use Rattle.coap_model.proofs.Rules.{changed_world, IsStoring, kept, too_large, no_memory, not_stored}
 use Rattle.coap_model.proofs.Stores.{marked-on, store-kept, store-too_large, store-marked, none-found}
 
--- what may be renewed counts for the answer to a GET alone
+-- the response that may be renewed only matters for the answer to a GET
 answer-same : (most now : ℕ) (m : Message) (to_get : Bool) (a b : Option Message) → (to_get ≡ true → a ≡ b) → answer_of most to_get a now m ≡ answer_of most to_get b now m
 unfolding answer_of
 answer-same most now m true a b same = ap (λ (o : Option Message). answer_of most true o now m) (same refl)
 answer-same most now m false a b same = refl
 
 module _ (w : World) (history : List Deed) (c : Bears history w) (now : ℕ) (m : Message) (x : Numbered Exchange) (e : Deed) (moment : e.entry.now ≡ now) (flight : IsInFlight w.setting history x) (act : e.act ≡ moves x.0) (outcome : takes e.entry.report.outcome ≡ true) (brings : Brings w.setting.limits.datagram flight.asked.asks.sends.to m e.entry.event) (matches : Matches (token_of w.setting.salt x.0) flight.asked.asks.sends.message.id m) (fits : IsBytes brings.bytes) where
-  -- the answer was got there
+  -- the answer arrived there
   abbrev pub gets : Gets w.setting x.0 (here history e)
   gets = record {
     act = act;
@@ -47,14 +47,14 @@ module _ (w : World) (history : List Deed) (c : Bears history w) (now : ℕ) (m 
     bytes = fits;
   }
 
-  -- the exchange has the answer that the history says
+  -- the exchange has the answer that the history implies
   pub result-is : answer_for w now m x.1 ≡ answer_got flight.former gets
   result-is =
       let tags = tags_of flight.asked.asks.sends.message in
       answer-same w.setting.limits.datagram now m x.1.is_get (option_map (λ s. s.response) x.1.copy) (copied tags (key_sent flight.asked.asks.sends.to flight.asked.asks.sends.message) flight.former) (λ get. flight.copy_is get ∙ ap (λ (k : CacheKey). copied tags k flight.former) (sym flight.asked.asked_key))
       ∙ (λ i. answer_of w.setting.limits.datagram (sym flight.method i) (copied tags (key_sent flight.asked.asks.sends.to flight.asked.asks.sends.message) flight.former) (sym moment i) m)
 
-  -- what may be stored is what would be made of it in the cache
+  -- the entry that is stored is the entry of the cache
   made : entry_made (changed_world w m x) now x (answer_for w now m x.1) ≡ entry_of_cached (entry_got flight.former gets)
   made = λ i. (
     sym flight.asked.asked_key i,
@@ -67,14 +67,14 @@ module _ (w : World) (history : List Deed) (c : Bears history w) (now : ℕ) (m 
     },
   )
 
-  -- what is asked of an answer that may be stored
+  -- the parts of the test whether an answer may be stored
   pub parts : may_store x.1 (answer_for w now m x.1) ≡ true → (x.1.is_get ≡ true) × (x.1.tainted ≡ false) × (is_storable (answer_for w now m x.1) ≡ true)
   parts can =
       let get = and_parts x.1.is_get (not x.1.tainted && is_storable (answer_for w now m x.1)) can in
       let clean = and_parts (not x.1.tainted) (is_storable (answer_for w now m x.1)) get.1 in
       (get.0, not-true x.1.tainted clean.0, clean.1)
 
-  -- its target wasn't changed since it was asked for
+  -- its target wasn't changed since its request was sent
   pub same-target : x.1.tainted ≡ false → Unchanged w.setting (key_asked gets).target flight.asked.asking history
   same-target clean = subst (λ (k : CacheKey). Unchanged w.setting k.target flight.asked.asking history) (sym flight.asked.asked_key) (subst (λ (b : Bool). IsTold b w.setting x.1.key.target flight.asked.asking history) clean flight.told)
 
@@ -92,7 +92,7 @@ module _ (w : World) (history : List Deed) (c : Bears history w) (now : ℕ) (m 
         storable = ap is_storable (sym result-is) ∙ p.2;
       }
 
-  -- and what was obtained may be stored
+  -- and if it was obtained, it may be stored
   pub may-store : IsObtainedHere w.setting history e → may_store x.1 (answer_for w now m x.1) ≡ true
   may-store o =
       let one = one-getting o.gets gets in
@@ -104,7 +104,7 @@ module _ (w : World) (history : List Deed) (c : Bears history w) (now : ℕ) (m 
       and_from x.1.is_get (not x.1.tainted && is_storable (answer_for w now m x.1)) get
       (and_from (not x.1.tainted) (is_storable (answer_for w now m x.1)) (ap not (clean-flight w.setting history x flight unchanged)) (ap is_storable (result-is ∙ sym answer) ∙ o.storable))
 
-  -- what is stored of it is what is kept of the entry
+  -- the stored entry corresponds to the entry of the cache
   new-stored : may_store x.1 (answer_for w now m x.1) ≡ true → IsStored w.setting (e ∷ history) (entry_made (changed_world w m x) now x (answer_for w now m x.1)) (entry_got flight.former gets)
   new-stored can =
       let p = parts can in
@@ -118,7 +118,7 @@ module _ (w : World) (history : List Deed) (c : Bears history w) (now : ℕ) (m 
             (told-on false target flight.asked.asking gets (index_below history flight.asked.asking flight.asked.was_asked) (same-target p.1));
       }
 
-  -- the store then has the cache of the history
+  -- the store then corresponds to the cache of the history
   pub stored-then : (grown : Bool) (storing : Storing) (store : List Entry) → e.entry.report.outcome ≡ Answered storing → IsStoring (changed_world w m x) now grown x (answer_for w now m x.1) storing store → IsStoreOf w.setting (e ∷ history) store
   stored-then grown Kept _ is (kept can small) =
       subst (λ (k : CacheKey). IsStoreOf w.setting (e ∷ history) (put entry_key entry_size w.setting.limits.cache_bytes w.setting.limits.cache_entries (entry_made (changed_world w m x) now x (answer_for w now m x.1)) (marked_all (changed_by k.target m) w.store))) flight.asked.asked_key

@@ -1,4 +1,4 @@
--- The messages that are remembered are those of the history, as it goes on.
+-- The remembered messages are those of the history, as it grows.
 use Rattle.std.proofs.Common.{◌≡◌, ℕ, ◌<◌, ◌≤◌, Bool, true, false, List, [], ◌∷◌, ◌++◌, length, Option, Some, None, refl, sym, ap, ◌∙◌, subst, arith}
 use Rattle.std.specs.Prelude.{◌&&◌, if◌then◌else◌}
 use Rattle.std.proofs.lemmas.Bool.{and_parts, ltb-true}
@@ -36,7 +36,7 @@ use Rattle.coap_model.proofs.Places.{doing}
 use Rattle.coap_model.proofs.Rules.{Asked, IsFirst, head_of_read}
 use Rattle.coap_model.proofs.Lists.{All-filter}
 
--- what is remembered after an entry that leaves nothing is what was before
+-- after an entry that adds no record, the same is remembered
 pub remembered-on : {setting : Setting} {history : List Deed} {kind : Kind} {t : Records} (e : Deed) → last_of history ≤ e.entry.now → kept_by kind e.entry ≡ [] → AreRemembered setting history kind t → AreRemembered setting (e ∷ history) kind t
 remembered-on {history = history} {kind = kind} {t = t} e onward none s =
     record {
@@ -48,7 +48,7 @@ remembered-on {history = history} {kind = kind} {t = t} e onward none s =
       short = s.short;
     }
 
--- and after one that leaves a request that was not known it is that and this
+-- and after one that adds the record of a new message, this is remembered, too
 pub remembered-more : {setting : Setting} {history : List Deed} {kind : Kind} {t : Records} (e : Deed) (r : Record) → last_of history ≤ e.entry.now → r.at ≡ e.entry.now → kept_by kind e.entry ≡ r ∷ [] → record_of r.from r.id (living_at e.entry.now t) ≡ None → length (living_at e.entry.now t) < t.limit
     → ((most : ℕ) → 128 ≤ most → setting.limits.datagram ≤ most → reply_bytes r ≤ most) → AreRemembered setting history kind t → AreRemembered setting (e ∷ history) kind (with_kept r t)
 remembered-more {setting = setting} {history = history} {kind = kind} {t = t} e r onward at one unknown room short s =
@@ -73,7 +73,7 @@ remembered-more {setting = setting} {history = history} {kind = kind} {t = t} e 
         ∙ sym (filter-append (is_living (remembered_for kind) n) (kept_in kind history) (r ∷ []))
         ∙ ap (λ (rs : List Record). living (remembered_for kind) n (kept_in kind history ++ rs)) (sym one)
 
--- what tests as nothing isn't remembered
+-- an outcome that isn't remembered fails the test
 and_off : (a b : Bool) → b ≡ false → (a && b) ≡ false
 and_off true b e = e
 and_off false b e = refl
@@ -82,7 +82,7 @@ kept-nothing : (kind : Kind) (outcome : Outcome) (now : ℕ) (sent : List ℕ) (
 kept-nothing kind outcome now sent source None none = refl
 kept-nothing kind outcome now sent source (Some h) none = rw (and_off (goes_with kind h.kind) (is_remembered outcome h.kind) (none h refl)) refl
 
--- an entry with another outcome leaves nothing
+-- an entry with such an outcome adds no record
 pub leaves-nothing : (kind : Kind) (e : Deed) → ((k : Kind) → is_remembered e.entry.report.outcome k ≡ false) → kept_by kind e.entry ≡ []
 leaves-nothing kind e none = go e.entry.event
   where
@@ -90,7 +90,7 @@ leaves-nothing kind e none = go e.entry.event
     go (arrival source bytes) = kept-nothing kind e.entry.report.outcome e.entry.now e.entry.bytes source (head_at bytes) (λ h is. none h.kind)
     go tick = refl
 
--- ---- a request that is new
+-- ---- a new request
 
 -- a request is Confirmable or Non-confirmable
 pub request-kind : {w : World} {bytes : List ℕ} {m : Message} → Asked w bytes m → brings_requests m.kind ≡ true
@@ -100,7 +100,7 @@ module _ (w : World) (history : List Deed) (c : Bears history w) (now : ℕ) (cl
   since : last_of history ≤ now
   since = let h = c.clock.last in omega (arith, h, onward)
 
-  -- what is known of a request is what the history remembers
+  -- the record of a request is what the history remembers
   pub known-is : (k : Kind) → brings_requests k ≡ true → living_at now (records_of k w) ≡ remembered_at k now history
   known-is Con e = c.con_records.same now since
   known-is Non e = c.non_records.same now since
@@ -127,7 +127,7 @@ module _ (w : World) (history : List Deed) (c : Bears history w) (now : ℕ) (cl
   pub first-new : IsFirst w now client bytes m → IsNew w.setting history now client m
   first-new first = record-new (request-kind first.asked) first.unknown first.room
 
-  -- what came is remembered from here on
+  -- the message is remembered from here on
   pub now-remembered : (draw : ℕ) (act : Act) (s : Step) → IsBytes bytes → message_in w.setting.limits.datagram bytes ≡ Some m → brings_requests m.kind ≡ true → known_of w now client m ≡ None → has_record_room w now m.kind ≡ true → is_remembered s.report.outcome m.kind ≡ true → ((most : ℕ) → 128 ≤ most → w.setting.limits.datagram ≤ most → length s.bytes ≤ most)
       → AreRemembered w.setting (doing act (entry_of now draw (arrival client bytes) s) ∷ history) Con (if is_con m.kind then with_kept (record_made now client m s.bytes) w.con_records else w.con_records)
       × AreRemembered w.setting (doing act (entry_of now draw (arrival client bytes) s) ∷ history) Non (if is_con m.kind then w.non_records else with_kept (record_made now client m s.bytes) w.non_records)
@@ -165,7 +165,7 @@ module _ (w : World) (history : List Deed) (c : Bears history w) (now : ℕ) (cl
       go Ack is = none Ack is refl
       go Rst is = none Rst is refl
 
-  -- so is a request that is new
+  -- so is a new request
   pub first-remembered : (draw : ℕ) (act : Act) (s : Step) → IsFirst w now client bytes m → is_remembered s.report.outcome m.kind ≡ true → ((most : ℕ) → 128 ≤ most → w.setting.limits.datagram ≤ most → length s.bytes ≤ most)
       → AreRemembered w.setting (doing act (entry_of now draw (arrival client bytes) s) ∷ history) Con (if is_con m.kind then with_kept (record_made now client m s.bytes) w.con_records else w.con_records)
       × AreRemembered w.setting (doing act (entry_of now draw (arrival client bytes) s) ∷ history) Non (if is_con m.kind then w.non_records else with_kept (record_made now client m s.bytes) w.non_records)
@@ -173,7 +173,7 @@ module _ (w : World) (history : List Deed) (c : Bears history w) (now : ℕ) (cl
 
 -- ---- an answer that isn't Confirmable
 
--- it leaves nothing
+-- it adds no record
 pub answer-leaves : (w : World) (bytes : List ℕ) (m : Message) (kind : Kind) (e : Deed) (source : Endpoint) (storing : Storing) → IsBytes bytes → message_in w.setting.limits.datagram bytes ≡ Some m → is_con m.kind ≡ false → e.entry.event ≡ arrival source bytes → e.entry.report.outcome ≡ Answered storing → kept_by kind e.entry ≡ []
 answer-leaves w bytes m kind e source storing fits read other came outcome =
     ap (λ (v : Event). kept_at kind e.entry.report.outcome e.entry.now e.entry.bytes v) came

@@ -1,4 +1,4 @@
--- Sending a request again, and giving an exchange up, keep what is carried.
+-- Retransmitting a request, and giving up an exchange, preserve what is carried.
 use Rattle.std.proofs.Common.{◌≡◌, ◌≢◌, inl, inr, ℕ, ◌+◌, ◌-◌, ◌*◌, ◌^◌, ◌<◌, ◌≤◌, List, [], ◌∷◌, length, map, Bool, true, false, cond, ltb, Option, Some, None, refl, sym, ap, ◌∙◌, subst, arith}
 use Rattle.std.proofs.lemmas.Bool.{and_parts, and_from, ltb-true, lt-ltb}
 use Rattle.std.proofs.Math.Nat.{mul_assoc, pow-suc}
@@ -50,14 +50,14 @@ use Rattle.coap_model.proofs.Turns.{turn-exchange, turn-due, turn-in_time, turn-
 
 -- ---- timers
 
--- a timer that goes on is that of one sending more
+-- a timer that continues is that of one more transmission
 timer-again : (e before : Entry) (es : List Entry) (t : Timer) → IsTimer t (before ∷ es) → goes_on e.now t ≡ true → IsTimer (fired e.now t) (e ∷ before ∷ es)
 timer-again e before es t h on = rw on (let sends = h.0 in omega arith, h.1, doubled, refl)
   where
     doubled : t.timeout * 2 ≡ (2000 + (oldest before es).draw) * 2 ^ length (before ∷ es)
     doubled = ap (λ (n : ℕ). n * 2) h.2 ∙ mul_assoc (2000 + (oldest before es).draw) (2 ^ length es) 2 ∙ ap (λ (k : ℕ). (2000 + (oldest before es).draw) * k) (sym (pow-suc 2 (length es)))
 
--- it may be sent again
+-- the message may be retransmitted
 may-go_on : (now : ℕ) (es : List Entry) (t : Timer) → IsTimer t es → goes_on now t ≡ true → MayGoOn now es
 may-go_on now [] t h on = absurd h
 may-go_on now (e ∷ es) t h on =
@@ -68,7 +68,7 @@ may-go_on now (e ∷ es) t h on =
     let started = h.1 in
     record { few = omega arith; soon = omega arith }
 
--- or else may not
+-- otherwise it may not
 pub may-not : (now : ℕ) (es : List Entry) (t : Timer) → IsTimer t es → goes_on now t ≡ false → MayGoOn now es → ⊥
 may-not now [] t h on m = m
 may-not now (e ∷ es) t h off m =
@@ -80,7 +80,7 @@ may-not now (e ∷ es) t h off m =
     let second = lt-ltb (now - t.started) 93000 (omega arith) in
     absurd (let both : goes_on now t ≡ true = and_from _ _ first second in let f = sym off ∙ both in cc)
 
--- the schedule goes on
+-- the schedule continues
 schedule-again : (e before : Entry) (es : List Entry) (t : Timer) (to : Endpoint) (bytes : List ℕ) → IsTimer t (before ∷ es) → t.due ≤ e.now → goes_on e.now t ≡ true → AreOfBytes to bytes (before ∷ es) → e.report.send ≡ Some to → e.bytes ≡ bytes → IsSchedule (before ∷ es) → IsSchedule (e ∷ before ∷ es)
 schedule-again e before es t to bytes h come on same send is s =
     let m = may-go_on e.now (before ∷ es) t h on in
@@ -89,7 +89,7 @@ schedule-again e before es t to bytes h come on same send is s =
     let due = timer-due t (before ∷ es) h in
     record { few = omega arith; spaced = (omega (arith, come, due), soon, (send ∙ sym same.0.0, is ∙ sym same.0.1), s.spaced) }
 
--- what its timer says of a sending
+-- what a timer says about a retransmission
 pub goes-again : (now : ℕ) (t : Timer) → fire_of now t ≡ Again → goes_on now t ≡ true
 goes-again now t e = go (goes_on now t) refl e
   where
@@ -104,7 +104,7 @@ goes-no_more now t e = go (goes_on now t) refl e
     go true f g = absurd cc
     go false f g = refl
 
--- what is known of a message whose timer goes on, as it is sent again
+-- what is known of a message whose timer continues, as it is retransmitted
 pub record GoesAgain (now : ℕ) (t : Timer) (es : List Entry) (e : Entry) : Type 0 where
   pub timer : IsTimer (fired now t) (e ∷ es)
   pub schedule : IsSchedule (e ∷ es)
@@ -122,9 +122,9 @@ goes now t (before ∷ es) to bytes e moment timer are come on send is schedule 
       same = (send ∙ sym are.0.0, is ∙ sym are.0.1);
     }
 
--- ---- a request is sent again
+-- ---- a request is retransmitted
 
--- sending a request again keeps what is carried
+-- retransmitting a request preserves what is carried
 pub keeps_resending : (w : World) (history : List Deed) (c : Bears history w) → (now draw at number : ℕ) (x : Exchange) → w.last ≤ now → IsTurnOf w now at number x → x.state ≡ Sent → now < deadline w.setting.limits.exchange_ms x → fire_of_sending now x.sending ≡ Again
     → Bears (doing (moves number) (entry_of now draw tick (resends w now number x)) ∷ history) (resends w now number x).world
 keeps_resending w history c now draw at number x onward turn sent early fire =
@@ -200,11 +200,11 @@ keeps_resending w history c now draw at number x onward turn sent early fire =
 
 -- ---- an exchange is given up
 
--- a stage comes to its end
+-- the stage becomes `done`
 pub ended-seen : (n : ℕ) (a : Answer) (xs : List (Numbered Exchange)) → map stage_seen (changed_at n (answered a) xs) ≡ staged n done (map stage_seen xs)
 ended-seen n a xs = staged-seen n (answered a) done xs (All-weaken (λ y. Has y xs) (λ y. y.0 ≡ n → done ≡ done) xs (λ y there same. refl) (Has-all xs))
 
--- one that has its answer is neither queued nor sent
+-- an exchange that has its answer is neither queued nor sent
 pub ended-room : (w : World) (history : List Deed) (c : Bears history w) (now n : ℕ) (a : Answer) (xs : List (Numbered Exchange)) → IsRising 0 xs → count is_queued xs ≡ count is_queued w.exchanges → w.last ≤ now → (later : ℕ) → now ≤ later → given_in later w.ids + (count is_waiting w.waiters + count is_queued (changed_at n (answered a) xs)) ≤ 32768
 ended-room w history c now n a xs rising many onward later after =
     let room = room-still w history c now onward later after in
@@ -227,14 +227,14 @@ ended-pace w history c n a xs rising to many =
     no-more None = refl
     no-more (Some b) = refl
 
--- an exchange that isn't over hasn't ended
+-- an exchange that isn't done hasn't ended
 unended-yet : (setting : Setting) (history : List Deed) (number : ℕ) (x : Exchange) (s : ExchangeState) → IsState setting history (number, x) s → ((a : Answer) → s ≢ Done a) → Never (Ends number) history
 unended-yet setting history number x Queued state other = state.unended
 unended-yet setting history number x Sent state other = state.unended
 unended-yet setting history number x Acked state other = state.unended
 unended-yet setting history number x (Done a) state other = absurd (other a refl)
 
--- giving an exchange up keeps what is carried
+-- giving up an exchange preserves what is carried
 pub keeps_giving_up : (w : World) (history : List Deed) (c : Bears history w) → (now draw at number : ℕ) (x : Exchange) → w.last ≤ now → IsTurnOf w now at number x → IsOver w now x
     → Bears (doing (moves number) (entry_of now draw tick (gives_up w now number)) ∷ history) (gives_up w now number).world
 keeps_giving_up w history c now draw at number x onward turn over =

@@ -1,4 +1,5 @@
--- A message repeats one place at most: something is done that is remembered only where nothing of its message is.
+-- A message repeats at most one place: an outcome that is remembered is only given to a message
+-- that isn't remembered.
 use Rattle.std.proofs.Common.{◌≡◌, ◌⊎◌, refl, ⊎_elim, ℕ, ◌+◌, ◌<◌, ◌≤◌, true, List, Some, None, sym, ap, ◌∙◌, subst, arith}
 use Rattle.std.specs.Prelude.{if◌then◌else◌}
 use Rattle.std.proofs.lemmas.Option.{same_Some}
@@ -27,7 +28,7 @@ use Rattle.coap_model.proofs.Duplicates.{known-place, place-known}
 use Rattle.coap_model.proofs.Places.{arrival-same, in-order, justified-at}
 use Rattle.coap_model.proofs.Moments.{not-later}
 
--- something was done with a message that was new, and a Confirmable one was replied to at once
+-- something was done with a new message, and a Confirmable one got an immediate reply
 pub record IsNewHere (setting : Setting) (past : List Deed) (d : Deed) : Type 0 where
   pub source : Endpoint
   pub message : Message
@@ -37,7 +38,7 @@ pub record IsNewHere (setting : Setting) (past : List Deed) (d : Deed) : Type 0 
   pub room : HasRecordRoom setting past d.entry.now message
   pub sent : message.kind ≡ Con → d.entry.report.send ≡ Some source
 
--- no message is of both types
+-- no message has both types
 not-both : {A : Type 0} {k : Kind} → k ≡ Non → k ≡ Con → A
 not-both non con = absurd (let e = sym non ∙ con in cc)
 
@@ -54,7 +55,7 @@ answer-new setting past d a con =
       sent = λ _. (subst (λ (k : Kind). TakesUp k a.gets.meets.asks.sends.to a.gets.meets.message.id d.entry) con a.takes_up).sent;
     }
 
--- what is remembered was new
+-- a message that is remembered was new
 pub new-here : (o : Outcome) (setting : Setting) (past : List Deed) (d : Deed) (source : Endpoint) (bytes : List ℕ) (former : Head) → JustifiedBy o setting past d → d.entry.event ≡ arrival source bytes → head_at bytes ≡ Some former → is_remembered o former.kind ≡ true → IsNewHere setting past d
 new-here (Refused code) setting past d source bytes former j came head kept = record { source = j.client; message = j.request; brings = j.asked.brings; kind = j.asked.kind; unknown = j.new.unknown; room = j.new.room; sent = λ con. j.tells.sent }
 new-here Hit setting past d source bytes former j came head kept = record { source = j.client; message = j.request; brings = j.asked.brings; kind = j.asked.kind; unknown = j.new.unknown; room = j.new.room; sent = λ con. j.tells.sent }
@@ -74,13 +75,13 @@ new-here Delivered setting past d source bytes former j came head kept = absurd 
 new-here GaveUp setting past d source bytes former j came head kept = absurd cc
 new-here Idle setting past d source bytes former j came head kept = absurd cc
 
--- a message repeats this one: it has its source, type and id
+-- a message repeats another one: it has its source, type and id
 record IsLike (source c : Endpoint) (m r : Message) : Type 0 where
   pub from : c ≡ source
   pub kind : r.kind ≡ m.kind
   pub id : r.id ≡ m.id
 
--- a message repeats the one that came at a place
+-- a message is like the one that arrived at the place that it repeats
 like : {most now : ℕ} {source c : Endpoint} {m r : Message} {p : Place} → Repeats now source m p → Brings most c r p.deed.entry.event → IsLike source c m r
 like {source = source} {c = c} {r = r} repeats b =
     let same = arrival-same c source b.bytes repeats.bytes (sym b.came ∙ repeats.came) in
@@ -94,14 +95,14 @@ module _ (setting : Setting) (past : List Deed) (now : ℕ) (source : Endpoint) 
   here-new : (p : Place) → IsPlaceOf past p → Repeats now source m p → IsNewHere setting p.before p.deed
   here-new p at repeats = new-here p.deed.entry.report.outcome setting p.before p.deed source repeats.bytes repeats.former (justified-at setting past p p.deed.entry.report.outcome all at refl) repeats.came repeats.head repeats.remembered
 
-  -- its source was replied to at once
+  -- its source was sent an immediate reply
   pub was-sent : (p : Place) → IsPlaceOf past p → Repeats now source m p → m.kind ≡ Con → p.deed.entry.report.send ≡ Some source
   was-sent p at repeats con =
       let new = here-new p at repeats in
       let l = like repeats new.brings in
       new.sent (l.kind ∙ con) ∙ ap (λ (e : Endpoint). Some e) l.from
 
-  -- it doesn't repeat an earlier one, too
+  -- it doesn't also repeat an earlier place
   not-again : IsInOrder past → last_of past ≤ now → (p q : Place) → IsPlaceOf past p → IsPlaceOf p.before q → Repeats now source m p → Repeats now source m q → ⊥
   not-again ordered onward p q at before repeats earlier =
       let new = here-new p at repeats in
@@ -122,7 +123,7 @@ module _ (setting : Setting) (past : List Deed) (now : ℕ) (source : Endpoint) 
       })
       new.unknown
 
-  -- so it repeats one place
+  -- so it repeats only one place
   pub one-place : IsInOrder past → last_of past ≤ now → (p q : Place) → IsPlaceOf past p → IsPlaceOf past q → Repeats now source m p → Repeats now source m q → p ≡ q
   one-place ordered onward p q at_p at_q repeats_p repeats_q =
       ⊎_elim
@@ -134,7 +135,7 @@ module _ (setting : Setting) (past : List Deed) (now : ℕ) (source : Endpoint) 
       apart)
       (in-order past p q at_p at_q)
 
-  -- and what is known of it is what was told there
+  -- and its record is what was sent there
   pub told-there : IsInOrder past → last_of past ≤ now → (p : Place) (known : Record) → IsPlaceOf past p → Repeats now source m p → record_of source m.id (remembered_at m.kind now past) ≡ Some known → known.reply ≡ told_again m.kind p.deed.entry.bytes
   told-there ordered onward p known at repeats found =
       let left = known-place past now source m known found in

@@ -1,4 +1,4 @@
--- Replies that go out at once, silence and Resets keep what is carried.
+-- Immediate replies, silence and Resets preserve what is carried.
 use Rattle.std.proofs.Common.{◌≡◌, ℕ, ◌+◌, ◌%◌, ◌<◌, ◌≤◌, Bool, true, false, List, [], ◌∷◌, length, Option, Some, None, Ok, refl, sym, ap, ◌∙◌, subst, arith}
 use Rattle.std.specs.Prelude.{◌&&◌, if◌then◌else◌}
 use Rattle.std.specs.Option.{option_map_or}
@@ -47,30 +47,30 @@ use Rattle.coap_model.proofs.Stores.{store-otherwise}
 use Rattle.coap_model.proofs.Awaiting.{awaited-by, not-known, not-ignored, not-settled, not-closed, not-closed}
 use Rattle.coap_model.proofs.Quiet.{room-still, keeps_still, keeps_quiet}
 
--- ---- what came
+-- ---- what arrived
 
--- what tests as confirmable is so
+-- what tests as Confirmable is Confirmable
 con_is : (k : Kind) → is_con k ≡ true → k ≡ Con
 con_is Con e = refl
 con_is Non e = absurd cc
 con_is Ack e = absurd cc
 con_is Rst e = absurd cc
 
--- a request that is processed, as the history says it
+-- a request that is processed, according to the history
 pub request-came : (w : World) (client : Endpoint) (bytes : List ℕ) (m : Message) → IsBytes bytes → Asked w bytes m → IsRequestOf w.setting client m (arrival client bytes)
 request-came w client bytes m fits asked =
     let read = message_in-is w.setting.limits.datagram bytes m fits asked.read in
     let tests = and_parts (brings_requests m.kind) (is_request m.code) asked.request in
     record { brings = record { bytes = bytes; came = refl; spells = read.0; short = read.1 }; kind = tests.0; method = tests.1 }
 
--- the next id is the one that is due by the history
+-- the next id is the next one according to the history
 pub id-same : (w : World) (history : List Deed) (c : Bears history w) → next_id w ≡ (w.setting.first_id + ids_in history) % 65536
 id-same w history c = c.ids.following
 
--- ---- replies that go out at once
+-- ---- immediate replies
 
 module _ (w : World) (history : List Deed) (c : Bears history w) (now draw : ℕ) (client : Endpoint) (bytes : List ℕ) (m : Message) (onward : w.last ≤ now) (first : IsFirst w now client bytes m) where
-  -- a request that is new, as the history says it
+  -- a new request, according to the history
   pub came : IsRequestOf w.setting client m (arrival client bytes)
   came = request-came w client bytes m first.fits first.asked
 
@@ -93,7 +93,7 @@ module _ (w : World) (history : List Deed) (c : Bears history w) (now draw : ℕ
   abbrev pub ids_after : Given
   ids_after = if is_con m.kind then w.ids else called now w.ids
 
-  -- a reply that takes one has the one that is due
+  -- a reply that takes an id has the next one
   pub reply-ids : (e : Deed) (v : World) (reply : Message) → e.entry.now ≡ now → gives_id e.entry ≡ (if is_con m.kind then 0 else 1) → Spells e.entry.bytes (at_once m reply) → reply.id ≡ next_id w → can_reply w now m.kind ≡ true → v.setting.first_id ≡ w.setting.first_id → v.ids ≡ ids_after → Ids (e ∷ history) v
   reply-ids e v reply moment gives spells next free first_id is = go (is_con m.kind) refl gives is
     where
@@ -105,7 +105,7 @@ module _ (w : World) (history : List Deed) (c : Bears history w) (now draw : ℕ
           ids-given history w v e c.clock c.ids (omega (arith, moment)) first_id one (same ∙ ap (λ (n : ℕ). called n w.ids) (sym moment)) (subst (λ (n : ℕ). given_in n w.ids < 32768) (sym moment) (omega arith))
           (record { gives = one; message = at_once m reply; spells = spells; id_is = ap (reply_id m) next ∙ reply-due m (next_id w) non ∙ id-same w history c })
 
-  -- and what is kept for later can still be given
+  -- and reserved ids can still be given out
   pub reply-room : can_reply w now m.kind ≡ true → (n : ℕ) → now ≤ n → given_in n ids_after + reserved w ≤ 32768
   reply-room free n later = go (is_con m.kind) refl
     where
@@ -116,7 +116,7 @@ module _ (w : World) (history : List Deed) (c : Bears history w) (now draw : ℕ
           let room = leb-true (given_in now w.ids + reserved w + 1) 32768 free_one in
           room-called w.ids now (reserved w) (omega arith) n
 
-  -- a refusal keeps what is carried
+  -- a refusal preserves what is carried
   pub keeps_refusing : (code : Code) → IsDenied w now m code → can_reply w now m.kind ≡ true
       → Bears (doing no_item (entry_of now draw (arrival client bytes) (refuses w now client m code)) ∷ history) (remembers now client m (refuses w now client m code)).world
   keeps_refusing code denied free =
@@ -132,7 +132,7 @@ module _ (w : World) (history : List Deed) (c : Bears history w) (now draw : ℕ
       (first-remembered w history c now client bytes m onward draw no_item s first refl (λ most wide long. omega (arith, wide, own-short m code (next_id w) m.token short_token)))
       (record { act = refl; client = client; request = m; id = next_id w; asked = came; new = is_new; deserved = deserved; ids = has-id free; tells = record { sent = refl; spells = spells } }, c.past)
 
-  -- so does 5.03
+  -- so does a 5.03
   pub keeps_overloading : (key : CacheKey) → verdict_in w m ≡ may_ask key → IsFull w now key m → can_reply w now m.kind ≡ true
       → Bears (doing no_item (entry_of now draw (arrival client bytes) (overloads w now client m)) ∷ history) (remembers now client m (overloads w now client m)).world
   keeps_overloading key verdict full free =
@@ -146,7 +146,7 @@ module _ (w : World) (history : List Deed) (c : Bears history w) (now draw : ℕ
       (first-remembered w history c now client bytes m onward draw no_item s first refl (λ most wide long. omega (arith, wide, busy-short m w.setting.limits.retry_s (next_id w) m.token short_token)))
       (record { act = refl; client = client; request = m; key = key; id = next_id w; asked = came; verdict = verdict; no_room = lacks_room w history c now key m onward full; new = is_new; ids = has-id free; tells = record { sent = refl; spells = spells } }, c.past)
 
-  -- and silence for want of an id
+  -- and so does silence because no id is free
   pub keeps_lacking : can_reply w now m.kind ≡ false
       → Bears (doing no_item (entry_of now draw (arrival client bytes) (lacks_id w now)) ∷ history) (remembers now client m (lacks_id w now)).world
   keeps_lacking free =
@@ -160,13 +160,13 @@ module _ (w : World) (history : List Deed) (c : Bears history w) (now draw : ℕ
 
 -- ---- duplicates
 
--- a message that is remembered comes, as the history says it
+-- a message that is remembered arrives, according to the history
 pub recorded-came : (w : World) (source : Endpoint) (bytes : List ℕ) (m : Message) → IsBytes bytes → Recorded w bytes m → Comes w.setting source m (arrival source bytes)
 recorded-came w source bytes m fits r =
     let read = message_in-is w.setting.limits.datagram bytes m fits r.read in
     record { brings = record { bytes = bytes; came = refl; spells = read.0; short = read.1 }; recorded = r.recorded }
 
--- a duplicate keeps what is carried
+-- repeating a reply for a duplicate preserves what is carried
 pub keeps_repeating : (w : World) (history : List Deed) (c : Bears history w) (now draw : ℕ) (source : Endpoint) (bytes : List ℕ) (m : Message) (known : Record) → w.last ≤ now → IsBytes bytes → Recorded w bytes m → known_of w now source m ≡ Some known
     → Bears (doing no_item (entry_of now draw (arrival source bytes) (repeats w now source known.reply)) ∷ history) (repeats w now source known.reply).world
 keeps_repeating w history c now draw source bytes m known onward fits recorded found = go known.reply refl
@@ -184,7 +184,7 @@ keeps_repeating w history c now draw source bytes m known onward fits recorded f
         keeps_quiet w history c e (record { act = refl; opens = refl; admits = refl; sends = refl; takes = refl; leaves_open = λ standing xs. refl; stands = λ standing. refl }) refl (λ k. refl) onward refl
         (record { act = refl; source = source; message = m; known = known; comes = recorded-came w source bytes m fits recorded; found = same; says_again = subst (λ (o : Option (List ℕ)). SaysAgain source o e.entry) (sym is) (refl, refl) }, c.past)
 
--- and so does silence where there is no room to remember what came
+-- and so does silence if there is no room to remember what arrived
 pub keeps_dropping : (w : World) (history : List Deed) (c : Bears history w) (now draw : ℕ) (source : Endpoint) (bytes : List ℕ) (m : Message) → w.last ≤ now → IsBytes bytes → Recorded w bytes m → (is_response m.code ≡ true → (x : Numbered Exchange) × (awaiting w source m ≡ Some x)) → known_of w now source m ≡ None → has_record_room w now m.kind ≡ false
     → Bears (doing no_item (entry_of now draw (arrival source bytes) (drops w now)) ∷ history) (drops w now).world
 keeps_dropping w history c now draw source bytes m onward fits recorded wanted unknown full =
@@ -228,7 +228,7 @@ unprocessable w history c e source bytes onward came none = record {
   no_closing = λ v k. not-closed w history c e.now source bytes none v (subst (Closes w.setting history e.now v) came k);
 }
 
--- a Reset keeps what is carried
+-- a Reset preserves what is carried
 pub keeps_rejecting : (w : World) (history : List Deed) (c : Bears history w) (now draw : ℕ) (source : Endpoint) (bytes : List ℕ) (head : Head) → w.last ≤ now → head_at bytes ≡ Some head → is_con head.kind ≡ true → IsNothing w now source bytes
     → Bears (doing no_item (entry_of now draw (arrival source bytes) (rejects w now source head.id)) ∷ history) (rejects w now source head.id).world
 keeps_rejecting w history c now draw source bytes head onward is con none =

@@ -1,4 +1,4 @@
--- Deliveries that are right, of which the forged ones differ in one thing.
+-- Deliveries that are right; the forged ones differ from them in one thing.
 use Rattle.std.proofs.Common.{◌≡◌, ◌≢◌, inl, inr, ⊎_elim, ℕ, ◌<◌, Bool, true, false, cond, List, [], ◌∷◌, Option, Some, None, refl, sym, arith}
 use Rattle.std.specs.Prelude.{◌==◌, option_map}
 use Rattle.std.proofs.lemmas.Option.{same_Some}
@@ -31,11 +31,11 @@ use Rattle.coap_model.specs.Forged.{setting, asked, answered, past, past_con, de
 use Rattle.coap_model.proofs.Places.{here, admitted-number}
 use Rattle.coap_model.proofs.CacheExamples.{are-bytes, first_sent, first_got, get_read, get_spelled}
 
--- a client's request is taken up, with whatever is sent at once
+-- a client's request is accepted, with whatever is sent immediately
 abbrev opening : Event → Option Endpoint → List ℕ → Deed
 opening event send bytes = record { entry = record { now = 0; draw = 0; event = event; report = record { send = send; outcome = Opened }; bytes = bytes }; act = admits 1 1 }
 
--- it is sent on, and its answer comes
+-- it is forwarded, and its answer arrives
 abbrev past_of : Deed → List Deed
 past_of o = answered ∷ asked ∷ o ∷ []
 
@@ -74,9 +74,9 @@ first_due o send bytes (moves x) m (to_end t) sooner = let at = t.at_is in ⊎_e
 first_due o send bytes (serves v) m (to_serve t) sooner = let number = admitted-number t.admitted in ⊎_elim (λ (less : m < 0). omega (arith, less)) (λ same. let before = same.1 in omega (arith, before, number.0)) sooner
 first_due o send bytes (serves v) m (to_serve_again t) sooner = one_service o send bytes v t.service
 
--- ---- what is right
+-- ---- right deliveries
 
--- what the client is shown of the answer, in a message of the type of its request, is a delivery
+-- the client's view of the answer, in a message of the type of its request, is a delivery
 right-is : (event : Event) (send : Option Endpoint) (bytes reply : List ℕ) (request : Message) → IsRequestOf setting (client 1) request event → verdict_on setting request ≡ may_ask key_of_temp → Spells reply (shown_as request.kind (is_get request.code) 2500 (answer_of 1500 true None 0 (content_for 1 1)) 2 request.token (tags_of request)) → IsDelivery setting (past_of (opening event send bytes)) (delivery (client 1) reply (serves 1))
 unfolding token_of target_options target_sent key_sent
 right-is event send bytes reply request asked_so verdict spells =
@@ -115,7 +115,7 @@ right-is event send bytes reply request asked_so verdict spells =
       tells = record { sent = refl; spells = spells };
     }
 
--- the request in a Confirmable message
+-- the Confirmable request
 abbrev con_read : Message
 con_read = record get_read { kind = Con }
 
@@ -123,12 +123,12 @@ con_spelled : Spells (0x40 ∷ 1 ∷ 0 ∷ 7 ∷ 0xB1 ∷ 0x74 ∷ []) con_read
 unfolding read_message body_at options_within option_at extended
 con_spelled = read_is _ con_read (are-bytes (0x40 ∷ 1 ∷ 0 ∷ 7 ∷ 0xB1 ∷ 0x74 ∷ []) refl) refl
 
--- what a client is shown that asked in a Non-confirmable message
+-- what a client with a Non-confirmable request is sent
 pub is_right : IsDelivery setting past right
 unfolding read_message body_at options_within option_at extended answer_of spelling option_spelling uint_spelling verdict_of request_target mapped_target
 is_right = right-is _ None [] (content_for_client 7) get_read (record { brings = record { bytes = get_t []; came = refl; spells = get_spelled; short = omega arith }; kind = refl; method = refl }) refl (read_is (content_for_client 7) _ (are-bytes (content_for_client 7) refl) refl)
 
--- and one that asked in a Confirmable one
+-- and what one with a Confirmable request is sent
 pub is_right_in_con : IsDelivery setting past_con in_con
 unfolding read_message body_at options_within option_at extended answer_of spelling option_spelling uint_spelling verdict_of request_target mapped_target
 is_right_in_con = right-is _ (Some (client 1)) (0x60 ∷ 0 ∷ 0 ∷ 7 ∷ []) (content_in 0x40 7) con_read (record { brings = record { bytes = 0x40 ∷ 1 ∷ 0 ∷ 7 ∷ 0xB1 ∷ 0x74 ∷ []; came = refl; spells = con_spelled; short = omega arith }; kind = refl; method = refl }) refl (read_is (content_in 0x40 7) _ (are-bytes (content_in 0x40 7) refl) refl)

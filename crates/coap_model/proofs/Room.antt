@@ -1,4 +1,4 @@
--- Room: what the tables count is what the history counts.
+-- Capacity: the counts of the tables are the counts of the history.
 use Rattle.std.proofs.Common.{◌≡◌, ℕ, ◌+◌, ◌<◌, ◌≤◌, List, length, true, false, sym, ap, ◌∙◌, arith}
 use Rattle.std.specs.Prelude.{◌/◌, ◌&&◌}
 use Rattle.std.proofs.lemmas.Bool.{leb-true, leb-false, ltb-true, ltb-false, and_parts}
@@ -18,11 +18,11 @@ use Rattle.coap_model.proofs.Splitting.{one_false}
 
 -- ---- what is counted
 
--- as many clients are held as aren't done with
+-- there are as many clients in the table as are pending
 pub waiters-length : (history : List Deed) (w : World) → Bears history w → length w.waiters ≡ length (standing_in history)
 waiters-length history w c = sym (length-map w.waiters standing_seen) ∙ ap length c.whole.waiters
 
--- as many exchanges are held as are open
+-- there are as many exchanges in the table as are open
 pub exchanges-length : (history : List Deed) (w : World) → Bears history w → length w.exchanges ≡ length (open_in history)
 exchanges-length history w c = sym (length-map w.exchanges stage_seen) ∙ ap length c.whole.exchanges
 
@@ -30,17 +30,17 @@ exchanges-length history w c = sym (length-map w.exchanges stage_seen) ∙ ap le
 pub waiting-count : (history : List Deed) (w : World) → Bears history w → count is_waiting w.waiters ≡ waiting_in history
 waiting-count history w c = waiting-seen w.waiters ∙ ap (count_if (λ (s : Standing). service.is_waiting s.service)) c.whole.waiters
 
--- as many requests are to be sent
+-- as many requests are queued
 pub queued-count : (history : List Deed) (w : World) → Bears history w → count exchanges.is_queued w.exchanges ≡ queued_in history
 queued-count history w c = counted-seen exchanges.is_queued is_queued queued-same w.exchanges ∙ ap (count_open is_queued) c.whole.exchanges
 
--- and as many are sent to an endpoint
+-- and as many requests to an endpoint are sent
 pub sent-count : (to : Endpoint) (history : List Deed) (w : World) → Bears history w → count (exchanges.is_sent_to to) w.exchanges ≡ outstanding_to to history
 sent-count to history w c = counted-seen (exchanges.is_sent_to to) (is_sent_to to) (sent-same to) w.exchanges ∙ ap (count_open (is_sent_to to)) c.whole.exchanges
 
 -- ---- ids
 
--- so ids are counted alike
+-- so as many ids are used and reserved
 pub ids-sum : (k now : ℕ) (history : List Deed) (w : World) → Bears history w → w.last ≤ now → given_in now w.ids + reserved w + k ≡ window_ids (now / 247000) history + (waiting_in history + queued_in history) + k
 ids-sum k now history w c onward =
     let last = c.clock.last in
@@ -49,38 +49,39 @@ ids-sum k now history w c onward =
     let q = queued-count history w c in
     omega arith
 
--- where the tables have ids free, so has the history
+-- if ids are free according to the tables, they are according to the history
 pub ids-free : (k now : ℕ) (history : List Deed) (w : World) → Bears history w → w.last ≤ now → has_ids k w now ≡ true → HasIds k now history
 ids-free k now history w c onward e = record { free = let sum = ids-sum k now history w c onward in let le = leb-true (given_in now w.ids + reserved w + k) 32768 e in omega arith }
 
--- and where they have none, nor has it
+-- and if not, they aren't
 pub ids-none : (k now : ℕ) (history : List Deed) (w : World) → Bears history w → w.last ≤ now → has_ids k w now ≡ false → HasIds k now history → ⊥
 ids-none k now history w c onward e h = let sum = ids-sum k now history w c onward in let lt = leb-false (given_in now w.ids + reserved w + k) 32768 e in let free = h.free in omega arith
 
--- ---- room for a client and for an exchange
+-- ---- capacity for a client and for an exchange
 
--- where the tables have room for a client, so has the history
+-- if the tables have room for a client, there is room according to the history
 waiter-there : (history : List Deed) (w : World) → Bears history w → has_waiter_room w ≡ true → length (standing_in history) < w.setting.limits.waiters
 waiter-there history w c e = rw (← waiters-length history w c) (ltb-true _ _ e)
 
--- and where they have none, nor has it
+-- and if not, there is none
 waiter-none : (history : List Deed) (w : World) → Bears history w → has_waiter_room w ≡ false → length (standing_in history) < w.setting.limits.waiters → ⊥
 waiter-none history w c e lt = let le = ltb-false _ _ e in let n = waiters-length history w c in omega arith
 
--- where the tables have room for one more client at an exchange, so has the history
+-- if the tables have room for one more client at an exchange, there is room according to the
+-- history
 pub join-there : (now : ℕ) (history : List Deed) (w : World) → Bears history w → w.last ≤ now → has_room_to_join w now ≡ true → HasRoomToJoin w.setting.limits now history
 join-there now history w c onward e =
     let a = and_parts (has_waiter_room w) (has_ids 1 w now) e in
     record { waiter = waiter-there history w c a.0; ids = ids-free 1 now history w c onward a.1 }
 
--- and where they have none, nor has it
+-- and if not, there is none
 pub join-none : (now : ℕ) (history : List Deed) (w : World) → Bears history w → w.last ≤ now → has_room_to_join w now ≡ false → HasRoomToJoin w.setting.limits now history → ⊥
 join-none now history w c onward e h =
     one_false (has_waiter_room w) (has_ids 1 w now) e
     (λ f. waiter-none history w c f h.waiter)
     (λ f. ids-none 1 now history w c onward f h.ids)
 
--- where the tables have room to open an exchange, so has the history
+-- if the tables have room to open an exchange, there is room according to the history
 pub room-there : (now : ℕ) (history : List Deed) (w : World) → Bears history w → w.last ≤ now → has_room_to_open w now ≡ true → HasRoomToOpen w.setting.limits now history
 room-there now history w c onward e =
     let a = and_parts (has_exchange_room w) (has_waiter_room w && has_ids 2 w now) e in
@@ -91,7 +92,7 @@ room-there now history w c onward e =
       ids = ids-free 2 now history w c onward b.1;
     }
 
--- and where they have none, nor has it
+-- and if not, there is none
 pub room-none : (now : ℕ) (history : List Deed) (w : World) → Bears history w → w.last ≤ now → has_room_to_open w now ≡ false → HasRoomToOpen w.setting.limits now history → ⊥
 room-none now history w c onward e h =
     one_false (has_exchange_room w) (has_waiter_room w && has_ids 2 w now) e

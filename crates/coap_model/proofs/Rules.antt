@@ -1,4 +1,4 @@
--- The cases of a step, each with what is known there.
+-- The cases of a step, each with what is known in it.
 use Rattle.std.proofs.Common.{◌≡◌, ℕ, Bool, true, false, cond, List, Option, Some, None, refl, sym, ap, ◌∙◌, subst, arith}
 use Rattle.std.specs.Prelude.{◌&&◌, ◌||◌, ◌/◌, ◌==◌, ◌≤◌, ◌<◌, ◌+◌, [], ◌∷◌, ◌++◌, nat_le, not, option_map, if◌then◌else◌}
 use Rattle.std.proofs.lemmas.Bool.{eqb-true, leb-true, leb-false, and_parts, and_from}
@@ -57,7 +57,7 @@ use Rattle.coap_model.specs.Ticks.{item_due, if_due, sends, resends, gives_up, o
 use Rattle.coap_model.specs.Step.{on_no_response, on_no_request, on_message, message_in, on_read, step_of}
 use Rattle.coap_model.proofs.Spelled.{message_in-is}
 
--- a request that is processed came in these bytes
+-- a request that is processed arrived in these bytes
 pub record Asked (w : World) (bytes : List ℕ) (m : Message) : Type 0 where
   pub read : message_in w.setting.limits.datagram bytes ≡ Some m
   pub request : (brings_requests m.kind && is_request m.code) ≡ true
@@ -69,19 +69,19 @@ pub record IsFirst (w : World) (now : ℕ) (client : Endpoint) (bytes : List ℕ
   pub unknown : known_of w now client m ≡ None
   pub room : has_record_room w now m.kind ≡ true
 
--- a message that is remembered came in these bytes
+-- a message that is remembered arrived in these bytes
 pub record Recorded (w : World) (bytes : List ℕ) (m : Message) : Type 0 where
   pub read : message_in w.setting.limits.datagram bytes ≡ Some m
   pub recorded : is_recorded m ≡ true
 
--- what an Empty message is about: the exchange of a request that was sent, and not answered
+-- what an Empty message refers to: an exchange whose request was sent, and isn't answered
 pub record IsAbout (w : World) (now : ℕ) (source : Endpoint) (m : Message) (x : Numbered Exchange) : Type 0 where
   pub bare : is_bare m ≡ true
   pub first : first_that (was_sent_as source m.id now) w.exchanges ≡ Some x.0
   pub found : item_at x.0 w.exchanges ≡ Some x.1
   pub sent : is_sent x.1 ≡ true
 
--- what an Empty message is about otherwise: the answer of a client, which was given it
+-- what an Empty message refers to otherwise: an answer that a client was sent
 pub record IsOfAnswer (w : World) (now : ℕ) (source : Endpoint) (m : Message) (number : ℕ) : Type 0 where
   pub bare : is_bare m ≡ true
   pub first : first_that (waiters.was_sent_as source m.id now) w.waiters ≡ Some number
@@ -91,7 +91,7 @@ pub data IsAnswerFor (w : World) (now : ℕ) (source : Endpoint) (m : Message) (
   by_response : (brings_responses m.kind && is_response m.code) ≡ true → awaiting w source m ≡ Some x → IsAnswerFor w now source m x
   by_reset : IsAbout w now source m x → is_ack m.kind ≡ false → IsAnswerFor w now source m x
 
--- a datagram whose head isn't confirmable
+-- a datagram whose head isn't Confirmable
 abbrev pub IsNotCon : List ℕ → Type 0
 IsNotCon bytes = (head : Head) → head_at bytes ≡ Some head → is_con head.kind ≡ false
 
@@ -107,59 +107,60 @@ pub record IsNoOnes (w : World) (now : ℕ) (source : Endpoint) (m : Message) : 
 abbrev pub IsNothing : World → ℕ → Endpoint → List ℕ → Type 0
 IsNothing w now source bytes = (m : Message) → message_in w.setting.limits.datagram bytes ≡ Some m → IsNoOnes w now source m
 
--- what becomes of a request in this world
+-- the verdict on a request for this proxy
 abbrev pub verdict_in : World → Message → Verdict
 verdict_in w m = verdict_of w.setting.routes m
 
--- what would be sent on for a key fits a datagram of this world
+-- the request that would be forwarded for a key fits a datagram of this proxy
 abbrev pub fits_in : World → CacheKey → Message → Bool
 fits_in w key m = form_fits w.setting.limits.datagram key.target None m
 
--- the store has no entry of the key that may answer at this moment
+-- the store has no entry with the key that is usable at this moment
 abbrev pub IsMissed : World → ℕ → CacheKey → Type 0
 IsMissed w now key = (entry : Entry) → of_key entry_key key w.store ≡ Some entry → is_usable now entry.1 ≡ false
 
--- nothing answers the request: it is no GET, or its key is missed, and no exchange may be joined
+-- the request has to be forwarded: it isn't a GET, or its key is missed and no exchange may be
+-- joined
 pub record IsUnanswered (w : World) (now : ℕ) (key : CacheKey) (m : Message) : Type 0 where
   pub missed : is_get m.code ≡ true → IsMissed w now key
   pub alone : is_get m.code ≡ true → first_that (is_joinable key) w.exchanges ≡ None
 
--- what is stored for the key of a request: nothing counts where it is no GET
+-- what is stored for the key of a request; nothing if it isn't a GET
 abbrev pub held_for : World → CacheKey → Message → Option Stored
 held_for w key m = if is_get m.code then option_map (λ (e : Entry). e.1) (of_key entry_key key w.store) else None
 
--- a request deserves a code in this world
+-- a request deserves an error code for this proxy
 pub data IsDenied (w : World) (now : ℕ) (m : Message) (code : Code) : Type 0 where
   by_verdict : verdict_in w m ≡ refused_with code → IsDenied w now m code
   by_length : (key : CacheKey) → verdict_in w m ≡ may_ask key → IsUnanswered w now key m → fits_in w key m ≡ false → code ≡ REQUEST_ENTITY_TOO_LARGE → IsDenied w now m code
 
--- there is no room for what is wanted: to join the exchange that is found, or to open one
+-- there is no room for what the request needs: to join the exchange that is found, or to open one
 pub data IsFull (w : World) (now : ℕ) (key : CacheKey) (m : Message) : Type 0 where
   to_join : (exchange : ℕ) → is_get m.code ≡ true → IsMissed w now key → first_that (is_joinable key) w.exchanges ≡ Some exchange → has_room_to_join w now ≡ false → IsFull w now key m
   to_open : IsUnanswered w now key m → fits_in w key m ≡ true → has_room_to_open w now ≡ false → IsFull w now key m
 
--- what is done with an answer towards the store, and the store then
+-- what the store does with an answer, and the store after that
 pub data IsStoring (w : World) (now : ℕ) (grown : Bool) (x : Numbered Exchange) (a : Answer) : Storing → List Entry → Type 0 where
   kept : may_store x.1 a ≡ true → entry_size (entry_made w now x a) ≤ w.setting.limits.cache_bytes → IsStoring w now grown x a Kept (put entry_key entry_size w.setting.limits.cache_bytes w.setting.limits.cache_entries (entry_made w now x a) w.store)
   too_large : may_store x.1 a ≡ true → w.setting.limits.cache_bytes < entry_size (entry_made w now x a) → IsStoring w now grown x a TooLarge (others entry_key x.1.key w.store)
   no_memory : may_store x.1 a ≡ true → entry_size (entry_made w now x a) ≤ w.setting.limits.cache_bytes → of_key entry_key x.1.key w.store ≡ None → grown ≡ false → IsStoring w now grown x a NoMemory w.store
   not_stored : may_store x.1 a ≡ false → IsStoring w now grown x a NotStored w.store
 
--- the tables after what a message changes that answers an exchange
+-- the tables after the changes of a message that answers an exchange
 abbrev pub changed_world : World → Message → Numbered Exchange → World
 changed_world w m x = with_changed (changed_by x.1.key.target m) w
 
--- an exchange is due first, and is there
+-- an exchange is due first, and exists
 pub record IsTurnOf (w : World) (now at number : ℕ) (x : Exchange) : Type 0 where
   pub due : if_due now (item_due w) ≡ Some (OfExchange at number)
   pub found : item_at number w.exchanges ≡ Some x
 
--- it lasted as long as it may, or its request was sent as often or for as long as it may be
+-- it reached its deadline, or its request was transmitted as often or for as long as allowed
 pub data IsOver (w : World) (now : ℕ) (x : Exchange) : Type 0 where
   overdue : deadline w.setting.limits.exchange_ms x ≤ now → IsOver w now x
   unheard : x.state ≡ Sent → now < deadline w.setting.limits.exchange_ms x → fire_of_sending now x.sending ≡ GiveUp → IsOver w now x
 
--- something is due that isn't there, or isn't due
+-- something is due that doesn't exist, or isn't due
 pub data IsStuck (w : World) (now : ℕ) : Type 0 where
   no_exchange : (at number : ℕ) → if_due now (item_due w) ≡ Some (OfExchange at number) → item_at number w.exchanges ≡ None → IsStuck w now
   acknowledged : (at number : ℕ) (x : Exchange) → IsTurnOf w now at number x → x.state ≡ Acked → now < deadline w.setting.limits.exchange_ms x → IsStuck w now
@@ -167,16 +168,16 @@ pub data IsStuck (w : World) (now : ℕ) : Type 0 where
   no_waiter : (at number : ℕ) → if_due now (item_due w) ≡ Some (OfWaiter at number) → item_at number w.waiters ≡ None → IsStuck w now
   unanswered : (at number exchange : ℕ) (v : Waiter) → if_due now (item_due w) ≡ Some (OfWaiter at number) → item_at number w.waiters ≡ Some v → v.state ≡ Waiting exchange → answer_in exchange w.exchanges ≡ None → IsStuck w now
 
--- what goes out where a message is taken up: nothing, or of a Confirmable one the acknowledgement
+-- what is sent if a message is accepted: nothing, or an acknowledgement if it is Confirmable
 pub data IsTakenUp (source : Endpoint) (m : Message) : Option Endpoint → List ℕ → Type 0 where
   silently : is_con m.kind ≡ false → IsTakenUp source m None []
   with_acknowledgement : is_con m.kind ≡ true → IsTakenUp source m (Some source) (spelling (acknowledgement m.id))
 
--- a step of this outcome, which sends this there, and leaves this world
+-- a step with this outcome, which sends this, and leaves these tables
 abbrev pub sending : Outcome → Option Endpoint → List ℕ → World → Step
 sending outcome send told w = record { report = record { send = send; outcome = outcome }; bytes = told; world = w }
 
--- a client waits for an exchange that was there
+-- a client waits for an exchange that existed
 abbrev pub joined_world : World → ℕ → Endpoint → Message → ℕ → World
 joined_world w now client m exchange =
     record (later w now) { waiters = w.waiters ++ new_waiter w client m exchange ∷ []; admitted = w.admitted + 1 }
@@ -186,18 +187,19 @@ abbrev pub opened_world : World → ℕ → Endpoint → Message → CacheKey �
 opened_world w now client m key stored =
     record (later w now) { exchanges = w.exchanges ++ new_exchange w now m key stored ∷ []; waiters = w.waiters ++ new_waiter w client m (w.opened + 1) ∷ []; opened = w.opened + 1; admitted = w.admitted + 1 }
 
--- the clients that are left after one was given this message: without it, or with it to acknowledge that
+-- the clients that are left after one was sent this message: without it, or with it, until it
+-- acknowledges the message
 pub data IsTold (w : World) (now draw number : ℕ) (m : Message) : List (Numbered Waiter) → Type 0 where
   done_with : is_con m.kind ≡ false → IsTold w now draw number m (without number w.waiters)
   to_acknowledge : is_con m.kind ≡ true → IsTold w now draw number m (changed_at number (waiters.delivered (spelling m) m.id (started now draw)) w.waiters)
 
--- a client is due first that was given its answer, and is there
+-- the client that is due first was sent its answer, and exists
 pub record IsTurnOfTold (w : World) (now at number : ℕ) (v : Waiter) (bytes : List ℕ) (id : ℕ) (timer : Timer) : Type 0 where
   pub due : if_due now (item_due w) ≡ Some (OfWaiter at number)
   pub found : item_at number w.waiters ≡ Some v
   pub state : v.state ≡ Delivering bytes id timer
 
--- the exchange of a number has this answer, and this is stored
+-- the exchange with a number has this answer, and this is stored
 abbrev pub answered_world : World → ℕ → ℕ → Answer → List Entry → World
 answered_world w now n a store = record (later w now) { exchanges = changed_at n (exchanges.answered a) w.exchanges; store = store }
 
@@ -225,7 +227,7 @@ pub data Rule (w : World) (now draw : ℕ) (grown : Bool) : Event → Step → T
   redelivering : (at number : ℕ) (v : Waiter) (bytes : List ℕ) (id : ℕ) (timer : Timer) → IsTurnOfTold w now at number v bytes id timer → fire_of now timer ≡ Again → Rule w now draw grown tick (redelivers w now number v bytes)
   abandoning : (at number : ℕ) (v : Waiter) (bytes : List ℕ) (id : ℕ) (timer : Timer) → IsTurnOfTold w now at number v bytes id timer → fire_of now timer ≡ GiveUp → Rule w now draw grown tick (abandons w now number)
   idling : if_due now (item_due w) ≡ None → Rule w now draw grown tick (idles w now)
-  -- what never comes: something is due that isn't there, or isn't due
+  -- what never occurs: something is due that doesn't exist, or isn't due
   stuck : IsStuck w now → Rule w now draw grown tick (idles w now)
 
 -- ---- types and codes
@@ -247,7 +249,7 @@ no_response code request response =
     let two = leb-true 2 (code.0 / 32) (and_parts (nat_le 2 (code.0 / 32)) (nat_le (code.0 / 32) 5) response).0 in
     omega (arith, zero, two)
 
--- an Empty message is no response
+-- an Empty message isn't a response
 pub empty_no_response : (m : Message) → is_bare m ≡ true → is_response m.code ≡ true → ⊥
 empty_no_response m bare response =
     let zero = eqb-true m.code.0 0 (and_parts (is_empty m.code) (is_ack m.kind || is_rst m.kind) bare).0 in
@@ -262,15 +264,15 @@ bare_kind Non e = absurd cc
 bare_kind Ack e = (refl, refl)
 bare_kind Rst e = (refl, refl)
 
--- nor a request, and it isn't Confirmable
+-- a bare message brings no request, and isn't Confirmable
 pub bare_no_request : (m : Message) → is_bare m ≡ true → (brings_requests m.kind && is_request m.code) ≡ false
 bare_no_request m bare = ap (λ (b : Bool). b && is_request m.code) (bare_kind m.kind (and_parts (is_empty m.code) (is_ack m.kind || is_rst m.kind) bare).1).0
 
--- so an Empty one is not Confirmable
+-- so a bare message isn't Confirmable
 pub bare_not_con : (m : Message) → is_bare m ≡ true → is_con m.kind ≡ false
 bare_not_con m bare = (bare_kind m.kind (and_parts (is_empty m.code) (is_ack m.kind || is_rst m.kind) bare).1).1
 
--- what is no request and isn't Confirmable isn't remembered
+-- what isn't a request and isn't Confirmable isn't remembered
 pub unrecorded : (m : Message) → (brings_requests m.kind && is_request m.code) ≡ false → is_con m.kind ≡ false → is_recorded m ≡ true → ⊥
 unrecorded m request con recorded =
     let none : is_recorded m ≡ false = ap (λ (b : Bool). b || (is_con m.kind && is_response m.code)) request ∙ ap (λ (b : Bool). b && is_response m.code) con in
@@ -284,7 +286,7 @@ con_brings Non e = absurd cc
 con_brings Ack e = absurd cc
 con_brings Rst e = absurd cc
 
--- nor what is neither a request nor a response
+-- a message that is neither a request nor a response isn't remembered
 pub neither : (m : Message) → (brings_requests m.kind && is_request m.code) ≡ false → (brings_responses m.kind && is_response m.code) ≡ false → is_recorded m ≡ true → ⊥
 neither m request response recorded =
     let as_response : (is_con m.kind && is_response m.code) ≡ true = sym (ap (λ (b : Bool). b || (is_con m.kind && is_response m.code)) request) ∙ recorded in
@@ -292,21 +294,21 @@ neither m request response recorded =
     let both : false ≡ true = sym response ∙ and_from (brings_responses m.kind) (is_response m.code) (con_brings m.kind parts.0) parts.1 in
     absurd cc
 
--- so may one of a type that brings requests
+-- a type that brings requests may bring a response
 pub request-brings : (k : Kind) → brings_requests k ≡ true → brings_responses k ≡ true
 request-brings Con e = refl
 request-brings Non e = refl
 request-brings Ack e = absurd cc
 request-brings Rst e = absurd cc
 
--- and a Confirmable one may bring a request
+-- and a Confirmable message may bring a request
 con_requests : (k : Kind) → is_con k ≡ true → brings_requests k ≡ true
 con_requests Con e = refl
 con_requests Non e = absurd cc
 con_requests Ack e = absurd cc
 con_requests Rst e = absurd cc
 
--- what is remembered came in a Confirmable or a Non-confirmable message
+-- a message that is remembered is Confirmable or Non-confirmable
 pub recorded-kind : (m : Message) → is_recorded m ≡ true → brings_requests m.kind ≡ true
 recorded-kind m recorded = go (brings_requests m.kind && is_request m.code) refl
   where
@@ -314,7 +316,7 @@ recorded-kind m recorded = go (brings_requests m.kind && is_request m.code) refl
     go true e = (and_parts (brings_requests m.kind) (is_request m.code) e).0
     go false e = con_requests m.kind (and_parts (is_con m.kind) (is_response m.code) (sym (ap (λ (b : Bool). b || (is_con m.kind && is_response m.code)) e) ∙ recorded)).0
 
--- a response among them is one that may be awaited
+-- a response that is remembered is one that may be awaited
 pub recorded-response : (m : Message) → is_recorded m ≡ true → is_response m.code ≡ true → (brings_responses m.kind && is_response m.code) ≡ true
 recorded-response m recorded response = and_from (brings_responses m.kind) (is_response m.code) (request-brings m.kind (recorded-kind m recorded)) response
 
@@ -328,7 +330,7 @@ rule_refusal w now draw grown client bytes m code first denied = go (can_reply w
     go true free = refusing client bytes m code first denied free
     go false free = lacking client bytes m first free
 
--- where there is no room for what a request wants, it is turned away
+-- if there is no room for what a request needs, it is turned away
 rule_full : (w : World) (now draw : ℕ) (grown : Bool) (client : Endpoint) (bytes : List ℕ) (m : Message) (key : CacheKey) → IsFirst w now client bytes m → verdict_in w m ≡ may_ask key → IsFull w now key m → Rule w now draw grown (arrival client bytes) (remembers now client m (turns_away w now client m))
 rule_full w now draw grown client bytes m key first e full = go (can_reply w now m.kind) refl
   where
@@ -336,7 +338,7 @@ rule_full w now draw grown client bytes m key first e full = go (can_reply w now
     go true free = overloading client bytes m key first e full free
     go false free = lacking client bytes m first free
 
--- a request that nothing answers is a case by its length and by room
+-- a request that has to be forwarded is a case by its length and by the room
 rule_wanted : (w : World) (now draw : ℕ) (grown : Bool) (client : Endpoint) (bytes : List ℕ) (m : Message) (key : CacheKey) (stored : Option Stored) → IsFirst w now client bytes m → verdict_in w m ≡ may_ask key → IsUnanswered w now key m → held_for w key m ≡ stored → Rule w now draw grown (arrival client bytes) (remembers now client m (on_wanted w now client m key stored))
 rule_wanted w now draw grown client bytes m key stored first e none held = by_fit (fits_in w key m) refl
   where
@@ -352,7 +354,7 @@ rule_wanted w now draw grown client bytes m key stored first e none held = by_fi
     by_fit true short = room short (has_room_to_open w now) refl
     by_fit false long = rule_refusal w now draw grown client bytes m REQUEST_ENTITY_TOO_LARGE first (by_length key e none long refl)
 
--- a GET of a key that is missed is a case by the exchange that may be joined, and by room
+-- a GET whose key is missed is a case by the exchange that may be joined, and by the room
 rule_miss : (w : World) (now draw : ℕ) (grown : Bool) (client : Endpoint) (bytes : List ℕ) (m : Message) (key : CacheKey) (stored : Option Stored) → IsFirst w now client bytes m → is_get m.code ≡ true → verdict_in w m ≡ may_ask key → IsMissed w now key → held_for w key m ≡ stored → Rule w now draw grown (arrival client bytes) (remembers now client m (on_miss w now client m key stored))
 rule_miss w now draw grown client bytes m key stored first get e missed held = by_search (first_that (is_joinable key) w.exchanges) refl
   where
@@ -368,7 +370,7 @@ rule_miss w now draw grown client bytes m key stored first get e missed held = b
     by_search None none = rule_wanted w now draw grown client bytes m key stored first e (record { missed = λ _. missed; alone = λ _. none }) held
     by_search (Some exchange) found = room exchange found (has_room_to_join w now) refl
 
--- a GET of a key is a case by the entry of the key
+-- a GET is a case by the entry with its key
 rule_entry : (w : World) (now draw : ℕ) (grown : Bool) (client : Endpoint) (bytes : List ℕ) (m : Message) (key : CacheKey) → IsFirst w now client bytes m → is_get m.code ≡ true → verdict_in w m ≡ may_ask key → (o : Option Entry) → of_key entry_key key w.store ≡ o → Rule w now draw grown (arrival client bytes) (remembers now client m (on_entry w now client m key o))
 rule_entry w now draw grown client bytes m key first get e o found = go o found
   where
@@ -407,7 +409,7 @@ rule_verdict w now draw grown client bytes m first (may_ask key) e = rule_key w 
 request_recorded : (w : World) (bytes : List ℕ) (m : Message) → Asked w bytes m → Recorded w bytes m
 request_recorded w bytes m asked = record { read = asked.read; recorded = or_first (brings_requests m.kind && is_request m.code) (is_con m.kind && is_response m.code) asked.request }
 
--- a request is a case by what is known of it
+-- a request is a case by its record
 rule_known : (w : World) (now draw : ℕ) (grown : Bool) (client : Endpoint) (bytes : List ℕ) (m : Message) → IsBytes bytes → Asked w bytes m → (o : Option Record) → known_of w now client m ≡ o → Rule w now draw grown (arrival client bytes) (on_known w now client m o)
 rule_known w now draw grown client bytes m fits asked (Some known) e = repeating client bytes m known fits (request_recorded w bytes m asked) e
 rule_known w now draw grown client bytes m fits asked None e = go (has_record_room w now m.kind) refl
@@ -418,13 +420,13 @@ rule_known w now draw grown client bytes m fits asked None e = go (has_record_ro
         dropping client bytes m fits (request_recorded w bytes m asked)
         (λ response. absurd (no_response m.code (and_parts (brings_requests m.kind) (is_request m.code) asked.request).1 response)) e room
 
--- ---- what came
+-- ---- what arrived
 
 -- a datagram has one head
 one_head : (bytes : List ℕ) (head : Head) → head_at bytes ≡ Some head → is_con head.kind ≡ false → IsNotCon bytes
 one_head bytes head is other again also = let same : head ≡ again = same_Some head again (sym is ∙ also) in subst (λ (h : Head). is_con h.kind ≡ false) same other
 
--- what isn't processed is rejected where it is confirmable
+-- what isn't processed is rejected if it is Confirmable
 rule_unprocessed : (w : World) (now draw : ℕ) (grown : Bool) (source : Endpoint) (bytes : List ℕ) (head : Head) → head_at bytes ≡ Some head → IsNothing w now source bytes → Rule w now draw grown (arrival source bytes) (unprocessed w now source head.kind head.id)
 rule_unprocessed w now draw grown source bytes head is none = go (is_con head.kind) refl
   where
@@ -436,17 +438,17 @@ rule_unprocessed w now draw grown source bytes head is none = go (is_con head.ki
 nothing_else : (w : World) (now : ℕ) (source : Endpoint) (bytes : List ℕ) (m : Message) → message_in w.setting.limits.datagram bytes ≡ Some m → IsNoOnes w now source m → IsNothing w now source bytes
 nothing_else w now source bytes m read none n again = subst (IsNoOnes w now source) (same_Some m n (sym read ∙ again)) none
 
--- where no message is read, nothing is there
+-- if no message is read, there is none
 nothing_read : (w : World) (now : ℕ) (source : Endpoint) (bytes : List ℕ) → message_in w.setting.limits.datagram bytes ≡ None → IsNothing w now source bytes
 nothing_read w now source bytes unread n again = absurd (let g = sym unread ∙ again in cc)
 
--- a message that is read has its own head
+-- a message that is read has the head of its datagram
 pub head_of_read : (w : World) (bytes : List ℕ) (m : Message) → IsBytes bytes → message_in w.setting.limits.datagram bytes ≡ Some m → head_at bytes ≡ Some (record { kind = m.kind; code = m.code; id = m.id })
 head_of_read w bytes m fits read = head_read bytes m (message_in-is w.setting.limits.datagram bytes m fits read).2
 
 -- ---- answers
 
--- an answer is a case by what is done with it towards the store
+-- an answer is a case by what the store does with it
 rule_storing : (w v : World) (now draw : ℕ) (grown : Bool) (event : Event) (f : Step → Step) (a : Arrived) → ((storing : Storing) (store : List Entry) → IsStoring v now grown a.exchange a.answer storing store → Rule w now draw grown event (f (answers_so v now a storing store))) → Rule w now draw grown event (f (answers_with v now grown a))
 rule_storing w v now draw grown event f a case = storable (may_store a.exchange.1 a.answer) refl
   where
@@ -482,7 +484,7 @@ module _ (w : World) (now draw : ℕ) (grown : Bool) (source : Endpoint) (bytes 
       go storing store s true e = absurd cc
       go storing store s false e = answering source bytes m x storing store fits read for other s
 
-  -- one that is, and is new
+  -- one that is Confirmable, and is new
   rule_answer_con : (x : Numbered Exchange) → is_recorded m ≡ true → IsAnswerFor w now source m x → is_con m.kind ≡ true → known_of w now source m ≡ None → has_record_room w now m.kind ≡ true → Rule w now draw grown (arrival source bytes) (remembers now source m (answers w now grown source m x))
   rule_answer_con x recorded for con unknown room = rule_storing w (changed_world w m x) now draw grown (arrival source bytes) (remembers now source m) (arrived x) (λ storing store s. go storing store s (is_con m.kind) con)
     where
@@ -497,7 +499,7 @@ module _ (w : World) (now draw : ℕ) (grown : Bool) (source : Endpoint) (bytes 
     code : is_response m.code ≡ true
     code = (and_parts (brings_responses m.kind) (is_response m.code) response).1
 
-    -- one that isn't awaited is no one's
+    -- a response that isn't awaited is for nobody
     unawaited : (is_recorded m ≡ true → known_of w now source m ≡ None) → awaiting w source m ≡ None → IsNothing w now source bytes
     unawaited unknown none =
         nothing_else w now source bytes m read (
@@ -510,12 +512,12 @@ module _ (w : World) (now draw : ℕ) (grown : Bool) (source : Endpoint) (bytes 
         }
         )
 
-    -- one that isn't Confirmable is a case by what awaits it
+    -- one that isn't Confirmable is a case by the exchange that awaits it
     rule_awaited : is_con m.kind ≡ false → (o : Option (Numbered Exchange)) → awaiting w source m ≡ o → Rule w now draw grown (arrival source bytes) (on_awaited w now grown source m o)
     rule_awaited other None e = ignoring source bytes (one_head bytes own_head (head_of_read w bytes m fits read) other) (unawaited (λ recorded. absurd (unrecorded m request other recorded)) e)
     rule_awaited other (Some x) e = rule_answer x (by_response response e) other
 
-    -- one that is, too, and by what there is room for
+    -- so is one that is Confirmable, and also by the room
     rule_separate : m.kind ≡ Con → known_of w now source m ≡ None → (o : Option (Numbered Exchange)) → awaiting w source m ≡ o → Rule w now draw grown (arrival source bytes) (on_separate w now grown source m o)
     rule_separate con unknown None e = rejecting source bytes own_head (head_of_read w bytes m fits read) (ap is_con con) (unawaited (λ recorded. unknown) e)
     rule_separate con unknown (Some x) e = go (has_record_room w now m.kind) refl
@@ -546,7 +548,7 @@ module _ (w : World) (now draw : ℕ) (grown : Bool) (source : Endpoint) (bytes 
     not_con : is_con m.kind ≡ false
     not_con = bare_not_con m bare
 
-    -- one that is about nothing is no one's
+    -- an Empty message that refers to nothing is for nobody
     unmatched : ((x : Numbered Exchange) → ¬ IsAbout w now source m x) → ((n : ℕ) → ¬ IsOfAnswer w now source m n) → Rule w now draw grown (arrival source bytes) (ignores w now)
     unmatched none nobody =
         ignoring source bytes (one_head bytes own_head (head_of_read w bytes m fits read) not_con)
@@ -560,7 +562,7 @@ module _ (w : World) (now draw : ℕ) (grown : Bool) (source : Endpoint) (bytes 
         }
         ))
 
-    -- one that is of no request is of an answer, or no one's
+    -- one that doesn't refer to a request refers to an answer, or is for nobody
     rule_told : ((x : Numbered Exchange) → ¬ IsAbout w now source m x) → (o : Option ℕ) → first_that (waiters.was_sent_as source m.id now) w.waiters ≡ o → Rule w now draw grown (arrival source bytes) (on_told w now o)
     rule_told none None e = unmatched none (λ n about. absurd (let g = sym e ∙ about.first in cc))
     rule_told none (Some n) e = closing source bytes m n fits read (record { bare = bare; first = e })
@@ -619,7 +621,7 @@ module _ (w : World) (now draw : ℕ) (grown : Bool) (source : Endpoint) (bytes 
       go true e = rule_known w now draw grown source bytes m fits (record { read = read; request = e }) (known_of w now source m) refl
       go false e = rule_no_request e (brings_responses m.kind && is_response m.code) refl
 
--- a datagram is a case by what is read of it
+-- a datagram is a case by what is read from it
 rule_read : (w : World) (now draw : ℕ) (grown : Bool) (source : Endpoint) (bytes : List ℕ) → IsBytes bytes → (h : Option Head) → head_at bytes ≡ h → (o : Option Message) → message_in w.setting.limits.datagram bytes ≡ o → Rule w now draw grown (arrival source bytes) (on_read w now grown source h o)
 rule_read w now draw grown source bytes fits None is None read = ignoring source bytes (λ head also. absurd (let g = sym is ∙ also in cc)) (nothing_read w now source bytes read)
 rule_read w now draw grown source bytes fits None is (Some m) read =
@@ -651,7 +653,7 @@ rule_exchange w now draw grown at number due (Some x) e = by_deadline (nat_le (d
     by_deadline true late = giving_up at number x turn (overdue (leb-true _ _ late))
     by_deadline false early = by_state (leb-false _ _ early) x.state refl
 
--- a client that is due is a case by how far it was served: by the answer of its exchange, or by its timer
+-- a client that is due is a case by its state: by the answer of its exchange, or by its timer
 rule_waiter : (w : World) (now draw : ℕ) (grown : Bool) (at number : ℕ) → if_due now (item_due w) ≡ Some (OfWaiter at number) → (o : Option Waiter) → item_at number w.waiters ≡ o → Rule w now draw grown tick (on_waiter w now draw number o)
 rule_waiter w now draw grown at number due None e = stuck (no_waiter at number due e)
 rule_waiter w now draw grown at number due (Some v) e = by_state v.state refl

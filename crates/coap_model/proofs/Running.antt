@@ -1,4 +1,4 @@
--- Runs of any length keep what is carried, and no step changes the setting.
+-- Runs of any length preserve what is carried, and no step changes the setting.
 use Rattle.std.proofs.Common.{◌≡◌, ℕ, Bool, ◌+◌, List, [], ◌∷◌, refl, sym, ◌∙◌, subst, Option, Some, None}
 use Rattle.coap_target.specs.Routes.{AreRoutes}
 use Rattle.coap_model.specs.Setting.{Setting}
@@ -45,11 +45,11 @@ rule_setting (stuck s) = refl
 pub setting_stays : (w : World) (now draw : ℕ) (grown : Bool) (event : Event) → IsEvent event → (step_of w now draw grown event).world.setting ≡ w.setting
 setting_stays w now draw grown event fits = rule_setting (rule_of w now draw grown event fits)
 
--- the clock goes to the moment of the step, and one event on
+-- the clock advances to the moment of the step, and by one event
 abbrev IsOneOn : World → ℕ → World → Type 0
 IsOneOn w now v = (v.last ≡ now) × (v.events ≡ w.events + 1)
 
--- in each case the clock goes on by one event
+-- in each case the clock advances by one event
 rule_clock : {w : World} {now draw : ℕ} {grown : Bool} {event : Event} {s : Step} → Rule w now draw grown event s → IsOneOn w now s.world
 rule_clock (refusing client bytes m code first denied free) = (refl, refl)
 rule_clock (lacking client bytes m first free) = (refl, refl)
@@ -82,7 +82,7 @@ rule_clock (stuck s) = (refl, refl)
 pub clock_after : (w : World) (now draw : ℕ) (grown : Bool) (event : Event) → IsEvent event → ((step_of w now draw grown event).world.last ≡ now) × ((step_of w now draw grown event).world.events ≡ w.events + 1)
 clock_after w now draw grown event fits = rule_clock (rule_of w now draw grown event fits)
 
--- runs keep what is carried
+-- runs preserve what is carried
 pub runs_carry : (r : Run) (turns : List Taken) → Carries r.history r.world → AreTurns r.world.last (turns_of turns) → Carries (run_of r turns).history (run_of r turns).world
 runs_carry r [] c are = c
 runs_carry r (t ∷ turns) c are =
@@ -100,6 +100,6 @@ setting_after r (t ∷ turns) are c =
 pub runs_keep_setting : (setting : Setting) (turns : List Taken) → AreRoutes setting.routes → AreTurns 0 (turns_of turns) → (run_of (new_run setting) turns).world.setting ≡ setting
 runs_keep_setting setting turns routes are = setting_after (new_run setting) turns are (starts setting routes)
 
--- and is promised
+-- and it is promised
 pub runs_promise : (setting : Setting) (turns : List Taken) → AreRoutes setting.routes → AreTurns 0 (turns_of turns) → Promised (run_of (new_run setting) turns).history (run_of (new_run setting) turns).world
 runs_promise setting turns routes are = promises _ _ (runs_carry (new_run setting) turns (starts setting routes) are)

@@ -1,4 +1,4 @@
--- Numbers and stages: what the tables show of them after a change, and what is counted by it.
+-- Numbers and stages: what of the tables is visible in them after a change, and what is counted.
 use Rattle.std.proofs.Common.{◌≡◌, ◌≢◌, ◌⊎◌, inl, inr, ℕ, ◌+◌, List, [], ◌∷◌, map, Bool, true, false, cond, eqb, Option, Some, None, refl, sym, ap, ◌∙◌, arith}
 use Rattle.std.specs.Prelude.{◌&&◌, ◌==◌, not, filter, find, option_map}
 use Rattle.std.specs.List.{AllByRecursion, list_any}
@@ -21,12 +21,12 @@ use Rattle.coap_model.specs.Carries.{HasNumber, stage_at, stage_seen, service_in
 
 -- ---- what is counted
 
--- as many exchanges pass a test as stages do that pass it alike
+-- as many exchanges pass a test as stages pass the corresponding test
 pub counted-seen : (test : Exchange → Bool) (seen : Stage → Bool) → ((x : Exchange) → seen (stage_at x.key.target.at x.state) ≡ test x) → (xs : List (Numbered Exchange)) → count test xs ≡ count_open seen (map stage_seen xs)
 counted-seen test seen same [] = refl
 counted-seen test seen same (x ∷ xs) = rw (same x.1, counted-seen test seen same xs) refl
 
--- whether one is queued is seen
+-- whether an exchange is queued is visible in its stage
 pub queued-same : (x : Exchange) → is_queued (stage_at x.key.target.at x.state) ≡ exchanges.is_queued x
 queued-same x = go x.state
   where
@@ -36,7 +36,7 @@ queued-same x = go x.state
     go Acked = refl
     go (Done a) = refl
 
--- and whether one is sent to an endpoint
+-- and so is whether it is sent to an endpoint
 pub sent-same : (to : Endpoint) (x : Exchange) → is_sent_to to (stage_at x.key.target.at x.state) ≡ exchanges.is_sent_to to x
 sent-same to x = go x.state
   where
@@ -48,9 +48,9 @@ sent-same to x = go x.state
 
 -- ---- what is found
 
--- what is seen of items under their numbers
+-- what is visible of numbered items
 module _ {A B : Type 0} (number : B → ℕ) (seen : Numbered A → B) (same : (x : Numbered A) → number (seen x) ≡ x.0) where
-  -- an item that is found is seen
+  -- an item that is found is visible
   pub item-seen : (n : ℕ) (xs : List (Numbered A)) (a : A) → item_at n xs ≡ Some a → find (λ b. number b == n) (map seen xs) ≡ Some (seen (n, a))
   item-seen n [] a e = absurd cc
   item-seen n (y ∷ ys) a e = go (eqb n y.0) refl (λ f. item-seen n ys a f) e
@@ -65,7 +65,7 @@ module _ {A B : Type 0} (number : B → ℕ) (seen : Numbered A → B) (same : (
           let turned : eqb (number (seen y)) n ≡ false = ne_eqb (number (seen y)) n (λ e. eqb-false n y.0 t (sym e ∙ same y)) in
           rw turned (rest f)
 
-  -- and what is seen is there
+  -- and a visible item is there
   pub seen-item : (n : ℕ) (xs : List (Numbered A)) → find (λ b. number b == n) (map seen xs) ≢ None → HasNumber n xs
   seen-item n [] e = absurd (e refl)
   seen-item n (y ∷ ys) e = go (eqb (number (seen y)) n) refl (λ f. seen-item n ys f) e
@@ -79,26 +79,26 @@ module _ {A B : Type 0} (number : B → ℕ) (seen : Numbered A → B) (same : (
 pub stage-found : (n : ℕ) (xs : List (Numbered Exchange)) (x : Exchange) → item_at n xs ≡ Some x → option_map (λ o. o.stage) (find (λ o. o.number == n) (map stage_seen xs)) ≡ Some (stage_at x.key.target.at x.state)
 stage-found n xs x e = ap (option_map (λ (o : Open). o.stage)) (item-seen (λ (o : Open). o.number) stage_seen (λ y. refl) n xs x e)
 
--- how far a client that is found was served
+-- the stage of a client that is found
 pub service-found : (n : ℕ) (vs : List (Numbered Waiter)) (v : Waiter) → item_at n vs ≡ Some v → option_map (λ s. s.service) (find (λ s. s.number == n) (map standing_seen vs)) ≡ Some (service_in v.state)
 service-found n vs v e = ap (option_map (λ (s : Standing). s.service)) (item-seen (λ (s : Standing). s.number) standing_seen (λ u. refl) n vs v e)
 
--- what is found in what is mapped is found in what was
+-- if something is found in a mapped option, something is found in the option
 found-mapped : {A B : Type 0} (f : A → B) (o : Option A) → option_map f o ≢ None → o ≢ None
 found-mapped f None e = absurd (e refl)
 found-mapped f (Some a) e = λ none. absurd cc
 
--- where a stage is found, so is the item
+-- if a stage is found, so is the exchange
 pub found-stage : (n : ℕ) (xs : List (Numbered Exchange)) → option_map (λ o. o.stage) (find (λ o. o.number == n) (map stage_seen xs)) ≢ None → HasNumber n xs
 found-stage n xs e = seen-item (λ (o : Open). o.number) stage_seen (λ y. refl) n xs (found-mapped (λ (o : Open). o.stage) (find (λ (o : Open). o.number == n) (map stage_seen xs)) e)
 
--- where it is found how far one was served, so is the client
+-- if the stage of a client is found, so is the client
 pub found-service : (n : ℕ) (vs : List (Numbered Waiter)) → option_map (λ s. s.service) (find (λ s. s.number == n) (map standing_seen vs)) ≢ None → HasNumber n vs
 found-service n vs e = seen-item (λ (s : Standing). s.number) standing_seen (λ u. refl) n vs (found-mapped (λ (s : Standing). s.service) (find (λ (s : Standing). s.number == n) (map standing_seen vs)) e)
 
 -- ---- changes
 
--- a change to one stage is seen so
+-- a change of one exchange to a stage is visible as that
 pub staged-seen : (n : ℕ) (f : Exchange → Exchange) (stage : Stage) (xs : List (Numbered Exchange)) → AllByRecursion (λ x. x.0 ≡ n → stage_at (f x.1).key.target.at (f x.1).state ≡ stage) xs → map stage_seen (changed_at n f xs) ≡ staged n stage (map stage_seen xs)
 staged-seen n f stage [] all = refl
 staged-seen n f stage (x ∷ xs) all = λ i. one (eqb x.0 n) refl i ∷ staged-seen n f stage xs all.1 i
@@ -107,7 +107,7 @@ staged-seen n f stage (x ∷ xs) all = λ i. one (eqb x.0 n) refl i ∷ staged-s
     one true t = λ i. record { number = x.0; stage = all.0 (eqb-true x.0 n t) i }
     one false t = refl
 
--- a change that leaves the stage isn't seen
+-- a change that leaves the stage isn't visible
 pub unseen : (n : ℕ) (f : Exchange → Exchange) (xs : List (Numbered Exchange)) → ((x : Exchange) → stage_at (f x).key.target.at (f x).state ≡ stage_at x.key.target.at x.state) → map stage_seen (changed_at n f xs) ≡ map stage_seen xs
 unseen n f [] same = refl
 unseen n f (x ∷ xs) same = λ i. one (eqb x.0 n) i ∷ unseen n f xs same i
@@ -116,7 +116,7 @@ unseen n f (x ∷ xs) same = λ i. one (eqb x.0 n) i ∷ unseen n f xs same i
     one true = λ i. record { number = x.0; stage = same x.1 i }
     one false = refl
 
--- a client that is gone isn't seen
+-- a client that is removed isn't visible
 pub gone-seen : (n : ℕ) (vs : List (Numbered Waiter)) → map standing_seen (without n vs) ≡ others_than n (map standing_seen vs)
 gone-seen n [] = refl
 gone-seen n (v ∷ vs) = go (eqb v.0 n) (gone-seen n vs)
@@ -125,7 +125,7 @@ gone-seen n (v ∷ vs) = go (eqb v.0 n) (gone-seen n vs)
     go true i = i
     go false i = ap (λ (l : List Standing). standing_seen v ∷ l) i
 
--- a client that is given its answer is seen to be told
+-- a client that is sent its answer is visible as `told`
 pub told-seen : (n id : ℕ) (bytes : List ℕ) (timer : Timer) (vs : List (Numbered Waiter)) → map standing_seen (changed_at n (waiters.delivered bytes id timer) vs) ≡ map (as_told n) (map standing_seen vs)
 told-seen n id bytes timer [] = refl
 told-seen n id bytes timer (v ∷ vs) = λ i. one (eqb v.0 n) i ∷ told-seen n id bytes timer vs i
@@ -134,7 +134,7 @@ told-seen n id bytes timer (v ∷ vs) = λ i. one (eqb v.0 n) i ∷ told-seen n 
     one true = refl
     one false = refl
 
--- a change that leaves how far clients were served isn't seen
+-- a change that leaves the stages of clients isn't visible
 pub served-seen : (n : ℕ) (f : Waiter → Waiter) (vs : List (Numbered Waiter)) → ((v : Waiter) → service_in (f v).state ≡ service_in v.state) → map standing_seen (changed_at n f vs) ≡ map standing_seen vs
 served-seen n f [] same = refl
 served-seen n f (v ∷ vs) same = λ i. one (eqb v.0 n) i ∷ served-seen n f vs same i
@@ -143,7 +143,7 @@ served-seen n f (v ∷ vs) same = λ i. one (eqb v.0 n) i ∷ served-seen n f vs
     one true = λ i. record { number = v.0; service = same v.1 i }
     one false = refl
 
--- what passes a test where all but one do
+-- if all but one pass a test, all others are kept
 pub kept-but : (test : Open → Bool) (x : ℕ) (xs : List (Numbered Exchange)) → AllByRecursion (λ y. test (stage_seen y) ≡ not (y.0 == x)) xs → filter test (map stage_seen xs) ≡ map stage_seen (without x xs)
 kept-but test x [] all = refl
 kept-but test x (y ∷ ys) all = go (eqb y.0 x) all.0 (kept-but test x ys all.1)
@@ -152,19 +152,19 @@ kept-but test x (y ∷ ys) all = go (eqb y.0 x) all.0 (kept-but test x ys all.1)
     go true t i = rw t i
     go false t i = rw t (ap (λ (l : List Open). stage_seen y ∷ l) i)
 
--- where all do, all are kept
+-- if all pass a test, all are kept
 pub kept-all : (test : Open → Bool) (xs : List Open) → AllByRecursion (λ o. test o ≡ true) xs → filter test xs ≡ xs
 kept-all test [] all = refl
 kept-all test (o ∷ os) all = rw all.0 (ap (λ (l : List Open). o ∷ l) (kept-all test os all.1))
 
--- ---- who waits
+-- ---- which clients wait
 
--- a client is seen to wait for its exchange
+-- a waiting client is visible as waiting for its exchange
 pub waits-seen : (n : ℕ) (s : WaiterState) → waits_for n (service_in s) ≡ waiters.waits_in_state n s
 waits-seen n (Waiting exchange) = refl
 waits-seen n (Delivering bytes id timer) = refl
 
--- nobody is seen to wait where none is counted, and somebody where some are
+-- a client is visible as waiting exactly if the count isn't 0
 pub who-waits : (x : ℕ) (vs : List (Numbered Waiter)) → list_any (λ s. waits_for x s.service) (map standing_seen vs) ≡ not (count (waiters.waits_for x) vs == 0)
 who-waits x [] = refl
 who-waits x (v ∷ vs) = go (waiters.waits_for x v.1) (waits-seen x v.1.state) (who-waits x vs)
@@ -173,12 +173,12 @@ who-waits x (v ∷ vs) = go (waiters.waits_for x v.1) (waits-seen x v.1.state) (
     go true t i = let more : eqb (1 + count (waiters.waits_for x) vs) 0 ≡ false = ne_eqb _ _ (λ e. omega arith) in rw (t, more) refl
     go false t i = let same : 0 + count (waiters.waits_for x) vs ≡ count (waiters.waits_for x) vs = omega arith in rw (t, same) i
 
--- whether a client waits is seen
+-- whether a client waits is visible
 waiting-same : (s : WaiterState) → is_waiting (service_in s) ≡ waiters.is_waiting_state s
 waiting-same (Waiting exchange) = refl
 waiting-same (Delivering bytes id timer) = refl
 
--- so as many are seen to wait as do
+-- so as many clients are visible as waiting as there are
 pub waiting-seen : (vs : List (Numbered Waiter)) → count waiters.is_waiting vs ≡ count_if (λ s. is_waiting s.service) (map standing_seen vs)
 waiting-seen [] = refl
 waiting-seen (v ∷ vs) = rw (waiting-same v.1.state, waiting-seen vs) refl

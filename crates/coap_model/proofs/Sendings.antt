@@ -1,4 +1,5 @@
--- Sendings: a request was first sent where its exchange was asked, and its id tells for which exchange, as long as no id comes back.
+-- Transmissions: a request was first sent where its exchange says, and its id determines the
+-- exchange, as long as no id is reused.
 use Rattle.std.proofs.Common.{◌≡◌, ⊎_elim, ℕ, ◌+◌, ◌-◌, ◌<◌, ◌≤◌, Bool, true, false, ltb, List, [], ◌∷◌, Option, Some, None, refl, sym, ap, ◌∙◌, subst, arith}
 use Rattle.std.specs.Prelude.{◌==◌, find, option_map}
 use Rattle.std.specs.List.{AllByRecursion}
@@ -38,9 +39,9 @@ use Rattle.coap_model.proofs.Once.{sent-once}
 use Rattle.coap_model.proofs.Places.{Never-at, same_moves}
 use Rattle.coap_model.proofs.Stages.{stage-sent}
 
--- ---- the first sending
+-- ---- the first transmission
 
--- an exchange that was never asked was never sent
+-- an exchange whose request was never first sent never sent it
 pub never-sends : (setting : Setting) (history : List Deed) (x : ℕ) → AllJustified setting history → Never (Sends setting.salt x) history → sends_by (moves x) history ≡ []
 never-sends setting [] x all never = refl
 never-sends setting (d ∷ past) x all never = let none = not-sent (sends_for (moves x) d) refl in rw none (never-sends setting past x all.1 never.1)
@@ -83,12 +84,13 @@ abbrev pub IsOldest : Entry → List Entry → Type 0
 IsOldest first [] = ⊥
 IsOldest first (e ∷ es) = oldest e es ≡ first
 
--- it stays so as more are sent
+-- it stays the oldest as more are sent
 oldest-later : (first e : Entry) (es : List Entry) → IsOldest first es → IsOldest first (e ∷ es)
 oldest-later first e [] is = absurd is
 oldest-later first e (before ∷ es) is = is
 
--- the oldest entry that sends for an exchange is the one where it was asked
+-- the oldest entry that sends for an exchange is the one at the place where its request was first
+-- sent
 pub asking-oldest : (setting : Setting) (history : List Deed) (x : ℕ) (p : Place) → AllJustified setting history → IsPlaceOf history p → Asks setting.salt x p → IsOldest p.deed.entry (sends_by (moves x) history)
 asking-oldest setting [] x p all at asks = absurd at
 asking-oldest setting (d ∷ past) x p all at asks =
@@ -107,35 +109,36 @@ asking-oldest setting (d ∷ past) x p all at asks =
     later true e is = rw e (oldest-later p.deed.entry d.entry (sends_by (moves x) past) is)
     later false e is = rw e is
 
--- a timer was started at the oldest of its sends
+-- a timer was started at the oldest of its transmissions
 started-oldest : (t : Timer) (es : List Entry) (first : Entry) → IsTimer t es → IsOldest first es → t.started ≡ first.now
 started-oldest t [] first is old = absurd is
 started-oldest t (e ∷ es) first is old = is.1 ∙ ap (λ (f : Entry). f.now) old
 
--- so the timer of a request was started where its exchange was asked
+-- so the timer of a request was started where the request was first sent
 pub started-asking : {setting : Setting} {history : List Deed} {x : ℕ} {key : CacheKey} {form : List ℕ} {s : Sending} → AllJustified setting history → (a : WasAsked setting history x key form s) → s.timer.started ≡ a.asking.deed.entry.now
 started-asking {setting = setting} {history = history} {x = x} {s = s} all a = started-oldest s.timer (sends_by (moves x) history) a.asking.deed.entry a.timer (asking-oldest setting history x a.asking all a.was_asked a.asks)
 
 -- ---- what is known of a sending
 
--- an exchange was asked as its sending says, unless it has none
+-- the request of an exchange was sent as its sending says, if it has one
 pub was-sent : (setting : Setting) (history : List Deed) (x : Numbered Exchange) (s : ExchangeState) → IsState setting history x s → WasSent setting history x.0 x.1.key x.1.form x.1.sending
 was-sent setting history x Queued state = subst (WasSent setting history x.0 x.1.key x.1.form) (sym state.unsent) tt
 was-sent setting history x Sent state = subst (WasSent setting history x.0 x.1.key x.1.form) (sym state.sending_is) state.asked
 was-sent setting history x Acked state = subst (WasSent setting history x.0 x.1.key x.1.form) (sym state.sending_is) state.asked
 was-sent setting history x (Done a) state = state.was_sent
 
--- so one that has a sending was asked
+-- so the request of an exchange with a sending was sent
 pub was-asked : (setting : Setting) (history : List Deed) (x : Numbered Exchange) (s : Sending) → IsExchangeOf setting history x → x.1.sending ≡ Some s → WasAsked setting history x.0 x.1.key x.1.form s
 was-asked setting history x s f is = subst (WasSent setting history x.0 x.1.key x.1.form) is (was-sent setting history x x.1.state f.state)
 
--- the place where a request was asked gave its id
+-- the place where a request was first sent gave out its id
 asking-gives : (salt x : ℕ) (p : Place) (asks : Asks salt x p) (id : ℕ) → asks.sends.message.id ≡ id → GivesId id p
 asking-gives salt x p asks id is = record { gives = ap (ids_given (comes_con p.deed.entry.event)) asks.sends.outcome; message = asks.sends.message; spells = asks.sends.spells; id_is = is }
 
--- ---- one sending for an id
+-- ---- one request for an id
 
--- two exchanges that were asked with one id, less than 247 seconds ago, are one
+-- two exchanges whose requests were first sent with the same id, less than 247 seconds ago, are
+-- equal
 pub one-asked : (w : World) (history : List Deed) → Bears history w → (now : ℕ) → last_of history ≤ now → (x y : ℕ) (a_key b_key : CacheKey) (a_form b_form : List ℕ) (s t : Sending) (a : WasAsked w.setting history x a_key a_form s) (b : WasAsked w.setting history y b_key b_form t) → s.id ≡ t.id → now < s.timer.started + 247000 → now < t.timer.started + 247000 → x ≡ y
 one-asked w history c now since x y a_key b_key a_form b_form s t a b same s_soon t_soon =
     let place = ⊎_elim (λ (less : a.asking.deed.entry.now < b.asking.deed.entry.now). before (omega (arith, less))) (λ (le : b.asking.deed.entry.now ≤ a.asking.deed.entry.now). sym (after le)) (cases_lt a.asking.deed.entry.now b.asking.deed.entry.now) in
@@ -168,7 +171,7 @@ one-asked w history c now since x y a_key b_key a_form b_form s t a b same s_soo
     after : b.asking.deed.entry.now ≤ a.asking.deed.entry.now → b.asking ≡ a.asking
     after le = differ b.asking a.asking b.was_asked a.was_asked b_gives a_gives le (omega (arith, a_last, since, t_soon, b_began))
 
--- two exchanges whose requests were sent with one id, less than 247 seconds ago, are one
+-- two exchanges whose requests were sent with the same id, less than 247 seconds ago, are equal
 pub one-sent : (w : World) (history : List Deed) → Bears history w → (now : ℕ) → last_of history ≤ now → (x y : Numbered Exchange) → IsExchangeOf w.setting history x → IsExchangeOf w.setting history y → (s t : Sending) → x.1.sending ≡ Some s → y.1.sending ≡ Some t → s.id ≡ t.id → now < s.timer.started + 247000 → now < t.timer.started + 247000 → x.0 ≡ y.0
 one-sent w history c now since x y f g s t s_is t_is same s_soon t_soon =
     one-asked w history c now since x.0 y.0 x.1.key y.1.key x.1.form y.1.form s t (was-asked w.setting history x s f s_is) (was-asked w.setting history y t g t_is) same s_soon t_soon
@@ -209,13 +212,13 @@ pub is-sent-as : (at : Endpoint) (id now : ℕ) (x : Exchange) → WasSentAs at 
 is-sent-as at id now x s =
     and_from _ _ (subst (λ (e : Endpoint). same_endpoint x.key.target.at e ≡ true) s.to (Tells-endpoint.itself x.key.target.at)) (ap (is_some_as id now) s.sending_is ∙ is-as id now s.sending s.named)
 
--- two exchanges that were sent with one id are one
+-- two exchanges whose requests were sent with the same id are equal
 pub one-sent-as : (w : World) (history : List Deed) → Bears history w → (at to : Endpoint) (id now : ℕ) → last_of history ≤ now → (x y : Numbered Exchange) → IsExchangeOf w.setting history x → IsExchangeOf w.setting history y → WasSentAs at id now x.1 → WasSentAs to id now y.1 → x.0 ≡ y.0
 one-sent-as w history c at to id now since x y f g s t = one-sent w history c now since x y f g s.sending t.sending s.sending_is t.sending_is (s.named.id_is ∙ sym t.named.id_is) s.named.soon t.named.soon
 
 -- ---- the search for it
 
--- what is found was sent so
+-- the exchange that is found was sent with the id
 pub found-as : (P : Numbered Exchange → Type 0) (at : Endpoint) (id now n : ℕ) (xs : List (Numbered Exchange)) → AllByRecursion P xs → first_that (was_sent_as at id now) xs ≡ Some n → (x : Numbered Exchange) × P x × (x.0 ≡ n) × WasSentAs at id now x.1
 found-as P at id now n xs all e = go (find (λ (x : Numbered Exchange). was_sent_as at id now x.1) xs) refl e
   where
@@ -225,7 +228,7 @@ found-as P at id now n xs all e = go (find (λ (x : Numbered Exchange). was_sent
         let h = find-holds P (λ (y : Numbered Exchange). was_sent_as at id now y.1) xs x all is in
         (x, h.0, same_Some x.0 n f, sent-as at id now x.1 h.1)
 
--- and an exchange that was sent so is what is found
+-- and an exchange that was sent with the id is the one that is found
 pub as-found : (w : World) (history : List Deed) → Bears history w → (at : Endpoint) (id now : ℕ) → last_of history ≤ now → (x : Numbered Exchange) → Has x w.exchanges → WasSentAs at id now x.1 → first_that (was_sent_as at id now) w.exchanges ≡ Some x.0
 as-found w history c at id now since x there s = go (find (λ (y : Numbered Exchange). was_sent_as at id now y.1) w.exchanges) refl
   where
@@ -236,9 +239,9 @@ as-found w history c at id now since x there s = go (find (λ (y : Numbered Exch
         let same = one-sent-as w history c at at id now since y x h.0 (Has-holds (IsExchangeOf w.setting history) w.exchanges x c.exchanges there) (sent-as at id now y.1 h.1) s in
         ap (option_map (λ (z : Numbered Exchange). z.0)) is ∙ ap (λ (n : ℕ). Some n) same
 
--- ---- by the history
+-- ---- according to the history
 
--- an exchange on its way was sent with the id of the request that asked it, to where that went
+-- an exchange in flight was sent with the id of its request, to the endpoint of its request
 pub asked-as : (w : World) (history : List Deed) → Bears history w → (now : ℕ) (x : Numbered Exchange) (flight : IsInFlight w.setting history x) (p : Place) → IsPlaceOf history p → (asks : Asks w.setting.salt x.0 p) → now < p.deed.entry.now + 247000 → WasSentAs asks.sends.to asks.sends.message.id now x.1
 asked-as w history c now x flight p at asks soon =
     let a = flight.asked in
@@ -259,7 +262,7 @@ asked-as w history c now x flight p at asks soon =
       one_message r.deed.entry.bytes s.message t.message (subst (λ (o : Place). Spells o.deed.entry.bytes s.message) same s.spells) t.spells,
     )
 
--- one that was sent so, and neither acknowledged nor answered, is unsettled by the history
+-- one that was sent with the id, and neither acknowledged nor answered, is unsettled in the history
 pub as-unsettled : (w : World) (history : List Deed) → Bears history w → (at : Endpoint) (id now : ℕ) (x : Numbered Exchange) → Has x w.exchanges → x.1.state ≡ Sent → (s : WasSentAs at id now x.1) (a : WasAsked w.setting history x.0 x.1.key x.1.form s.sending) → IsUnsettled history now x.0 a.asking
 as-unsettled w history c at id now x there is s a =
     record {

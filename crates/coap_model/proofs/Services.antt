@@ -1,4 +1,4 @@
--- How far clients were served: one that has still to acknowledge its answer was given it.
+-- The stages of clients: a client that hasn't acknowledged its answer yet was sent it.
 use Rattle.std.proofs.Common.{◌≡◌, ◌≢◌, inl, inr, ℕ, Bool, true, false, List, [], ◌∷◌, map, Option, Some, None, refl, sym, ap, ◌∙◌, subst}
 use Rattle.std.specs.Prelude.{◌==◌, find, not, option_map, if◌then◌else◌}
 use Rattle.std.specs.List.{AllByRecursion}
@@ -13,9 +13,10 @@ use Rattle.coap_model.specs.Due.{IsToServe, IsToServeAgain}
 use Rattle.coap_model.proofs.Lists.{find-holds, All-map, All-filter}
 use Rattle.coap_model.proofs.Places.{here, same_serves, Never-at}
 
--- ---- what holds of those that stand
+-- ---- what holds of the pending clients
 
--- What held of each that stood holds, changed, of each that stands: of one that comes, of one that is told, and of each that a deed does none of this with and doesn't let go.
+-- What held of each pending client holds, as it changes, of each one after a deed: of one that is
+-- admitted, of one that is sent its answer, and of each one that the deed leaves as it is.
 pub All-standing : (P Q : Standing → Type 0) (o : Outcome) (act : Act) (bytes : List ℕ) (xs : List Standing)
     → ((v x : ℕ) → admits_one o ≡ 1 → act ≡ admits v x → Q (record { number = v; service = waits x }))
     → ((v : ℕ) → o ≡ Delivered → is_con_datagram bytes ≡ true → act ≡ serves v → (s : Standing) → P s → s.number ≡ v → Q (record s { service = told }))
@@ -23,15 +24,15 @@ pub All-standing : (P Q : Standing → Type 0) (o : Outcome) (act : Act) (bytes 
     → AllByRecursion P xs → AllByRecursion Q (standing_by o act bytes xs)
 All-standing P Q o act bytes xs new this others all = by_outcome o refl
   where
-    -- nobody is let go
+    -- no client is finished
     kept : (lets_go o bytes ≡ false) → AllByRecursion Q xs
     kept stays = All-weaken P Q xs (λ s h. others s h (λ gone same. let e = sym stays ∙ gone in cc)) all
 
-    -- nor where the deed is none of a client
+    -- nor is one if the deed isn't of a client
     apart : ((v : ℕ) → act ≢ serves v) → AllByRecursion Q xs
     apart other = All-weaken P Q xs (λ s h. others s h (λ gone same. other s.number same)) all
 
-    -- one is let go, and the others stay
+    -- one is finished, and the others stay
     left : (v : ℕ) → act ≡ serves v → AllByRecursion Q (others_than v xs)
     left v is = All-weaken (λ s. P s × (not (s.number == v) ≡ true)) Q (others_than v xs) (λ s h. others s h.0 (λ gone same. apart_from s (s.number == v) refl h.1 (same_serves s.number v (sym same ∙ is)))) (All-filter P (λ s. not (s.number == v)) xs all)
       where
@@ -76,7 +77,7 @@ All-standing P Q o act bytes xs new this others all = by_outcome o refl
     by_outcome Delivered is = serving is act refl
     by_outcome _ is = kept (ap (λ (q : Outcome). lets_go q bytes) is)
 
--- what holds of each that stands holds of one that is found by its number
+-- what holds of each pending client holds of the one that is found by its number
 pub standing-holds : (P : Standing → Type 0) (v : ℕ) (service : Service) (history : List Deed) → AllByRecursion P (standing_in history) → service_of v history ≡ Some service → (s : Standing) × P s × (s.number ≡ v) × (s.service ≡ service)
 standing-holds P v service history all e = go (find (λ (s : Standing). s.number == v) (standing_in history)) refl e
   where
@@ -84,13 +85,13 @@ standing-holds P v service history all e = go (find (λ (s : Standing). s.number
     go None found is = absurd cc
     go (Some s) found is = let h = find-holds P (λ (t : Standing). t.number == v) (standing_in history) s all found in (s, h.0, eqb-true s.number v h.1, cc)
 
--- ---- who was served
+-- ---- which clients were served
 
--- one that was served was so as the history goes on
+-- a client that was served stays so as the history grows
 served-later : {v : ℕ} {history : List Deed} (d : Deed) → Somewhere (Serves v) history → Somewhere (Serves v) (d ∷ history)
 served-later d s = record { place = s.place; is_there = inr s.is_there; holds = s.holds }
 
--- each that has still to acknowledge its answer was served
+-- each client that hasn't acknowledged its answer yet was served
 all-served : (history : List Deed) → AllByRecursion (λ s. s.service ≡ told → Somewhere (Serves s.number) history) (standing_in history)
 all-served [] = tt
 all-served (d ∷ past) =
@@ -100,13 +101,13 @@ all-served (d ∷ past) =
     (λ s h stays e. served-later d (h e))
     (all-served past)
 
--- a client that has still to acknowledge its answer was served
+-- a client that hasn't acknowledged its answer yet was served
 pub told-served : (v : ℕ) (history : List Deed) → service_of v history ≡ Some told → Somewhere (Serves v) history
 told-served v history e =
     let h = standing-holds (λ s. s.service ≡ told → Somewhere (Serves s.number) history) v told history (all-served history) e in
     subst (λ (n : ℕ). Somewhere (Serves n) history) h.2 (h.1 h.3)
 
--- so one that is to be served again isn't to be served
+-- so a client that is due to be served again isn't due to be served first
 pub serves-apart : {A : Type 0} {setting : Setting} {past : List Deed} {v u m n : ℕ} → v ≡ u → IsToServeAgain past v m → IsToServe setting past u n → A
 serves-apart {past = past} {v = v} {u = u} same again first =
     absurd (let s = told-served u past (ap (λ (k : ℕ). service_of k past) (sym same) ∙ again.service) in Never-at (Serves u) past s.place first.unserved s.is_there s.holds)

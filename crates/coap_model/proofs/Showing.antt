@@ -1,4 +1,4 @@
--- What clients are shown of responses: it is a message, and no longer than the widest form.
+-- What clients are sent of responses: it is a message, and no longer than the widest form.
 use Rattle.std.proofs.Common.{◌≡◌, ◌≢◌, ℕ, zero, suc, ◌+◌, ◌*◌, ◌^◌, ◌<◌, ◌≤◌, Bool, true, false, cond, eqb, leb, ltb, List, [], ◌∷◌, ◌++◌, length, filter, find, Option, Some, None, refl, sym, ap, subst, ◌∙◌, arith}
 use Rattle.std.specs.Prelude.{◌&&◌, ◌||◌, ◌==◌, not, is_some, option_map, IfSome}
 use Rattle.std.specs.List.{AllByRecursion, list_any}
@@ -48,7 +48,7 @@ append-options : (low : ℕ) (xs ys : List Opt) → AreOptions low xs → AreOpt
 append-options low [] ys are rest = rest
 append-options low (x ∷ xs) ys are rest = (are.0, are.1, are.2, append-options x.number xs ys are.3 rest)
 
--- options with a Max-Age in its place
+-- options with a Max-Age inserted
 abbrev with_value : List ℕ → List Opt → List Opt
 with_value value os = below 14 os ++ (option_of 14 value ∷ above 14 os)
 
@@ -58,7 +58,7 @@ with_value-options value os short are =
     append-options 0 (below 14 os) (option_of 14 value ∷ above 14 os) (AreOptions-filter (λ o. ltb o.number 14) 0 os are)
     (last-below 14 0 os (omega arith), omega arith, short, AreOptions-above (λ o. ltb 14 o.number) 14 0 os (λ o e. let lt = ltb-true 14 o.number e in omega arith) are)
 
--- so are those with a Max-Age of so many seconds
+-- so are those with a Max-Age of this many seconds
 with_max_age-options : (seconds : ℕ) (os : List Opt) → AreOptions 0 os → AreOptions 0 (with_max_age seconds os)
 with_max_age-options seconds os are = with_value-options (uint_spelling seconds) os (omega (arith, length-uint_spelling seconds)) are
 
@@ -74,7 +74,7 @@ first_tag-short (o ∷ os) tag e = go (eqb o.number 4) (is_recognised Response 4
     go true false is rest f = absurd cc
     go false b is rest f = rest f
 
--- a tag that is among those of a client is the tag
+-- a tag that is among those of a client is the tag that it holds
 among-same : (tags : List (List ℕ)) (o : Option (List ℕ)) (tag : List ℕ) → among tags o ≡ Some tag → o ≡ Some tag
 among-same tags None tag e = absurd cc
 among-same tags (Some t) tag e = go (list_any (same_bytes t) tags) e
@@ -91,16 +91,16 @@ held-short m tags tag e = go (is_content m.code) e
     go true f = first_tag-short m.options tag (sym (tag_of-first m.options) ∙ among-same tags (tag_of m.options) tag f)
     go false f = absurd cc
 
--- ---- the cases of what is shown
+-- ---- the cases of what is sent
 
--- what is shown of a response is one of three: it as it is, a 2.03 with a tag that is short, or it
--- with a Max-Age
+-- what is sent of a response is one of three: the response itself, a 2.03 with a short tag, or the
+-- response with a Max-Age
 data IsShownAs (m : Message) : Option ℕ → Message → Type 0 where
   as_stored : (left : Option ℕ) → IsShownAs m left m
   as_valid : (left : ℕ) (tag : List ℕ) → length tag ≤ 8 → IsShownAs m (Some left) (valid m left tag)
   as_aged : (left : ℕ) → IsShownAs m (Some left) (aged m left)
 
--- what is shown is one of the three
+-- what is sent is one of the three
 shown-as : (m : Message) (left : Option ℕ) (tags : List (List ℕ)) → IsShownAs m left (showing.shown m left tags)
 shown-as m None tags = as_stored None
 shown-as m (Some left) tags = tells (tells_age m.code)
@@ -119,12 +119,12 @@ shown-as m (Some left) tags = tells (tells_age m.code)
 response-code : (code : Code) → is_response code ≡ true → code.0 ≢ 0
 response-code code e zero_code = let f : is_response (record { 0 = 0 }) ≡ true = subst (λ (n : ℕ). is_response (record { 0 = n }) ≡ true) zero_code e in cc
 
--- what is shown of a message in order is in order, with a code
+-- what is sent of a well-formed message is well-formed, with a code
 record IsSound (m : Message) : Type 0 where
   pub code : m.code.0 ≢ 0
   pub options : AreOptions 0 m.options
 
--- each of them is as sound as the response
+-- each of them is as well-formed as the response
 case-sound : {left : Option ℕ} {n : Message} (m : Message) → IsSound m → IsShownAs m left n → IsSound n
 case-sound m is (as_stored left) = is
 case-sound m is (as_valid left tag short) =
@@ -140,14 +140,14 @@ matches-response (in_acknowledgement kind code same_token same_id) not = code
 matches-response (separate kind code same_token) not = code
 matches-response (by_reset kind code same_id) not = absurd (let f = sym (ap is_rst kind) ∙ not in cc)
 
--- ---- one Max-Age at most, of four bytes
+-- ---- at most one Max-Age, of at most four bytes
 
 -- no Max-Age, or one of at most four bytes
 pub data HasOneAge (os : List Opt) : Type 0 where
   no_age : of_number 14 os ≡ [] → HasOneAge os
   one_age : (o : Opt) → of_number 14 os ≡ o ∷ [] → length o.value ≤ 4 → HasOneAge os
 
--- an option in its place after those passed
+-- an option at its place after those before it
 abbrev place : List Opt → Opt → PlacedOption
 place passed o = record { option = o; before = count_of o.number passed }
 
@@ -161,7 +161,7 @@ age-passes n o before is passes = go (leb 0 (length o.value)) (leb (length o.val
     go true false e b f passes' = absurd cc
     go false a e b f passes' = absurd cc
 
--- places of which none is refused
+-- options none of which is refused
 module _ where
   none-refused : (p : PlacedOption) (ps : List PlacedOption) → option_map (λ q. q.option.number) (find (is_refused Response) (p ∷ ps)) ≡ None → (is_refused Response p ≡ false) × (option_map {T = PlacedOption} (λ q. q.option.number) (find (is_refused Response) ps) ≡ None)
   none-refused p ps none = go (is_refused Response p) none
@@ -188,7 +188,7 @@ no-second passed (o ∷ os) some none =
         absurd (let same : count_of 14 passed ≡ 0 = subst (λ (k : ℕ). count_of k passed ≡ 0) is first in omega arith)
     go false e rest passes = rest
 
--- so a response that isn't refused has at most one
+-- so a response that isn't refused has at most one Max-Age
 one-behind : (passed os : List Opt) → count_of 14 passed ≡ 0 → NoneRefused passed os → HasOneAge os
 one-behind passed [] first none = no_age refl
 one-behind passed (o ∷ os) first none =
@@ -209,7 +209,7 @@ one-behind passed (o ∷ os) first none =
         let same : count_of 14 (passed ++ o ∷ []) ≡ count_of 14 passed + 0 = rw e at count in
         keep (still (omega arith)) (rw e refl)
 
--- without Observe it has the same
+-- without Observe it has as many
 pub one-age : (m : Message) → is_screened m ≡ true → HasOneAge (without_observe m).options
 one-age m screened = keep (one-behind [] m.options refl (none (first_refused Response m.options) screened))
   where
@@ -238,7 +238,7 @@ one-age m screened = keep (one-behind [] m.options refl (none (first_refused Res
 more-none : (n : ℕ) → n ≤ 12 → more_length n ≡ 0
 more-none n le = rw (lt-ltb n 13 (omega arith)) refl
 
--- options after others take as many bytes as both
+-- options after others take as many bytes as both together
 options_length-append : (low : ℕ) (xs ys : List Opt) → options_length low (xs ++ ys) ≡ options_length low xs + options_length (last_number low xs) ys
 options_length-append low [] ys = omega arith
 options_length-append low (x ∷ xs) ys = omega (arith, options_length-append x.number xs ys)
@@ -248,7 +248,7 @@ shorter-value : (v w : List ℕ) (os : List Opt) → length v ≤ 4 → length w
 shorter-value v w os short four =
     omega (arith, options_length-append 0 (below 14 os) (option_of 14 v ∷ above 14 os), options_length-append 0 (below 14 os) (option_of 14 w ∷ above 14 os), more-none (length v) (omega arith), more-none (length w) (omega arith))
 
--- and where there is at most one, of four bytes, options take no more than with one of four
+-- with at most one Max-Age, of at most four bytes, options take no more than with one of four bytes
 no-longer : (w : List ℕ) (low : ℕ) (os : List Opt) → length w ≡ 4 → low ≤ 14 → AreOptions low os → HasOneAge os → options_length low os ≤ options_length low (with_value w os)
 no-longer w low [] four le are one = omega arith
 no-longer w low (o ∷ os) four le are one = go (ltb o.number 14) refl (ltb 14 o.number) refl (no-longer w o.number os four)
@@ -297,27 +297,27 @@ four-bytes : length (uint_spelling greatest_max_age) ≡ 4
 unfolding uint_spelling
 four-bytes = refl
 
--- what goes on takes no more than the widest form
+-- what is passed on takes no more than the widest form
 pub within-widest : (m : Message) → AreOptions 0 m.options → is_screened m ≡ true → options_length 0 (without_observe m).options ≤ options_length 0 (widest (without_observe m)).options
 within-widest m are screened =
     no-longer (uint_spelling greatest_max_age) 0 (without_observe m).options four-bytes (omega arith) (AreOptions-filter (λ o. not (o.number == 6)) 0 m.options are) (one-age m screened)
 
--- ---- what is left fits four bytes
+-- ---- the rest of a Max-Age fits four bytes
 
--- the value of an option that is spelled in bytes is bytes
+-- the value of an option that is encoded in bytes consists of bytes
 value-bytes : (before : ℕ) (bytes : List ℕ) (o : Opt) → SpellsOption before bytes o → IsBytes bytes → IsBytes o.value
 value-bytes before bytes o s fit =
     let all : IsBytes ((16 * s.delta_bits + s.length_bits) ∷ (s.delta_more ++ (s.length_more ++ o.value))) = subst IsBytes s.bytes_are fit in
     IsBytes-right s.length_more o.value (IsBytes-right s.delta_more (s.length_more ++ o.value) (IsBytes-right ((16 * s.delta_bits + s.length_bits) ∷ []) (s.delta_more ++ (s.length_more ++ o.value)) all))
 
--- so are all values of options
+-- so do all values of options
 values-bytes : (before : ℕ) (bytes : List ℕ) (os : List Opt) → SpellsOptions before bytes os → IsBytes bytes → AllByRecursion (λ o. IsBytes o.value) os
 values-bytes before bytes [] s fit = tt
 values-bytes before bytes (o ∷ os) s fit =
     let both : IsBytes (s.0 ++ s.1) = subst IsBytes s.2 fit in
     (value-bytes before s.0 o s.3 (IsBytes-left s.0 s.1 both), values-bytes o.number s.1 os s.4 (IsBytes-right s.0 s.1 both))
 
--- the options of a datagram of bytes are bytes
+-- the options of a datagram consist of bytes
 options-bytes : (bytes : List ℕ) (m : Message) (s : Spells bytes m) → IsBytes bytes → IsBytes s.options
 options-bytes bytes m s fit =
     let all : IsBytes (header m ++ (m.token ++ (s.options ++ s.payload))) = subst IsBytes s.bytes_are fit in
@@ -332,7 +332,7 @@ kept-all keep (o ∷ os) all = go (keep o) (kept-all keep os all.1)
     go true rest = (all.0, rest)
     go false rest = rest
 
--- and of the one that is found
+-- and of the option that is found
 found-bytes : (test : PlacedOption → Bool) (passed os : List Opt) → AllByRecursion (λ o. IsBytes o.value) os → IfSome (find test (places_behind passed os)) (λ p. IsBytes p.option.value)
 found-bytes test passed [] all = tt
 found-bytes test passed (o ∷ os) all = go (test (place passed o)) (found-bytes test (passed ++ o ∷ []) os all.1)
@@ -353,9 +353,10 @@ age-small m all = go (find (is_of Response 14) (places m.options)) refl (found-b
         let powers : 256 ^ length p.option.value ≤ 256 ^ 4 = pow-le-pow_right {n = 256} (omega arith) {i = length p.option.value} {j = 4} short in
         omega (arith, bound, powers)
 
--- ---- responses that clients can be shown
+-- ---- responses that can be sent to clients
 
--- A response that clients can be shown, in datagrams of at most so many bytes: its widest form fits, it takes no more itself, and its options are in order and of bytes.
+-- A response that can be sent to clients, in datagrams of at most this many bytes: its widest form
+-- fits, it takes no more itself, and its options are in order and consist of bytes.
 pub record IsSendable (most : ℕ) (m : Message) : Type 0 where
   pub code : m.code.0 ≢ 0
   pub options : AreOptions 0 m.options
@@ -363,23 +364,23 @@ pub record IsSendable (most : ℕ) (m : Message) : Type 0 where
   pub fits : length (spelling (widest m)) ≤ most
   pub plain : options_length 0 m.options ≤ options_length 0 (widest m).options
 
--- a response of the proxy's own: a code and no more
+-- a response that the proxy generates: only a code
 abbrev bare : Code → Message
 bare code = record { kind = Non; code = code; id = 0; token = []; options = []; payload = [] }
 
--- a response that an answer has: one that was received, or one of the proxy's own
+-- the response of an answer: one that was received, or one that the proxy generates
 pub data IsHoldable (most : ℕ) : Message → Type 0 where
   received : (m : Message) → IsSendable most m → IsHoldable most m
   of_proxy : (code : Code) → code.0 ≢ 0 → is_code code CONTENT ≡ false → IsHoldable most (bare code)
 
--- the proxy's own are such
+-- the proxy's own responses are such
 pub bad_gateway-is : (most : ℕ) → IsHoldable most bad_gateway
 bad_gateway-is most = of_proxy BAD_GATEWAY (λ e. absurd (omega arith)) refl
 
 pub timeout-is : (most : ℕ) → IsHoldable most gateway_timeout
 timeout-is most = of_proxy GATEWAY_TIMEOUT (λ e. absurd (omega arith)) refl
 
--- what is taken of a response that is passed on can be shown
+-- the accepted form of a response that is passed on can be sent to clients
 taken-sendable : (most : ℕ) (to_get : Bool) (bytes : List ℕ) (m : Message) → IsBytes bytes → Spells bytes m → is_response m.code ≡ true → is_passed_on most to_get m ≡ true → IsSendable most (taken_of to_get m)
 taken-sendable most to_get bytes m fit s response e = go (validates to_get m) (leb-true _ _ parts.1)
   where
@@ -406,14 +407,14 @@ All-joined : (P : Opt → Type 0) (xs ys : List Opt) → AllByRecursion P xs →
 All-joined P [] ys xs_are ys_are = ys_are
 All-joined P (x ∷ xs) ys xs_are ys_are = (xs_are.0, All-joined P xs ys xs_are.1 ys_are)
 
--- so it does of newer options among older ones
+-- so it holds of newer options merged with older ones
 updated-bytes : (newer older : List Opt) → AllByRecursion (λ o. IsBytes o.value) newer → AllByRecursion (λ o. IsBytes o.value) older → AllByRecursion (λ o. IsBytes o.value) (updated newer older)
 updated-bytes [] older newer_are older_are = older_are
 updated-bytes (o ∷ newer) older newer_are older_are =
     All-joined (λ o. IsBytes o.value) (below o.number older) (o ∷ updated newer (above o.number older)) (kept-all (λ p. ltb p.number o.number) older older_are)
     (newer_are.0, updated-bytes newer (above o.number older) newer_are.1 (kept-all (λ p. ltb o.number p.number) older older_are))
 
--- where one is of a kind, the kind is there
+-- if there is an option of a kind, the kind is there
 has-kind : (n : ℕ) (o : Opt) (os : List Opt) → of_number n os ≡ o ∷ [] → has_number n os ≡ true
 has-kind n o [] e = absurd cc
 has-kind n o (p ∷ ps) e = go (p.number == n) (has-kind n o ps) e
@@ -422,15 +423,15 @@ has-kind n o (p ∷ ps) e = go (p.number == n) (has-kind n o ps) e
     go true rest f = refl
     go false rest f = rest f
 
--- what a 2.03 renews has one Max-Age
+-- the newer options of a 2.03 have one Max-Age
 news-age : (v : Message) → of_number 14 (news_of v) ≡ option_of 14 (uint_spelling (max_age_of v)) ∷ []
 news-age v = of_number-updated 14 0 (option_of 14 (uint_spelling (max_age_of v)) ∷ []) (safe_options v.options) (omega arith, omega arith, omega (arith, length-uint_spelling (max_age_of v)), tt)
 
--- and its options are in order
+-- and they are in order
 news-options : (v : Message) → AreOptions 0 v.options → AreOptions 0 (news_of v)
 news-options v are = with_max_age-options (max_age_of v) (safe_options v.options) (AreOptions-filter (λ o. not (is_unsafe o.number)) 0 v.options are)
 
--- no leading zeros are bytes too
+-- bytes without leading zeros are bytes
 zeros-bytes : (bs : List ℕ) → IsBytes bs → IsBytes (without_zeros bs)
 zeros-bytes [] fit = fit
 zeros-bytes (zero ∷ bs) fit = zeros-bytes bs (λ i. fit (suc i))
@@ -448,12 +449,12 @@ eight-bytes n (suc (suc (suc (suc (suc (suc zero)))))) = omega arith
 eight-bytes n (suc (suc (suc (suc (suc (suc (suc zero))))))) = omega arith
 eight-bytes n (suc (suc (suc (suc (suc (suc (suc (suc i)))))))) = omega arith
 
--- so a number is spelled in bytes
+-- so the encoding of a number consists of bytes
 uint_spelling-bytes : (n : ℕ) → IsBytes (uint_spelling n)
 unfolding uint_spelling
 uint_spelling-bytes n = zeros-bytes (to_be_bytes w64 n) (eight-bytes n)
 
--- a response that is renewed can be shown, if it fits
+-- a response that is renewed can be sent to clients, if it fits
 renewed-sendable : (most : ℕ) (r v : Message) → IsSendable most r → IsSendable most v → fits most (renewed r v) ≡ true → IsSendable most (renewed r v)
 renewed-sendable most r v is by e =
     let news = news_of v in
@@ -472,7 +473,7 @@ renewed-sendable most r v is by e =
 
 -- ---- answers
 
--- an answer has such a response, if what it may renew is one
+-- an answer has such a response, if the response that it may renew is one
 pub answer-holdable : (most got : ℕ) (to_get : Bool) (copy : Option Message) (bytes : List ℕ) (m : Message) → IsBytes bytes → Spells bytes m → (is_rst m.kind ≡ false → is_response m.code ≡ true) → IfSome copy (IsHoldable most) → IsHoldable most (answer_of most to_get copy got m).message
 unfolding answer_of
 answer-holdable most got to_get copy bytes m fit s response old = go (is_rst m.kind) refl (is_passed_on most to_get m) refl
@@ -502,7 +503,7 @@ answer-holdable most got to_get copy bytes m fit s response old = go (is_rst m.k
     go false no_reset false passed = bad_gateway-is most
     go true reset b passed = bad_gateway-is most
 
--- it is sound
+-- it is well-formed
 holdable-sound : (most : ℕ) (m : Message) → IsHoldable most m → IsSound m
 holdable-sound most _ (received m is) = record { code = is.code; options = is.options }
 holdable-sound most _ (of_proxy code some other) = record { code = some; options = tt }
@@ -512,18 +513,18 @@ payload-least : (payload : List ℕ) → length payload ≤ payload_length paylo
 payload-least [] = omega arith
 payload-least (p ∷ ps) = omega arith
 
--- and no longer than a datagram: its options as they are spelled, and its payload
+-- and no longer than a datagram: its encoded options and its payload
 pub holdable-short : (most : ℕ) (m : Message) → IsHoldable most m → options_length 0 m.options + length m.payload ≤ most
 holdable-short most _ (received m is) = let fit = is.fits in let plain = is.plain in omega (arith, fit, plain, spelling-length (widest m), payload-least m.payload)
 holdable-short most _ (of_proxy code some other) = omega arith
 
--- what is shown of it is a message
+-- what is sent of it is a message
 pub shown-is : (most : ℕ) (kind : Kind) (to_get : Bool) (now : ℕ) (a : Answer) (id : ℕ) (token : List ℕ) (tags : List (List ℕ)) → IsHoldable most a.message → length token ≤ 8 → IsMessage (shown_as kind to_get now a id token tags)
 shown-is most kind to_get now a id token tags holdable short =
     let s = case-sound a.message (holdable-sound most a.message holdable) (shown-as a.message (left_told to_get now a) tags) in
     record { token = short; options = s.options; bare = record { token = λ e. absurd (s.code e); options = λ e. absurd (s.code e); payload = λ e. absurd (s.code e) } }
 
--- ---- what is shown fits a datagram
+-- ---- what is sent fits a datagram
 
 -- each case of a response that was received takes no more than the widest form
 case-short : {left : Option ℕ} {n : Message} (most id : ℕ) (kind : Kind) (m : Message) (token : List ℕ) → 128 ≤ most → length token ≤ 8 → length (spelling (widest m)) ≤ most → options_length 0 m.options ≤ options_length 0 (widest m).options → IfSome left (λ l. l < 2 ^ 32) → IsShownAs m left n → length (spelling (showing.addressed kind id token n)) ≤ most
@@ -533,7 +534,7 @@ case-short most id kind m token wide short fit plain small (as_valid left tag ei
 case-short most id kind m token wide short fit plain small (as_aged left) =
     omega (arith, spelling-length (showing.addressed kind id token (aged m left)), spelling-length (widest m), short, fit, shorter-value (uint_spelling left) (uint_spelling greatest_max_age) m.options (uint_spelling-four left small) four-bytes)
 
--- and each of one of the proxy's own is short
+-- and each case of one that the proxy generates is short
 bare-short : {left : Option ℕ} {n : Message} (most id : ℕ) (kind : Kind) (code : Code) (token : List ℕ) → 128 ≤ most → length token ≤ 8 → IfSome left (λ l. l < 2 ^ 32) → IsShownAs (bare code) left n → length (spelling (showing.addressed kind id token n)) ≤ most
 bare-short most id kind code token wide short small (as_stored left) = omega (arith, spelling-length (showing.addressed kind id token (bare code)), wide, short)
 bare-short most id kind code token wide short small (as_valid left tag eight) =
@@ -541,7 +542,7 @@ bare-short most id kind code token wide short small (as_valid left tag eight) =
 bare-short most id kind code token wide short small (as_aged left) =
     omega (arith, spelling-length (showing.addressed kind id token (aged (bare code) left)), wide, short, uint_spelling-four left small, more-none (length (uint_spelling left)) (omega (arith, uint_spelling-four left small)))
 
--- what is left of it fits four bytes
+-- the rest of its Max-Age fits four bytes
 age-held : (most : ℕ) (m : Message) → IsHoldable most m → max_age_of m < 2 ^ 32
 age-held most _ (received m is) = age-small m is.bytes
 age-held most _ (of_proxy code some other) = omega arith
@@ -553,7 +554,7 @@ left-small most now to_get a holdable = go (to_get && not a.own)
     go true = let age = age-held most a.message holdable in omega (arith, age)
     go false = tt
 
--- what is shown of an answer fits a datagram, and a longer one
+-- what is sent of an answer fits a datagram, and so a longer one
 pub shown-fits : (most longest : ℕ) (kind : Kind) (to_get : Bool) (now : ℕ) (a : Answer) (id : ℕ) (token : List ℕ) (tags : List (List ℕ)) → 128 ≤ longest → most ≤ longest → IsHoldable most a.message → length token ≤ 8 → length (spelling (shown_as kind to_get now a id token tags)) ≤ longest
 shown-fits most longest kind to_get now a id token tags wide no_shorter holdable short =
     go a.message (left_told to_get now a) holdable (left-small most now to_get a holdable) (shown-as a.message (left_told to_get now a) tags)

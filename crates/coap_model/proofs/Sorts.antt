@@ -1,4 +1,4 @@
--- A message is of one sort: a request, an answer, or an acknowledgement and no more.
+-- A message is of only one sort: a request, an answer, or an Empty acknowledgement.
 use Rattle.std.proofs.Common.{◌≡◌, ◌⊎◌, inl, inr, ⊎_elim, ℕ, ◌/◌, ◌==◌, ◌&&◌, ◌||◌, Bool, true, false, not, nat_le, List, refl, sym, ap, ◌∙◌, arith}
 use Rattle.std.proofs.lemmas.Bool.{and_parts, eqb-true, leb-true}
 use Rattle.coap_message.specs.declared.code.Code.{Code}
@@ -12,7 +12,7 @@ use Rattle.coap_model.specs.History.{Matches, in_acknowledgement, separate, by_r
 
 -- ---- codes
 
--- a method is no response code
+-- the code of a request isn't a response code
 request-no-response : {A : Type 0} (code : Code) → is_request code ≡ true → is_response code ≡ true → A
 request-no-response code request response =
     absurd (let zero = eqb-true (code.0 / 32) 0 (and_parts (code.0 / 32 == 0) (not (code.0 == 0)) request).0 in let two = leb-true 2 (code.0 / 32) (and_parts (nat_le 2 (code.0 / 32)) (nat_le (code.0 / 32) 5) response).0 in omega (arith, zero, two))
@@ -30,29 +30,29 @@ con-so Non e = absurd cc
 con-so Ack e = absurd cc
 con-so Rst e = absurd cc
 
--- no request comes in a Reset
+-- a Reset brings no request
 reset-no-request : {A : Type 0} {k : Kind} → k ≡ Rst → brings_requests k ≡ true → A
 reset-no-request reset request = absurd (let e : true ≡ false = sym request ∙ ap brings_requests reset in cc)
 
--- nor in an acknowledgement
+-- nor does an acknowledgement
 pub ack-no-request : {A : Type 0} {k : Kind} → k ≡ Ack → brings_requests k ≡ true → A
 ack-no-request ack request = absurd (let e : true ≡ false = sym request ∙ ap brings_requests ack in cc)
 
 -- ---- messages
 
--- an answer is no request
+-- an answer isn't a request
 pub answer-no-request : {A : Type 0} {token : List ℕ} {id : ℕ} (m : Message) → Matches token id m → brings_requests m.kind ≡ true → is_request m.code ≡ true → A
 answer-no-request m (in_acknowledgement kind code same with_id) request method = request-no-response m.code method code
 answer-no-request m (separate kind code same) request method = request-no-response m.code method code
 answer-no-request m (by_reset kind code with_id) request method = reset-no-request kind request
 
--- nor an acknowledgement and no more
+-- nor an Empty acknowledgement
 pub answer-no-ack : {A : Type 0} {token : List ℕ} {id : ℕ} (m : Message) → Matches token id m → m.kind ≡ Ack → m.code ≡ EMPTY → A
 answer-no-ack m (in_acknowledgement kind code same with_id) ack empty = empty-no-response m.code empty code
 answer-no-ack m (separate kind code same) ack empty = empty-no-response m.code empty code
 answer-no-ack m (by_reset kind code with_id) ack empty = absurd (let e = sym kind ∙ ack in cc)
 
--- what is remembered is a request, or a response in a Confirmable message
+-- a message that is remembered is a request, or a Confirmable response
 pub recorded-sorts : (m : Message) → is_recorded m ≡ true → ((brings_requests m.kind ≡ true) × (is_request m.code ≡ true)) ⊎ ((m.kind ≡ Con) × (is_response m.code ≡ true))
 recorded-sorts m e = go (brings_requests m.kind && is_request m.code) refl e
   where
@@ -60,11 +60,11 @@ recorded-sorts m e = go (brings_requests m.kind && is_request m.code) refl e
     go true request h = inl (and_parts (brings_requests m.kind) (is_request m.code) request)
     go false none h = let parts = and_parts (is_con m.kind) (is_response m.code) h in inr (con-so m.kind parts.0, parts.1)
 
--- it comes in a message that is Confirmable or Non-confirmable
+-- it is Confirmable or Non-confirmable
 pub recorded-kind : (m : Message) → is_recorded m ≡ true → brings_requests m.kind ≡ true
 recorded-kind m e = ⊎_elim (λ request. request.0) (λ response. ap brings_requests response.0) (recorded-sorts m e)
 
--- an answer that is remembered comes in a Confirmable message
+-- an answer that is remembered is Confirmable
 pub answer-recorded : {token : List ℕ} {id : ℕ} (m : Message) → Matches token id m → is_recorded m ≡ true → m.kind ≡ Con
 answer-recorded m matches e = ⊎_elim (λ request. answer-no-request m matches request.0 request.1) (λ response. response.0) (recorded-sorts m e)
 
@@ -72,7 +72,7 @@ answer-recorded m matches e = ⊎_elim (λ request. answer-no-request m matches 
 pub empty-no-request : {A : Type 0} {k : Kind} → (k ≡ Ack) ⊎ (k ≡ Rst) → brings_requests k ≡ true → A
 empty-no-request kind request = ⊎_elim (λ (ack : _ ≡ Ack). ack-no-request ack request) (λ (reset : _ ≡ Rst). reset-no-request reset request) kind
 
--- an answer that is an acknowledgement or a Reset, and no more, is a Reset
+-- an answer that is a bare acknowledgement or Reset is a Reset
 pub answer-reset : {token : List ℕ} {id : ℕ} (m : Message) → Matches token id m → (m.kind ≡ Ack) ⊎ (m.kind ≡ Rst) → m.code ≡ EMPTY → m.kind ≡ Rst
 answer-reset m matches kind empty = ⊎_elim (λ (ack : m.kind ≡ Ack). answer-no-ack m matches ack empty) (λ (reset : m.kind ≡ Rst). reset) kind
 

@@ -1,4 +1,4 @@
--- The messages that a proxy makes are messages, and so each is spelled; what is read off them.
+-- The messages that a proxy makes are well-formed, and so they are encoded; what is read from them.
 use Rattle.std.proofs.Common.{◌≡◌, ◌≢◌, ℕ, zero, suc, ◌≤◌, Bool, true, false, cond, leb, List, [], ◌∷◌, length, Some, None, Result, Ok, Err, refl, ap, arith}
 use Rattle.std.specs.Result.{result_ok}
 use Rattle.std.specs.Int.{w64, to_be_bytes}
@@ -19,7 +19,7 @@ use Rattle.coap_model.specs.Step.{message_in}
 
 -- ---- a Max-Age
 
--- without zeros at the head a number is no longer
+-- without leading zeros a number isn't longer
 length-without_zeros : (bytes : List ℕ) → length (without_zeros bytes) ≤ length bytes
 length-without_zeros [] = omega arith
 length-without_zeros (zero ∷ bytes) = let i = length-without_zeros bytes in omega arith
@@ -30,7 +30,7 @@ pub length-uint_spelling : (n : ℕ) → length (uint_spelling n) ≤ 8
 unfolding uint_spelling
 length-uint_spelling n = length-without_zeros (to_be_bytes w64 n)
 
--- a Max-Age is an option in order
+-- a Max-Age is a list of options in order
 max_age-options : (seconds : ℕ) → AreOptions 0 (max_age_option seconds ∷ [])
 max_age-options seconds = (omega arith, omega arith, omega (arith, length-uint_spelling seconds), tt)
 
@@ -47,7 +47,7 @@ acknowledgement-is id = record { token = omega arith; options = tt; bare = recor
 pub acknowledgement-short : (id : ℕ) → length (spelling (acknowledgement id)) ≤ 4
 acknowledgement-short id = let long = spelling-length (acknowledgement id) in omega (arith, long)
 
--- a reply of the proxy's own is one
+-- so is a reply that the proxy generates
 pub own_reply-is : (code : Code) (options : List Opt) (id : ℕ) (token : List ℕ) → code.0 ≢ 0 → AreOptions 0 options → length token ≤ 8 → IsMessage (own_reply code options id token)
 own_reply-is code options id token some are short = record { token = short; options = are; bare = record { token = λ e. absurd (some e); options = λ e. absurd (some e); payload = λ e. absurd (some e) } }
 
@@ -57,7 +57,7 @@ busy_reply-is seconds id token short = own_reply-is _ (max_age_option seconds �
 
 -- ---- what is read
 
--- the message in a datagram spells it, and the datagram isn't too long
+-- the message that is read from a datagram is encoded in it, and the datagram isn't too long
 pub message_in-is : (most : ℕ) (bytes : List ℕ) (m : Message) → IsBytes bytes → message_in most bytes ≡ Some m → Spells bytes m × (length bytes ≤ most) × (read_message bytes ≡ Ok m)
 unfolding message_in
 message_in-is most bytes m fits e = go (leb (length bytes) most) refl e
@@ -70,7 +70,7 @@ message_in-is most bytes m fits e = go (leb (length bytes) most) refl e
     go true short f = let read = ok (read_message bytes) f in (read_is bytes m fits read, leb-true _ _ short, read)
     go false short f = absurd cc
 
--- and what is read of a datagram that isn't too long is in it
+-- and a message that is encoded in a datagram that isn't too long is read from it
 pub message_in-again : (most : ℕ) (bytes : List ℕ) (m : Message) → read_message bytes ≡ Ok m → length bytes ≤ most → message_in most bytes ≡ Some m
 unfolding message_in
 message_in-again most bytes m read short = rw (le-leb (length bytes) most short, read) refl

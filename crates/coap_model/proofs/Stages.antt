@@ -1,4 +1,5 @@
--- How far an exchange has come, and what was done for it: one that waits for its turn was never sent, and one that isn't done was neither got nor given up.
+-- How far an exchange has come, and what was done for it: the request of one that waits for its
+-- turn was never sent, and one that isn't done was neither answered nor given up.
 use Rattle.std.proofs.Common.{◌≡◌, ◌≢◌, ◌⊎◌, inl, inr, ⊎_elim, ℕ, ◌≤◌, Bool, true, false, List, [], ◌∷◌, Option, Some, None, refl, sym, ap, ◌∙◌, subst, arith}
 use Rattle.std.specs.Prelude.{◌==◌, find, option_map, if◌then◌else◌}
 use Rattle.std.specs.List.{AllByRecursion, list_any}
@@ -16,14 +17,14 @@ use Rattle.coap_model.proofs.Lists.{find-holds, All-filter}
 use Rattle.coap_model.proofs.Places.{here, same_moves, same_admits, never-from, justified-at, opened-number}
 use Rattle.coap_model.proofs.Owing.{taken-so}
 
--- ---- what holds of those that are open
+-- ---- what holds of the open exchanges
 
--- those that are awaited are some of them
+-- what holds of all exchanges holds of those that are awaited
 All-awaited : (P : Open → Type 0) (standing : List Standing) (xs : List Open) → AllByRecursion P xs → AllByRecursion P (awaited standing xs)
 All-awaited P standing xs all =
     All-weaken (λ o. P o × (list_any (λ s. waits_for o.number s.service) standing ≡ true)) P (awaited standing xs) (λ o h. h.0) (All-filter P (λ o. list_any (λ s. waits_for o.number s.service) standing) xs all)
 
--- what holds of the one of this number as it comes to a stage, and of the others, holds of all
+-- what holds of the exchange with this number as it enters a stage, and of the others, holds of all
 All-staged : (P Q : Open → Type 0) (x : ℕ) (stage : Stage) (xs : List Open) → ((o : Open) → P o → o.number ≡ x → Q (record o { stage = stage })) → ((o : Open) → P o → o.number ≢ x → Q o) → AllByRecursion P xs → AllByRecursion Q (staged x stage xs)
 All-staged P Q x stage [] this others all = tt
 All-staged P Q x stage (o ∷ xs) this others all = (go (o.number == x) refl, All-staged P Q x stage xs this others all.1)
@@ -32,7 +33,9 @@ All-staged P Q x stage (o ∷ xs) this others all = (go (o.number == x) refl, Al
     go true e = this o all.0 (eqb-true o.number x e)
     go false e = others o all.0 (eqb-false o.number x e)
 
--- What holds of all that were open holds, changed, of all that are: of a new one, of the one that is sent, of the one that is acknowledged, of the one that ends, and of each that a deed does none of this with.
+-- What held of all open exchanges holds, as they change, of all after a deed: of a new one, of the
+-- one that is sent, of the one that is acknowledged, of the one that ends, and of each one that the
+-- deed leaves as it is.
 pub All-open : (P Q : Open → Type 0) (o : Outcome) (act : Act) (send : Option Endpoint) (standing : List Standing) (xs : List Open)
     → ((v x : ℕ) → o ≡ Opened → act ≡ admits v x → Q (record { number = x; stage = queued }))
     → ((x : ℕ) (to : Endpoint) → o ≡ SentRequest → act ≡ moves x → send ≡ Some to → (q : Open) → P q → q.number ≡ x → Q (record q { stage = sent to }))
@@ -56,14 +59,14 @@ All-open P Q Delivered act send standing xs new sending acking ending others all
 All-open P Q _ _ send standing xs new sending acking ending others all =
     All-weaken P Q xs (λ q h. others q h (λ either same. ⊎_elim (λ e. let f = e.0 in cc) (λ e. cc) either)) all
 
--- what holds of an exchange that has a stage
+-- the property of an exchange that has a stage
 pub record HasStage (P : Open → Type 0) (x : ℕ) (stage : Stage) : Type 0 where
   pub found : Open
   pub holds : P found
   pub number : found.number ≡ x
   pub stage_is : found.stage ≡ stage
 
--- one that has a stage is one of them
+-- an exchange that has a stage is one of them
 pub stage-holds : (P : Open → Type 0) (x : ℕ) (stage : Stage) (history : List Deed) → AllByRecursion P (open_in history) → stage_of x history ≡ Some stage → HasStage P x stage
 stage-holds P x stage history all e = go (find (λ (q : Open). q.number == x) (open_in history)) refl e
   where
@@ -75,7 +78,7 @@ stage-holds P x stage history all e = go (find (λ (q : Open). q.number == x) (o
 
 -- ---- numbers
 
--- no exchange that is open has a number above those that were given
+-- no open exchange has a number above those that were used
 pub open-numbers : (setting : Setting) (history : List Deed) → AllJustified setting history → AllByRecursion (λ o. o.number ≤ opened_in history) (open_in history)
 open-numbers setting [] all = tt
 open-numbers setting (d ∷ past) all =
@@ -93,7 +96,7 @@ open-numbers setting (d ∷ past) all =
         let number = (same_admits v _ x _ (sym act ∙ j.act)).1 in
         rw is (omega (arith, number))
 
--- what came before was justified
+-- what is before a place is justified
 pub all-before : (setting : Setting) (history : List Deed) (p : Place) → AllJustified setting history → IsPlaceOf history p → AllJustified setting p.before
 all-before setting [] p all at = absurd at
 all-before setting (d ∷ past) p all at =
@@ -102,7 +105,7 @@ all-before setting (d ∷ past) p all at =
     (λ (there : IsPlaceOf past p). all-before setting past p all.1 there)
     at
 
--- no more were opened before a place
+-- no more exchanges were opened before a place
 pub opened-before : (history : List Deed) (p : Place) → IsPlaceOf history p → opened_in p.before ≤ opened_in history
 opened-before [] p at = absurd at
 opened-before (d ∷ past) p at =
@@ -111,7 +114,7 @@ opened-before (d ∷ past) p at =
     (λ (there : IsPlaceOf past p). omega (arith, opened-before past p there))
     at
 
--- an exchange that is sent was opened before
+-- an exchange whose request is sent was opened before
 pub sent-number : (setting : Setting) (history : List Deed) (p : Place) (x : ℕ) → AllJustified setting history → IsPlaceOf history p → Sends setting.salt x p → x ≤ opened_in p.before
 sent-number setting history p x all at s =
     let j : IsForwarding setting p.before p.deed = justified-at setting history p SentRequest all at s.outcome in
@@ -156,17 +159,19 @@ pub record WasSentTo (salt : ℕ) (history : List Deed) (x : ℕ) (to : Endpoint
   pub sends : Sends salt x place
   pub to_is : sends.to ≡ to
 
--- an exchange has come so far: one that waits for its turn was never sent, one that waits for an acknowledgement was sent where its stage says, and one that isn't done has not ended
+-- how far an exchange has come: the request of one that waits for its turn was never sent, the
+-- request of one that waits for an acknowledgement was sent to the endpoint of its stage, and one
+-- that isn't done hasn't ended
 pub record HasCome (salt : ℕ) (history : List Deed) (o : Open) : Type 0 where
   pub unsent : o.stage ≡ queued → Never (Sends salt o.number) history
   pub was_sent : (to : Endpoint) → o.stage ≡ sent to → WasSentTo salt history o.number to
   pub unended : o.stage ≢ done → Never (Ends o.number) history
 
--- what was sent stays so as the history goes on
+-- what was sent stays so as the history grows
 sent-later : {salt : ℕ} {history : List Deed} {x : ℕ} {to : Endpoint} (d : Deed) → WasSentTo salt history x to → WasSentTo salt (d ∷ history) x to
 sent-later d w = record { place = w.place; is_there = inr w.is_there; sends = w.sends; to_is = w.to_is }
 
--- one that waits for its turn has not ended
+-- an exchange that waits for its turn hasn't ended
 queued-come : (setting : Setting) (history : List Deed) (x : ℕ) → AllJustified setting history → AllByRecursion (HasCome setting.salt history) (open_in history) → stage_of x history ≡ Some queued → Never (Ends x) history
 queued-come setting history x all come stage =
     let h = stage-holds (HasCome setting.salt history) x queued history come stage in
@@ -178,7 +183,7 @@ sent-come setting history x to all come stage =
     let h = stage-holds (HasCome setting.salt history) x (sent to) history come stage in
     subst (λ (n : ℕ). Never (Ends n) history) h.number (h.holds.unended (λ e. let f = sym h.stage_is ∙ e in cc))
 
--- all that are open have come as far as their stages say
+-- all open exchanges have come as far as their stages say
 pub all-come : (setting : Setting) (history : List Deed) → AllJustified setting history → AllByRecursion (HasCome setting.salt history) (open_in history)
 all-come setting [] all = tt
 all-come setting (d ∷ past) all =
@@ -252,19 +257,19 @@ all-come setting (d ∷ past) all =
           unended = λ e. ((λ s. not (inr s.outcome) s.act), h.unended e);
         }
 
--- one that waits for its turn was never sent
+-- the request of one that waits for its turn was never sent
 pub queued-unsent : (setting : Setting) (history : List Deed) (x : ℕ) → AllJustified setting history → stage_of x history ≡ Some queued → Never (Sends setting.salt x) history
 queued-unsent setting history x all stage =
     let h = stage-holds (HasCome setting.salt history) x queued history (all-come setting history all) stage in
     subst (λ (n : ℕ). Never (Sends setting.salt n) history) h.number (h.holds.unsent h.stage_is)
 
--- one that isn't done has not ended
+-- one that isn't done hasn't ended
 pub stage-unended : (setting : Setting) (history : List Deed) (x : ℕ) (stage : Stage) → AllJustified setting history → stage_of x history ≡ Some stage → stage ≢ done → Never (Ends x) history
 stage-unended setting history x stage all is not =
     let h = stage-holds (HasCome setting.salt history) x stage history (all-come setting history all) is in
     subst (λ (n : ℕ). Never (Ends n) history) h.number (h.holds.unended (λ e. not (sym h.stage_is ∙ e)))
 
--- one that waits for an acknowledgement was sent to the endpoint of its stage
+-- the request of one that waits for an acknowledgement was sent to the endpoint of its stage
 pub stage-sent : (setting : Setting) (history : List Deed) (x : ℕ) (to : Endpoint) → AllJustified setting history → stage_of x history ≡ Some (sent to) → WasSentTo setting.salt history x to
 stage-sent setting history x to all is =
     let h = stage-holds (HasCome setting.salt history) x (sent to) history (all-come setting history all) is in

@@ -1,4 +1,5 @@
--- A store that has the cache of a history: each way in which an entry moves keeps it, and what is changed is marked.
+-- A store that corresponds to the cache of a history: each way in which an entry moves preserves
+-- this, and what is changed is marked.
 use Rattle.std.proofs.Common.{◌≡◌, inr, ℕ, Bool, true, false, cond, List, [], ◌∷◌, Option, Some, None, map, refl, sym, ap, ◌∙◌, subst, arith}
 use Rattle.coap_endpoint.specs.declared.endpoint.Endpoint.{Endpoint}
 use Rattle.coap_endpoint.specs.declared.target.Target.{Target}
@@ -28,13 +29,13 @@ use Rattle.coap_model.proofs.Changing.{told-stays, told-on}
 use Rattle.coap_model.proofs.Places.{here, index_below}
 use Rattle.coap_model.proofs.Pairs.{Pairs-length, Pairs-weaken, Pairs-distinct, Pairs-total, Pairs-of_key, Pairs-others, Pairs-used, Pairs-put}
 
--- ---- what a store keeps of entries
+-- ---- the entries of a store
 
--- it keeps their keys
+-- they have the same keys
 same-key : {setting : Setting} {history : List Deed} (s : Entry) (c : Cached) → IsStored setting history s c → entry_key s ≡ cached_key c
 same-key s c is = ap entry_key is.same
 
--- and their sizes
+-- and the same sizes
 same-size : {setting : Setting} {history : List Deed} (s : Entry) (c : Cached) → IsStored setting history s c → entry_size s ≡ cached_size c
 same-size s c is = ap entry_size is.same
 
@@ -44,7 +45,7 @@ same-size s c is = ap entry_size is.same
 abbrev marked_by : List Target → Entry → Entry
 marked_by changed s = (s.0, record s.1 { marked = s.1.marked || concerns changed s.0.target })
 
--- one change after the other marks it so
+-- one change after the other marks it the same
 marked-entry : (t : Target) (changed : List Target) (s : Entry) → marked_by changed (marked t s) ≡ marked_by (t ∷ changed) s
 marked-entry t changed s = go (same_target s.0.target t) (concerns changed s.0.target) s.1.marked refl
   where
@@ -74,11 +75,11 @@ marked-all (t ∷ changed) store = marked-all changed (map (marked t) store) ∙
 
 -- ---- the moves
 
--- nothing is stored at first
+-- at first the store is empty
 pub store-empty : (setting : Setting) → IsStoreOf setting [] []
 store-empty setting = record { cached = []; is_cache = empty; each = tt }
 
--- what a store keeps stays right where no answer is got
+-- an entry of the store stays right if no answer is accepted
 stored-stays : {setting : Setting} {past : List Deed} (d : Deed) → takes d.entry.report.outcome ≡ false → (s : Entry) (c : Cached) → IsStored setting past s c → IsStored setting (d ∷ past) s c
 stored-stays {setting} {past} d none s c is = record { same = is.same; was_asked = inr is.was_asked; told = told-stays s.1.marked setting c.key.target c.asking past d none is.told }
 
@@ -87,7 +88,7 @@ module _ (setting : Setting) (past : List Deed) (d : Deed) {x : ℕ} (gets : Get
   abbrev pub changed_here : List Target
   changed_here = changed_by (key_asked gets).target gets.meets.message
 
-  -- what it changes is marked, and so what a store keeps stays right
+  -- what the answer changes is marked, and so an entry of the store stays right
   stored-on : (s : Entry) (c : Cached) → IsStored setting past s c → IsStored setting (d ∷ past) (marked_by changed_here s) c
   stored-on s c is =
       let key : s.0 ≡ c.key = ap (λ (e : Entry). e.0) is.same in
@@ -99,7 +100,7 @@ module _ (setting : Setting) (past : List Deed) (d : Deed) {x : ℕ} (gets : Get
             (told-on s.1.marked c.key.target c.asking gets (index_below past c.asking is.was_asked) is.told);
       }
 
-  -- so is a whole store
+  -- so does a whole store
   pub marked-on : (store : List Entry) (cs : List Cached) → Pairs (IsStored setting past) store cs → Pairs (IsStored setting (d ∷ past)) (marked_all changed_here store) cs
   marked-on store cs each = subst (λ (ss : List Entry). Pairs (IsStored setting (d ∷ past)) ss cs) (sym (marked-all changed_here store)) (go store cs each)
     where
@@ -109,7 +110,7 @@ module _ (setting : Setting) (past : List Deed) (d : Deed) {x : ℕ} (gets : Get
       go (s ∷ ss) [] p = p
       go (s ∷ ss) (c ∷ cs) p = (stored-on s c p.0, go ss cs p.1)
 
-  -- an answer that is kept stands first
+  -- an answer that is kept comes first
   pub store-kept : (store : List Entry) (former : List Cached) (new : Entry) → d.entry.report.outcome ≡ Answered Kept → WasCacheAt setting gets.meets.asking.before x former → IsStored setting (d ∷ past) new (entry_got former gets)
       → IsStoreOf setting past store → IsStoreOf setting (d ∷ past) (put entry_key entry_size setting.limits.cache_bytes setting.limits.cache_entries new (marked_all changed_here store))
   store-kept store former new is was same s =
@@ -122,22 +123,22 @@ module _ (setting : Setting) (past : List Deed) (d : Deed) {x : ℕ} (gets : Get
         each = Pairs-put (IsStored setting (d ∷ past)) entry_key cached_key same-key entry_size cached_size bytes entries new first (marked_all changed_here store) s.cached same-size same (marked-on store s.cached s.each);
       }
 
-  -- one that is too large gives up the entry of its key
+  -- one that is too large removes the entry with its key
   pub store-too_large : (store : List Entry) → d.entry.report.outcome ≡ Answered TooLarge → IsStoreOf setting past store → IsStoreOf setting (d ∷ past) (others entry_key (key_asked gets) (marked_all changed_here store))
   store-too_large store is s =
       record { cached = others cached_key (key_asked gets) s.cached; is_cache = too_large d x gets is s.is_cache; each = Pairs-others (IsStored setting (d ∷ past)) entry_key cached_key same-key (key_asked gets) (marked_all changed_here store) s.cached (marked-on store s.cached s.each) }
 
-  -- one that isn't stored leaves all, but for what it changes
+  -- one that isn't stored leaves the entries, except for the marks
   pub store-marked : (store : List Entry) → leaves d.entry.report.outcome ≡ true → IsStoreOf setting past store → IsStoreOf setting (d ∷ past) (marked_all changed_here store)
   store-marked store leaving s = record { cached = s.cached; is_cache = otherwise d leaving s.is_cache; each = marked-on store s.cached s.each }
 
--- what gets no answer, and moves nothing, leaves it as it is
+-- what accepts no answer, and moves nothing, leaves the store as it is
 pub store-otherwise : (setting : Setting) (past : List Deed) (store : List Entry) (d : Deed) → leaves d.entry.report.outcome ≡ true → takes d.entry.report.outcome ≡ false → IsStoreOf setting past store → IsStoreOf setting (d ∷ past) store
 store-otherwise setting past store d leaving none s = record { cached = s.cached; is_cache = otherwise d leaving s.is_cache; each = Pairs-weaken (IsStored setting past) (IsStored setting (d ∷ past)) store s.cached (stored-stays d none) s.each }
 
 -- ---- what is found
 
--- what a store has for a key is the entry of the cache
+-- the entry of the store for a key corresponds to the entry of the cache
 pub found-cached : (setting : Setting) (history : List Deed) (store : List Entry) (cached : List Cached) (key : CacheKey) (stored : Entry) → Pairs (IsStored setting history) store cached → of_key entry_key key store ≡ Some stored → IsEntryOf setting history cached key stored
 found-cached setting history store cached key stored each found = go (of_key cached_key key cached) refl (subst (λ (s : Option Entry). Both (IsStored setting history) s (of_key cached_key key cached)) found (Pairs-of_key (IsStored setting history) entry_key cached_key same-key key store cached each))
   where
@@ -145,13 +146,13 @@ found-cached setting history store cached key stored each found = go (of_key cac
     go None e both = absurd both
     go (Some c) e both = record { entry = c; is_there = e; key_is = of_key-key cached_key key cached c e; stored_is = both }
 
--- what the store has for what the cache has for a key
+-- the entry of the store for the entry of the cache with a key
 pub record IsKeptIn (setting : Setting) (history : List Deed) (store : List Entry) (key : CacheKey) (c : Cached) : Type 0 where
   pub entry : Entry
   pub is_there : of_key entry_key key store ≡ Some entry
   pub stored : IsStored setting history entry c
 
--- and what the cache has for it is in the store
+-- the entry of the cache for a key is in the store
 pub cached-found : (setting : Setting) (history : List Deed) (store : List Entry) (cached : List Cached) (key : CacheKey) (c : Cached) → Pairs (IsStored setting history) store cached → of_key cached_key key cached ≡ Some c → IsKeptIn setting history store key c
 cached-found setting history store cached key c each found = go (of_key entry_key key store) refl (subst (λ (f : Option Cached). Both (IsStored setting history) (of_key entry_key key store) f) found (Pairs-of_key (IsStored setting history) entry_key cached_key same-key key store cached each))
   where
@@ -159,7 +160,7 @@ cached-found setting history store cached key c each found = go (of_key entry_ke
     go None e both = absurd both
     go (Some s) e both = record { entry = s; is_there = e; stored = both }
 
--- where the store has nothing for a key, the cache has nothing
+-- if the store has no entry for a key, the cache has none
 pub none-found : (setting : Setting) (history : List Deed) (store : List Entry) (cached : List Cached) (key : CacheKey) → Pairs (IsStored setting history) store cached → of_key entry_key key store ≡ None → of_key cached_key key cached ≡ None
 none-found setting history store cached key each none = go (of_key cached_key key cached) refl (subst (λ (s : Option Entry). Both (IsStored setting history) s (of_key cached_key key cached)) none (Pairs-of_key (IsStored setting history) entry_key cached_key same-key key store cached each))
   where
@@ -177,7 +178,7 @@ stored-kept setting history store cached key each = go (of_key entry_key key sto
     go (Some s) None both = absurd both
     go (Some s) (Some c) both = ap (λ (e : Entry). Some e.1.response) both.same
 
--- what is stored for a key is an entry of the key
+-- what is stored for a key is an entry with the key
 pub stored-found : (key : CacheKey) (store : List Entry) (stored : Stored) → stored_for key store ≡ Some stored → of_key entry_key key store ≡ Some (key, stored)
 stored-found key store stored found = go (of_key entry_key key store) refl found
   where
@@ -188,7 +189,7 @@ stored-found key store stored found = go (of_key entry_key key store) refl found
         let its_stored : e.1 ≡ stored = same_Some e.1 stored f in
         is ∙ (λ i. Some (its_key i, its_stored i))
 
--- a request that is answered from the cache moves the entry of its key to the front
+-- a request that is answered from the cache moves the entry with its key to the front
 pub store-hit : (setting : Setting) (past : List Deed) (store : List Entry) (d : Deed) (client : Endpoint) (request : Message) (target : Target) (stored : Entry) → d.entry.report.outcome ≡ Hit → Brings setting.limits.datagram client request d.entry.event → request_target setting.routes request ≡ Ok target → of_key entry_key (request_key target request) store ≡ Some stored
     → IsStoreOf setting past store → IsStoreOf setting (d ∷ past) (used entry_key (request_key target request) store)
 store-hit setting past store d client request target stored is came to found s =
@@ -203,7 +204,7 @@ store-hit setting past store d client request target stored is came to found s =
 
 -- ---- limits
 
--- what is kept of entries, without marks
+-- the stored entries, without marks
 abbrev IsPlain : Entry → Cached → Type 0
 IsPlain s c = s ≡ entry_of_cached c
 
@@ -213,19 +214,19 @@ plain-key s c same = ap entry_key same
 plain-size : (s : Entry) (c : Cached) → IsPlain s c → entry_size s ≡ cached_size c
 plain-size s c same = ap entry_size same
 
--- it is what is kept of each
+-- the entries of a store, without marks, are those of the cache
 plain-all : (store : List Entry) (cs : List Cached) → Pairs IsPlain store cs → store ≡ map entry_of_cached cs
 plain-all [] [] p = refl
 plain-all [] (c ∷ cs) p = absurd p
 plain-all (s ∷ ss) [] p = absurd p
 plain-all (s ∷ ss) (c ∷ cs) p = λ i. p.0 i ∷ plain-all ss cs p.1 i
 
--- what is kept of each is a store of them
+-- the unmarked entries correspond to the cache
 all-plain : (cs : List Cached) → Pairs IsPlain (map entry_of_cached cs) cs
 all-plain [] = tt
 all-plain (c ∷ cs) = (refl, all-plain cs)
 
--- the cache of a history is within the limits, and has one entry for a key
+-- the cache of a history is within the limits, and has at most one entry for a key
 pub cache-within : (setting : Setting) (history : List Deed) (cached : List Cached) → IsCacheOf setting history cached → IsStore (store_limits setting) (map entry_of_cached cached)
 cache-within setting _ _ empty = record { distinct = refl; within_bytes = omega arith; within_entries = omega arith }
 cache-within setting _ _ (kept {past = past} {cached = cs} {former = former} d x gets opening is was opens at c) =
@@ -242,7 +243,7 @@ cache-within setting _ _ (hit {past = past} {cached = cs} d client request targe
     subst (IsStore (store_limits setting)) same (IsStore-used (store_limits setting) key (map entry_of_cached cs) (cache-within setting past cs c))
 cache-within setting _ _ (otherwise {past = past} {cached = cs} d leaving c) = cache-within setting past cs c
 
--- and so is a store that has it
+-- and so is a store that corresponds to it
 pub store-within : (setting : Setting) (history : List Deed) (store : List Entry) → IsStoreOf setting history store → IsStore (store_limits setting) store
 store-within setting history store s =
     let within = cache-within setting history s.cached s.is_cache in

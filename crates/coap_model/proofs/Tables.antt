@@ -1,4 +1,4 @@
--- Tables in order of number: what is found in them, and what is left of them.
+-- Tables in order of number: what is found in them, and what remains of them.
 use Rattle.std.proofs.Common.{◌≡◌, ◌≢◌, ◌⊎◌, inl, inr, ⊎_elim, ℕ, suc, ◌+◌, ◌<◌, ◌≤◌, List, [], ◌∷◌, ◌++◌, length, Bool, true, false, cond, eqb, Some, None, refl, sym, ap, ◌∙◌, arith}
 use Rattle.std.specs.Prelude.{not}
 use Rattle.std.specs.List.{AllByRecursion}
@@ -15,7 +15,7 @@ use Rattle.coap_model.specs.Carries.{HasNumber, HasExchange}
 
 -- ---- what is found
 
--- what is there is above the least
+-- an item of the table has a number above the least
 pub Has-above : {A : Type 0} (least : ℕ) (xs : List (Numbered A)) (x : Numbered A) → IsRising least xs → Has x xs → least < x.0
 Has-above least [] x r h = absurd h
 Has-above {A} least (y ∷ ys) x r h =
@@ -24,7 +24,7 @@ Has-above {A} least (y ∷ ys) x r h =
     (λ (there : Has x ys). let above = r.0 in let i = Has-above y.0 ys x r.1 there in omega arith)
     h
 
--- what is there is found under its number
+-- an item of the table is found by its number
 pub Has-item : {A : Type 0} (least : ℕ) (xs : List (Numbered A)) (x : Numbered A) → IsRising least xs → Has x xs → item_at x.0 xs ≡ Some x.1
 Has-item least [] x r h = absurd h
 Has-item {A} least (y ∷ ys) x r h =
@@ -33,7 +33,7 @@ Has-item {A} least (y ∷ ys) x r h =
     (λ (there : Has x ys). let above = Has-above y.0 ys x r.1 there in let other : eqb x.0 y.0 ≡ false = ne_eqb _ _ (λ e. omega arith) in rw other (Has-item y.0 ys x r.1 there))
     h
 
--- what is found under a number is there
+-- an item that is found by a number is in the table
 pub item-Has : {A : Type 0} (n : ℕ) (xs : List (Numbered A)) (a : A) → item_at n xs ≡ Some a → Has (n, a) xs
 item-Has n [] a e = absurd cc
 item-Has {A} n (y ∷ ys) a e = go (eqb n y.0) refl (λ f. item-Has n ys a f) e
@@ -42,7 +42,7 @@ item-Has {A} n (y ∷ ys) a e = go (eqb n y.0) refl (λ f. item-Has n ys a f) e
     go true t rest f = inl (λ i. (eqb-true n y.0 t i, same_Some a y.1 (sym f) i))
     go false t rest f = inr (rest f)
 
--- where nothing is found, no item has the number
+-- if nothing is found, no item has the number
 pub item-none : {A : Type 0} (n : ℕ) (xs : List (Numbered A)) → item_at n xs ≡ None → HasNumber n xs → ⊥
 item-none n [] e h = h
 item-none n (y ∷ ys) e h = go (eqb n y.0) refl (λ f t. item-none n ys f t) e
@@ -51,12 +51,12 @@ item-none n (y ∷ ys) e h = go (eqb n y.0) refl (λ f t. item-none n ys f t) e
     go true t rest f = absurd cc
     go false t rest f = ⊎_elim (λ (same : n ≡ y.0). eqb-false n y.0 t same) (λ (there : HasNumber n ys). rest f there) h
 
--- what is there has its number
+-- an item of the table has its number in the table
 pub Has-number : {A : Type 0} (xs : List (Numbered A)) (x : Numbered A) → Has x xs → HasNumber x.0 xs
 Has-number [] x h = h
 Has-number {A} (y ∷ ys) x h = ⊎_elim (λ (same : x ≡ y). inl (ap (λ (z : Numbered A). z.0) same)) (λ (there : Has x ys). inr (Has-number ys x there)) h
 
--- the item of a number that is there
+-- the item with a number that is in the table
 pub at-number : {A : Type 0} (P : Numbered A → Type 0) (n : ℕ) (xs : List (Numbered A)) → HasNumber n xs → AllByRecursion P xs → (x : Numbered A) × (n ≡ x.0) × P x × Has x xs
 at-number P n [] h p = absurd h
 at-number {A} P n (x ∷ xs) h p =
@@ -65,15 +65,15 @@ at-number {A} P n (x ∷ xs) h p =
     (λ (there : HasNumber n xs). let f = at-number P n xs there p.1 in (f.0, f.1, f.2, inr f.3))
     h
 
--- what holds of each holds of what is found
+-- what holds of each item holds of the one that is found
 pub item-holds : {A : Type 0} (P : Numbered A → Type 0) (n : ℕ) (xs : List (Numbered A)) (a : A) → AllByRecursion P xs → item_at n xs ≡ Some a → P (n, a)
 item-holds P n xs a all e = Has-holds P xs (n, a) all (item-Has n xs a e)
 
--- two that are there under one number are one
+-- two items of the table with the same number are equal
 pub one-item : {A : Type 0} (least : ℕ) (xs : List (Numbered A)) (x y : Numbered A) → IsRising least xs → Has x xs → Has y xs → x.0 ≡ y.0 → x.1 ≡ y.1
 one-item least xs x y r h k same = same_Some x.1 y.1 (sym (Has-item least xs x r h) ∙ ap (λ (n : ℕ). item_at n xs) same ∙ Has-item least xs y r k)
 
--- one that passes is counted
+-- an item that passes the test is counted
 pub count-some : {A : Type 0} (test : A → Bool) (xs : List (Numbered A)) (x : Numbered A) → Has x xs → test x.1 ≡ true → 0 < count test xs
 count-some test [] x h t = absurd h
 count-some {A} test (y ∷ ys) x h t =
@@ -82,14 +82,14 @@ count-some {A} test (y ∷ ys) x h t =
     (λ (there : Has x ys). let i = count-some test ys x there t in omega arith)
     h
 
--- the exchange that a client waits for is there, where all that were there are
+-- the exchange that a client waits for is there, if all exchanges are still there
 pub HasExchange-on : (s : WaiterState) (xs ys : List (Numbered Exchange)) → ((n : ℕ) → HasNumber n xs → HasNumber n ys) → HasExchange s xs → HasExchange s ys
 HasExchange-on (Waiting exchange) xs ys on has = on exchange has
 HasExchange-on (Delivering bytes id timer) xs ys on has = tt
 
 -- ---- one item changes
 
--- what holds of the changed one and of all others holds of each after the change
+-- what holds of the changed item and of all others holds of each item after the change
 pub changed-cases : {A : Type 0} (P : Numbered A → Type 0) (n : ℕ) (f : A → A) (y : Numbered A) → (y.0 ≡ n → P (y.0, f y.1)) → (y.0 ≢ n → P y) → P (changed n f y)
 changed-cases P n f y yes_one other = go (eqb y.0 n) refl
   where
@@ -97,7 +97,7 @@ changed-cases P n f y yes_one other = go (eqb y.0 n) refl
     go true t = yes_one (eqb-true y.0 n t)
     go false t = other (eqb-false y.0 n t)
 
--- numbers stay
+-- the numbers stay
 pub HasNumber-changed : {A : Type 0} (n m : ℕ) (f : A → A) (xs : List (Numbered A)) → HasNumber m xs → HasNumber m (changed_at n f xs)
 HasNumber-changed n m f [] h = h
 HasNumber-changed {A} n m f (x ∷ xs) h = ⊎_elim (λ (e : m ≡ x.0). inl (e ∙ number (eqb x.0 n))) (λ (t : HasNumber m xs). inr (HasNumber-changed n m f xs t)) h
@@ -106,9 +106,9 @@ HasNumber-changed {A} n m f (x ∷ xs) h = ⊎_elim (λ (e : m ≡ x.0). inl (e 
     number true = refl
     number false = refl
 
--- ---- one item is closed
+-- ---- one item is removed
 
--- one that is there is gone, and no other
+-- the item with the number is removed, and no other
 pub length-without : {A : Type 0} (n least : ℕ) (xs : List (Numbered A)) → HasNumber n xs → IsRising least xs → length (without n xs) + 1 ≡ length xs
 length-without n least [] h r = absurd h
 length-without {A} n least (x ∷ xs) h r = go (eqb x.0 n) refl (λ there. length-without n x.0 xs there r.1)
@@ -117,7 +117,7 @@ length-without {A} n least (x ∷ xs) h r = go (eqb x.0 n) refl (λ there. lengt
     go true e rest = let same = eqb-true x.0 n e in rw (none-below n x.0 xs (omega arith) r.1) (omega arith)
     go false e rest = ⊎_elim (λ (same : n ≡ x.0). absurd (eqb-false x.0 n e (sym same))) (λ (there : HasNumber n xs). let i = rest there in omega arith) h
 
--- so there are no more than before
+-- so there aren't more than before
 pub without-fewer : {A : Type 0} (n : ℕ) (xs : List (Numbered A)) → length (without n xs) ≤ length xs
 without-fewer n [] = omega arith
 without-fewer {A} n (x ∷ xs) = go (eqb x.0 n) (without-fewer n xs)
@@ -126,7 +126,7 @@ without-fewer {A} n (x ∷ xs) = go (eqb x.0 n) (without-fewer n xs)
     go true i = omega arith
     go false i = omega arith
 
--- other numbers stay
+-- the other numbers stay
 pub HasNumber-without : {A : Type 0} (n m : ℕ) (xs : List (Numbered A)) → m ≢ n → HasNumber m xs → HasNumber m (without n xs)
 HasNumber-without n m [] other h = h
 HasNumber-without {A} n m (x ∷ xs) other h = go (eqb x.0 n) refl (λ there. HasNumber-without n m xs other there)
@@ -137,12 +137,12 @@ HasNumber-without {A} n m (x ∷ xs) other h = go (eqb x.0 n) refl (λ there. Ha
 
 -- ---- one is added at the end
 
--- numbers stay with one more
+-- the numbers stay if an item is added
 pub HasNumber-push : {A : Type 0} (m : ℕ) (xs ys : List (Numbered A)) → HasNumber m xs → HasNumber m (xs ++ ys)
 HasNumber-push m [] ys h = absurd h
 HasNumber-push m (x ∷ xs) ys h = ⊎_elim (λ (e : m ≡ x.0). inl e) (λ (t : HasNumber m xs). inr (HasNumber-push m xs ys t)) h
 
--- and the last one is there
+-- and the number of the last item is there
 pub HasNumber-last : {A : Type 0} (n : ℕ) (xs : List (Numbered A)) (a : A) → HasNumber n (xs ++ (n, a) ∷ [])
 HasNumber-last n [] a = inl refl
 HasNumber-last n (x ∷ xs) a = inr (HasNumber-last n xs a)

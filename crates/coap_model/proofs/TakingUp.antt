@@ -1,4 +1,5 @@
--- What goes out at once where a message is taken up: nothing, or of a Confirmable one the acknowledgement.
+-- What is sent immediately if a message is accepted: nothing, or an acknowledgement if it is
+-- Confirmable.
 use Rattle.std.proofs.Common.{◌≡◌, ℕ, ◌≤◌, true, false, List, length, Option, sym, subst, arith}
 use Rattle.coap_message.specs.declared.kind.Kind.{Kind}
 use Rattle.coap_message.specs.declared.kind.Kind.TheVariants.{Con, Non, Ack, Rst}
@@ -12,26 +13,26 @@ use Rattle.coap_model.specs.Justified.{Tells, IsSilent, TakesUp}
 use Rattle.coap_model.proofs.Rules.{IsTakenUp, silently, with_acknowledgement}
 use Rattle.coap_model.proofs.Spelled.{acknowledgement-is, acknowledgement-short}
 
--- of what isn't Confirmable nothing is sent at once
+-- for a message that isn't Confirmable, nothing is sent immediately
 pub silent-up : (k : Kind) (source : Endpoint) (id : ℕ) (e : Entry) → is_con k ≡ false → IsSilent e → TakesUp k source id e
 silent-up Con source id e other silent = absurd cc
 silent-up Non source id e other silent = silent
 silent-up Ack source id e other silent = silent
 silent-up Rst source id e other silent = silent
 
--- what is Confirmable is acknowledged
+-- a Confirmable message is acknowledged
 pub told-up : (k : Kind) (source : Endpoint) (id : ℕ) (e : Entry) → is_con k ≡ true → Tells source (acknowledgement id) e → TakesUp k source id e
 told-up Con source id e con tells = tells
 told-up Non source id e con tells = absurd cc
 told-up Ack source id e con tells = absurd cc
 told-up Rst source id e con tells = absurd cc
 
--- where a message is taken up, it is taken up by the history too
+-- a message that is accepted is accepted according to the history
 pub taken-up : (client : Endpoint) (m : Message) (send : Option Endpoint) (told : List ℕ) (e : Entry) → e.report.send ≡ send → e.bytes ≡ told → IsTakenUp client m send told → TakesUp m.kind client m.id e
 taken-up client m _ _ e to is (silently other) = silent-up m.kind client m.id e other (record { sent = to; bytes = is })
 taken-up client m _ _ e to is (with_acknowledgement con) = told-up m.kind client m.id e con (record { sent = to; spells = subst (λ (b : List ℕ). Spells b (acknowledgement m.id)) (sym is) (spelled (acknowledgement m.id) (acknowledgement-is m.id)) })
 
--- and what goes out then is short
+-- and what is sent then is short
 pub taken-short : (client : Endpoint) (m : Message) (send : Option Endpoint) (told : List ℕ) → IsTakenUp client m send told → (most : ℕ) → 128 ≤ most → length told ≤ most
 taken-short client m _ _ (silently other) most wide = omega arith
 taken-short client m _ _ (with_acknowledgement con) most wide = omega (arith, wide, acknowledgement-short m.id)

@@ -1,4 +1,4 @@
--- What a step found of memory is told by its report.
+-- The report of a step says whether there was memory.
 use Rattle.std.proofs.Common.{◌≡◌, ℕ, Bool, true, false, nat_le, List, Option, Some, None, refl, ap}
 use Rattle.std.specs.Prelude.{◌&&◌, if◌then◌else◌}
 use Rattle.coap_message.specs.Codes.{is_request, is_response}
@@ -30,20 +30,20 @@ use Rattle.coap_model.specs.Step.{on_no_response, on_no_request, message_in, on_
 use Rattle.coap_model.specs.World.{World, Step, known_of, has_record_room, remembers, drops, unprocessed, says, silent}
 use Rattle.coap_model.proofs.Rules.{answered_world}
 
--- a step that hangs on the memory is the one of its own report
+-- a step that depends on the memory is the one that its own report determines
 abbrev IsTold : (Bool → Step) → Type 0
 IsTold s = (grown : Bool) → s (grown_of (s grown).report.outcome) ≡ s grown
 
--- so is one of two that are
+-- so is a choice between two such steps
 either : (b : Bool) (s t : Bool → Step) → IsTold s → IsTold t → IsTold (λ grown. if b then s grown else t grown)
 either true s t p q = p
 either false s t p q = q
 
--- and one that is remembered besides
+-- and one whose message is remembered
 remembered-told : (now : ℕ) (source : Endpoint) (m : Message) (s : Bool → Step) → IsTold s → IsTold (λ grown. remembers now source m (s grown))
 remembered-told now source m s told grown = ap (remembers now source m) (told grown)
 
--- an answer tells how it was stored, whatever goes out at once
+-- an answer's report says how it was stored, whatever is sent immediately
 so-outcome : (w : World) (now : ℕ) (a : Arrived) (storing : Storing) (store : List Entry) → (answers_so w now a storing store).report.outcome ≡ Answered storing
 so-outcome w now a storing store = go (is_con a.message.kind)
   where
@@ -51,13 +51,13 @@ so-outcome w now a storing store = go (is_con a.message.kind)
     go true = refl
     go false = refl
 
--- what is kept hangs on the memory where its key has no entry
+-- an answer that is kept depends on the memory if its key has no entry
 kept-told : (w : World) (now : ℕ) (a : Arrived) (o : Option Entry) → IsTold (λ grown. keeps_if w now grown a o)
 kept-told w now a None true = ap (λ (o : Outcome). keeps_if w now (grown_of o) a None) (so-outcome w now a Kept _)
 kept-told w now a None false = ap (λ (o : Outcome). keeps_if w now (grown_of o) a None) (so-outcome w now a NoMemory w.store)
 kept-told w now a (Some entry) grown = refl
 
--- what an answer stores
+-- storing an answer
 answers-told : (w : World) (now : ℕ) (source : Endpoint) (m : Message) (x : Numbered Exchange) → IsTold (λ grown. answers w now grown source m x)
 answers-told w now source m x =
     let a : Arrived = record { source = source; message = m; exchange = x; answer = answer_for w now m x.1 } in
@@ -69,24 +69,24 @@ answers-told w now source m x =
 
 -- ---- responses
 
--- with an exchange that awaits it
+-- a response with an exchange that may await it
 awaited-told : (w : World) (now : ℕ) (source : Endpoint) (m : Message) (o : Option (Numbered Exchange)) → IsTold (λ grown. on_awaited w now grown source m o)
 awaited-told w now source m None = λ grown. refl
 awaited-told w now source m (Some x) = answers-told w now source m x
 
--- in a message of its own
+-- a Confirmable response
 separate-told : (w : World) (now : ℕ) (source : Endpoint) (m : Message) (o : Option (Numbered Exchange)) → IsTold (λ grown. on_separate w now grown source m o)
 separate-told w now source m None = λ grown. refl
 separate-told w now source m (Some x) =
     either (has_record_room w now m.kind) (λ grown. remembers now source m (answers w now grown source m x)) (λ grown. drops w now)
     (remembered-told now source m (λ grown. answers w now grown source m x) (answers-told w now source m x)) (λ grown. refl)
 
--- that is not known
+-- a Confirmable response that may be known
 unknown-told : (w : World) (now : ℕ) (source : Endpoint) (m : Message) (o : Option Record) → IsTold (λ grown. on_unknown w now grown source m o)
 unknown-told w now source m None = separate-told w now source m (awaiting w source m)
 unknown-told w now source m (Some known) = λ grown. refl
 
--- of each type
+-- a response of any type
 response-told : (w : World) (now : ℕ) (source : Endpoint) (m : Message) (k : Kind) → IsTold (λ grown. on_response_in k w now grown source m)
 response-told w now source m Con = unknown-told w now source m (known_of w now source m)
 response-told w now source m Non = awaited-told w now source m (awaiting w source m)
@@ -95,7 +95,7 @@ response-told w now source m Rst = awaited-told w now source m (awaiting w sourc
 
 -- ---- Empty messages
 
--- for an exchange that is found
+-- an Empty message for an exchange that is found
 found-told : (w : World) (now : ℕ) (source : Endpoint) (m : Message) (n : ℕ) (o : Option Exchange) → IsTold (λ grown. on_exchange w now grown source m n o)
 found-told w now source m n None = λ grown. refl
 found-told w now source m n (Some x) =
@@ -103,14 +103,14 @@ found-told w now source m n (Some x) =
     (either (is_ack m.kind) (λ grown. acknowledges w now n) (λ grown. answers w now grown source m (n, x)) (λ grown. refl) (answers-told w now source m (n, x)))
     (λ grown. refl)
 
--- for what was sent
+-- an Empty message for something that was sent
 sent-told : (w : World) (now : ℕ) (source : Endpoint) (m : Message) (o : Option ℕ) → IsTold (λ grown. on_sent w now grown source m o)
 sent-told w now source m None = λ grown. refl
 sent-told w now source m (Some n) = found-told w now source m n (item_at n w.exchanges)
 
 -- ---- steps
 
--- a datagram that was read tells it
+-- a datagram that was read
 read-told : (w : World) (now : ℕ) (source : Endpoint) (h : Option Head) (o : Option Message) → IsTold (λ grown. on_read w now grown source h o)
 read-told w now source None o = λ grown. refl
 read-told w now source (Some head) None = λ grown. refl
@@ -119,12 +119,12 @@ read-told w now source (Some head) (Some m) =
     (either (brings_responses m.kind && is_response m.code) (λ grown. on_response w now grown source m) (λ grown. on_no_response w now grown source m) (response-told w now source m m.kind)
     (either (is_bare m) (λ grown. on_empty w now grown source m) (λ grown. unprocessed w now source m.kind m.id) (sent-told w now source m (first_that (was_sent_as source m.id now) w.exchanges)) (λ grown. refl)))
 
--- a step is the one of its own report
+-- each step is the one that its own report determines
 pub step-told : (w : World) (now draw : ℕ) (event : Event) (grown : Bool) → step_of w now draw (grown_of (step_of w now draw grown event).report.outcome) event ≡ step_of w now draw grown event
 step-told w now draw (arrival source bytes) = read-told w now source (head_at bytes) (message_in w.setting.limits.datagram bytes)
 step-told w now draw tick = λ grown. refl
 
--- an outcome tells that memory was wanting only where an answer wasn't stored for want of it
+-- an outcome says that memory ran out only if an answer wasn't stored for this reason
 pub wanting-told : (outcome : Outcome) → grown_of outcome ≡ false → outcome ≡ Answered NoMemory
 wanting-told (Answered NoMemory) e = refl
 wanting-told _ e = absurd cc

@@ -1,4 +1,4 @@
--- A tick is idle exactly where nothing is due.
+-- A tick is idle exactly if nothing is due.
 use Rattle.std.proofs.Common.{◌≡◌, ◌≢◌, ℕ, ◌<◌, ◌≤◌, Bool, true, false, leb, List, Option, Some, None, refl, arith}
 use Rattle.std.specs.Prelude.{option_map}
 use Rattle.std.proofs.lemmas.Bool.{lt-leb, le-leb}
@@ -14,7 +14,7 @@ use Rattle.coap_model.specs.Carries.{Bears, Carries}
 use Rattle.coap_model.proofs.Idling.{not-stuck}
 use Rattle.coap_model.proofs.Rules.{Rule, refusing, lacking, overloading, hitting, joining, opening, repeating, dropping, answering, answering_con, acknowledging, closing, rejecting, ignoring, forwarding, resending, giving_up, delivering, redelivering, abandoning, idling, stuck, rule_of}
 
--- where no tick is wanted, a tick is idle
+-- if no tick is needed, a tick is idle
 pub idle-none : (w : World) (now draw : ℕ) (grown : Bool) → next_due w ≡ None → (step_of w now draw grown tick).report.outcome ≡ Idle
 idle-none w now draw grown e = go (item_due w) e
   where
@@ -22,7 +22,7 @@ idle-none w now draw grown e = go (item_due w) e
     go None f = refl
     go (Some i) f = absurd cc
 
--- before its moment too
+-- so is a tick before the moment at which something is due
 pub idle-later : (w : World) (now draw at : ℕ) (grown : Bool) → next_due w ≡ Some at → now < at → (step_of w now draw grown tick).report.outcome ≡ Idle
 idle-later w now draw at grown e later = go (item_due w) e
   where

@@ -24,21 +24,21 @@ use Rattle.coap_model.proofs.Rules.{IsTurnOf}
 use Rattle.coap_model.proofs.Tables.{item-Has, item-holds, one-item}
 
 module _ (w : World) (history : List Deed) (c : Bears history w) (now at number : ℕ) (x : Exchange) (turn : IsTurnOf w now at number x) where
-  -- it is there
+  -- the exchange is in the table
   pub turn-there : Has (number, x) w.exchanges
   turn-there = item-Has number w.exchanges x turn.found
 
   abbrev pub turn-exchange : IsExchangeOf w.setting history (number, x)
   turn-exchange = item-holds (IsExchangeOf w.setting history) number w.exchanges x c.exchanges turn.found
 
-  -- it is due since a moment that has come
+  -- it is due from a moment on that has come
   pub turn-due : (due_of w x ≡ Some at) × (at ≤ now)
   turn-due =
       let first = turn-is w history c now (OfExchange at number) turn.due in
       let d = first_due-holds (λ y. Has y w.exchanges) (due_of w) w.exchanges (at, number) (Has-all w.exchanges) (exchange-turn w history c at number first.0) in
       (subst (λ (a : Exchange). due_of w a ≡ Some at) (one-item 0 w.exchanges d.0 (number, x) c.whole.rising d.1 turn-there d.2) d.3, first.1)
 
-  -- its end hasn't come
+  -- its deadline hasn't come
   pub turn-in_time : now < deadline w.setting.limits.exchange_ms x → InTime w.setting history number now
   turn-in_time early m end =
       let f = turn-exchange in
@@ -48,7 +48,7 @@ module _ (w : World) (history : List Deed) (c : Bears history w) (now at number 
       omega (arith, early, moment, is)
 
   module _ (is : x.state ≡ Queued) (early : now < deadline w.setting.limits.exchange_ms x) where
-    -- one that is to be sent isn't blocked
+    -- one that is due to be sent isn't blocked
     pub turn-free : (is_blocked w.setting.limits.nstart w.exchanges x ≡ false) × (x.admitted ≡ at)
     turn-free = go (is_blocked w.setting.limits.nstart w.exchanges x) refl (sym (ap (λ (s : ExchangeState). due_in s (is_blocked w.setting.limits.nstart w.exchanges x) w.setting.limits.exchange_ms x) is) ∙ turn-due.0)
       where
@@ -56,7 +56,7 @@ module _ (w : World) (history : List Deed) (c : Bears history w) (now at number 
         go true t e = absurd (let come = turn-due.1 in let late = same_Some (deadline w.setting.limits.exchange_ms x) at e in omega (arith, early, come, late))
         go false t e = (t, same_Some x.admitted at e)
 
-    -- so it may be sent
+    -- so its request may be sent
     pub turn-few : count (is_sent_to x.key.target.at) w.exchanges < w.setting.limits.nstart
     turn-few = leb-false _ _ turn-free.0
 
@@ -79,7 +79,7 @@ module _ (w : World) (history : List Deed) (c : Bears history w) (now at number 
     lesser : min s.timer.due (deadline w.setting.limits.exchange_ms x) ≡ at
     lesser = same_Some _ at (ap (λ (o : Option Sending). Some (timer_or (deadline w.setting.limits.exchange_ms x) o)) (sym sending) ∙ ap (λ (t : ExchangeState). due_in t (is_blocked w.setting.limits.nstart w.exchanges x) w.setting.limits.exchange_ms x) (sym is) ∙ turn-due.0)
 
-    -- before its deadline it is due since the end of its timeout
+    -- before its deadline, it is due since the end of its timeout
     pub turn-ended : now < deadline w.setting.limits.exchange_ms x → at ≡ s.timer.due
     turn-ended early =
         ⊎_elim

@@ -1,4 +1,4 @@
--- What becomes of a request: the codes of refusals, and what may be asked for.
+-- What becomes of a request: the codes of refusals, and which requests may be forwarded.
 use Rattle.std.proofs.Common.{◌≡◌, ◌≢◌, ℕ, ◌+◌, ◌≤◌, Bool, true, false, cond, List, length, Option, Some, None, Result, Ok, Err, refl, sym, ◌∙◌, ap, subst, arith}
 use Rattle.std.proofs.lemmas.Bool.{leb-true}
 use Rattle.coap_message.specs.declared.code.Code.{Code}
@@ -25,7 +25,8 @@ use Rattle.coap_model.specs.Setting.{Setting}
 use Rattle.coap_model.specs.History.{Deed}
 use Rattle.coap_model.specs.Justified.{Deserves, by_verdict, by_length}
 
--- what may be asked for: a request of a known method that passes the screening, with its target and the key of that
+-- which requests may be forwarded: those with a known method that pass the screening, with their
+-- target and its key
 pub record IsAskable (routes : Routes) (m : Message) (key : CacheKey) : Type 0 where
   pub method : is_method m.code ≡ true
   pub screened : first_refused Request m.options ≡ None
@@ -33,7 +34,8 @@ pub record IsAskable (routes : Routes) (m : Message) (key : CacheKey) : Type 0 w
   pub key_is : key ≡ request_key key.target m
   pub sound : IsTarget key.target
 
--- a request that is sent on is as long as with eight zeros, but for its token
+-- a forwarded request is as long as one with a token of eight zeros, plus the difference of the
+-- tokens
 pub form-length : (token : List ℕ) (t : Target) (tag : Option (List ℕ)) (m : Message) → length (spelling (forwarded token t tag m 0)) + 8 ≡ length (spelling (forwarded eight_zeros t tag m 0)) + length token
 form-length token t tag m = omega (arith, spelling-length (forwarded token t tag m 0), spelling-length (forwarded eight_zeros t tag m 0))
 
@@ -42,7 +44,7 @@ pub form-short : (most : ℕ) (t : Target) (tag : Option (List ℕ)) (m : Messag
 unfolding form_fits
 form-short most t tag m fits token eight = omega (arith, form-length token t tag m, eight, leb-true _ _ fits)
 
--- codes of one number are one
+-- codes with the same number are equal
 pub code-same : (a b : Code) → a.0 ≡ b.0 → a ≡ b
 code-same a b e = let same : ◌≡◌ {A = Code} (record { 0 = a.0 }) (record { 0 = b.0 }) = rw e refl in same
 
@@ -53,23 +55,23 @@ refusal-coded NotProxied = λ z. absurd (omega arith)
 refusal-coded NotFound = λ z. absurd (omega arith)
 refusal-coded OutOfMemory = λ z. absurd (omega arith)
 
--- a verdict is right: a refusal has a code, and what may be asked for is askable
+-- a verdict is right: a refusal has a code, and what may be forwarded is as described
 abbrev Right : Routes → Message → Verdict → Type 0
 Right routes m (refused_with code) = code.0 ≢ 0
 Right routes m (may_ask key) = IsAskable routes m key
 
 module _ (routes : Routes) (m : Message) (are : AreRoutes routes) where
-  -- the verdict on a target is
+  -- the verdict on a target is right
   target-right : is_method m.code ≡ true → first_refused Request m.options ≡ None → (r : Result Target TargetError) → request_target routes m ≡ r → Right routes m (verdict_of_target m r)
   target-right method screened (Err e) is = refusal-coded e
   target-right method screened (Ok t) is = record { method = method; screened = screened; target_is = is; key_is = refl; sound = request_target-is routes m t are screened is }
 
-  -- so is that on its options
+  -- so is the verdict on the options
   options-right : is_method m.code ≡ true → (o : Option ℕ) → first_refused Request m.options ≡ o → Right routes m (verdict_of_options routes m o)
   options-right method (Some number) refused = λ z. absurd (omega arith)
   options-right method None screened = target-right method screened (request_target routes m) refl
 
-  -- and that on a request
+  -- and so is the verdict on the request
   verdict-right : Right routes m (verdict_of routes m)
   unfolding verdict_of
   verdict-right = go (is_method m.code) refl
@@ -78,7 +80,7 @@ module _ (routes : Routes) (m : Message) (are : AreRoutes routes) where
       go true e = options-right e (first_refused Request m.options) refl
       go false e = λ z. absurd (omega arith)
 
-  -- what may be asked for is askable
+  -- what may be forwarded is as described
   pub askable : (key : CacheKey) → verdict_of routes m ≡ may_ask key → IsAskable routes m key
   askable key e = subst (Right routes m) e verdict-right
 
@@ -86,7 +88,7 @@ module _ (routes : Routes) (m : Message) (are : AreRoutes routes) where
   pub refused-code : (code : Code) → verdict_of routes m ≡ refused_with code → code.0 ≢ 0
   refused-code code e = subst (Right routes m) e verdict-right
 
--- neither is a code that a request deserves
+-- nor is a code that a request deserves
 pub deserved-code : (setting : Setting) (past : List Deed) (now : ℕ) (m : Message) → AreRoutes setting.routes → (code : Code) → Deserves setting past now m code → code.0 ≢ 0
 deserved-code setting past now m are code (by_verdict verdict) = refused-code setting.routes m are code verdict
 deserved-code setting past now m are code (by_length key verdict miss fits is) = λ zero. let big : REQUEST_ENTITY_TOO_LARGE.0 ≡ 0 = ap (λ (c : Code). c.0) (sym is) ∙ zero in absurd (omega arith)

@@ -1,4 +1,4 @@
--- A proxy keeps its word: what is promised, said in short, at each place of a history.
+-- A proxy keeps its promise: the promise in short, at each place of a history.
 use Rattle.std.proofs.Common.{◌≡◌, ⊎_elim, ℕ, ◌+◌, ◌<◌, ◌≤◌, Bool, true, false, List, [], ◌∷◌, ◌++◌, length, map, Option, Some, None, refl, sym, ap, ◌∙◌, subst, arith}
 use Rattle.std.specs.Prelude.{◌&&◌, filter, if◌then◌else◌}
 use Rattle.std.proofs.lemmas.Bool.{and_parts}
@@ -49,15 +49,15 @@ use Rattle.coap_model.proofs.Stores.{store-within}
 
 -- ---- exchanges and clients
 
--- a change of each leaves as many
+-- changing each element leaves as many
 same-many : {X : Type 0} (f : X → X) (xs : List X) (n : ℕ) → length xs ≤ n → length (map f xs) ≤ n
 same-many f xs n h = let e = length-map xs f in omega (arith, e, h)
 
--- and what is left of them is no more
+-- and filtering leaves no more
 fewer : {X : Type 0} (p : X → Bool) (xs : List X) (n : ℕ) → length xs ≤ n → length (filter p xs) ≤ n
 fewer p xs n h = let e = filter-length p xs in omega (arith, e, h)
 
--- no more exchanges are open than may, where there was room for one that is opened
+-- no more exchanges are open than the limit, if there was room for one that is opened
 open-few : (n : ℕ) (o : Outcome) (act : Act) (send : Option Endpoint) (standing : List Standing) (xs : List Open) → (o ≡ Opened → length xs < n) → length xs ≤ n → length (open_by o act send standing xs) ≤ n
 open-few n Opened (admits v x) send standing xs room few = let e = length-append xs (record { number = x; stage = queued } ∷ []) in let r = room refl in omega (arith, e, r)
 open-few n SentRequest (moves x) (Some to) standing xs room few = same-many (at_stage x (sent to)) xs n few
@@ -68,7 +68,7 @@ open-few n Delivered act send standing xs room few = fewer _ xs n few
 open-few n SentRequest (moves x) None standing xs room few = few
 open-few n _ _ send standing xs room few = few
 
--- nor do more clients wait than may
+-- nor are more clients pending than the limit
 standing-few : (n : ℕ) (o : Outcome) (act : Act) (bytes : List ℕ) (standing : List Standing) → (o ≡ Opened → length standing < n) → (o ≡ Joined → length standing < n) → length standing ≤ n → length (standing_by o act bytes standing) ≤ n
 standing-few n Opened (admits v x) bytes standing opens joins few = let e = length-append standing (record { number = v; service = waits x } ∷ []) in let r = opens refl in omega (arith, e, r)
 standing-few n Joined (admits v x) bytes standing opens joins few = let e = length-append standing (record { number = v; service = waits x } ∷ []) in let r = joins refl in omega (arith, e, r)
@@ -81,7 +81,7 @@ standing-few n Delivered (serves v) bytes standing opens joins few = go (is_con_
     go false = fewer _ standing n few
 standing-few n _ _ bytes standing opens joins few = few
 
--- so it is at each place
+-- so the limit holds at each place
 pub open-within : (setting : Setting) (history : List Deed) → AllJustified setting history → length (open_in history) ≤ setting.limits.exchanges
 open-within setting [] all = omega arith
 open-within setting (d ∷ past) all =
@@ -89,7 +89,7 @@ open-within setting (d ∷ past) all =
     (λ is. let j = subst (λ (o : Outcome). JustifiedBy o setting past d) is all.0 in j.room.exchange)
     (open-within setting past all.1)
 
--- and so for clients
+-- and so does the limit for clients
 pub standing-within : (setting : Setting) (history : List Deed) → AllJustified setting history → length (standing_in history) ≤ setting.limits.waiters
 standing-within setting [] all = omega arith
 standing-within setting (d ∷ past) all =
@@ -100,7 +100,7 @@ standing-within setting (d ∷ past) all =
 
 -- ---- what is remembered
 
--- an entry leaves nothing to be remembered, or one message for which there was room
+-- an entry adds no record, or one for which there was room
 data LeavesFew (setting : Setting) (kind : Kind) (past : List Deed) (d : Deed) : List Record → Type 0 where
   nothing : LeavesFew setting kind past d []
   one : (r : Record) → length (remembered_at kind d.entry.now past) < most_remembered kind setting.limits → LeavesFew setting kind past d (r ∷ [])
@@ -125,14 +125,14 @@ leaves-few setting kind past d j = go d.entry.event refl
     go (arrival source bytes) came = headed source bytes came (head_at bytes) refl
     go tick came = nothing
 
--- no more is remembered at a moment than at one before
+-- no more is remembered at a moment than at an earlier one
 remembered-later : (kind : Kind) (history : List Deed) (now later : ℕ) → now ≤ later → length (remembered_at kind later history) ≤ length (remembered_at kind now history)
 remembered-later kind history now later onward =
     let same = living-again (remembered_for kind) now later (kept_in kind history) onward in
     let few = length-living (remembered_for kind) later (living (remembered_for kind) now (kept_in kind history)) in
     omega (arith, ap (λ (rs : List Record). length rs) same, few)
 
--- and no more than may be
+-- and no more than the limit
 pub remembered-within : (setting : Setting) (kind : Kind) (history : List Deed) → AllJustified setting history → IsInOrder history → length (remembered_at kind (last_of history) history) ≤ most_remembered kind setting.limits
 remembered-within setting kind [] all ordered = omega arith
 remembered-within setting kind (d ∷ past) all ordered =
@@ -151,11 +151,11 @@ remembered-within setting kind (d ∷ past) all ordered =
 
 -- ---- each place
 
--- the deeds up to a place were justified, and in order
+-- the deeds up to a place are justified
 upto-justified : (setting : Setting) (history : List Deed) (p : Place) → AllJustified setting history → IsPlaceOf history p → AllJustified setting (until p)
 upto-justified setting history p all at = (justified-at setting history p p.deed.entry.report.outcome all at refl, all-before setting history p all at)
 
--- and in order
+-- and they are in order
 upto-ordered : (history : List Deed) (p : Place) → IsInOrder history → IsPlaceOf history p → IsInOrder (until p)
 upto-ordered [] p ordered at = absurd at
 upto-ordered (d ∷ past) p ordered at =
@@ -192,7 +192,7 @@ from-cache setting p routes all hit =
       shows = hit.tells;
     }
 
--- what repeats a place is told again what was told there
+-- a message that repeats a place gets what was sent there
 again-at : (setting : Setting) (p former : Place) (source : Endpoint) (m : Message) → AllJustified setting (until p) → IsInOrder (until p) → p.deed.entry.report.outcome ≡ Again → IsPlaceOf p.before former → Comes setting source m p.deed.entry.event → Repeats p.deed.entry.now source m former
     → IsToldAgain source m former p.deed.entry
 again-at setting p former source m all ordered is at comes repeats =
@@ -205,9 +205,9 @@ again-at setting p former source m all ordered is at comes repeats =
       again = subst (λ (e : Endpoint). SaysAgain e (told_again m.kind former.deed.entry.bytes) p.deed.entry) same.0 (subst (λ (r : Option (List ℕ)). SaysAgain j.source r p.deed.entry) reply j.says_again);
     }
 
--- ---- the word is kept
+-- ---- the promise is kept
 
--- a proxy keeps its word of whatever history it carries
+-- a proxy keeps its promise for any history that it carries
 pub keeps-word : (history : List Entry) (w : World) → Carries history w → KeepsItsWord history w
 keeps-word history w c =
     let setting = w.setting in
@@ -228,6 +228,6 @@ keeps-word history w c =
           before comes repeats;
     }
 
--- and so does a new one that does whatever comes
+-- and so does a new one, whatever happens
 pub runs-keep-word : (setting : Setting) (turns : List Taken) → AreRoutes setting.routes → AreTurns 0 (turns_of turns) → KeepsItsWord (run_of (new_run setting) turns).history (run_of (new_run setting) turns).world
 runs-keep-word setting turns routes are = keeps-word _ _ (runs_carry (new_run setting) turns (starts setting routes) are)

@@ -1,4 +1,4 @@
--- What becomes of an answer: what it changes, whether it is stored, and that the exchange has it
+-- How an answer is processed: what it changes, whether it is stored, and that the exchange has it
 -- (RFC 7252, 5.6 and 5.9.1).
 use Rattle.std.specs.Prelude.{ℕ, ◌&&◌, Bool, false, not, nat_le, if◌then◌else◌, List, [], ◌∷◌, map, Option, Some, None, option_map}
 use Rattle.coap_message.specs.Message.{Message}
@@ -20,12 +20,13 @@ use Rattle.coap_model.specs.World.{World, Step, later, takes_up}
 
 -- ---- changes
 
--- the entries of these targets are marked
+-- the entries with these targets are marked
 abbrev pub marked_all : List Target → List Entry → List Entry
 marked_all [] store = store
 marked_all (t ∷ changed) store = marked_all changed (map (marked t) store)
 
--- what an exchange brings whose request was sent before its target was changed is out of date
+-- exchanges whose requests were sent before their targets were changed are tainted: their answers
+-- may be out of date
 abbrev pub tainted_all : List Target → List (Numbered Exchange) → List (Numbered Exchange)
 tainted_all [] xs = xs
 tainted_all (t ∷ changed) xs = tainted_all changed (all_changed (tainted_by t) xs)
@@ -39,19 +40,19 @@ with_changed changed w = record w {
 
 -- ---- what is stored
 
--- an answer that has come: of whom, in which message, and for which exchange
+-- an answer that has arrived: from whom, in which message, and for which exchange
 pub record Arrived : Type 0 where
   pub source : Endpoint
   pub message : Message
   pub exchange : Numbered Exchange
   pub answer : Answer
 
--- the number of the event in which the request of an exchange was sent
+-- the number of the event in which the request of an exchange was sent; 0 before that
 abbrev pub asked_of : Option Sending → ℕ
 asked_of None = 0
 asked_of (Some s) = s.asked
 
--- what is stored of the answer of an exchange
+-- the entry that is stored for the answer of an exchange
 abbrev pub entry_made : World → ℕ → Numbered Exchange → Answer → Entry
 entry_made w now x a = (
   x.1.key,
@@ -64,7 +65,7 @@ entry_made w now x a = (
   },
 )
 
--- the exchange has its answer, and this is the store then; a message that is confirmable is
+-- the exchange has its answer, and the store becomes this one; a Confirmable message is
 -- acknowledged
 abbrev pub answers_so : World → ℕ → Arrived → Storing → List Entry → Step
 answers_so w now a storing store =
@@ -73,27 +74,28 @@ answers_so w now a storing store =
       store = store;
     })
 
--- it stands first in the store, and what no longer fits is given up
+-- the answer is put in front of the store, and what no longer fits is evicted
 abbrev pub keeps : World → ℕ → Arrived → Step
 keeps w now a =
     answers_so w now a Kept (put entry_key entry_size
     w.setting.limits.cache_bytes w.setting.limits.cache_entries
     (entry_made w now a.exchange a.answer) w.store)
 
--- only a key without an entry can want memory
+-- only a key without an entry needs memory
 abbrev pub keeps_if : World → ℕ → Bool → Arrived → Option Entry → Step
 keeps_if w now grown a None =
     if grown then keeps w now a else answers_so w now a NoMemory w.store
 keeps_if w now grown a (Some entry) = keeps w now a
 
--- an answer that alone counts more bytes than the store may keep isn't kept, nor what it replaces
+-- an answer that alone is larger than the limit of the store isn't kept, nor is what it would
+-- replace
 abbrev pub stores : World → ℕ → Bool → Arrived → Step
 stores w now grown a =
     if nat_le (entry_size (entry_made w now a.exchange a.answer)) w.setting.limits.cache_bytes
     then keeps_if w now grown a (of_key entry_key a.exchange.1.key w.store)
     else answers_so w now a TooLarge (others entry_key a.exchange.1.key w.store)
 
--- the answer to a GET whose target wasn't changed meanwhile
+-- a storable answer to a GET whose target wasn't changed meanwhile
 abbrev pub may_store : Exchange → Answer → Bool
 may_store x a = x.is_get && (not x.tainted && is_storable a)
 
@@ -105,13 +107,13 @@ answers_with w now grown a =
 
 -- ---- the answer
 
--- what the message gives for the exchange
+-- the answer that the message gives the exchange
 abbrev pub answer_for : World → ℕ → Message → Exchange → Answer
 answer_for w now m x =
     answer_of w.setting.limits.datagram x.is_get (option_map (λ s. s.response) x.copy) now m
 
--- The exchange has its answer, which a response gives, or a Reset: first what that changes is marked
--- and tainted. `grown` says whether there is memory for one entry more.
+-- The exchange gets its answer, from a response or a Reset: first, what the message changes is
+-- marked and tainted. `grown` says whether there is memory for one more entry.
 abbrev pub answers : World → ℕ → Bool → Endpoint → Message → Numbered Exchange → Step
 answers w now grown source m x =
     answers_with (with_changed (changed_by x.1.key.target m) w) now grown (record {

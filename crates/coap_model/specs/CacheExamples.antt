@@ -1,6 +1,5 @@
--- Words about the cache of a history, computed: what may be kept of a response, what is kept of a
--- small cache, and histories with their caches. The bytes are those of RFC 7252 (3, 3.1, 5.10),
--- written out.
+-- Definitions about the cache of a history, computed: which responses may be kept, what a small
+-- cache keeps, and histories with their caches. The bytes are encoded per RFC 7252 (3, 3.1, 5.10).
 use Rattle.std.specs.Prelude.{ℕ, Bool, true, false, List, [], ◌∷◌, codes, Option, Some, None, option_map}
 use Rattle.std.specs.Result.{result_ok}
 use Rattle.coap_message.specs.declared.kind.Kind.TheVariants.{Ack}
@@ -29,13 +28,13 @@ use Rattle.coap_model.specs.Cached.{Cached, cached_with}
 
 -- ---- what may be kept
 
--- whether what a response of this code with these options gives may be kept
+-- whether the answer from a response with this code and these options may be kept
 abbrev pub storable_in : ℕ → List ℕ → Option Bool
 storable_in code options =
     option_map (λ m. is_storable (answer_of 1500 true None 0 m))
     (result_ok (read_message (answer 0x68 code 1 1 options)))
 
--- a Max-Age in one byte, and one of 0 in none
+-- a Max-Age in one byte, and a Max-Age of 0 in an empty value
 abbrev pub max_age : ℕ → List ℕ
 max_age seconds = 0xD1 ∷ 1 ∷ seconds ∷ []
 
@@ -44,7 +43,7 @@ empty_max_age = 0xD0 ∷ 1 ∷ []
 
 -- ---- what is kept
 
--- 2.05 with a Max-Age of ten seconds, for an exchange, and the request that it answers
+-- a 2.05 with a Max-Age of ten seconds, for an exchange, and the request that it answers
 abbrev pub content_for : ℕ → ℕ → Message
 content_for id exchange =
     record {
@@ -60,7 +59,7 @@ abbrev pub get_for : ℕ → ℕ → Message
 get_for id exchange =
     forwarded (token_of 0 exchange) key_of_temp.target None bare_get id
 
--- an entry for a path of one segment, which came as so many-th
+-- an entry for a path with one segment, whose response arrived at the moment `came`
 abbrev pub entry_for : ℕ → ℕ → Cached
 entry_for segment came =
     record {
@@ -76,11 +75,11 @@ entry_for segment came =
           };
     }
 
--- a cache of two
+-- a cache with two entries
 abbrev pub two : List Cached
 two = entry_for 0x61 1 ∷ entry_for 0x62 2 ∷ []
 
--- what is kept where there is room for so many bytes and entries
+-- what is kept within a limit of bytes and a limit of entries
 abbrev pub kept_within : ℕ → ℕ → Cached → List Cached → List Cached
 kept_within bytes entries new cached =
     cached_with
@@ -91,7 +90,7 @@ kept_within bytes entries new cached =
 
 -- ---- histories
 
--- an answer of the origin to an exchange
+-- an answer from the origin server for an exchange
 abbrev pub answered : ℕ → ℕ → ℕ → Outcome → Deed
 answered now id exchange outcome =
     record {
@@ -107,7 +106,7 @@ answered now id exchange outcome =
 abbrev pub kept_past : List Deed
 kept_past = answered 5 1 1 (Answered Kept) ∷ asked ∷ opened ∷ []
 
--- another client asks for the same
+-- another client sends the same request
 abbrev pub hits : Deed
 hits =
     record {
@@ -122,7 +121,7 @@ hits =
 abbrev pub hit_past : List Deed
 hit_past = hits ∷ kept_past
 
--- an exchange is opened for it anew
+-- a new exchange is opened for the same
 abbrev pub opens_again : Deed
 opens_again =
     record {
@@ -133,7 +132,7 @@ opens_again =
 abbrev pub opened_past : List Deed
 opened_past = opens_again ∷ hit_past
 
--- and the origin is asked
+-- and its request is sent to the origin server
 abbrev pub asks_again : Deed
 asks_again =
     record { entry = record asked.entry { now = 15; bytes = limited.asked 3 2 }; act = moves 2 }
@@ -161,7 +160,7 @@ second_entry =
       getting = record { before = asked_past; deed = answered 20 3 2 (Answered Kept) };
     }
 
--- what a store keeps of the first
+-- the entry of a store for the first
 abbrev pub first_stored : Stored
 first_stored =
     record { response = content_for 1 1; asked = 1; got_no = 2; got = 5; marked = false }

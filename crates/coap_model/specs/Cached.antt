@@ -1,5 +1,5 @@
--- The cache of a history: which responses it has brought that may be kept, and in which order (RFC
--- 7252, 5.6 and 5.9.1). This file names no table.
+-- The cache of a history: which storable responses arrived in it, and in which order they are kept
+-- (RFC 7252, 5.6 and 5.9.1). This file names no table.
 use Rattle.std.specs.Prelude.{◌≡◌, ℕ, ◌<◌, Bool, true, false, List, [], ◌∷◌, Option, Some, None, Ok, option_map}
 use Rattle.coap_message.specs.Message.{Message}
 use Rattle.coap_endpoint.specs.declared.endpoint.Endpoint.{Endpoint}
@@ -26,8 +26,8 @@ use Rattle.coap_model.specs.Pairs.{Pairs}
 
 -- ---- what may be kept
 
--- a GET of this key was sent at one place, and at the other its response came; no change of the
--- target stands between them
+-- a GET with this key was sent at one place, and its response arrived at the other; the target
+-- wasn't changed between them
 pub record IsFetched (setting : Setting) (key : CacheKey) (asking getting : Place) : Type 0 where
   pub exchange : ℕ
   pub gets : Gets setting exchange getting
@@ -37,14 +37,14 @@ pub record IsFetched (setting : Setting) (key : CacheKey) (asking getting : Plac
   pub passed : is_passed_on setting.limits.datagram true gets.meets.message ≡ true
   pub unchanged : Unchanged setting key.target asking getting.before
 
--- it may be kept: a 2.05 or an error of class 4 or 5, with a Max-Age above 0
+-- it may be kept: a 2.05 or an error of class 4 or 5, with a positive Max-Age
 pub record IsLasting (response : Message) : Type 0 where
   pub code : tells_age response.code ≡ true
   pub age : 0 < max_age_of response
 
--- The response was obtained for this key: it came for a GET of the key, or it was obtained for the
--- key before, and a 2.03 came for a GET that carried its tag, which renews it. Each renewal was
--- asked for after what it renews had come.
+-- The response was obtained for this key: it arrived for a GET with the key, or it was obtained for
+-- the key before, and a 2.03 that renews it arrived for a GET with its tag. Each renewal was
+-- requested after what it renews had arrived.
 pub data IsObtained (setting : Setting) (key : CacheKey) : Message → Place → Place → Type 0 where
   first_hand : {response : Message} {asking getting : Place}
       (fetched : IsFetched setting key asking getting)
@@ -66,14 +66,14 @@ pub data IsObtained (setting : Setting) (key : CacheKey) : Message → Place →
 
 -- ---- the cache
 
--- an entry of the cache: a response, with the places where it was asked for and got
+-- an entry of the cache: a response, with the places where it was requested and where it arrived
 pub record Cached : Type 0 where
   pub key : CacheKey
   pub response : Message
   pub asking : Place
   pub getting : Place
 
--- what a store keeps of it, with a mark or without
+-- the entry of a store for it, with or without a mark
 abbrev pub entry_marked : Bool → Cached → entries.Entry
 entry_marked marked c = (
   c.key,
@@ -89,24 +89,24 @@ entry_marked marked c = (
 abbrev pub entry_of_cached : Cached → entries.Entry
 entry_of_cached c = entry_marked false c
 
--- its key, and the bytes that it counts
+-- its key, and its size in bytes
 abbrev pub cached_key : Cached → CacheKey
 cached_key c = entry_key (entry_of_cached c)
 
 abbrev pub cached_size : Cached → ℕ
 cached_size c = entry_size (entry_of_cached c)
 
--- how much is kept at most
+-- the limits of the store: its size in bytes and the number of its entries
 abbrev pub store_limits : Setting → entries.Limits
 store_limits setting =
     record { bytes = setting.limits.cache_bytes; entries = setting.limits.cache_entries }
 
--- a new entry stands first, in place of the one of its key, and what no longer fits is given up
+-- a new entry is put in front, it replaces the one with its key, and what no longer fits is evicted
 abbrev pub cached_with : Setting → Cached → List Cached → List Cached
 cached_with setting new cached =
     put cached_key cached_size setting.limits.cache_bytes setting.limits.cache_entries new cached
 
--- the entry that a response makes whose place is the newest
+-- the entry for a response that arrives at the newest place
 abbrev pub cached_here : CacheKey → Message → Place → List Deed → Deed → Cached
 cached_here key response asking past d =
     record {
@@ -122,8 +122,8 @@ leaves_stored TooLarge = false
 leaves_stored NoMemory = true
 leaves_stored NotStored = true
 
--- a hit moves its entry, and an answer that is kept, or too large, replaces one; all else leaves the
--- cache as it is
+-- a hit moves its entry, an answer that is kept is added, and one that is kept or too large removes
+-- the old entry with its key; every other outcome leaves the cache as it is
 abbrev pub leaves : Outcome → Bool
 leaves Ignored = true
 leaves Rejected = true
@@ -149,13 +149,13 @@ leaves Idle = true
 abbrev pub kept_for : CacheKey → List Cached → Option Message
 kept_for key cached = option_map (λ c. c.response) (of_key cached_key key cached)
 
--- the response that a request with these tags may renew: what was kept for its key when its
--- exchange was opened. A GET that is sent on has a tag only where it is the tag of that.
+-- the response that a request with these tags may renew: the one kept for its key when its exchange
+-- was opened. A forwarded GET only has a tag if it is the tag of that response.
 abbrev pub copied : List (List ℕ) → CacheKey → List Cached → Option Message
 copied [] key former = None
 copied (tag ∷ tags) key former = kept_for key former
 
--- the answer that was got there, where this was the cache when the exchange was opened
+-- the answer that arrived there, if this was the cache when the exchange was opened
 abbrev pub answer_got :
     {setting : Setting} {x : ℕ} {p : Place} → List Cached → Gets setting x p → Answer
 answer_got {setting = setting} {p = p} former gets =
@@ -163,7 +163,7 @@ answer_got {setting = setting} {p = p} former gets =
     (copied (tags_of (asked_of gets)) (key_asked gets) former) p.deed.entry.now
     gets.meets.message
 
--- the entry that it makes, if it is kept
+-- its entry, if it is kept
 abbrev pub entry_got :
     {setting : Setting} {x : ℕ} {past : List Deed} {d : Deed} → List Cached
     → Gets setting x (record { before = past; deed = d }) → Cached
@@ -176,8 +176,8 @@ entry_got {past = past} {d = d} former gets =
 -- entry moves.
 pub data IsCacheOf (setting : Setting) : List Deed → List Cached → Type 0 where
   empty : IsCacheOf setting [] []
-  -- an answer is kept: it stands first. What it renews stood in the cache when its exchange was
-  -- opened, and may be gone by now.
+  -- an answer is kept: it is put in front. What it renews was in the cache when its exchange was
+  -- opened, and may have been evicted since.
   kept : {past : List Deed} {cached former : List Cached} (d : Deed) (x : ℕ)
       (gets : Gets setting x (record { before = past; deed = d })) (opening : Place)
       → d.entry.report.outcome ≡ Answered Kept
@@ -186,13 +186,13 @@ pub data IsCacheOf (setting : Setting) : List Deed → List Cached → Type 0 wh
       → IsCacheOf setting opening.before former
       → IsCacheOf setting past cached
       → IsCacheOf setting (d ∷ past) (cached_with setting (entry_got former gets) cached)
-  -- an answer alone counts more than may be kept: the entry of its key is given up
+  -- an answer alone is larger than the limit: the entry with its key is removed
   too_large : {past : List Deed} {cached : List Cached} (d : Deed) (x : ℕ)
       (gets : Gets setting x (record { before = past; deed = d }))
       → d.entry.report.outcome ≡ Answered TooLarge
       → IsCacheOf setting past cached
       → IsCacheOf setting (d ∷ past) (others cached_key (key_asked gets) cached)
-  -- a request is answered from the cache: the entry of its key moves to the front
+  -- a request is answered from the cache: the entry with its key moves to the front
   hit : {past : List Deed} {cached : List Cached} (d : Deed) (client : Endpoint)
       (request : Message) (target : Target) (entry : Cached)
       → d.entry.report.outcome ≡ Hit
@@ -201,13 +201,13 @@ pub data IsCacheOf (setting : Setting) : List Deed → List Cached → Type 0 wh
       → of_key cached_key (request_key target request) cached ≡ Some entry
       → IsCacheOf setting past cached
       → IsCacheOf setting (d ∷ past) (used cached_key (request_key target request) cached)
-  -- all else leaves it
+  -- every other outcome leaves the cache as it is
   otherwise : {past : List Deed} {cached : List Cached} (d : Deed)
       → leaves d.entry.report.outcome ≡ true
       → IsCacheOf setting past cached
       → IsCacheOf setting (d ∷ past) cached
 
--- the cache that there was when the exchange of this number was opened
+-- this was the cache when the exchange with this number was opened
 pub record WasCacheAt (setting : Setting) (past : List Deed) (x : ℕ) (former : List Cached)
     : Type 0 where
   pub opening : Place
@@ -222,15 +222,15 @@ StandsFirst x (y ∷ ys) = y ≡ x
 
 -- ---- a store
 
--- what a store has is what it keeps of the entry of the cache, marked exactly where its target was
--- changed since it was asked for
+-- an entry of the store corresponds to the entry of the cache, and is marked exactly if its target
+-- was changed since it was requested
 pub record IsStored (setting : Setting) (history : List Deed) (stored : entries.Entry) (c : Cached)
     : Type 0 where
   pub same : stored ≡ entry_marked stored.1.marked c
   pub was_asked : IsPlaceOf history c.asking
   pub told : IsTold stored.1.marked setting c.key.target c.asking history
 
--- a store has the cache of the history, entry by entry
+-- the store corresponds to the cache of the history, entry by entry
 pub record IsStoreOf (setting : Setting) (history : List Deed) (store : List entries.Entry)
     : Type 0 where
   pub cached : List Cached
@@ -243,7 +243,7 @@ pub record WasObtained (setting : Setting) (history : List Deed) (c : Cached) : 
   pub was_got : IsPlaceOf history c.getting
   pub obtained : IsObtained setting c.key c.response c.asking c.getting
 
--- what is stored for a key is what is kept of the cache's entry of the key
+-- what is stored for a key corresponds to the cache's entry with the key
 pub record IsEntryOf
     (setting : Setting) (history : List Deed) (cached : List Cached) (key : CacheKey)
     (stored : entries.Entry)

@@ -1,4 +1,4 @@
--- A proxy carries a history: each part of its tables is what the history says.
+-- A proxy carries a history: each part of its tables agrees with the history.
 use Rattle.std.specs.Prelude.{◌≡◌, ◌⊎◌, ℕ, ◌+◌, ◌*◌, ◌^◌, ◌/◌, ◌%◌, ◌<◌, ◌≤◌, true, false, is_some, if◌then◌else◌, List, [], ◌∷◌, length, map, Option, Some, None, option_map}
 use Rattle.std.specs.List.{AllByRecursion}
 use Rattle.coap_message.specs.Message.{Message}
@@ -50,8 +50,8 @@ pub record Numbers (history : List Deed) (w : World) : Type 0 where
   pub opened : w.opened ≡ opened_in history
   pub admitted : w.admitted ≡ admitted_in history
 
--- Of ids the table knows the next one, and how many were given in the window of a moment; in no
--- window more than half of all are given.
+-- The table of message ids has the next one, and how many were given out in the window of a moment;
+-- at most half of all ids are given out in one window.
 pub record Ids (history : List Deed) (w : World) : Type 0 where
   pub following : w.ids.following ≡ (w.setting.first_id + ids_in history) % 65536
   pub given :
@@ -83,21 +83,21 @@ abbrev pub HasNumber : {A : Type 0} → ℕ → List (Numbered A) → Type 0
 HasNumber n [] = ⊥
 HasNumber n (x ∷ xs) = (n ≡ x.0) ⊎ HasNumber n xs
 
--- the exchange that a client waits for is there
+-- the exchange that a client waits for exists
 abbrev pub HasExchange : WaiterState → List (Numbered Exchange) → Type 0
 HasExchange (Waiting exchange) exchanges = HasNumber exchange exchanges
 HasExchange (Delivering bytes id timer) exchanges = Unit {0}
 
--- Nothing is missing in the tables and nothing is there twice.
+-- Nothing is missing in the tables, and nothing is in them twice.
 pub record AreWhole (history : List Deed) (w : World) : Type 0 where
   pub exchanges : map stage_seen w.exchanges ≡ open_in history
   pub waiters : map standing_seen w.waiters ≡ standing_in history
   pub rising : IsRising 0 w.exchanges
   pub waiters_rise : IsRising 0 w.waiters
-  -- the exchange that a client waits for is there, and for each that is there a client waits
+  -- the exchange that a client waits for exists, and each exchange has a client that waits for it
   pub awaited : AllByRecursion (λ v. HasExchange v.1.state w.exchanges) w.waiters
   pub waited : AllByRecursion (λ x. 0 < count (waits_for x.0) w.waiters) w.exchanges
-  -- one that was opened and never ended is there
+  -- an exchange that was opened and never ended is there
   pub unended :
       (x : ℕ) → Somewhere (Opens x) history → Never (Ends x) history → HasNumber x w.exchanges
   -- a client that was admitted and never served is there
@@ -107,7 +107,7 @@ pub record AreWhole (history : List Deed) (w : World) : Type 0 where
 
 -- ---- what is sent
 
--- the timer that these sends lead to, the last one first
+-- the timer after these transmissions, listed with the last one first
 abbrev pub IsTimer : Timer → List Entry → Type 0
 IsTimer t [] = ⊥
 IsTimer t (e ∷ es) =
@@ -116,12 +116,13 @@ IsTimer t (e ∷ es) =
     × (t.timeout ≡ (2000 + (oldest e es).draw) * 2 ^ length es)
     × (t.due ≡ e.now + t.timeout)
 
--- and each of them was this datagram, to this endpoint
+-- each of them was this datagram, to this endpoint
 abbrev pub AreOfBytes : Endpoint → List ℕ → List Entry → Type 0
 AreOfBytes to bytes es =
     AllByRecursion (λ e. (e.report.send ≡ Some to) × (e.bytes ≡ bytes)) es
 
--- the exchange was asked in the history, with this key, and is sent by this schedule
+-- the request of the exchange was sent in the history, with this key, and is retransmitted by this
+-- schedule
 pub record WasAsked
     (setting : Setting) (history : List Deed) (x : ℕ) (key : CacheKey) (form : List ℕ)
     (s : Sending)
@@ -136,7 +137,7 @@ pub record WasAsked
   pub timer : IsTimer s.timer (sends_by (moves x) history)
   pub bytes : AreOfBytes key.target.at form (sends_by (moves x) history)
 
--- an exchange that was sent was asked
+-- if there is a sending, the request of the exchange was sent in the history
 abbrev pub WasSent :
     Setting → List Deed → ℕ → CacheKey → List ℕ → Option Sending → Type 0
 WasSent setting history x key form None = Unit {0}
@@ -151,9 +152,9 @@ pub record IsQueued (setting : Setting) (history : List Deed) (x : Numbered Exch
   pub no_sends : sends_by (moves x.0) history ≡ []
   pub unended : Never (Ends x.0) history
 
--- An exchange whose request is on its way. What a GET may renew is what was kept for its key when it
--- was opened, if it carries a tag; and a taint tells whether its target was changed since it
--- was asked.
+-- An exchange whose request was sent and not answered yet. A GET with a tag may renew what was kept
+-- for its key when the exchange was opened, and the taint says whether its target was changed since
+-- it was sent.
 pub record IsInFlight
     (setting : Setting) (history : List Deed) (x : Numbered Exchange) : Type 0 where
   pub sending : Sending
@@ -169,7 +170,7 @@ pub record IsInFlight
   pub told : IsTold x.1.tainted setting x.1.key.target asked.asking history
   pub unended : Never (Ends x.0) history
 
--- it ended in the history, with this answer
+-- the exchange ended in the history, with this answer
 pub record IsDone
     (setting : Setting) (history : List Deed) (x : Numbered Exchange) (answer : Answer)
     : Type 0 where
@@ -178,21 +179,21 @@ pub record IsDone
   pub ends : Ends x.0 ending
   pub with : EndsWith setting x.0 x.1.key ending answer
   pub got : answer.got ≡ ending.deed.entry.now
-  -- and it was sent before, unless it never was
+  -- its request was sent in the history, unless it was never sent
   pub was_sent : WasSent setting history x.0 x.1.key x.1.form x.1.sending
 
--- the state is how far the history brought the exchange
+-- the state of the exchange agrees with the history
 abbrev pub IsState : Setting → List Deed → Numbered Exchange → ExchangeState → Type 0
 IsState setting history x Queued = IsQueued setting history x
 IsState setting history x Sent = IsInFlight setting history x
 IsState setting history x Acked = IsInFlight setting history x
 IsState setting history x (Done a) = IsDone setting history x a
 
--- the response that a request may renew: the one that is kept, where the request carries its tag
+-- the response that a request may renew: the one that is kept, if the forwarded request has its tag
 abbrev pub copy_for : ℕ → Target → Message → Option Message → Option Message
 copy_for most t m kept = if is_some (tag_for most t m kept) then kept else None
 
--- the id of the form: none until it is sent
+-- the message id in the form: 0 until it is sent
 abbrev pub form_id : Option Sending → ℕ
 form_id None = 0
 form_id (Some s) = s.id
@@ -206,8 +207,8 @@ pub record IsExchangeOf
   pub method : x.1.is_get ≡ is_get opened.request.code
   pub former : List Cached
   pub was_cache : IsCacheOf setting opened.opening.before former
-  -- what was kept for its key then: the request carries its tag, and the exchange has a copy of it
-  -- exactly where it does
+  -- with what was kept for its key then: if the request carries its tag, the exchange has a copy of
+  -- it, and otherwise none
   pub form_is :
       x.1.form
       ≡ spelling
@@ -235,14 +236,14 @@ pub record IsWaiting
   pub unended : Never (Ends exchange) admitted.admission.before
   pub unserved : Never (Serves v.0) history
   pub no_sends : sends_by (serves v.0) history ≡ []
-  -- the exchange was opened for a request of the same verdict, and for a GET exactly where this is
+  -- the exchange was opened for a request with the same verdict, and for a GET exactly if this is
   -- one
   pub opened : WasOpened setting history exchange
   pub method : is_get opened.request.code ≡ is_get admitted.request.code
   pub verdict : verdict_on setting opened.request ≡ verdict_on setting admitted.request
 
--- A client was given its answer in a Confirmable message, once: in these bytes, with this id, by
--- this schedule. What it asked with is let go.
+-- A client was served once, in a Confirmable message: in these bytes, with this id, by this
+-- schedule. The token and the tags of its request are dropped.
 pub record IsDelivering
     (setting : Setting) (history : List Deed) (v : Numbered Waiter) (bytes : List ℕ) (id : ℕ)
     (timer : Timer)
@@ -259,7 +260,7 @@ pub record IsDelivering
   pub spells : Spells serving.deed.entry.bytes answer
   pub id_is : id ≡ answer.id
   pub started : timer.started ≡ serving.deed.entry.now
-  -- no longer than the longest datagram, or than a short one
+  -- no longer than the limit of datagrams, or than 128 bytes, whichever is greater
   pub short : (most : ℕ) → 128 ≤ most → setting.limits.datagram ≤ most → length bytes ≤ most
   pub token_gone : v.1.token ≡ []
   pub tags_gone : v.1.tags ≡ []
@@ -273,9 +274,9 @@ IsWaiterIn setting history v (Delivering bytes id timer) =
 abbrev pub IsWaiterOf : Setting → List Deed → Numbered Waiter → Type 0
 IsWaiterOf setting history v = IsWaiterIn setting history v v.1.state
 
--- ---- numbers that weren't given
+-- ---- numbers that aren't used yet
 
--- no exchange that isn't opened was sent or ended, and no client that isn't admitted was served
+-- no exchange that wasn't opened was sent or ended, and no client that wasn't admitted was served
 pub record AreUnused (setting : Setting) (history : List Deed) : Type 0 where
   pub exchanges :
       (x : ℕ)
@@ -285,13 +286,13 @@ pub record AreUnused (setting : Setting) (history : List Deed) : Type 0 where
   pub waiters : (v : ℕ) → admitted_in history < v → Never (Serves v) history
   pub deliveries : (v : ℕ) → admitted_in history < v → sends_by (serves v) history ≡ []
 
--- every message is sent by its schedule
+-- every message is retransmitted by its schedule
 abbrev pub AreSchedules : List Deed → Type 0
 AreSchedules history = (act : Act) → IsSchedule (sends_by act history)
 
--- ---- the requests that are remembered
+-- ---- the messages that are remembered
 
--- Records are those that the history left, as long as they live, and are within their limit.
+-- The living records are those that the history implies, and they are within their limit.
 pub record AreRemembered
     (setting : Setting) (history : List Deed) (kind : Kind) (records : Records)
     : Type 0 where
@@ -303,7 +304,7 @@ pub record AreRemembered
   pub lifetime : records.lifetime ≡ remembered_for kind
   pub are : AreRecords records
   pub until : AreUpTo (last_of history) records.items
-  -- a reply is no longer than the longest datagram, or than a short one
+  -- a reply is no longer than the limit of datagrams, or than 128 bytes, whichever is greater
   pub short :
       (most : ℕ)
       → 128 ≤ most
@@ -315,14 +316,14 @@ pub record AreRemembered
 pub record IsWithin (w : World) : Type 0 where
   pub exchanges : length w.exchanges ≤ w.setting.limits.exchanges
   pub waiters : length w.waiters ≤ w.setting.limits.waiters
-  -- at most so many requests to one endpoint are sent and have no answer
+  -- at most NSTART requests to one endpoint are in the state `Sent`
   pub pace : (to : Endpoint) → count (is_sent_to to) w.exchanges ≤ w.setting.limits.nstart
-  -- each id that is kept for later can be given in the window of any moment that comes
+  -- each reserved id can be given out in the window of any later moment
   pub ids : (now : ℕ) → w.last ≤ now → given_in now w.ids + reserved w ≤ 32768
 
 -- ---- all of it
 
--- the tables are what these deeds made
+-- the tables agree with these deeds
 pub record Bears (deeds : List Deed) (w : World) : Type 0 where
   pub routes : AreRoutes w.setting.routes
   pub clock : Clock deeds w
@@ -339,7 +340,7 @@ pub record Bears (deeds : List Deed) (w : World) : Type 0 where
   pub within : IsWithin w
   pub past : AllJustified w.setting deeds
 
--- so they are what some deeds made of which the history tells
+-- the tables agree with some deeds whose entries are this history
 pub record Carries (history : List Entry) (w : World) : Type 0 where
   pub deeds : List Deed
   pub told : told_by deeds ≡ history

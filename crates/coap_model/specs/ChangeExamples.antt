@@ -1,6 +1,6 @@
--- Changes and validation, computed on the definitions (RFC 7252, 5.6.2, 5.8 and 5.9.1): requests of
--- other methods, what their responses mark and taint, and stored responses that a 2.03 renews. The
--- bytes are those of RFC 7252 (3, 3.1, 5.10), written out.
+-- Changes and validation, computed on the definitions (RFC 7252, 5.6.2, 5.8 and 5.9.1): requests
+-- with other methods, what their responses mark and taint, and stored responses that a 2.03 renews.
+-- The bytes are encoded per RFC 7252 (3, 3.1, 5.10).
 use Rattle.std.specs.Prelude.{ℕ, List, [], ◌∷◌, ◌++◌, replicate}
 use Rattle.coap_limits.specs.Limits.{default_limits}
 use Rattle.coap_model.specs.declared.report.Outcome.TheVariants.{Again, Hit, Joined, Opened, Answered, Acked, SentRequest, Delivered}
@@ -11,13 +11,13 @@ use Rattle.coap_model.specs.Examples.{Sent, origin, client, from, tick_at, nothi
 use Rattle.coap_model.specs.LimitExamples.{proxy_of}
 use Rattle.coap_model.specs.ResponseExamples.{empty_ack}
 
--- ---- what is asked and told
+-- ---- requests and responses
 
--- a Non-confirmable request of this code for the path `t`, with its id, and what follows
+-- a Non-confirmable request with this code for the path `t`, with its id, and what follows
 abbrev pub asks : ℕ → ℕ → List ℕ → List ℕ
 asks code id more = 0x50 ∷ code ∷ 0 ∷ id ∷ 0xB1 ∷ 0x74 ∷ more
 
--- what is sent on for it, with its own id and the last byte of its token
+-- the request that is forwarded for it, with its own id and the last byte of its token
 abbrev pub goes_as : ℕ → ℕ → ℕ → List ℕ → List ℕ
 goes_as code id token more =
     0x48 ∷ code ∷ 0 ∷ id ∷ 0 ∷ 0 ∷ 0 ∷ 0 ∷ 0 ∷ 0 ∷ 0 ∷ token
@@ -29,15 +29,15 @@ with_options id token options =
     0x48 ∷ 1 ∷ 0 ∷ id ∷ 0 ∷ 0 ∷ 0 ∷ 0 ∷ 0 ∷ 0 ∷ 0 ∷ token
     ∷ (options ++ (0x74 ∷ 0x74 ∷ 0x65 ∷ 0x6D ∷ 0x70 ∷ []))
 
--- and with the ETag AB
+-- the same with the ETag AB
 abbrev pub validates_as : ℕ → ℕ → List ℕ
 validates_as id token = with_options id token (0x41 ∷ 0xAB ∷ [])
 
--- what a client is given without a token
+-- what a client is sent, without a token
 abbrev pub shows : ℕ → ℕ → List ℕ → List ℕ
 shows code id more = 0x50 ∷ code ∷ 0 ∷ id ∷ more
 
--- a payload of two bytes, with a Max-Age of so many seconds, and with the ETag AB besides
+-- a payload of two bytes with this Max-Age in seconds, and the same with the ETag AB
 abbrev pub aged : ℕ → List ℕ
 aged seconds = 0xD1 ∷ 1 ∷ seconds ∷ 0xFF ∷ 0x32 ∷ 0x31 ∷ []
 
@@ -63,7 +63,7 @@ kept_first_sent more content =
     nothing Opened ∷ to SentRequest origin (goes_as 1 1 1 more) ∷ nothing (Answered Kept)
     ∷ to Delivered (client 1) (shows 0x45 2 content) ∷ []
 
--- then a request of another client, and its response
+-- then a request from another client, and its response
 abbrev pub then_asked : ℕ → List ℕ → ℕ → List ℕ → List Turn
 then_asked code more response options =
     from 1 (client 2) (asks code 1 more) ∷ tick_at 1
@@ -76,7 +76,7 @@ then_asked_sent code more response options =
 
 -- ---- changes
 
--- a PUT changes what is stored: it answers no more
+-- a PUT changes what is stored: it isn't used as an answer any more
 abbrev pub changed : List Turn
 changed =
     kept_first [] (aged 10) ++ then_asked 3 nine 0x44 []
@@ -115,8 +115,8 @@ overtaken_sent =
     ∷ to Delivered (client 1) (shows 0x45 4 (aged 10)) ∷ nothing Opened
     ∷ to SentRequest origin (goes_as 1 5 3 []) ∷ []
 
--- a 2.04 to a GET is a change too, and isn't stored; what was asked before it isn't joined, and its
--- answer isn't stored
+-- a 2.04 to a GET is a change too, and isn't stored; an exchange whose request was sent before it
+-- isn't joined, and its answer isn't stored
 abbrev pub changed_by_get : List Turn
 changed_by_get =
     from 0 (client 1) (asks 1 7 []) ∷ tick_at 0 ∷ from 1 origin (empty_ack 1)
@@ -134,7 +134,7 @@ changed_by_get_sent =
     ∷ to SentRequest origin (goes_as 1 4 3 []) ∷ nothing (Answered NotStored)
     ∷ nothing (Answered Kept) ∷ []
 
--- a request of another method joins nothing, and nothing joins it
+-- a request with another method joins no exchange, and nothing joins its exchange
 abbrev pub not_joined : List Turn
 not_joined =
     from 0 (client 1) (asks 1 7 []) ∷ from 0 (client 2) (asks 3 1 nine)
@@ -143,7 +143,7 @@ not_joined =
 abbrev pub not_joined_sent : List Sent
 not_joined_sent = nothing Opened ∷ nothing Opened ∷ nothing Opened ∷ nothing Joined ∷ []
 
--- a POST that comes twice is sent on once
+-- a POST that arrives twice is forwarded once
 abbrev pub posted_once : List Turn
 posted_once =
     from 0 (client 1) (0x40 ∷ 2 ∷ 0 ∷ 1 ∷ 0xB1 ∷ 0x74 ∷ nine)
@@ -156,7 +156,7 @@ posted_once_sent =
     ∷ to SentRequest origin (goes_as 2 1 1 nine) ∷ to Opened (client 1) (0x60 ∷ 0 ∷ 0 ∷ 2 ∷ [])
     ∷ []
 
--- the ETag of a POST goes on
+-- the ETag of a POST is forwarded
 abbrev pub tag_of_a_post : List Turn
 tag_of_a_post =
     from 0 (client 1) (0x50 ∷ 2 ∷ 0 ∷ 7 ∷ 0x41 ∷ 0xAB ∷ 0x71 ∷ 0x74 ∷ nine) ∷ tick_at 0 ∷ []
@@ -175,7 +175,7 @@ tag_of_a_post_sent =
 abbrev pub location : List ℕ
 location = 0x84 ∷ 0x74 ∷ 0x65 ∷ 0x6D ∷ 0x70 ∷ []
 
--- a POST elsewhere whose 2.01 names the target changes what is stored of it
+-- a POST to another target whose 2.01 names this target changes what is stored for it
 abbrev pub created : List Turn
 created =
     kept_first [] (aged 10) ++ then_asked 2 part 0x41 location
@@ -196,7 +196,7 @@ changed_elsewhere_sent =
     kept_first_sent [] (aged 10) ++ then_asked_sent 2 part 0x44 location
     ++ to Hit (client 1) (shows 0x45 5 (aged 9)) ∷ []
 
--- a Location-Query alone names the query of the own path
+-- a Location-Query alone names the path of the request itself, with that query
 abbrev pub located_by_query : List Turn
 located_by_query =
     kept_first (0x41 ∷ 0x61 ∷ []) (aged 10) ++ then_asked 2 [] 0x41 (0xD1 ∷ 7 ∷ 0x61 ∷ [])
@@ -209,8 +209,8 @@ located_by_query_sent =
 
 -- ---- validation
 
--- a stale entry with a tag is validated, and renewed by the 2.03, also for a client that joins; it is
--- stored anew
+-- a stale entry with a tag is validated, and renewed by the 2.03, also for a client that joins; it
+-- is stored again
 abbrev pub validated : List Turn
 validated =
     kept_first [] (tagged 10) ++ from 10001 (client 1) (asks 1 8 []) ∷ tick_at 10001
@@ -243,7 +243,7 @@ changed_and_validated_sent =
     ∷ to Delivered (client 1) (shows 0x45 6 (tagged 60))
     ∷ to Hit (client 1) (shows 0x45 7 (tagged 59)) ∷ []
 
--- the entry is given up while it is validated, where one may be kept
+-- the entry is evicted while it is validated, with room for one entry
 abbrev pub one_entry : World
 one_entry = proxy_of (record default_limits { cache_entries = 1 })
 
@@ -270,7 +270,7 @@ evicted_sent =
     given_up_sent
     (nothing (Answered Kept) ∷ to Delivered (client 1) (shows 0x45 6 (tagged 60)) ∷ [])
 
--- for another tag there is nothing to renew: 5.02
+-- with another tag there is nothing to renew: a 5.02
 abbrev pub other_tag : List Turn
 other_tag = given_up_by (0x41 ∷ 0xAC ∷ [])
 
@@ -279,7 +279,8 @@ other_tag_sent =
     given_up_sent
     (nothing (Answered NotStored) ∷ to Delivered (client 1) (shows 0xA2 6 []) ∷ [])
 
--- so is a 2.03 to a GET without a tag; one to another method goes on as it came
+-- a 2.03 to a GET without a tag is replaced by a 5.02, too; one to another method is passed on
+-- unchanged
 abbrev pub valid_for_none : List Turn
 valid_for_none =
     from 0 (client 1) (asks 1 7 []) ∷ tick_at 0
@@ -294,7 +295,7 @@ valid_for_none_sent =
     ∷ to SentRequest origin (goes_as 3 3 2 []) ∷ nothing (Answered NotStored)
     ∷ to Delivered (client 1) (shows 0x43 4 (0x41 ∷ 0xAB ∷ nine)) ∷ []
 
--- an ETag of the client that isn't recognised goes on, after the tag of what is stored
+-- an ETag of the client that isn't recognised is forwarded, after the tag of what is stored
 abbrev pub own_tag_first : List Turn
 own_tag_first =
     from 0 (client 1) (0x50 ∷ 1 ∷ 0 ∷ 7 ∷ 0x40 ∷ 0x71 ∷ 0x74 ∷ []) ∷ tick_at 0
@@ -307,7 +308,7 @@ own_tag_first_sent =
     ∷ to Delivered (client 1) (shows 0x45 2 (tagged 10)) ∷ nothing Opened
     ∷ to SentRequest origin (with_options 3 2 (0x41 ∷ 0xAB ∷ 0 ∷ [])) ∷ []
 
--- what a 2.03 renews may no longer fit a datagram of 128 bytes: 5.02
+-- a renewed response may no longer fit a datagram of 128 bytes: a 5.02
 abbrev pub long_content : ℕ → List ℕ
 long_content seconds = 0x41 ∷ 0xAB ∷ 0xA1 ∷ seconds ∷ 0xFF ∷ replicate 107 0x39
 

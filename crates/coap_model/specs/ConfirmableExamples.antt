@@ -1,7 +1,7 @@
--- Clients that ask in Confirmable messages, computed on the definitions (RFC 7252, 4.2, 5.2.2 and
--- 5.3.2): a request that isn't in the cache is acknowledged at once, and its answer comes in a
--- message of its own, which is sent again until it is acknowledged. The bytes are those of RFC 7252
--- (3, 3.1, 5.10), written out.
+-- Clients with Confirmable requests, computed on the definitions (RFC 7252, 4.2, 5.2.2 and 5.3.2):
+-- a request that isn't answered from the cache is acknowledged immediately, and its answer is a
+-- separate response, which is retransmitted until it is acknowledged. The bytes are encoded per RFC
+-- 7252 (3, 3.1, 5.10).
 use Rattle.std.specs.Prelude.{ℕ, List, [], ◌∷◌, ◌++◌}
 use Rattle.coap_limits.specs.Limits.{default_limits}
 use Rattle.coap_model.specs.declared.report.Outcome.TheVariants.{Ignored, Again, Joined, Opened, Overloaded, Answered, Acked, SentRequest, Resent, GaveUp, Delivered, Idle}
@@ -16,20 +16,20 @@ use Rattle.coap_model.specs.ResponseExamples.{empty_ack, empty_reset, con_got}
 
 -- ---- what clients send and are sent
 
--- a Confirmable GET of the path `t` with the id 10 and the token AA, and its acknowledgement
+-- a Confirmable GET for the path `t` with the id 10 and the token AA, and its acknowledgement
 abbrev pub con_get : List ℕ
 con_get = 0x41 ∷ 1 ∷ 0 ∷ 10 ∷ 0xAA ∷ 0xB1 ∷ 0x74 ∷ []
 
 abbrev pub acked_10 : List ℕ
 acked_10 = 0x60 ∷ 0 ∷ 0 ∷ 10 ∷ []
 
--- its answer, with an id of the proxy's and the client's token
+-- its answer, with an id from the proxy and the client's token
 abbrev pub con_content : ℕ → List ℕ
 con_content id = 0x41 ∷ 0x45 ∷ 0 ∷ id ∷ 0xAA ∷ 0xD1 ∷ 1 ∷ 10 ∷ 0xFF ∷ 0x32 ∷ 0x31 ∷ []
 
 -- ---- one client
 
--- its request is acknowledged, and so it acknowledges its answer
+-- its request is acknowledged, and its answer is sent in a Confirmable message
 abbrev pub told_turns : List Turn
 told_turns =
     from 0 (client 1) con_get ∷ tick_at 0 ∷ from 20 origin content ∷ tick_at 20 ∷ []
@@ -45,8 +45,8 @@ then_told turns = told_turns ++ turns
 abbrev pub then_sent : List Sent → List Sent
 then_sent sent = told_sent ++ sent
 
--- A duplicate of its request gets the acknowledgement again, also after its answer was; 247 seconds
--- later it is a new request.
+-- A duplicate of its request gets the acknowledgement again, even after its answer was
+-- acknowledged; 247 seconds after the first it is a new request.
 abbrev pub confirmable : List Turn
 confirmable =
     then_told (from 30 (client 1) (empty_ack 2) ∷ from 246999 (client 1) con_get
@@ -57,8 +57,8 @@ confirmable_sent =
     then_sent (nothing Acked ∷ to Again (client 1) acked_10 ∷ to Opened (client 1) acked_10
     ∷ to SentRequest origin (asked 3 2) ∷ [])
 
--- so does one that comes while its answer is on the way, and another before there is one: no client
--- more waits
+-- so does a duplicate that arrives before there is an answer, and one that arrives while the answer
+-- isn't acknowledged yet: no additional client is admitted
 abbrev pub repeated_request : List Turn
 repeated_request =
     from 0 (client 1) con_get ∷ from 0 (client 1) con_get ∷ tick_at 0 ∷ from 1 (client 1) con_get
@@ -72,10 +72,10 @@ repeated_request_sent =
     ∷ to Delivered (client 1) (con_content 2) ∷ to Again (client 1) acked_10 ∷ nothing Idle
     ∷ nothing Acked ∷ nothing Idle ∷ []
 
--- ---- what closes it
+-- ---- what closes a client
 
 -- A client that never acknowledges is sent its answer five times, each time after twice as long,
--- and is closed. An acknowledgement of another endpoint is of no message, nor is one of another id.
+-- and is given up. An acknowledgement from another endpoint or with another id is ignored.
 abbrev pub unacknowledged : List Turn
 unacknowledged =
     then_told (from 21 (client 2) (empty_ack 2) ∷ from 22 (client 1) (empty_ack 3)
@@ -90,7 +90,7 @@ unacknowledged_sent =
     ∷ to Resent (client 1) (con_content 2) ∷ to Resent (client 1) (con_content 2) ∷ nothing Idle
     ∷ nothing GaveUp ∷ nothing Ignored ∷ nothing Idle ∷ [])
 
--- a Reset closes it as an acknowledgement does, once; what comes after is of no message
+-- a Reset closes it as an acknowledgement does, once; what arrives after that is ignored
 abbrev pub reset_by_client : List Turn
 reset_by_client =
     then_told (tick_at 2020 ∷ from 2021 (client 1) (empty_reset 2) ∷ tick_at 9000
@@ -105,7 +105,8 @@ reset_by_client_sent =
 abbrev pub closed_at : ℕ → List Turn
 closed_at now = then_told (from now (client 1) (empty_ack 2) ∷ [])
 
--- with the longest draw its answer is sent again after three seconds; that draw is of the delivery
+-- with the greatest draw, which is that of the delivery, its answer is retransmitted after three
+-- seconds
 abbrev pub drawn : List Turn
 drawn =
     from 0 (client 1) con_get ∷ tick_at 0 ∷ from 20 origin content
@@ -119,8 +120,8 @@ drawn_sent =
 
 -- ---- clients of both kinds
 
--- A Confirmable client joins a Non-confirmable one: each is given the answer in a message of its
--- own type, and only the first waits for an acknowledgement.
+-- A client with a Confirmable request joins one with a Non-confirmable request: each is sent the
+-- answer in a message of the type of its request, and only the Confirmable one is waited for.
 abbrev pub both_kinds : List Turn
 both_kinds =
     from 0 (client 1) (get_t []) ∷ from 0 (client 2) con_get ∷ tick_at 0
@@ -134,7 +135,8 @@ both_kinds_sent =
     ∷ to Delivered (client 2) (con_content 3) ∷ nothing Idle ∷ nothing Ignored ∷ nothing Acked
     ∷ nothing Idle ∷ []
 
--- the answer comes separately itself, and is given up: 5.04 is sent again like any answer
+-- the exchange is given up after the request was acknowledged: the 5.04 is retransmitted like any
+-- answer
 abbrev pub given_up : List Turn
 given_up =
     from 0 (client 1) con_get ∷ tick_at 0 ∷ from 1 origin (empty_ack 1) ∷ tick_at 1000
@@ -146,6 +148,7 @@ given_up_sent =
     ∷ to Delivered (client 1) (0x41 ∷ 0xA4 ∷ 0 ∷ 2 ∷ 0xAA ∷ [])
     ∷ to Resent (client 1) (0x41 ∷ 0xA4 ∷ 0 ∷ 2 ∷ 0xAA ∷ []) ∷ nothing Acked ∷ nothing Idle ∷ []
 
+-- the answer from the origin server is a separate response itself
 abbrev pub separate_answer : List Turn
 separate_answer =
     from 0 (client 1) con_get ∷ tick_at 0 ∷ from 1 origin (empty_ack 1)
@@ -158,9 +161,10 @@ separate_answer_sent =
     ∷ to (Answered Kept) origin (0x60 ∷ 0 ∷ 1 ∷ 9 ∷ [])
     ∷ to Delivered (client 1) (con_content 2) ∷ nothing Acked ∷ []
 
--- ---- room
+-- ---- capacity
 
--- A client counts until it has acknowledged its answer, and its exchange only until it is served.
+-- A client counts until it acknowledges its answer, and its exchange only until the client is
+-- served.
 abbrev pub one_of_each : World
 one_of_each = proxy_of (record default_limits { exchanges = 1; waiters = 1 })
 
@@ -175,7 +179,7 @@ counted_until_sent =
     ∷ nothing Opened ∷ [])
 
 -- room for one exchange and two clients: a Confirmable request joins, and the next two are told to
--- try again, in an acknowledgement the one that is Confirmable
+-- try again, the Confirmable one of them in an acknowledgement
 abbrev pub two_clients : World
 two_clients = proxy_of (record default_limits { exchanges = 1; waiters = 2 })
 
@@ -191,8 +195,8 @@ full_tables_sent =
     ∷ to Overloaded (client 3) (0x50 ∷ 0xA3 ∷ 0 ∷ 1 ∷ 0xD1 ∷ 1 ∷ 5 ∷ [])
     ∷ to Overloaded (client 4) (0x60 ∷ 0xA3 ∷ 0 ∷ 2 ∷ 0xD1 ∷ 1 ∷ 5 ∷ []) ∷ []
 
--- A client that was given its answer keeps no id: with four ids left the first client takes two, and
--- the other two are free for another while it has still to acknowledge.
+-- A client that was sent its answer reserves no id: with four ids left, the first client takes two,
+-- and the other two are free for another while the first hasn't acknowledged yet.
 abbrev pub last_ids : List Turn
 last_ids =
     from 0 (client 1) con_get ∷ tick_at 0
@@ -209,9 +213,10 @@ last_ids_sent =
     ∷ to Opened (client 2) acked_10
     ∷ to Overloaded (client 3) (0x61 ∷ 0xA3 ∷ 0 ∷ 10 ∷ 0xAA ∷ 0xD1 ∷ 1 ∷ 5 ∷ []) ∷ []
 
--- ---- the words of the history
+-- ---- the definitions of the history
 
--- a Confirmable client waits, is told, is told again, and has acknowledged that
+-- a client with a Confirmable request waits, is sent its answer, is sent it again, and acknowledges
+-- it
 abbrev pub waits_acting : List Acting
 waits_acting =
     record { turn = from 0 (client 1) con_get; act = admits 1 1 }

@@ -1,4 +1,4 @@
--- What is due, by the history alone, and what of it first.
+-- What is due, according to the history alone, and in which order.
 use Rattle.std.specs.Prelude.{◌≡◌, ◌⊎◌, ℕ, ◌+◌, ◌<◌, ◌≤◌, List, Some}
 use Rattle.coap_endpoint.specs.declared.endpoint.Endpoint.{Endpoint}
 use Rattle.coap_store.specs.declared.key.CacheKey.{CacheKey}
@@ -10,8 +10,8 @@ use Rattle.coap_model.specs.History.{Act, no_item, admits, moves, serves, Deed, 
 
 -- ---- exchanges
 
--- A request that waits for its turn is to be sent, from its opening on, where less requests to its
--- endpoint are outstanding than may be (RFC 7252, 4.7).
+-- A request that waits for its turn is due to be sent, from the opening of its exchange on, if
+-- fewer than NSTART requests to its endpoint are outstanding (RFC 7252, 4.7).
 pub record IsToSend (setting : Setting) (past : List Deed) (x at : ℕ) : Type 0 where
   pub opened : WasOpened setting past x
   pub key : CacheKey
@@ -20,13 +20,14 @@ pub record IsToSend (setting : Setting) (past : List Deed) (x at : ℕ) : Type 0
   pub free : outstanding_to key.target.at past < setting.limits.nstart
   pub at_is : at ≡ opened.opening.deed.entry.now
 
--- one that was sent, and neither acknowledged nor answered, is to be sent again by its schedule
+-- one that was sent, and neither acknowledged nor answered, is due to be retransmitted by its
+-- schedule
 pub record IsToRepeat (setting : Setting) (past : List Deed) (x at : ℕ) : Type 0 where
   pub to : Endpoint
   pub stage : stage_of x past ≡ Some (sent to)
   pub at_is : at ≡ next_send (sends_by (moves x) past)
 
--- an exchange that hasn't ended is to end some time after its opening
+-- an exchange that hasn't ended is due to end `exchange_ms` milliseconds after its opening
 pub record IsToEnd (setting : Setting) (past : List Deed) (x at : ℕ) : Type 0 where
   pub opened : WasOpened setting past x
   pub unended : Never (Ends x) past
@@ -39,7 +40,7 @@ pub data IsExchangeDue (setting : Setting) (past : List Deed) (x at : ℕ) : Typ
 
 -- ---- clients
 
--- a client that wasn't served, of an exchange that was got or given up, is to be served, from then on
+-- a client that wasn't served is due to be served from when its exchange was answered or given up
 pub record IsToServe (setting : Setting) (past : List Deed) (v at : ℕ) : Type 0 where
   pub admitted : WasAdmitted setting past v
   pub unserved : Never (Serves v) past
@@ -48,7 +49,7 @@ pub record IsToServe (setting : Setting) (past : List Deed) (v at : ℕ) : Type 
   pub ends : Ends admitted.exchange ending
   pub at_is : at ≡ ending.deed.entry.now
 
--- one that was served, and hasn't acknowledged that, is to be served again by its schedule
+-- one that was served, and hasn't acknowledged its answer, is due to get it again by its schedule
 pub record IsToServeAgain (past : List Deed) (v at : ℕ) : Type 0 where
   pub service : service_of v past ≡ Some told
   pub at_is : at ≡ next_send (sends_by (serves v) past)
@@ -59,14 +60,14 @@ pub data IsClientDue (setting : Setting) (past : List Deed) (v at : ℕ) : Type 
 
 -- ---- both
 
--- The act is due from this moment on. It may be due from a later one besides.
+-- The act is due from this moment on. It may also be due from other moments.
 abbrev pub IsDueAt : Setting → List Deed → Act → ℕ → Type 0
 IsDueAt setting past no_item at = ⊥
 IsDueAt setting past (admits v x) at = ⊥
 IsDueAt setting past (moves x) at = IsExchangeDue setting past x at
 IsDueAt setting past (serves v) at = IsClientDue setting past v at
 
--- at one moment exchanges come before waiters, each in order of number
+-- at the same moment, exchanges come before waiters, each in order of number
 abbrev pub ComesBefore : Act → Act → Type 0
 ComesBefore (moves x) (moves y) = x < y
 ComesBefore (moves x) (serves v) = Unit {0}

@@ -1,5 +1,5 @@
 -- The step of an Empty message: an acknowledgement or a Reset of a request that was sent, or of an
--- answer (RFC 7252, 4.2 and 4.3).
+-- answer that was sent (RFC 7252, 4.2 and 4.3).
 use Rattle.std.specs.Prelude.{ℕ, Bool, if◌then◌else◌, Option, Some, None}
 use Rattle.coap_message.specs.Message.{Message}
 use Rattle.coap_endpoint.specs.declared.endpoint.Endpoint.{Endpoint}
@@ -12,12 +12,12 @@ use Rattle.coap_forward.specs.Messages.{is_ack}
 use Rattle.coap_model.specs.World.{World, Step, later, silent, ignores}
 use Rattle.coap_model.specs.Answers.{answers}
 
--- the request was acknowledged: its answer is to come separately
+-- the request was acknowledged: its answer will be a separate response
 abbrev pub acknowledges : World → ℕ → ℕ → Step
 acknowledges w now number =
     silent Acked (record (later w now) { exchanges = changed_at number acked w.exchanges })
 
--- the client has its answer, or doesn't know what that is for
+-- the client acknowledged its answer, or rejected it with a Reset
 abbrev pub closes : World → ℕ → ℕ → Step
 closes w now number = silent Acked (record (later w now) { waiters = without number w.waiters })
 
@@ -37,8 +37,8 @@ settles w now grown source m number x =
     then acknowledges w now number
     else answers w now grown source m (number, x)
 
--- the exchange of a number that is found is there, so that the first case never comes; where it was
--- acknowledged or answered before, what came is of no request
+-- an exchange whose number was found exists, so the first case never occurs; if it was acknowledged
+-- or answered before, the message doesn't refer to a request
 abbrev pub on_exchange : World → ℕ → Bool → Endpoint → Message → ℕ → Option Exchange → Step
 on_exchange w now grown source m number None = on_client w now source m
 on_exchange w now grown source m number (Some x) =

@@ -1,4 +1,4 @@
--- What happens to a proxy.
+-- The input events of a proxy.
 use Rattle.std.specs.Prelude.{ℕ, List}
 use Rattle.coap_message.specs.Uint.{IsBytes}
 use Rattle.coap_endpoint.specs.declared.endpoint.Endpoint.{Endpoint}
@@ -8,7 +8,7 @@ pub data Event : Type 0 where
   arrival : Endpoint → List ℕ → Event
   tick : Event
 
--- datagrams are bytes
+-- the content of a datagram consists of bytes
 abbrev pub IsEvent : Event → Type 0
 IsEvent (arrival source bytes) = IsBytes bytes
 IsEvent tick = Unit {0}

@@ -17,21 +17,21 @@ use Rattle.coap_model.specs.World.{World, Step, new_world}
 use Rattle.coap_model.specs.Step.{step_of}
 use Rattle.coap_model.specs.Runs.{Turn}
 
--- what a step answered, and the datagram that it sent
+-- the report of a step, and the datagram that it sent
 abbrev pub Sent : Type 0
 Sent = Report × List ℕ
 
 abbrev pub sent_by : Step → Sent
 sent_by s = (s.report, s.bytes)
 
--- what a proxy sends at these turns, one after the other
+-- the reports and datagrams of a proxy for these turns, one after the other
 abbrev pub play : World → List Turn → List Sent
 play w [] = []
 play w (t ∷ turns) =
     let s = step_of w t.now t.draw true t.event in
     sent_by s ∷ play s.world turns
 
--- the origin of the fixed route, and clients by number
+-- the origin server of the fixed route, and clients by number
 abbrev pub origin : Endpoint
 origin = loopback 5690
 
@@ -74,7 +74,7 @@ narrow_proxy =
       salt = 0;
     })
 
--- a Non-confirmable GET of the path `t`, with this id, and what follows
+-- a Non-confirmable GET for the path `t`, with this id, and what follows
 abbrev pub get_t_as : ℕ → List ℕ → List ℕ
 get_t_as id more = 0x50 ∷ 1 ∷ 0 ∷ id ∷ 0xB1 ∷ 0x74 ∷ more
 
@@ -82,20 +82,20 @@ get_t_as id more = 0x50 ∷ 1 ∷ 0 ∷ id ∷ 0xB1 ∷ 0x74 ∷ more
 abbrev pub get_t : List ℕ → List ℕ
 get_t more = get_t_as 7 more
 
--- a GET without more
+-- a GET with nothing else
 abbrev pub bare_get : Message
 bare_get = record { kind = Non; code = GET; id = 0; token = []; options = []; payload = [] }
 
--- the request that the origin is sent, with the id 1 and the token of the first exchange
+-- the request that the origin server is sent, with the id 1 and the token of the first exchange
 abbrev pub get_temp : List ℕ → List ℕ
 get_temp more =
     0x48 ∷ 1 ∷ 0 ∷ 1 ∷ 0 ∷ 0 ∷ 0 ∷ 0 ∷ 0 ∷ 0 ∷ 0 ∷ 1 ∷ 0xB4 ∷ 0x74 ∷ 0x65 ∷ 0x6D ∷ 0x70 ∷ more
 
--- an answer to it, with its type, code, id, the last byte of its token, and what follows
+-- an answer to it, with its first byte, code, id, the last byte of its token, and what follows
 abbrev pub answer : ℕ → ℕ → ℕ → ℕ → List ℕ → List ℕ
 answer kind code id token more = kind ∷ code ∷ 0 ∷ id ∷ 0 ∷ 0 ∷ 0 ∷ 0 ∷ 0 ∷ 0 ∷ 0 ∷ token ∷ more
 
--- 2.05 with a Max-Age of ten seconds, and what the client is given for it
+-- a 2.05 with a Max-Age of ten seconds, and what the client is sent for it
 abbrev pub content : List ℕ
 content = answer 0x68 0x45 1 1 (0xD1 ∷ 1 ∷ 10 ∷ 0xFF ∷ 0x32 ∷ 0x31 ∷ [])
 
@@ -105,7 +105,7 @@ content_in first left = first ∷ 0x45 ∷ 0 ∷ 2 ∷ 0xD1 ∷ 1 ∷ left ∷ 0
 abbrev pub content_for_client : ℕ → List ℕ
 content_for_client left = content_in 0x50 left
 
--- a request, a tick that sends it on, an answer, and a tick that delivers it
+-- a request, a tick that forwards it, an answer, and a tick that delivers it
 abbrev pub answered_by : ℕ → List ℕ → List Turn
 answered_by served response =
     from 0 (client 1) (get_t []) ∷ tick_at 0 ∷ from 0 origin response ∷ tick_at served ∷ []
@@ -115,7 +115,7 @@ delivered_with storing reply =
     nothing Opened ∷ to SentRequest origin (get_temp []) ∷ nothing (Answered storing)
     ∷ to Delivered (client 1) reply ∷ []
 
--- of an answer that is stored, and of one that isn't to be
+-- the same for an answer that is stored, and for one that mustn't be stored
 abbrev pub delivered_as : List ℕ → List Sent
 delivered_as reply = delivered_with Kept reply
 
@@ -129,28 +129,28 @@ first_answer = answered_by 0 content
 abbrev pub first_answer_sent : List Sent
 first_answer_sent = delivered_as (content_for_client 10)
 
--- the same, delivered 2,500 milliseconds after the answer came: seven seconds are left of its ten
+-- the same, delivered 2,500 milliseconds after the answer arrived: seven of ten seconds are left
 abbrev pub late_answer : List Turn
 late_answer = answered_by 2500 content
 
 abbrev pub late_answer_sent : List Sent
 late_answer_sent = delivered_as (content_for_client 7)
 
--- an error without Max-Age is given one of sixty seconds
+-- an error without a Max-Age gets one of sixty seconds
 abbrev pub error : List Turn
 error = answered_by 0 (answer 0x68 0x84 1 1 [])
 
 abbrev pub error_sent : List Sent
 error_sent = delivered_as (0x50 ∷ 0x84 ∷ 0 ∷ 2 ∷ 0xD1 ∷ 1 ∷ 60 ∷ [])
 
--- so is an error of the origin's own, of class 5
+-- so does an error of class 5 from the origin server
 abbrev pub fault : List Turn
 fault = answered_by 0 (answer 0x68 0xA0 1 1 [])
 
 abbrev pub fault_sent : List Sent
 fault_sent = delivered_as (0x50 ∷ 0xA0 ∷ 0 ∷ 2 ∷ 0xD1 ∷ 1 ∷ 60 ∷ [])
 
--- a 2.04 goes on as it came
+-- a 2.04 is passed on unchanged
 abbrev pub changed : List Turn
 changed = answered_by 0 (answer 0x68 0x44 1 1 [])
 
@@ -171,8 +171,8 @@ long_max_age = answered_by 0 (answer 0x68 0x45 1 1 (0xD5 ∷ 1 ∷ 0 ∷ 0 ∷ 0
 abbrev pub replaced_sent : List Sent
 replaced_sent = delivered_once (0x50 ∷ 0xA2 ∷ 0 ∷ 2 ∷ [])
 
--- The response of another endpoint, or with another token, is no one's, and in an acknowledgement
--- one with another id; in a confirmable message it is rejected. The right one is still taken after
+-- A response from another endpoint or with another token is ignored, and so is a piggybacked one
+-- with another id; in a Confirmable message it is rejected. The right one is still accepted after
 -- them.
 abbrev pub impostor : List Turn
 impostor =
@@ -190,7 +190,7 @@ impostor_sent =
     ∷ to Rejected origin (0x70 ∷ 0 ∷ 0 ∷ 9 ∷ []) ∷ nothing Ignored ∷ nothing Idle
     ∷ nothing (Answered Kept) ∷ to Delivered (client 1) (content_for_client 10) ∷ []
 
--- refusals: a method that isn't known, an option that isn't understood, a path without a map
+-- refusals: an unknown method, an option that isn't recognised, and a path without a map
 abbrev pub refusals : List Turn
 refusals =
     from 0 (client 1) (0x50 ∷ 5 ∷ 0 ∷ 7 ∷ 0xB1 ∷ 0x74 ∷ [])
@@ -203,12 +203,12 @@ refusals_sent =
     ∷ to (Refused BAD_OPTION) (client 1) (0x50 ∷ 0x82 ∷ 0 ∷ 2 ∷ [])
     ∷ to (Refused NOT_FOUND) (client 1) (0x50 ∷ 0x84 ∷ 0 ∷ 3 ∷ []) ∷ []
 
--- a second segment of so many bytes, from 13 to 268
+-- a second path segment of `n` bytes, from 13 to 268
 abbrev pub segment : ℕ → List ℕ
 segment n = 0x0D ∷ (n - 13) ∷ replicate n 0x61
 
--- with a segment of 110 bytes the request that would be sent on has 129 bytes, with one of 109 it
--- has 128
+-- with a segment of 110 bytes the forwarded request would have 129 bytes, with one of 109 it has
+-- 128
 abbrev pub long_paths : List Turn
 long_paths =
     from 0 (client 1) (get_t (segment 110)) ∷ from 0 (client 1) (get_t_as 8 (segment 109))
@@ -237,16 +237,16 @@ payload_in_get = from 0 (client 1) (get_t (0xFF ∷ 0x39 ∷ [])) ∷ tick_at 0 
 abbrev pub payload_in_get_sent : List Sent
 payload_in_get_sent = nothing Opened ∷ to SentRequest origin (get_temp []) ∷ []
 
--- two clients where there is room for one exchange: the second, which asks for something else, is
--- told to try again after five seconds
+-- two clients with room for one exchange: the second one, which requests something else, is told to
+-- try again after five seconds
 abbrev pub full : List Turn
 full = from 0 (client 1) (get_t []) ∷ from 0 (client 3) (get_t (1 ∷ 0x78 ∷ [])) ∷ []
 
 abbrev pub full_sent : List Sent
 full_sent = nothing Opened ∷ to Overloaded (client 3) (0x50 ∷ 0xA3 ∷ 0 ∷ 1 ∷ 0xD1 ∷ 1 ∷ 5 ∷ []) ∷ []
 
--- empty and malformed messages, and one of a class that isn't used: a Reset where they are
--- confirmable, else silence; fewer than four bytes, and another version, are no messages
+-- Empty and malformed messages, and one with an unused code class: a Reset if they are Confirmable,
+-- and nothing otherwise; fewer than four bytes, or another version, isn't a message
 abbrev pub unprocessed_messages : List Turn
 unprocessed_messages =
     from 0 (client 1) (0x40 ∷ 0 ∷ 0 ∷ 9 ∷ []) ∷ from 0 (client 1) (0x50 ∷ 0 ∷ 0 ∷ 9 ∷ [])
@@ -262,23 +262,23 @@ unprocessed_messages_sent =
     ∷ to Rejected (client 1) (0x70 ∷ 0 ∷ 0 ∷ 7 ∷ [])
     ∷ to Rejected (client 1) (0x70 ∷ 0 ∷ 0 ∷ 4 ∷ []) ∷ nothing Ignored ∷ nothing Ignored ∷ []
 
--- a confirmable message that is longer than a datagram may be
+-- a Confirmable message that is longer than the limit of datagrams
 abbrev pub too_long : List Turn
 too_long = from 0 (client 1) (0x40 ∷ 1 ∷ 0 ∷ 7 ∷ 0xFF ∷ replicate 124 0x39) ∷ []
 
 abbrev pub too_long_sent : List Sent
 too_long_sent = to Rejected (client 1) (0x70 ∷ 0 ∷ 0 ∷ 7 ∷ []) ∷ []
 
--- the longest payload that still fits datagrams of 128 bytes, with a token of eight bytes and a
--- Max-Age of four; one byte more is replaced by 5.02
+-- the longest payload that still fits a datagram of 128 bytes, with a token of eight bytes and a
+-- Max-Age of four; a response with one more byte is replaced by a 5.02
 abbrev pub payload_of : ℕ → List Turn
 payload_of n = answered_by 0 (answer 0x68 0x45 1 1 (0xFF ∷ replicate n 0x39))
 
 abbrev pub payload_of_109_sent : List Sent
 payload_of_109_sent = delivered_as (0x50 ∷ 0x45 ∷ 0 ∷ 2 ∷ 0xD1 ∷ 1 ∷ 60 ∷ 0xFF ∷ replicate 109 0x39)
 
--- a proxy that has given all ids of the first 247 seconds but one: with it a client is told to try
--- again, since an exchange needs two; then there is no reply
+-- a proxy that has given out all ids of the first 247 seconds except one: this one goes to a 5.03,
+-- since an exchange needs two; after that there is no reply
 abbrev pub spent_proxy : World
 spent_proxy = record proxy { ids = record { following = 32768; window = 0; given = 32767 } }
 
@@ -291,7 +291,7 @@ last_id_sent =
     to Overloaded (client 1) (0x50 ∷ 0xA3 ∷ 0x80 ∷ 0 ∷ 0xD1 ∷ 1 ∷ 5 ∷ []) ∷ nothing NoId
     ∷ nothing NoId ∷ []
 
--- ids and tokens go on from 0 after the greatest
+-- ids and tokens wrap to 0 after the greatest
 abbrev pub wrapping_proxy : World
 wrapping_proxy =
     new_world (record {

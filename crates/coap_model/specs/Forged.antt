@@ -1,4 +1,4 @@
--- Deliveries that nothing justifies: histories that are right but for one thing.
+-- Deliveries that nothing justifies: histories that are right except for one thing.
 use Rattle.std.specs.Prelude.{ℕ, List, [], ◌∷◌, Some, None}
 use Rattle.coap_endpoint.specs.declared.endpoint.Endpoint.{Endpoint}
 use Rattle.coap_model.specs.declared.report.Outcome.TheVariants.{Opened, Answered, SentRequest, Delivered}
@@ -11,7 +11,7 @@ use Rattle.coap_model.specs.History.{Act, admits, moves, serves, Deed}
 abbrev pub setting : Setting
 setting = proxy.setting
 
--- a request comes and is sent on, and its answer comes
+-- a request arrives and is forwarded, and its answer arrives
 abbrev pub opened : Deed
 opened = record {
   entry = record {
@@ -51,7 +51,7 @@ answered = record {
 abbrev pub past : List Deed
 past = answered ∷ asked ∷ opened ∷ []
 
--- the same, where the client asks in a Confirmable message, which is acknowledged
+-- the same, but the client's request is Confirmable and is acknowledged
 abbrev pub opened_con : Deed
 opened_con = record {
   entry = record {
@@ -71,7 +71,7 @@ past_con = answered ∷ asked ∷ opened_con ∷ []
 abbrev pub opened_too : Deed
 opened_too = record opened { act = admits 2 2 }
 
--- the same, where the request that is sent on has one more segment in its path
+-- the same, but the forwarded request has one more path segment
 abbrev pub asked_elsewhere : Deed
 asked_elsewhere = record asked {
   entry = record asked.entry { bytes = get_temp (0x01 ∷ 0x78 ∷ []) };
@@ -100,7 +100,7 @@ right = delivery (client 1) (content_for_client 7) (serves 1)
 abbrev pub in_con : Deed
 in_con = delivery (client 1) (content_in 0x40 7) (serves 1)
 
--- the same at a datagram in place of a tick
+-- the same, triggered by a datagram instead of a tick
 abbrev pub at_an_arrival : Deed → Deed
 at_an_arrival d = record d { entry = record d.entry { event = arrival (client 1) (get_t []) } }
 

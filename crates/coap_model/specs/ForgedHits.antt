@@ -1,5 +1,5 @@
--- Replies from the cache, and answers that are kept, which nothing justifies since the target was
--- changed: histories that are right but for one thing (RFC 7252, 5.6.1 and 5.9.1).
+-- Replies from the cache, and kept answers, that nothing justifies, since the target was changed:
+-- histories that are right except for one thing (RFC 7252, 5.6.1 and 5.9.1).
 use Rattle.std.specs.Prelude.{ℕ, List, [], ◌∷◌, Some, None}
 use Rattle.coap_message.specs.declared.kind.Kind.TheVariants.{Ack}
 use Rattle.coap_message.specs.declared.code.TheConstants.Code.{CHANGED}
@@ -13,8 +13,8 @@ use Rattle.coap_model.specs.History.{Entry, no_item, moves, Deed}
 use Rattle.coap_model.specs.Forged.{opened, asked}
 use Rattle.coap_model.specs.CacheExamples.{answered, opens_again, asks_again, asked_past}
 
--- a client asks for the same again, and is shown the first answer with so many seconds of its
--- Max-Age
+-- a client sends the same request again, and gets the first answer with this many seconds of its
+-- Max-Age left
 abbrev pub reply : ℕ → ℕ → Deed
 reply now left =
     record {
@@ -28,7 +28,7 @@ reply now left =
       act = no_item;
     }
 
--- 2.04 answers the second exchange: its target is changed
+-- a 2.04 answers the second exchange: its target is changed
 abbrev pub change_told : List ℕ
 change_told = answer 0x68 0x44 3 2 []
 
@@ -59,17 +59,17 @@ change =
 abbrev pub changed_past : List Deed
 changed_past = change ∷ asked_past
 
--- the same, where the first exchange still has no answer
+-- the same, but the first exchange has no answer yet
 abbrev pub overtaken_past : List Deed
 overtaken_past = change ∷ asks_again ∷ opens_again ∷ asked ∷ opened ∷ []
 
--- its answer is kept
+-- its answer arrives, and is kept
 abbrev pub keeps_overtaken : Deed
 keeps_overtaken = answered 25 1 1 (Answered Kept)
 
--- ---- a word that isn't kept
+-- ---- a promise that isn't kept
 
--- two exchanges are opened, for two paths, where there is room for one
+-- two exchanges are opened, for two paths, although there is room for one
 abbrev pub opens_two : List Entry
 opens_two =
     record opened.entry { event = arrival (client 2) (get_t (1 ∷ 0x78 ∷ [])) } ∷ opened.entry ∷ []

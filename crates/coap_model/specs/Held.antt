@@ -1,5 +1,5 @@
--- How many bytes a proxy holds, and the most that it holds by its limits. What is held counts as
--- many bytes as the values of the program keep of it; what is stored counts as the store counts it.
+-- How many bytes a proxy holds, and the most that its limits let it hold. Held items count the
+-- bytes that the values of the program keep for them; stored responses count as in the store.
 use Rattle.std.specs.Prelude.{ℕ, ◌+◌, ◌*◌, List, length, Option, Some, None}
 use Rattle.std.specs.List.{sum_by}
 use Rattle.std.specs.Option.{option_map_or}
@@ -27,13 +27,13 @@ abbrev pub host_bytes : Option (List ℕ) → ℕ
 host_bytes None = 0
 host_bytes (Some host) = length host + 1
 
--- segments and parts of a query count as they are kept: each with its length in front of it
+-- path segments and query parts count as they are kept: each preceded by its length
 abbrev pub target_bytes : Target → ℕ
 target_bytes t =
     host_bytes t.host + (length (pieces_spelling t.path) + length (pieces_spelling t.query))
 
--- A response counts without its token and its id; its options count as they are kept, in the bytes
--- that spell them (RFC 7252, 3.1).
+-- A response counts without its token and its id; its options count as they are kept, in their
+-- encoding (RFC 7252, 3.1).
 abbrev pub response_bytes : Message → ℕ
 response_bytes m = length (options_spelling 0 m.options) + length m.payload
 
@@ -43,7 +43,7 @@ state_bytes Sent = 0
 state_bytes Acked = 0
 state_bytes (Done a) = response_bytes a.message
 
--- the target, and the options of the key in the bytes that spell them
+-- the target, and the encoded options of the key
 abbrev pub key_bytes : CacheKey → ℕ
 key_bytes key = target_bytes key.target + length (options_spelling 0 key.options)
 
@@ -51,23 +51,22 @@ key_bytes key = target_bytes key.target + length (options_spelling 0 key.options
 abbrev pub copy_bytes : Option Stored → ℕ
 copy_bytes copy = option_map_or (λ s. response_bytes s.response) copy 0
 
--- the form that is sent on, the key, the copy and the answer
+-- the form that is forwarded, the key, the copy and the answer
 abbrev pub exchange_bytes : Numbered Exchange → ℕ
 exchange_bytes x =
     length x.1.form + key_bytes x.1.key + copy_bytes x.1.copy + state_bytes x.1.state
 
--- the answer that a client has still to acknowledge
+-- the answer that a client hasn't acknowledged yet
 abbrev pub answer_bytes : WaiterState → ℕ
 answer_bytes (Waiting exchange) = 0
 answer_bytes (Delivering bytes id timer) = length bytes
 
--- a client's token, its tags, each with its length in front of it, and its answer
+-- a client's token, its tags, each preceded by its length, and its answer
 abbrev pub waiter_bytes : Numbered Waiter → ℕ
 waiter_bytes v =
     length v.1.token + length (pieces_spelling v.1.tags) + answer_bytes v.1.state
 
--- what is stored, the replies that are kept, also those that no longer live, the exchanges and the
--- waiters
+-- what is stored, the replies that are kept (including expired ones), the exchanges and the waiters
 abbrev pub held : World → ℕ
 held w =
     total entry_size w.store
@@ -75,10 +74,10 @@ held w =
     + sum_by exchange_bytes w.exchanges
     + sum_by waiter_bytes w.waiters
 
--- ---- the bytes held, as values count
+-- ---- the bytes held, as the values count
 
--- A response counts as one that is stored does, without the 64 bytes of an entry: each value of its
--- options with a byte more, and its payload.
+-- A response counts as a stored one does, without the 64 bytes of an entry: the values of its
+-- options with one extra byte each, and its payload.
 abbrev pub response_size : Message → ℕ
 response_size m = options_size m.options + length m.payload
 
@@ -93,18 +92,18 @@ answer_size (Done a) = response_size a.message
 abbrev pub copy_size : Option Stored → ℕ
 copy_size copy = option_map_or (λ s. response_size s.response) copy 0
 
--- an exchange: the form that is sent on, the key, the copy and the answer
+-- an exchange: the form that is forwarded, the key, the copy and the answer
 abbrev pub exchange_size : Numbered Exchange → ℕ
 exchange_size x =
     length x.1.form + key_size x.1.key + copy_size x.1.copy + answer_size x.1.state
 
--- a client that waits: its token and its tags; then the bytes of its answer
+-- a client that waits: its token and its tags; one that was served: the bytes of its answer
 abbrev pub waiter_size : Waiter → WaiterState → ℕ
 waiter_size v (Waiting exchange) = length v.token + sum_by length v.tags
 waiter_size v (Delivering bytes id timer) = length bytes
 
--- The bytes held: what is stored; the replies that are kept, also of messages whose lifetime is over;
--- the exchanges; and the clients that wait.
+-- The bytes held: what is stored; the replies that are kept, including those to expired messages;
+-- the exchanges; and the waiting clients.
 abbrev pub bytes_held : World → ℕ
 bytes_held w =
     total entry_size w.store

@@ -1,5 +1,5 @@
--- What the traffic alone says: which entry of a history opened, asked, got and admitted what. This
--- file names no table. A history has its newest entry first.
+-- What the traffic alone shows: which entry of a history opened an exchange, sent its request, got
+-- its answer, or admitted a client. This file names no table. A history has its newest entry first.
 use Rattle.std.specs.Prelude.{◌≡◌, ◌⊎◌, ℕ, ◌+◌, ◌%◌, ◌≤◌, List, [], ◌∷◌, length, map, Bool, true, false, not, if◌then◌else◌, Some}
 use Rattle.coap_message.specs.declared.kind.Kind.TheVariants.{Ack, Rst}
 use Rattle.coap_message.specs.declared.code.TheConstants.Code.{EMPTY}
@@ -19,7 +19,7 @@ use Rattle.coap_model.specs.Events.{Event, arrival, tick}
 use Rattle.coap_message.specs.Codes.{is_request, is_response}
 use Rattle.coap_forward.specs.Messages.{is_con, brings_requests, token_of}
 
--- one step as the outside saw it, with all that the step read
+-- one step as seen from outside, with all the input that it read
 pub record Entry : Type 0 where
   pub now : ℕ
   pub draw : ℕ
@@ -27,14 +27,14 @@ pub record Entry : Type 0 where
   pub report : Report
   pub bytes : List ℕ
 
--- what an entry acted on: no item of the tables, an exchange or a waiter by its number
+-- what an entry acted on: no item of the tables, or an exchange or a waiter, by its number
 pub data Act : Type 0 where
   no_item : Act
   -- a waiter was admitted to an exchange
   admits : ℕ → ℕ → Act
-  -- an exchange came to another state, or its request was sent again
+  -- an exchange changed its state, or its request was retransmitted
   moves : ℕ → Act
-  -- a waiter was served, or its answer was sent again, or acknowledged, or given up
+  -- a waiter was served, or its answer was retransmitted, or acknowledged, or given up
   serves : ℕ → Act
 
 -- an entry, and what it acted on
@@ -55,17 +55,17 @@ pub record Place : Type 0 where
 abbrev pub index : Place → ℕ
 index p = length p.before
 
--- the place is one of the history
+-- the place is in the history
 abbrev pub IsPlaceOf : List Deed → Place → Type 0
 IsPlaceOf [] p = ⊥
 IsPlaceOf (d ∷ past) p = (record { before = past; deed = d } ≡ p) ⊎ IsPlaceOf past p
 
--- at no place of the history
+-- it holds at no place of the history
 abbrev pub Never : (Place → Type 0) → List Deed → Type 0
 Never P [] = Unit {0}
 Never P (d ∷ past) = ¬ P (record { before = past; deed = d }) × Never P past
 
--- at some place of the history
+-- it holds at some place of the history
 pub record Somewhere (P : Place → Type 0) (history : List Deed) : Type 0 where
   pub place : Place
   pub is_there : IsPlaceOf history place
@@ -119,13 +119,14 @@ admits_one Idle = 0
 abbrev pub is_con_datagram : List ℕ → Bool
 is_con_datagram bytes = option_map_or (λ h. is_con h.kind) (head_at bytes) false
 
--- that which an event brings is one
+-- an event brings a Confirmable message
 abbrev pub comes_con : Event → Bool
 comes_con (arrival source bytes) = is_con_datagram bytes
 comes_con tick = false
 
--- Requests that are sent on, and replies, are given a message id, but for replies to what is
--- confirmable: they go out in its acknowledgement, which has its id (RFC 7252, 4.4 and 5.2.1).
+-- How many new message ids an outcome takes: forwarded requests and replies take one, except for
+-- immediate replies to Confirmable messages, which are piggybacked on the acknowledgement, with its
+-- id (RFC 7252, 4.4 and 5.2.1).
 abbrev pub ids_given : Bool → Outcome → ℕ
 ids_given con Ignored = 0
 ids_given con Rejected = 0
@@ -154,8 +155,8 @@ has_grown TooLarge = true
 has_grown NoMemory = false
 has_grown NotStored = true
 
--- what an outcome tells of the one choice that is left to the memory: whether there was some for
--- one entry more of the store
+-- what an outcome says about the only choice that depends on memory: whether there was enough for
+-- one more entry of the store
 abbrev pub grown_of : Outcome → Bool
 grown_of Ignored = true
 grown_of Rejected = true
@@ -175,7 +176,8 @@ grown_of GaveUp = true
 grown_of Delivered = true
 grown_of Idle = true
 
--- exchanges that were opened, waiters that were admitted, ids that were given
+-- the number of exchanges that were opened, of waiters that were admitted, and of ids that were
+-- given out
 abbrev pub opened_in : List Deed → ℕ
 opened_in history = count_in opens_one history
 
@@ -188,31 +190,31 @@ ids_in (d ∷ past) = ids_in past + gives_id d.entry
 
 -- ---- what an entry did
 
--- the entry opened the exchange of this number: the x-th that opened one
+-- the entry opened the exchange with this number: it is the x-th entry that opened one
 abbrev pub Opens : ℕ → Place → Type 0
 Opens x p = (p.deed.entry.report.outcome ≡ Opened) × (x ≡ opened_in p.before + 1)
 
--- the entry admitted the waiter of this number to an exchange: the v-th that admitted one
+-- the entry admitted the waiter with this number to an exchange: it is the v-th that admitted one
 pub record Admits (v x : ℕ) (p : Place) : Type 0 where
   pub act : p.deed.act ≡ admits v x
   pub outcome : admits_one p.deed.entry.report.outcome ≡ 1
   pub number : v ≡ admitted_in p.before + 1
 
--- an event brings a message of a source, in a datagram that isn't too long
+-- an event brings a message from a source, in a datagram that isn't too long
 pub record Brings (most : ℕ) (source : Endpoint) (m : Message) (event : Event) : Type 0 where
   pub bytes : List ℕ
   pub came : event ≡ arrival source bytes
   pub spells : Spells bytes m
   pub short : length bytes ≤ most
 
--- a request of a client that is not too long for a datagram
+-- an event brings a request from a client, in a datagram that isn't too long
 pub record IsRequestOf
     (setting : Setting) (client : Endpoint) (request : Message) (event : Event) : Type 0 where
   pub brings : Brings setting.limits.datagram client request event
   pub kind : brings_requests request.kind ≡ true
   pub method : is_request request.code ≡ true
 
--- the request that opened the exchange of this number
+-- the request that opened the exchange with this number
 pub record WasOpened (setting : Setting) (past : List Deed) (x : ℕ) : Type 0 where
   pub opening : Place
   pub client : Endpoint
@@ -221,7 +223,7 @@ pub record WasOpened (setting : Setting) (past : List Deed) (x : ℕ) : Type 0 w
   pub opens : Opens x opening
   pub asked : IsRequestOf setting client request opening.deed.entry.event
 
--- the request that admitted the waiter of this number to an exchange
+-- the request that admitted the waiter with this number to an exchange
 pub record WasAdmitted (setting : Setting) (past : List Deed) (v : ℕ) : Type 0 where
   pub exchange : ℕ
   pub admission : Place
@@ -231,8 +233,7 @@ pub record WasAdmitted (setting : Setting) (past : List Deed) (v : ℕ) : Type 0
   pub admits : Admits v exchange admission
   pub asked : IsRequestOf setting client request admission.deed.entry.event
 
--- the request of this exchange was sent there for the first time: by its token, read off the
--- datagram
+-- the request of this exchange was sent there for the first time: its token is in the datagram
 pub record Sends (salt x : ℕ) (p : Place) : Type 0 where
   pub act : p.deed.act ≡ moves x
   pub outcome : p.deed.entry.report.outcome ≡ SentRequest
@@ -242,13 +243,13 @@ pub record Sends (salt x : ℕ) (p : Place) : Type 0 where
   pub spells : Spells p.deed.entry.bytes message
   pub token : message.token ≡ token_of salt x
 
--- the exchange was asked there: its request was sent, and never before
+-- the request of the exchange was sent there, and never before
 pub record Asks (salt x : ℕ) (p : Place) : Type 0 where
   pub sends : Sends salt x p
   pub first : Never (Sends salt x) p.before
 
--- A message answers a request with this token and id: a response in its acknowledgement or in a
--- message of its own, or a Reset of it (RFC 7252, 4.2, 5.2.1, 5.2.2 and 5.3.2).
+-- A message answers a request with this token and id: a piggybacked or a separate response, or a
+-- Reset of it (RFC 7252, 4.2, 5.2.1, 5.2.2 and 5.3.2).
 pub data Matches (token : List ℕ) (id : ℕ) (m : Message) : Type 0 where
   in_acknowledgement :
       m.kind ≡ Ack
@@ -263,7 +264,8 @@ pub data Matches (token : List ℕ) (id : ℕ) (m : Message) : Type 0 where
       → Matches token id m
   by_reset : m.kind ≡ Rst → m.code ≡ EMPTY → m.id ≡ id → Matches token id m
 
--- an event brings an answer to the request of this exchange, from the endpoint that was asked before
+-- an event brings an answer to the request of this exchange, from the endpoint that the request was
+-- sent to
 pub record Meets (setting : Setting) (x : ℕ) (past : List Deed) (event : Event) : Type 0 where
   pub asking : Place
   pub was_asked : IsPlaceOf past asking
@@ -272,7 +274,7 @@ pub record Meets (setting : Setting) (x : ℕ) (past : List Deed) (event : Event
   pub brings : Brings setting.limits.datagram asks.sends.to message event
   pub matches : Matches (token_of setting.salt x) asks.sends.message.id message
 
--- an answer is taken, however it is stored
+-- an answer is accepted, whether it is stored or not
 abbrev pub takes : Outcome → Bool
 takes Ignored = false
 takes Rejected = false
@@ -292,7 +294,7 @@ takes GaveUp = false
 takes Delivered = false
 takes Idle = false
 
--- the answer of this exchange was got there
+-- the answer of this exchange arrived there
 pub record Gets (setting : Setting) (x : ℕ) (p : Place) : Type 0 where
   pub act : p.deed.act ≡ moves x
   pub outcome : takes p.deed.entry.report.outcome ≡ true
@@ -304,7 +306,7 @@ pub record GivesUp (x : ℕ) (p : Place) : Type 0 where
   pub act : p.deed.act ≡ moves x
   pub outcome : p.deed.entry.report.outcome ≡ GaveUp
 
--- either ends an exchange
+-- the outcomes that end an exchange: it is answered or given up
 abbrev pub ends : Outcome → Bool
 ends Ignored = false
 ends Rejected = false
@@ -324,7 +326,7 @@ ends GaveUp = true
 ends Delivered = false
 ends Idle = false
 
--- the exchange was got or given up there
+-- the exchange was answered or given up there
 pub record Ends (x : ℕ) (p : Place) : Type 0 where
   pub act : p.deed.act ≡ moves x
   pub outcome : ends p.deed.entry.report.outcome ≡ true
@@ -334,8 +336,8 @@ pub record Serves (v : ℕ) (p : Place) : Type 0 where
   pub act : p.deed.act ≡ serves v
   pub outcome : p.deed.entry.report.outcome ≡ Delivered
 
--- a client is done with: its answer was acknowledged, or is sent no more, or went out in a message
--- that isn't Confirmable
+-- a client is finished: its answer was acknowledged, or isn't retransmitted any more, or was sent
+-- in a message that isn't Confirmable
 abbrev pub lets_go : Outcome → List ℕ → Bool
 lets_go Ignored bytes = false
 lets_go Rejected bytes = false
@@ -355,7 +357,7 @@ lets_go GaveUp bytes = true
 lets_go Delivered bytes = not (is_con_datagram bytes)
 lets_go Idle bytes = false
 
--- the waiter was done with there
+-- the waiter was finished there
 pub record LetsGo (v : ℕ) (p : Place) : Type 0 where
   pub act : p.deed.act ≡ serves v
   pub outcome : lets_go p.deed.entry.report.outcome p.deed.entry.bytes ≡ true
@@ -366,19 +368,19 @@ abbrev pub last_of : List Deed → ℕ
 last_of [] = 0
 last_of (d ∷ past) = d.entry.now
 
--- moments don't go back
+-- moments never decrease
 abbrev pub IsInOrder : List Deed → Type 0
 IsInOrder [] = Unit {0}
 IsInOrder (d ∷ past) = (last_of past ≤ d.entry.now) × IsInOrder past
 
--- an id that an entry gave
+-- the entry gave out this id
 pub record Gives (id : ℕ) (e : Entry) : Type 0 where
   pub gives : gives_id e ≡ 1
   pub message : Message
   pub spells : Spells e.bytes message
   pub id_is : message.id ≡ id
 
--- ids count up from the first, and begin anew at 0 after 65,535 (RFC 7252, 4.4)
+-- ids count up from the first, and wrap to 0 after 65,535 (RFC 7252, 4.4)
 abbrev pub AreIds : ℕ → List Deed → Type 0
 AreIds first [] = Unit {0}
 AreIds first (d ∷ past) =

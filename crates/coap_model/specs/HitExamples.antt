@@ -1,6 +1,6 @@
 -- Runs in which clients are answered from the cache, computed on the definitions: what is kept
--- within which bytes and entries, how it ages, which requests it answers, and that an answer from
--- the cache takes a message id. The bytes are those of RFC 7252 (3, 3.1, 5.10), written out.
+-- within which limits of bytes and entries, how it ages, which requests it answers, and that an
+-- answer from the cache takes a message id. The bytes are encoded per RFC 7252 (3, 3.1, 5.10).
 use Rattle.std.specs.Prelude.{ℕ, List, [], ◌∷◌, ◌++◌, replicate}
 use Rattle.coap_model.specs.declared.report.Outcome.TheVariants.{Hit, Opened, NoId, Answered, SentRequest, Delivered}
 use Rattle.coap_model.specs.declared.report.Storing.TheVariants.{Kept, TooLarge}
@@ -10,16 +10,16 @@ use Rattle.coap_model.specs.Runs.{Turn}
 use Rattle.coap_model.specs.Examples.{Sent, origin, client, from, tick_at, nothing, to, get_t_as, get_t, answer, answered_by, delivered_with, delivered_as, delivered_once, content, content_for_client, first_answer, first_answer_sent}
 use Rattle.coap_model.specs.LimitExamples.{proxy_of, asked, got}
 
--- ---- asking again
+-- ---- the same request again
 
--- a GET of the path `t` with the id 8, and what follows
+-- a GET for the path `t` with the id 8, and what follows
 abbrev pub get_again : List ℕ → List ℕ
 get_again more = get_t_as 8 more
 
 abbrev pub asks_again : ℕ → List Turn
 asks_again now = from now (client 1) (get_again []) ∷ []
 
--- it is answered from the cache, or the origin is asked
+-- it is answered from the cache, or an exchange is opened
 abbrev pub hit_with : List ℕ → List Sent
 hit_with bytes = to Hit (client 1) bytes ∷ []
 
@@ -28,8 +28,8 @@ missed = nothing Opened ∷ []
 
 -- ---- age
 
--- the first answer, and the same request so many milliseconds later: with the third id, and what is
--- left of ten seconds
+-- the first answer, and the same request this many milliseconds later: it gets a reply with the
+-- third id, and the rest of the ten seconds
 abbrev pub aged : ℕ → List Turn
 aged now = first_answer ++ asks_again now
 
@@ -37,22 +37,22 @@ abbrev pub aged_sent : List ℕ → List Sent
 aged_sent age = first_answer_sent
     ++ hit_with (0x50 ∷ 0x45 ∷ 0 ∷ 3 ∷ (age ++ (0xFF ∷ 0x32 ∷ 0x31 ∷ [])))
 
--- of ten seconds; of the last, which has begun, none is told
+-- a Max-Age of this many seconds; in the last second, the Max-Age is 0
 abbrev pub seconds : ℕ → List ℕ
 seconds left = 0xD1 ∷ 1 ∷ left ∷ []
 
 abbrev pub no_second : List ℕ
 no_second = 0xD0 ∷ 1 ∷ []
 
--- a millisecond after the ten seconds the origin is asked anew
+-- a millisecond after the ten seconds, a new request is sent to the origin server
 abbrev pub stale : List Turn
 stale = aged 10001 ++ tick_at 10001 ∷ []
 
 abbrev pub stale_sent : List Sent
 stale_sent = first_answer_sent ++ nothing Opened ∷ to SentRequest origin (asked 3 2) ∷ []
 
--- an age counts from the moment at which the answer came, and not from its delivery: it came at
--- 5,000 and is delivered at 7,500, and at 9,000 six seconds are left
+-- the age counts from the arrival of the answer, and not from its delivery: it arrives at 5,000 and
+-- is delivered at 7,500, and at 9,000 six seconds are left
 abbrev pub aged_from_coming : List Turn
 aged_from_coming =
     from 0 (client 1) (get_t []) ∷ tick_at 0 ∷ from 5000 origin content ∷ tick_at 7500
@@ -64,41 +64,41 @@ aged_from_coming_sent = delivered_as (content_for_client 7)
 
 -- ---- what is kept
 
--- an answer of this code with these options, and the same request later
+-- an answer with this code and these options, and the same request later
 abbrev pub again_after : ℕ → ℕ → List ℕ → List Turn
 again_after now code options = answered_by 0 (answer 0x68 code 1 1 options) ++ asks_again now
 
--- what is given for it, at once and later
+-- the replies to both, if the answer is kept and still fresh
 abbrev pub kept_and_hit : ℕ → List ℕ → List ℕ → List Sent
 kept_and_hit code first later =
     delivered_as (0x50 ∷ code ∷ 0 ∷ 2 ∷ first) ++ hit_with (0x50 ∷ code ∷ 0 ∷ 3 ∷ later)
 
--- it was kept, but isn't fresh any more
+-- the same, if it was kept but isn't fresh any more
 abbrev pub kept_and_missed : ℕ → List ℕ → List Sent
 kept_and_missed code first = delivered_as (0x50 ∷ code ∷ 0 ∷ 2 ∷ first) ++ missed
 
--- or it wasn't kept
+-- the same, if it wasn't kept
 abbrev pub not_kept : ℕ → List ℕ → List Sent
 not_kept code first = delivered_once (0x50 ∷ code ∷ 0 ∷ 2 ∷ first) ++ missed
 
 -- ---- how much is kept
 
--- The entry of the first answer counts 73 bytes: 64, five of the path `temp`, two of a Max-Age of
--- one byte, and a payload of two.
+-- The size of the entry for the first answer is 73 bytes: 64, five for the path `temp`, two for a
+-- Max-Age of one byte, and a payload of two.
 abbrev pub within_bytes : ℕ → World
 within_bytes bytes = proxy_of (record default_limits { cache_bytes = bytes })
 
 abbrev pub too_large_sent : List Sent
 too_large_sent = delivered_with TooLarge (content_for_client 10) ++ missed
 
--- an answer of a byte less is kept within 72 bytes; when it is stale, one of 73 takes its place,
--- which is given up with it
+-- an answer with one byte less is kept within 72 bytes; when it is stale, one of 73 bytes arrives
+-- for the same key, which is too large: then neither of them is kept
 abbrev pub outgrown : List Turn
 outgrown = answered_by 0 (answer 0x68 0x45 1 1 (0xD1 ∷ 1 ∷ 10 ∷ 0xFF ∷ 0x32 ∷ []))
     ++ asks_again 10001 ++ tick_at 10001 ∷ from 10001 origin (got 3 2) ∷ []
 
--- a GET with this id of a path of two segments, `t` and another: what is sent on for it, with its
--- own id and the last byte of its token, its answer, and what the client is given for that
+-- a GET with this id for a path with two segments, `t` and another; the request that is forwarded
+-- for it, with its own id and the last byte of its token; its answer; and what the client is sent
 abbrev pub get_part : ℕ → ℕ → List ℕ
 get_part id segment = get_t_as id (1 ∷ segment ∷ [])
 
@@ -118,7 +118,7 @@ part_answered_sent id token segment next =
     nothing Opened ∷ to SentRequest origin (asked_part id token segment) ∷ nothing (Answered Kept)
     ∷ to Delivered (client 1) (for_client next) ∷ []
 
--- where one entry may be kept, an answer for another key takes the place of the first
+-- with room for one entry, an answer for another key replaces the first
 abbrev pub within_entries : ℕ → World
 within_entries entries = proxy_of (record default_limits { cache_entries = entries })
 
@@ -130,8 +130,8 @@ abbrev pub two_keys_sent : List Sent
 two_keys_sent =
     first_answer_sent ++ part_answered_sent 3 2 0x78 4 ++ hit_with (for_client 5) ++ missed
 
--- where two may be kept, the one that was used first goes: a client was shown the first, so that
--- the second goes
+-- with room for two entries, the least recently used one is evicted: a client was answered with the
+-- first, so the second goes
 abbrev pub used_since : List Turn
 used_since = first_answer ++ part_answered 3 2 0x78 ++ asks_again 0 ++ part_answered 6 3 0x79
     ++ from 0 (client 1) (get_t_as 9 []) ∷ from 0 (client 1) (get_part 10 0x79)
@@ -143,7 +143,7 @@ used_since_sent = first_answer_sent ++ part_answered_sent 3 2 0x78 4 ++ hit_with
 
 -- ---- which requests
 
--- an option that is no part of the key, Size1, and one that is, Accept
+-- an option that isn't part of the key, Size1, and one that is, Accept
 abbrev pub with_size : List Turn
 with_size = first_answer ++ from 0 (client 1) (get_again (0xD1 ∷ 0x24 ∷ 5 ∷ [])) ∷ []
 
@@ -155,7 +155,7 @@ with_accept_sent =
     first_answer_sent ++ nothing Opened
     ∷ to SentRequest origin (asked 3 2 ++ (0x61 ∷ 0x28 ∷ [])) ∷ []
 
--- a token of eight bytes, each the greatest
+-- a token of eight bytes 0xFF
 abbrev pub greatest_token : List Turn
 greatest_token = first_answer
     ++ from 0 (client 2) (0x58 ∷ 1 ∷ 0 ∷ 8 ∷ (replicate 8 0xFF ++ (0xB1 ∷ 0x74 ∷ []))) ∷ []
@@ -181,8 +181,8 @@ tagged_sent bytes =
 
 -- ---- ids
 
--- the last id but two goes to the request, the next to the delivery, and the last to a hit; then
--- nothing is told
+-- with three ids left, the first goes to the request, the next to the delivery, and the last to a
+-- hit; after that there is no reply
 abbrev pub last_hit : List Turn
 last_hit = from 0 (client 1) (get_t []) ∷ tick_at 0
     ∷ from 0 origin

@@ -1,6 +1,6 @@
--- Clients that ask for the same, computed on the definitions: one request to the origin, and each
--- client served by itself (RFC 7252, 5.7.1). The bytes are those of RFC 7252 (3, 3.1, 5.10),
--- written out.
+-- Clients that request the same, computed on the definitions: one request to the origin server, and
+-- each client served individually (RFC 7252, 5.7.1). The bytes are encoded per RFC 7252 (3, 3.1,
+-- 5.10).
 use Rattle.std.specs.Prelude.{ℕ, List, [], ◌∷◌, ◌++◌, replicate}
 use Rattle.coap_message.specs.declared.code.TheConstants.Code.{REQUEST_ENTITY_TOO_LARGE}
 use Rattle.coap_limits.specs.Limits.{default_limits}
@@ -16,15 +16,15 @@ use Rattle.coap_model.specs.ResponseExamples.{empty_ack, empty_reset}
 
 -- ---- proxies and clients
 
--- with room for one exchange, and for two clients that wait
+-- with room for one exchange, and for two waiting clients
 abbrev pub two_waiters : World
 two_waiters = proxy_of (record default_limits { exchanges = 1; waiters = 2 })
 
--- a client by number asks for the path `t`, with its number as token
+-- a client by number sends a GET for the path `t`, with its number as the token
 abbrev pub asks : ℕ → ℕ → Turn
 asks now n = from now (client n) (0x51 ∷ 1 ∷ 0 ∷ 7 ∷ n ∷ 0xB1 ∷ 0x74 ∷ [])
 
--- it is given a code with its token, a message id, and what follows
+-- it is sent a response with a code, its token, a message id, and what follows
 abbrev pub is_given : ℕ → ℕ → ℕ → List ℕ → Sent
 is_given n code id more = to Delivered (client n) (0x51 ∷ code ∷ 0 ∷ id ∷ n ∷ more)
 
@@ -35,15 +35,15 @@ stale n id = is_given n 0x45 id (0xD0 ∷ 1 ∷ 0xFF ∷ 0x32 ∷ 0x31 ∷ [])
 abbrev pub fresh : ℕ → ℕ → Sent
 fresh n id = is_given n 0x45 id (0xD1 ∷ 1 ∷ 10 ∷ 0xFF ∷ 0x32 ∷ 0x31 ∷ [])
 
--- what a client is shown of it from the cache
+-- what a client is sent for it from the cache
 abbrev pub shown : ℕ → ℕ → Sent
 shown n id =
     to Hit (client n) (0x51 ∷ 0x45 ∷ 0 ∷ id ∷ n ∷ 0xD1 ∷ 1 ∷ 10 ∷ 0xFF ∷ 0x32 ∷ 0x31 ∷ [])
 
 -- ---- one request
 
--- Three clients, one request, three deliveries in the order in which the clients came, each with
--- its own token, and no more. The next client's request is sent on by itself.
+-- Three clients, one request, three deliveries in the order in which the clients arrived, each with
+-- its own token, and nothing else. The next client's request is forwarded on its own.
 abbrev pub three_wait : List Turn
 three_wait = asks 0 3 ∷ asks 0 1 ∷ asks 0 2 ∷ tick_at 0 ∷ tick_at 0 ∷ []
 
@@ -59,7 +59,7 @@ collapsing_sent =
     ∷ nothing (Answered NotStored) ∷ stale 3 2 ∷ stale 1 3 ∷ stale 2 4 ∷ nothing Idle
     ∷ nothing Opened ∷ to SentRequest origin (asked 5 2) ∷ []
 
--- a duplicate of one that joined is done once
+-- a duplicate of a request that joined has no further effect
 abbrev pub joined_twice : List Turn
 joined_twice =
     asks 0 1 ∷ asks 0 2 ∷ asks 0 2 ∷ tick_at 0 ∷ from 0 origin (got_stale 1 1) ∷ tick_at 0
@@ -72,7 +72,7 @@ joined_twice_sent =
 
 -- ---- until when
 
--- a request is joined while it waits for its turn, while it is sent, and while it is acknowledged
+-- a request is joined while it waits for its turn, after it was sent, and after it was acknowledged
 abbrev pub joined_until : List Turn
 joined_until =
     asks 0 1 ∷ asks 0 2 ∷ tick_at 0 ∷ asks 0 3 ∷ from 0 origin (empty_ack 1) ∷ asks 0 4 ∷ []
@@ -97,7 +97,7 @@ joined_in_turn_sent =
     ∷ to Delivered (client 2) (stale_for_client 4) ∷ to Delivered (client 3) (stale_for_client 5)
     ∷ nothing Idle ∷ []
 
--- once its answer is there, the cache answers, also before the others are served
+-- once its answer is there, the cache answers, even before the others are served
 abbrev pub then_cached : List Turn
 then_cached = joined_until ++ from 0 origin (got 1 1) ∷ asks 0 5 ∷ tick_at 0 ∷ tick_at 0
     ∷ tick_at 0 ∷ tick_at 0 ∷ tick_at 0 ∷ []
@@ -106,8 +106,8 @@ abbrev pub then_cached_sent : List Sent
 then_cached_sent = joined_until_sent ++ nothing (Answered Kept) ∷ shown 5 2 ∷ fresh 1 3 ∷ fresh 2 4
     ∷ fresh 3 5 ∷ fresh 4 6 ∷ nothing Idle ∷ []
 
--- Where it isn't stored an exchange is opened, which the next client joins. Its request is sent
--- before the others are served, since it is due from the same moment on.
+-- If the answer isn't stored, a new exchange is opened, which the next client joins. Its request is
+-- sent before the others are served, since it is due from the same moment on.
 abbrev pub then_anew : List Turn
 then_anew = joined_until ++ from 0 origin (got_stale 1 1) ∷ asks 0 5 ∷ asks 0 6 ∷ tick_at 0
     ∷ tick_at 0 ∷ tick_at 0 ∷ tick_at 0 ∷ tick_at 0 ∷ tick_at 0
@@ -118,8 +118,8 @@ then_anew_sent = joined_until_sent ++ nothing (Answered NotStored) ∷ nothing O
     ∷ to SentRequest origin (asked 2 2) ∷ stale 1 3 ∷ stale 2 4 ∷ stale 3 5 ∷ stale 4 6
     ∷ nothing Idle ∷ nothing (Answered NotStored) ∷ stale 5 7 ∷ stale 6 8 ∷ nothing Idle ∷ []
 
--- Where no answer comes in time all get 5.04: the time counts from the first of them, and who comes
--- after it opens an exchange.
+-- If no answer comes in time, all get a 5.04: the time counts from the first of them, and a client
+-- that arrives after it opens a new exchange.
 abbrev pub given_up : List Turn
 given_up =
     asks 0 1 ∷ tick_at 0 ∷ asks 999 2 ∷ tick_at 999 ∷ tick_at 1000 ∷ tick_at 1000 ∷ tick_at 1000
@@ -130,7 +130,7 @@ given_up_sent =
     nothing Opened ∷ first_sent ∷ nothing Joined ∷ nothing Idle ∷ nothing GaveUp
     ∷ is_given 1 0xA4 2 [] ∷ is_given 2 0xA4 3 [] ∷ nothing Idle ∷ nothing Opened ∷ []
 
--- a Reset is an answer for all of them, 5.02
+-- a Reset is the answer for all of them, a 5.02
 abbrev pub reset_for_all : List Turn
 reset_for_all =
     asks 0 1 ∷ tick_at 0 ∷ asks 0 2 ∷ from 0 origin (empty_reset 1) ∷ tick_at 0 ∷ tick_at 0
@@ -141,13 +141,13 @@ reset_for_all_sent =
     nothing Opened ∷ first_sent ∷ nothing Joined ∷ nothing (Answered NotStored)
     ∷ is_given 1 0xA2 2 [] ∷ is_given 2 0xA2 3 [] ∷ nothing Idle ∷ []
 
--- ---- room
+-- ---- capacity
 
--- 5.03 that says to try again after five seconds, in a Non-confirmable message, with a token
+-- a 5.03 that says to try again after five seconds, in a Non-confirmable message, with a token
 abbrev pub is_busy : ℕ → ℕ → Sent
 is_busy n id = to Overloaded (client n) (0x51 ∷ 0xA3 ∷ 0 ∷ id ∷ n ∷ 0xD1 ∷ 1 ∷ 5 ∷ [])
 
--- room for one client that waits: the second is told to try again, until the first is served
+-- room for one waiting client: others are told to try again, until the first is served
 abbrev pub one_waits : List Turn
 one_waits =
     asks 0 1 ∷ asks 0 2 ∷ tick_at 0 ∷ from 0 origin (got_stale 2 1) ∷ asks 0 3 ∷ tick_at 0
@@ -158,8 +158,8 @@ one_waits_sent =
     nothing Opened ∷ is_busy 2 1 ∷ to SentRequest origin (asked 2 1) ∷ nothing (Answered NotStored)
     ∷ is_busy 3 3 ∷ stale 1 4 ∷ nothing Opened ∷ []
 
--- One exchange and two clients that wait: who asks for something else is told to try again, another
--- joins, and then there is no room for a third.
+-- Room for one exchange and two waiting clients: a client that requests something else is told to
+-- try again, another one joins, and then there is no room for a third.
 abbrev pub full_tables : List Turn
 full_tables = asks 0 1 ∷ from 0 (client 4) (get_t (1 ∷ 0x78 ∷ [])) ∷ asks 0 2 ∷ asks 0 3 ∷ []
 
@@ -168,17 +168,18 @@ full_tables_sent =
     nothing Opened ∷ to Overloaded (client 4) (busy 1 (0xD1 ∷ 1 ∷ 5 ∷ [])) ∷ nothing Joined
     ∷ is_busy 3 2 ∷ []
 
--- With three ids left an exchange keeps two and who joins it one; then there is none for a 5.03.
+-- With three ids left, an exchange reserves two, and a client that joins it one; then there is none
+-- for a 5.03.
 abbrev pub last_id_joins : List Turn
 last_id_joins = asks 0 1 ∷ asks 0 2 ∷ asks 0 3 ∷ []
 
 abbrev pub last_id_joins_sent : List Sent
 last_id_joins_sent = nothing Opened ∷ nothing Joined ∷ nothing NoId ∷ []
 
--- ---- who joins
+-- ---- which clients join
 
--- The query and Accept are of the key, an ETag isn't: each other key has an exchange of its own,
--- and who asks for an equal one joins that.
+-- The query and Accept are part of the key, an ETag isn't: each different key has an exchange of
+-- its own, and a client that requests an equal key joins it.
 abbrev pub asks_with : ℕ → List ℕ → Turn
 asks_with n options = from 0 (client n) (0x50 ∷ 1 ∷ 0 ∷ 7 ∷ options)
 
@@ -197,7 +198,7 @@ other_keys_sent =
     nothing Opened ∷ nothing Opened ∷ nothing Opened ∷ nothing Joined ∷ nothing Joined
     ∷ nothing Joined ∷ nothing Opened ∷ nothing Opened ∷ []
 
--- who has the ETag of the answer is given 2.03 with it, and the others its content
+-- a client that sent the ETag of the answer gets a 2.03 with it, and the others get its content
 abbrev pub own_tags : List Turn
 own_tags =
     asks_with 1 (0xB1 ∷ 0x74 ∷ []) ∷ asks_with 2 (0x41 ∷ 0xAB ∷ 0x71 ∷ 0x74 ∷ [])
@@ -214,9 +215,9 @@ own_tags_sent =
     ∷ to Delivered (client 3)
     (0x50 ∷ 0x45 ∷ 0 ∷ 4 ∷ 0x41 ∷ 0xAB ∷ 0xA1 ∷ 10 ∷ 0xFF ∷ 0x32 ∷ 0x31 ∷ []) ∷ []
 
--- A request that would be too long to be sent on, for an option that is no part of the key (Size1;
--- RFC 7252, 5.4.2), joins one that was short enough; alone it is refused. In datagrams of at most
--- 128 bytes it has 119, and 130 when it is sent on.
+-- A request that would be too long to be forwarded, because of an option that isn't part of the key
+-- (Size1; RFC 7252, 5.4.2), joins one that was short enough; alone it is refused. Datagrams have at
+-- most 128 bytes; it has 119, and would have 130 when forwarded.
 abbrev pub long_request : List ℕ
 long_request = 0x50 ∷ 1 ∷ 0 ∷ 9 ∷ 0xB1 ∷ 0x74 ∷ 0xDD ∷ 36 ∷ 97 ∷ replicate 110 0x66
 
@@ -230,7 +231,7 @@ long_joiner_sent =
     to (Refused REQUEST_ENTITY_TOO_LARGE) (client 2) (0x50 ∷ 0x8D ∷ 0 ∷ 1 ∷ []) ∷ nothing Opened
     ∷ nothing Joined ∷ []
 
--- ---- the words of the history
+-- ---- the definitions of the history
 
 -- two clients wait for a request that isn't sent yet
 abbrev pub queued_acting : List Acting
@@ -244,6 +245,6 @@ one_left_acting = queued_acting
     ∷ record { turn = from 0 origin (got_stale 1 1); act = moves 1 }
     ∷ record { turn = tick_at 0; act = serves 1 } ∷ record { turn = tick_at 0; act = serves 2 } ∷ []
 
--- so is the third
+-- the third is served, too
 abbrev pub none_left_acting : List Acting
 none_left_acting = one_left_acting ++ record { turn = tick_at 0; act = serves 3 } ∷ []

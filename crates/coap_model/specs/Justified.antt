@@ -1,4 +1,4 @@
--- What justifies each entry of a history: the entries before it alone. No table is named.
+-- What justifies each entry of a history: only the entries before it. No table is named.
 use Rattle.std.specs.Prelude.{◌≡◌, ◌≢◌, ◌⊎◌, ℕ, ◌+◌, ◌%◌, ◌<◌, ◌≤◌, Bool, true, false, List, [], ◌∷◌, length, Option, Some, None}
 use Rattle.coap_message.specs.declared.kind.Kind.{Kind}
 use Rattle.coap_message.specs.declared.kind.Kind.TheVariants.{Con, Non, Ack, Rst}
@@ -34,19 +34,19 @@ use Rattle.coap_model.specs.Schedules.{sends_by, MayGoOn, SaysAsBefore}
 use Rattle.coap_model.specs.Due.{IsToSend, IsToRepeat, IsToEnd, IsToServe, IsToServeAgain, IsDueAt, IsSooner}
 use Rattle.coap_model.specs.History.{Entry, Act, no_item, admits, moves, serves, Deed, Place, IsPlaceOf, Never, takes, gives_id, opened_in, admitted_in, ids_in, last_of, Brings, IsRequestOf, WasOpened, Asks, Meets, Gets, GivesUp, Ends, Serves, Gives}
 
--- ---- what goes out
+-- ---- what is sent
 
--- the datagram goes to this endpoint and is this message
+-- the datagram is sent to this endpoint and encodes this message
 pub record Tells (to : Endpoint) (m : Message) (e : Entry) : Type 0 where
   pub sent : e.report.send ≡ Some to
   pub spells : Spells e.bytes m
 
--- no datagram goes out
+-- no datagram is sent
 pub record IsSilent (e : Entry) : Type 0 where
   pub sent : e.report.send ≡ None
   pub bytes : e.bytes ≡ []
 
--- A message of this type is taken up, and nothing is replied yet: a Confirmable one is acknowledged
+-- A message of this type is accepted, and no reply is sent yet: a Confirmable one is acknowledged
 -- (RFC 7252, 4.2 and 5.2.2).
 abbrev pub TakesUp : Kind → Endpoint → ℕ → Entry → Type 0
 TakesUp Con source id e = Tells source (acknowledgement id) e
@@ -61,17 +61,17 @@ pub record Comes (setting : Setting) (source : Endpoint) (m : Message) (event : 
   pub brings : Brings setting.limits.datagram source m event
   pub recorded : is_recorded m ≡ true
 
--- what is known of a message
+-- the living record with the source, type and id of a message, if there is one
 abbrev pub known_of : List Deed → ℕ → Endpoint → Message → Option Record
 known_of past now source m = record_of source m.id (remembered_at m.kind now past)
 
--- one more of its type may be remembered
+-- there is room to remember one more message of its type
 abbrev pub HasRecordRoom : Setting → List Deed → ℕ → Message → Type 0
 HasRecordRoom setting past now m =
     length (remembered_at m.kind now past) < most_remembered m.kind setting.limits
 
--- A message is new: none of this endpoint with its id, of its type, is remembered, and there is
--- room to remember it.
+-- A message is new: none from this endpoint with its id and type is remembered, and there is room
+-- to remember it.
 pub record IsNew
     (setting : Setting) (past : List Deed) (now : ℕ) (source : Endpoint) (m : Message)
     : Type 0 where
@@ -80,29 +80,29 @@ pub record IsNew
 
 -- ---- requests
 
--- there is an id for a reply that goes out at once, where it needs one
+-- there is a message id for an immediate reply, if it needs one
 abbrev pub HasIdFor : Message → ℕ → List Deed → Type 0
 HasIdFor request now past = request.kind ≡ Non → HasIds 1 now past
 
--- what becomes of a request, leaving room and what is stored aside
+-- what becomes of a request, regardless of capacity and of what is stored
 abbrev pub verdict_on : Setting → Message → Verdict
 verdict_on setting request = verdict_of setting.routes request
 
--- what would be sent on for a key, without a tag of the proxy's, fits a datagram
+-- the request that would be forwarded for a key, without a tag added by the proxy, fits a datagram
 abbrev pub fits_on : Setting → CacheKey → Message → Bool
 fits_on setting key request = form_fits setting.limits.datagram key.target None request
 
 abbrev pub IsGet : Message → Type 0
 IsGet request = is_get request.code ≡ true
 
--- an entry of the cache may answer: it is fresh, and its target wasn't changed since it was asked
--- for (RFC 7252, 5.6.1 and 5.9.1)
+-- an entry of the cache can be used as an answer: it is fresh, and its target wasn't changed since
+-- it was requested (RFC 7252, 5.6.1 and 5.9.1)
 pub record IsUsable (setting : Setting) (past : List Deed) (now : ℕ) (entry : Cached)
     : Type 0 where
   pub fresh : is_fresh now (entry_of_cached entry).1 ≡ true
   pub unchanged : Unchanged setting entry.key.target entry.asking past
 
--- the cache of what was done before has no entry of the key that may answer
+-- the cache of the preceding deeds has no usable entry with the key
 pub record IsMiss (setting : Setting) (past : List Deed) (key : CacheKey) (now : ℕ) : Type 0 where
   pub cached : List Cached
   pub is_cache : IsCacheOf setting past cached
@@ -111,8 +111,8 @@ pub record IsMiss (setting : Setting) (past : List Deed) (key : CacheKey) (now :
       → of_key cached_key key cached ≡ Some entry
       → ¬ IsUsable setting past now entry
 
--- An exchange may be joined: it was opened for a GET of the key, was neither got nor given up, and
--- if it was asked, its target wasn't changed since.
+-- An exchange may be joined: it was opened for a GET with the key, was neither answered nor given
+-- up, and if its request was sent, the target wasn't changed since.
 pub record IsJoinable (setting : Setting) (past : List Deed) (key : CacheKey) (x : ℕ)
     : Type 0 where
   pub opened : WasOpened setting past x
@@ -125,16 +125,16 @@ pub record IsJoinable (setting : Setting) (past : List Deed) (key : CacheKey) (x
       → Asks setting.salt x asking
       → Unchanged setting key.target asking past
 
--- nothing answers the request: it is no GET, or the cache has nothing for it, and no exchange may be
--- joined
+-- the request has to be forwarded: it isn't a GET, or the cache has no usable entry for it and no
+-- exchange may be joined
 pub record IsUnanswered
     (setting : Setting) (past : List Deed) (now : ℕ) (key : CacheKey) (request : Message)
     : Type 0 where
   pub miss : IsGet request → IsMiss setting past key now
   pub alone : IsGet request → (x : ℕ) → ¬ IsJoinable setting past key x
 
--- A request deserves a code: by its verdict, or since what would be sent on, where nothing answers
--- it, is too long for a datagram.
+-- A request deserves an error code: because of its verdict, or because it has to be forwarded and
+-- the forwarded request would be too long for a datagram.
 pub data Deserves
     (setting : Setting) (past : List Deed) (now : ℕ) (request : Message) (code : Code)
     : Type 0 where
@@ -160,9 +160,9 @@ pub record IsRefusal (setting : Setting) (past : List Deed) (d : Deed) (code : C
   pub ids : HasIdFor request d.entry.now past
   pub tells : Tells client (at_once request (own_reply code [] id request.token)) d.entry
 
--- A reply from the cache: the client is shown the entry of its key in the cache of what was done
--- before, which may answer, with what is left of its Max-Age, or as a 2.03 where one of its tags is
--- the entry's. That it was received for this key follows.
+-- A reply from the cache: the client gets the usable entry with its key in the cache of the
+-- preceding deeds, with the rest of its Max-Age, or as a 2.03 if one of the request's tags is the
+-- entry's. It follows that the entry was received for this key.
 pub record IsHit (setting : Setting) (past : List Deed) (d : Deed) : Type 0 where
   pub act : d.act ≡ no_item
   pub client : Endpoint
@@ -185,7 +185,8 @@ pub record IsHit (setting : Setting) (past : List Deed) (d : Deed) : Type 0 wher
       (shown d.entry.now (stored_answer (entry_of_cached entry).1) id request.token
       (tags_of request))) d.entry
 
--- there is no room for what is wanted: to join an exchange that may be joined, or to open one
+-- there is no room for what the request needs: to join an exchange that may be joined, or to open
+-- one
 pub data LacksRoom
     (setting : Setting) (past : List Deed) (now : ℕ) (key : CacheKey) (request : Message)
     : Type 0 where
@@ -217,7 +218,7 @@ pub record IsOverload (setting : Setting) (past : List Deed) (d : Deed) : Type 0
   pub tells :
       Tells client (at_once request (busy_reply setting.limits.retry_s id request.token)) d.entry
 
--- silence: a reply is due, and no id is free for it
+-- nothing is sent: a reply is due, but no message id is free for it
 pub record IsLack (setting : Setting) (past : List Deed) (d : Deed) : Type 0 where
   pub act : d.act ≡ no_item
   pub client : Endpoint
@@ -228,7 +229,7 @@ pub record IsLack (setting : Setting) (past : List Deed) (d : Deed) : Type 0 whe
   pub no_ids : ¬ HasIds 1 d.entry.now past
   pub silent : IsSilent d.entry
 
--- an exchange that may be joined is joined: there is room for one more client
+-- the client joins an exchange that may be joined: there is room for one more client
 pub record IsJoining (setting : Setting) (past : List Deed) (d : Deed) : Type 0 where
   pub exchange : ℕ
   pub act : d.act ≡ admits (admitted_in past + 1) exchange
@@ -244,7 +245,7 @@ pub record IsJoining (setting : Setting) (past : List Deed) (d : Deed) : Type 0 
   pub room : HasRoomToJoin setting.limits d.entry.now past
   pub takes_up : TakesUp request.kind client request.id d.entry
 
--- an exchange is opened: nothing answers the request, what would be sent on fits, and there is room
+-- an exchange is opened: the request has to be forwarded, it fits a datagram, and there is room
 pub record IsOpening (setting : Setting) (past : List Deed) (d : Deed) : Type 0 where
   pub act : d.act ≡ admits (admitted_in past + 1) (opened_in past + 1)
   pub client : Endpoint
@@ -260,12 +261,12 @@ pub record IsOpening (setting : Setting) (past : List Deed) (d : Deed) : Type 0 
 
 -- ---- duplicates
 
--- what a duplicate is told: the datagram that is remembered, or nothing
+-- what is sent in return for a duplicate: the remembered datagram, or nothing
 abbrev pub SaysAgain : Endpoint → Option (List ℕ) → Entry → Type 0
 SaysAgain source None e = IsSilent e
 SaysAgain source (Some reply) e = (e.report.send ≡ Some source) × (e.bytes ≡ reply)
 
--- a duplicate: a message of this endpoint with its id, of its type, is remembered
+-- a duplicate: a message from this endpoint with its id and type is remembered
 pub record IsRepetition (setting : Setting) (past : List Deed) (d : Deed) : Type 0 where
   pub act : d.act ≡ no_item
   pub source : Endpoint
@@ -277,23 +278,24 @@ pub record IsRepetition (setting : Setting) (past : List Deed) (d : Deed) : Type
 
 -- ---- what is awaited
 
--- The request of an exchange, asked at this place, was neither acknowledged nor answered, and was
--- first sent less than 247 seconds ago: so an acknowledgement or a Reset with its id is one of it
--- (RFC 7252, 4.2 and 4.4).
+-- The request of an exchange, first sent at this place, was neither acknowledged nor answered, and
+-- this is less than 247 seconds ago: so an acknowledgement or a Reset with its id refers to it (RFC
+-- 7252, 4.2 and 4.4).
 pub record IsUnsettled (past : List Deed) (now exchange : ℕ) (asking : Place) : Type 0 where
   pub to : Endpoint
   pub stage : stage_of exchange past ≡ Some (sent to)
   pub soon : now < asking.deed.entry.now + 247000
 
--- An exchange awaits the answer that an event brings: it was asked, and neither got nor given up.
+-- An exchange awaits the answer that an event brings: its request was sent, and it was neither
+-- answered nor given up.
 pub record IsAwaited
     (setting : Setting) (past : List Deed) (now exchange : ℕ) (event : Event) : Type 0 where
   pub meets : Meets setting exchange past event
   pub unended : Never (Ends exchange) past
   pub unsettled : meets.message.kind ≡ Rst → IsUnsettled past now exchange meets.asking
 
--- an event brings an acknowledgement, and no more, of the request of an exchange, which neither was
--- acknowledged before nor answered
+-- an event brings an Empty acknowledgement of the request of an exchange, which was neither
+-- acknowledged nor answered before
 pub record Acknowledges
     (setting : Setting) (past : List Deed) (now exchange : ℕ) (event : Event) : Type 0 where
   pub asking : Place
@@ -306,9 +308,9 @@ pub record Acknowledges
   pub empty : message.code ≡ EMPTY
   pub id_is : message.id ≡ asks.sends.message.id
 
--- An event brings an acknowledgement, or a Reset, of the answer that a client was given, which the
--- client has still to acknowledge, and which was first sent less than 247 seconds ago (RFC 7252, 4.2
--- and 4.4). Where that went, and its id, are read off the datagram.
+-- An event brings an acknowledgement, or a Reset, of the answer that a client was sent, which the
+-- client hasn't acknowledged yet, and which was first sent less than 247 seconds ago (RFC 7252, 4.2
+-- and 4.4). Its destination and its id are taken from the datagram that was sent.
 pub record Closes (setting : Setting) (past : List Deed) (now client : ℕ) (event : Event)
     : Type 0 where
   pub serving : Place
@@ -326,8 +328,8 @@ pub record Closes (setting : Setting) (past : List Deed) (now client : ℕ) (eve
   pub empty : message.code ≡ EMPTY
   pub id_is : message.id ≡ answer.id
 
--- An event brings an Empty message of what this act sent: an acknowledgement or a Reset of the
--- request of an exchange, or of the answer of a client.
+-- An event brings an Empty message that refers to what this act sent: an acknowledgement or a Reset
+-- of the request of an exchange, or of the answer to a client.
 pub data IsMeant (setting : Setting) (past : List Deed) (now : ℕ) (event : Event) (act : Act)
     : Type 0 where
   to_acknowledge :
@@ -346,12 +348,12 @@ pub data IsMeant (setting : Setting) (past : List Deed) (now : ℕ) (event : Eve
       → Closes setting past now client event
       → IsMeant setting past now event act
 
--- and of nothing else
+-- and to nothing else
 abbrev pub IsMeantAlone : Setting → List Deed → Deed → Type 0
 IsMeantAlone setting past d =
     (other : Act) → IsMeant setting past d.entry.now d.entry.event other → other ≡ d.act
 
--- what a settlement is of: a request, whose answer is to come separately (RFC 7252, 5.2.2), or an
+-- what is settled: a request, whose answer will be a separate response (RFC 7252, 5.2.2), or an
 -- answer
 pub data Settles (setting : Setting) (past : List Deed) (d : Deed) : Type 0 where
   a_request :
@@ -365,14 +367,14 @@ pub data Settles (setting : Setting) (past : List Deed) (d : Deed) : Type 0 wher
       → Closes setting past d.entry.now client d.entry.event
       → Settles setting past d
 
--- what was sent is settled, and nothing else was meant
+-- a message that was sent is settled, and no other one was meant
 pub record IsSettled (setting : Setting) (past : List Deed) (d : Deed) : Type 0 where
   pub settles : Settles setting past d
   pub only : IsMeantAlone setting past d
   pub silent : IsSilent d.entry
 
--- silence: as many messages are remembered as may be, and this is none of them; it is a request, or
--- an answer in a Confirmable message that an exchange awaits
+-- nothing is sent: the limit of remembered messages is reached, and this one isn't among them; it
+-- is a request, or an answer in a Confirmable message that an exchange awaits
 pub record IsDropped (setting : Setting) (past : List Deed) (d : Deed) : Type 0 where
   pub act : d.act ≡ no_item
   pub source : Endpoint
@@ -387,7 +389,7 @@ pub record IsDropped (setting : Setting) (past : List Deed) (d : Deed) : Type 0 
 
 -- ---- ticks
 
--- what a tick did was due, and nothing was due before it
+-- a tick did what was due, and nothing else was due earlier
 pub record IsActing (setting : Setting) (past : List Deed) (d : Deed) : Type 0 where
   pub ticked : d.entry.event ≡ tick
   pub at : ℕ
@@ -395,15 +397,16 @@ pub record IsActing (setting : Setting) (past : List Deed) (d : Deed) : Type 0 w
   pub come : at ≤ d.entry.now
   pub first : (a : Act) (m : ℕ) → IsDueAt setting past a m → ¬ IsSooner a m d.act at
 
--- ---- what is sent on, and what comes back
+-- ---- what is forwarded, and what comes back
 
 -- before its deadline
 abbrev pub InTime : Setting → List Deed → ℕ → ℕ → Type 0
 InTime setting past x now = (at : ℕ) → IsToEnd setting past x at → now < at
 
--- The request that is sent on: for an exchange that waits for its turn, the request for the target
--- of the client's request, with what goes on of its options, with the exchange's token, and with the
--- tag of what the cache had for its key when it was opened, to the target's endpoint.
+-- A request is forwarded: for an exchange that waits for its turn, a request for the target of the
+-- client's request, with those of its options that are forwarded, with the exchange's token, and
+-- with the tag of what the cache had for its key when it was opened, is sent to the target's
+-- endpoint.
 pub record IsForwarding (setting : Setting) (past : List Deed) (d : Deed) : Type 0 where
   pub exchange : ℕ
   pub act : d.act ≡ moves exchange
@@ -420,8 +423,8 @@ pub record IsForwarding (setting : Setting) (past : List Deed) (d : Deed) : Type
       (kept_for to_send.key former))
       to_send.opened.request id) d.entry
 
--- what is sent again at a moment: a request, before its exchange ends, or an answer that wasn't
--- acknowledged
+-- what is retransmitted at a moment: a request, before the deadline of its exchange, or an answer
+-- that wasn't acknowledged
 pub data IsToSendAgain (setting : Setting) (past : List Deed) (d : Deed) (at : ℕ) : Type 0 where
   request_again :
       (exchange : ℕ)
@@ -435,15 +438,15 @@ pub data IsToSendAgain (setting : Setting) (past : List Deed) (d : Deed) (at : �
       → IsToServeAgain past client at
       → IsToSendAgain setting past d at
 
--- a message is sent again by its schedule, the same as before
+-- a message is retransmitted by its schedule, the same as before
 pub record IsResending (setting : Setting) (past : List Deed) (d : Deed) : Type 0 where
   pub acting : IsActing setting past d
   pub again : IsToSendAgain setting past d acting.at
   pub goes_on : MayGoOn d.entry.now (sends_by d.act past)
   pub same : SaysAsBefore (sends_by d.act past) d.entry
 
--- Something is given up: an exchange that lasted as long as it may, one whose request was sent as
--- often or for as long as it may be, or a client whose answer was.
+-- Something is given up: an exchange that reached its deadline, an exchange whose request was
+-- transmitted as often or for as long as allowed, or a client whose answer was.
 pub data IsGivingUp (setting : Setting) (past : List Deed) (d : Deed) : Type 0 where
   overdue :
       (exchange at : ℕ)
@@ -471,8 +474,8 @@ pub data IsGivingUp (setting : Setting) (past : List Deed) (d : Deed) : Type 0 w
       → IsSilent d.entry
       → IsGivingUp setting past d
 
--- An answer is got for an exchange that had none; one in a Confirmable message is new, and
--- acknowledged; a Reset is meant for this request alone.
+-- An answer arrives for an exchange that had none; one in a Confirmable message is new, and is
+-- acknowledged; a Reset can only be meant for this request.
 pub record IsAnswer (setting : Setting) (past : List Deed) (d : Deed) : Type 0 where
   pub exchange : ℕ
   pub gets : Gets setting exchange (record { before = past; deed = d })
@@ -489,8 +492,8 @@ pub record IsAnswer (setting : Setting) (past : List Deed) (d : Deed) : Type 0 w
 
 -- ---- what is stored
 
--- What is got may be stored: it answers a GET whose target wasn't changed since it was asked, and
--- its answer may be kept. That it is obtained follows.
+-- The answer that arrives may be stored: it answers a GET whose target wasn't changed since the
+-- request was sent, and it is storable. It follows that it was obtained.
 pub record IsObtainedHere (setting : Setting) (past : List Deed) (d : Deed) : Type 0 where
   pub exchange : ℕ
   pub gets : Gets setting exchange (record { before = past; deed = d })
@@ -504,24 +507,24 @@ abbrev pub entry_here :
     {setting : Setting} {past : List Deed} {d : Deed} → IsObtainedHere setting past d → Cached
 entry_here o = entry_got o.former o.gets
 
--- the bytes that it counts
+-- its size in bytes
 abbrev pub size_here :
     {setting : Setting} {past : List Deed} {d : Deed} → IsObtainedHere setting past d → ℕ
 size_here o = cached_size (entry_here o)
 
--- an answer is stored: it was obtained, and counts no more than the store keeps
+-- an answer is stored: it was obtained, and is no larger than the limit of the store
 pub record IsKept (setting : Setting) (past : List Deed) (d : Deed) : Type 0 where
   pub answer : IsAnswer setting past d
   pub here : IsObtainedHere setting past d
   pub small : size_here here ≤ setting.limits.cache_bytes
 
--- it isn't, since it alone counts more
+-- it isn't stored, since it alone is larger than the limit
 pub record IsTooLarge (setting : Setting) (past : List Deed) (d : Deed) : Type 0 where
   pub answer : IsAnswer setting past d
   pub here : IsObtainedHere setting past d
   pub large : setting.limits.cache_bytes < size_here here
 
--- it isn't, for want of memory: its key has no entry
+-- it isn't stored, since memory ran out: its key has no entry
 pub record IsWithoutMemory (setting : Setting) (past : List Deed) (d : Deed) : Type 0 where
   pub answer : IsAnswer setting past d
   pub here : IsObtainedHere setting past d
@@ -530,15 +533,15 @@ pub record IsWithoutMemory (setting : Setting) (past : List Deed) (d : Deed) : T
   pub is_cache : IsCacheOf setting past cached
   pub new : of_key cached_key (key_asked here.gets) cached ≡ None
 
--- it isn't, since nothing was obtained
+-- it isn't stored, since nothing was obtained
 pub record IsNotStored (setting : Setting) (past : List Deed) (d : Deed) : Type 0 where
   pub answer : IsAnswer setting past d
   pub none : ¬ IsObtainedHere setting past d
 
--- ---- what clients are given
+-- ---- what clients are sent
 
--- What an exchange of this key ended with at a place: the answer that was got there, or 5.04 where
--- it was given up.
+-- The answer with which an exchange with this key ended at a place: the one that arrived there, or
+-- 5.04 if the exchange was given up.
 pub data EndsWith (setting : Setting) (x : ℕ) (key : CacheKey) (p : Place) (answer : Answer)
     : Type 0 where
   got :
@@ -552,9 +555,9 @@ pub data EndsWith (setting : Setting) (x : ℕ) (key : CacheKey) (p : Place) (an
       → answer ≡ own_answer p.deed.entry.now gateway_timeout
       → EndsWith setting x key p answer
 
--- A delivery: the exchange that the client waits for ended after the client had come, and the
--- datagram is what this client is shown of that, in a message of the type of its request: to a GET
--- with what is left of its Max-Age, or as a 2.03 where one of its tags is the answer's.
+-- A delivery: the exchange that the client waits for ended after the client was admitted, and the
+-- datagram is this client's view of the answer, in a message of the type of its request: to a GET
+-- with the rest of its Max-Age, or as a 2.03 if one of the request's tags is the answer's.
 pub record IsDelivery (setting : Setting) (past : List Deed) (d : Deed) : Type 0 where
   pub waiter : ℕ
   pub act : d.act ≡ serves waiter
@@ -574,8 +577,8 @@ pub record IsDelivery (setting : Setting) (past : List Deed) (d : Deed) : Type 0
 
 -- ---- what isn't processed
 
--- What came can't be processed: it is no request that would be, no duplicate of what is remembered,
--- no answer that an exchange awaits, and no acknowledgement of a request or an answer that waits for
+-- What arrived can't be processed: it isn't a request, a duplicate of a remembered message, an
+-- answer that an exchange awaits, or an acknowledgement of a request or an answer that waits for
 -- one.
 pub record IsUnprocessable (setting : Setting) (past : List Deed) (e : Entry) : Type 0 where
   pub no_request :
@@ -588,7 +591,7 @@ pub record IsUnprocessable (setting : Setting) (past : List Deed) (e : Entry) : 
   pub no_settling : (exchange : ℕ) → ¬ Acknowledges setting past e.now exchange e.event
   pub no_closing : (client : ℕ) → ¬ Closes setting past e.now client e.event
 
--- a Reset of a confirmable datagram that can't be processed, with its id
+-- a Reset of a Confirmable datagram that can't be processed, with its id
 pub record IsRejection (setting : Setting) (past : List Deed) (d : Deed) : Type 0 where
   pub act : d.act ≡ no_item
   pub source : Endpoint
@@ -600,7 +603,7 @@ pub record IsRejection (setting : Setting) (past : List Deed) (d : Deed) : Type 
   pub unprocessable : IsUnprocessable setting past d.entry
   pub tells : Tells source (reset head.id) d.entry
 
--- What is ignored came, isn't confirmable, and can't be processed.
+-- An arriving datagram is ignored: it isn't Confirmable, and can't be processed.
 pub record IsIgnored (setting : Setting) (past : List Deed) (d : Deed) : Type 0 where
   pub act : d.act ≡ no_item
   pub source : Endpoint
@@ -650,15 +653,16 @@ AllJustified setting (d ∷ past) =
 
 -- ---- what is owed
 
--- an answer is kept, or memory was missing for it
+-- an answer is stored, or memory ran out for it
 abbrev pub IsKeptIfGrown : Outcome → Type 0
 IsKeptIfGrown outcome = (outcome ≡ Answered Kept) ⊎ (outcome ≡ Answered NoMemory)
 
--- What is owed to duplicates and by the cache. What is known of a message is told again, and where
--- there is no room to remember a request or an answer, there is silence. A request that is new and may be asked for,
--- whose key has a fresh entry in the cache of what was done before, is answered from it, where it
--- can be replied to. An answer that was obtained is kept, memory aside, where it counts no more
--- than may be kept, and is too large where it counts more; any other answer isn't stored.
+-- What is owed to duplicates and by the cache. A duplicate of a remembered message gets what is
+-- remembered, and if there is no room to remember a request or an answer, nothing is sent. A new
+-- GET whose key has a usable entry in the cache of the preceding deeds is answered from it, if
+-- there is a message id for the reply. An answer that was obtained is stored, unless memory runs
+-- out, if it is no larger than the limit, and is too large otherwise; any other answer isn't
+-- stored.
 pub record IsOwed (setting : Setting) (past : List Deed) (d : Deed) : Type 0 where
   pub again :
       (source : Endpoint) (m : Message) (known : Record)
@@ -702,28 +706,28 @@ pub record IsOwed (setting : Setting) (past : List Deed) (d : Deed) : Type 0 whe
       → ¬ IsObtainedHere setting past d
       → d.entry.report.outcome ≡ Answered NotStored
 
--- Each deed gave it.
+-- Each deed did what was owed.
 abbrev pub AllOwed : Setting → List Deed → Type 0
 AllOwed setting [] = Unit {0}
 AllOwed setting (d ∷ past) = IsOwed setting past d × AllOwed setting past
 
 -- ---- one answer
 
--- A deed may follow: it isn't done before the last one, the deeds before it justify it, and where it
--- gives an id, it gives the one that is due.
+-- A deed may follow: it isn't earlier than the last one, the deeds before it justify it, and if it
+-- gives out a message id, this is the next one.
 pub record MayFollow (setting : Setting) (past : List Deed) (d : Deed) : Type 0 where
   pub not_before : last_of past ≤ d.entry.now
   pub justified : JustifiedBy d.entry.report.outcome setting past d
   pub id :
       gives_id d.entry ≡ 1 → Gives ((setting.first_id + ids_in past) % 65536) d.entry
 
--- two outcomes don't differ in whether there was memory for an entry
+-- two outcomes don't differ in whether there was memory for an entry of the store
 abbrev pub HaveOneMemory : Outcome → Outcome → Type 0
 HaveOneMemory (Answered Kept) (Answered NoMemory) = ⊥
 HaveOneMemory (Answered NoMemory) (Answered Kept) = ⊥
 HaveOneMemory _ _ = Unit {0}
 
--- two entries of one event, at one moment, with one draw and with one memory
+-- two entries with the same event, moment, draw and memory
 pub record AreOfOneTurn (d e : Entry) : Type 0 where
   pub now : d.now ≡ e.now
   pub draw : d.draw ≡ e.draw

@@ -1,4 +1,4 @@
--- Runs of the step with other limits, another first id and another salt, and where ids run out,
+-- Runs of the step with other limits, another first id and another salt, and when ids run out,
 -- computed on the definitions.
 use Rattle.std.specs.Prelude.{ℕ, ◌+◌, List, [], ◌∷◌, ◌++◌, replicate}
 use Rattle.coap_message.specs.declared.code.TheConstants.Code.{NOT_FOUND}
@@ -10,7 +10,7 @@ use Rattle.coap_model.specs.World.{World, new_world}
 use Rattle.coap_model.specs.Runs.{Turn}
 use Rattle.coap_model.specs.Examples.{get_t_as, Sent, origin, client, from, tick_at, nothing, to, proxy, get_t, answer}
 
--- a proxy of these limits
+-- a proxy with these limits
 abbrev pub proxy_of : Limits → World
 proxy_of limits =
     new_world (record {
@@ -20,19 +20,19 @@ proxy_of limits =
       salt = 0;
     })
 
--- with room for one exchange, and for one client that waits
+-- with room for one exchange, and with room for one waiting client
 abbrev pub one_exchange : World
 one_exchange = proxy_of (record default_limits { exchanges = 1 })
 
 abbrev pub one_waiter : World
 one_waiter = proxy_of (record default_limits { waiters = 1 })
 
--- which sends two requests to one endpoint at once
+-- with an `nstart` of 2
 abbrev pub two_at_once : World
 two_at_once = proxy_of (record default_limits { nstart = 2 })
 
--- the request of an exchange, and its answer of ten seconds, with its id and the last byte of its
--- token
+-- the request of an exchange, and its answer with a Max-Age of ten seconds, with its id and the
+-- last byte of its token
 abbrev pub asked : ℕ → ℕ → List ℕ
 asked id token =
     0x48 ∷ 1 ∷ 0 ∷ id ∷ 0 ∷ 0 ∷ 0 ∷ 0 ∷ 0 ∷ 0 ∷ 0 ∷ token ∷ 0xB4 ∷ 0x74 ∷ 0x65 ∷ 0x6D ∷ 0x70 ∷ []
@@ -40,30 +40,30 @@ asked id token =
 abbrev pub got : ℕ → ℕ → List ℕ
 got id token = answer 0x68 0x45 id token (0xD1 ∷ 1 ∷ 10 ∷ 0xFF ∷ 0x32 ∷ 0x31 ∷ [])
 
--- what a client is given for it at once, with its id
+-- what a client is sent for it immediately, with this id
 abbrev pub for_client : ℕ → List ℕ
 for_client id = 0x50 ∷ 0x45 ∷ 0 ∷ id ∷ 0xD1 ∷ 1 ∷ 10 ∷ 0xFF ∷ 0x32 ∷ 0x31 ∷ []
 
--- the same without a moment in which it is fresh, so that it isn't stored
+-- the same with a Max-Age of 0, so that it isn't stored
 abbrev pub got_stale : ℕ → ℕ → List ℕ
 got_stale id token = answer 0x68 0x45 id token (0xD0 ∷ 1 ∷ 0xFF ∷ 0x32 ∷ 0x31 ∷ [])
 
 abbrev pub stale_for_client : ℕ → List ℕ
 stale_for_client id = 0x50 ∷ 0x45 ∷ 0 ∷ id ∷ 0xD0 ∷ 1 ∷ 0xFF ∷ 0x32 ∷ 0x31 ∷ []
 
--- a request of the path `u`, which has no map, with this id, and its 4.04 with its own
+-- a GET for the path `u`, which has no map, with this id, and its 4.04 with an id of its own
 abbrev pub get_u : ℕ → List ℕ
 get_u id = 0x50 ∷ 1 ∷ 0 ∷ id ∷ 0xB1 ∷ 0x75 ∷ []
 
 abbrev pub not_found : ℕ → ℕ → List ℕ
 not_found high low = 0x50 ∷ 0x84 ∷ high ∷ low ∷ []
 
--- 5.03 for a request without a token, and what says when to try again
+-- a 5.03 for a request without a token, and the option that says when to try again
 abbrev pub busy : ℕ → List ℕ → List ℕ
 busy id after = 0x50 ∷ 0xA3 ∷ 0 ∷ id ∷ after
 
--- a full proxy: 5.03 for what else is asked for, until its one client is served; what is refused
--- for another cause is refused so
+-- a full proxy: a 5.03 for any other request, until its one client is served; what is refused for
+-- another reason still gets that code
 abbrev pub until_served : List Turn
 until_served =
     from 0 (client 1) (get_t []) ∷ from 0 (client 3) (get_t (1 ∷ 0x78 ∷ [])) ∷ tick_at 1
@@ -84,7 +84,7 @@ until_served_sent =
     ∷ nothing Opened ∷ to SentRequest origin (asked 7 2) ∷ nothing (Answered NotStored)
     ∷ to Delivered (client 3) (stale_for_client 8) ∷ []
 
--- the time after which to try again is a limit: none, and an hour
+-- the time after which to try again is one of the limits: zero, and an hour
 abbrev pub retries_after : ℕ → World
 retries_after seconds = proxy_of (record default_limits { exchanges = 1; retry_s = seconds })
 
@@ -94,7 +94,7 @@ two_requests = from 0 (client 1) (get_t []) ∷ from 0 (client 3) (get_t (1 ∷ 
 abbrev pub second_is_told : List ℕ → List Sent
 second_is_told after = nothing Opened ∷ to Overloaded (client 3) (busy 1 after) ∷ []
 
--- a datagram of 129 bytes, where 128 are read: a confirmable one is rejected, another ignored
+-- datagrams of 129 bytes, with a limit of 128: a Confirmable one is rejected, another is ignored
 abbrev pub narrow : World
 narrow = proxy_of (record default_limits { datagram = 128 })
 
@@ -108,7 +108,7 @@ abbrev pub long_datagrams_sent : List Sent
 long_datagrams_sent =
     to Rejected (client 1) (0x70 ∷ 0 ∷ 0 ∷ 7 ∷ []) ∷ nothing Ignored ∷ nothing Opened ∷ []
 
--- ids and tokens are counted on from the first id and the salt
+-- ids and tokens count up from the first id and the salt
 abbrev pub later_proxy : World
 later_proxy =
     new_world (record {
@@ -134,12 +134,12 @@ counted_on_sent =
     ∷ to Delivered (client 1) (0x50 ∷ 0x45 ∷ 0x12 ∷ 0x35 ∷ 0xD1 ∷ 1 ∷ 10 ∷ 0xFF ∷ 0x32 ∷ 0x31 ∷ [])
     ∷ []
 
--- a proxy that has given so many ids of 32,768, all of them in the first 247 seconds
+-- a proxy that has given out `count` of 32,768 ids, all of them in the first 247 seconds
 abbrev pub after_ids : ℕ → World
 after_ids count =
     record proxy { ids = record { following = 1 + count; window = 0; given = count } }
 
--- Where no id is free there is no reply to requests with this id of two clients, but a Reset has
+-- If no id is free, there is no reply to requests with this id from two clients, but a Reset has
 -- the id of what it rejects.
 abbrev pub without_ids : ℕ → List Turn
 without_ids id =
@@ -149,7 +149,7 @@ without_ids id =
 abbrev pub without_ids_sent : List Sent
 without_ids_sent = nothing NoId ∷ nothing NoId ∷ to Rejected (client 1) (0x70 ∷ 0 ∷ 0 ∷ 9 ∷ []) ∷ []
 
--- an answer to the request with the last id but one
+-- an answer to the request with the second to last id
 abbrev pub last_answer : List ℕ
 last_answer =
     0x68 ∷ 0x45 ∷ 0x7F ∷ 0xFF ∷ 0 ∷ 0 ∷ 0 ∷ 0 ∷ 0 ∷ 0 ∷ 0 ∷ 1 ∷ 0xD1 ∷ 1 ∷ 10 ∷ 0xFF ∷ 0x32 ∷ 0x31
@@ -162,7 +162,7 @@ last_refusal = from 0 (client 1) (get_u 4) ∷ without_ids 5
 abbrev pub last_refusal_sent : List Sent
 last_refusal_sent = to (Refused NOT_FOUND) (client 1) (not_found 0x80 0) ∷ without_ids_sent
 
--- with two ids left an exchange is opened, which keeps both
+-- with two ids left an exchange is opened, which reserves both
 abbrev pub kept_ids : List Turn
 kept_ids = from 0 (client 1) (get_t []) ∷ without_ids 11 ++ tick_at 0 ∷ without_ids 12
     ++ from 0 origin last_answer ∷ tick_at 0 ∷ without_ids 13

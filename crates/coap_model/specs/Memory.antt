@@ -1,12 +1,12 @@
--- Which steps may want memory.
+-- Which steps may allocate memory.
 use Rattle.std.specs.Prelude.{Bool, true, false, List, ℕ}
 use Rattle.coap_model.specs.declared.report.Outcome.{Outcome}
 use Rattle.coap_model.specs.declared.report.Outcome.TheVariants.{Ignored, Rejected, Again, NoRecordRoom, Refused, Hit, Joined, Opened, Overloaded, NoId, Answered, Acked, SentRequest, Resent, GaveUp, Delivered, Idle}
 use Rattle.coap_model.specs.History.{is_con_datagram}
 
--- A step of this outcome, which sends these bytes, may want memory: a request that is new is
--- remembered, whatever becomes of it; an answer that comes is kept; and so is one that goes to a
--- client in a Confirmable message, until that is acknowledged. No other step takes memory.
+-- Whether a step with this outcome, which sends these bytes, may allocate memory: a new request is
+-- remembered, whatever its outcome; an answer that arrives is kept; and so is one that is sent to a
+-- client in a Confirmable message, until it is acknowledged. No other step allocates.
 abbrev pub takes_memory : Outcome → List ℕ → Bool
 takes_memory Ignored bytes = false
 takes_memory Rejected bytes = false

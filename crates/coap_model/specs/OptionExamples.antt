@@ -1,6 +1,6 @@
--- Words about options and targets, computed: the form that is sent on, the keys read off it and off
--- the client's request, what is shown to clients with tags, and what is refused for which reason.
--- The bytes are those of RFC 7252 (3, 3.1, 5.10), written out.
+-- Definitions about options and targets, computed: the form that is forwarded, the keys of it and
+-- of the client's request, what clients with tags are sent, and what is refused for which reason.
+-- The bytes are encoded per RFC 7252 (3, 3.1, 5.10).
 use Rattle.std.specs.Prelude.{ℕ, ◌-◌, List, [], ◌∷◌, ◌++◌, codes, replicate, Option, Some, None, option_map}
 use Rattle.std.specs.Result.{result_ok}
 use Rattle.coap_message.specs.declared.code.TheConstants.Code.{BAD_REQUEST, BAD_OPTION, NOT_FOUND, PROXYING_NOT_SUPPORTED}
@@ -31,18 +31,18 @@ others =
     option_of 1 (9 ∷ []) ∷ option_of 5 [] ∷ option_of 12 (0x28 ∷ []) ∷ option_of 17 (0x29 ∷ [])
     ∷ option_of 60 (5 ∷ []) ∷ []
 
--- they stand among Uri-Host, two Uri-Paths and a Uri-Query
+-- they are mixed with a Uri-Host, two Uri-Paths and a Uri-Query
 abbrev pub form_with_others : List ℕ
 form_with_others =
     0x48 ∷ 1 ∷ 0 ∷ 7 ∷ 0 ∷ 0 ∷ 0 ∷ 0 ∷ 0 ∷ 0 ∷ 0 ∷ 0 ∷ 0x11 ∷ 9 ∷ 0x23 ∷ 0x68 ∷ 0x2E ∷ 0x74
     ∷ 0x20 ∷ 0x61 ∷ 0x74
     ∷ 0x00 ∷ 0x11 ∷ 0x28 ∷ 0x33 ∷ 0x61 ∷ 0x3D ∷ 0x62 ∷ 0x21 ∷ 0x29 ∷ 0xD1 ∷ 0x1E ∷ 5 ∷ []
 
--- the key that is read off a request that was sent to an endpoint
+-- the key of a request that was sent to an endpoint, according to its bytes
 abbrev pub key_in : Endpoint → List ℕ → Option CacheKey
 key_in to bytes = option_map (key_sent to) (result_ok (read_message bytes))
 
--- Size1 is no part of the key, nor is an ETag of the proxy's own
+-- neither Size1 nor an ETag added by the proxy is part of the key
 abbrev pub key_of_others : CacheKey
 key_of_others =
     record {
@@ -64,8 +64,8 @@ key_of_temp =
       options = [];
     }
 
--- a GET of a client with the same options, and with a Uri-Host, an ETag, an Observe, a Uri-Port, a
--- Uri-Path and a Max-Age besides
+-- a GET of a client with the same options, and also with a Uri-Host, an ETag, an Observe, a
+-- Uri-Port, a Uri-Path and a Max-Age
 abbrev pub get_with_others : Message
 get_with_others =
     message_of (record { kind = Non; code = record { 0 = 1 }; id = 7 }) []
@@ -77,8 +77,8 @@ get_with_others =
     )
     []
 
--- a form of two Uri-Hosts, `h` and `i`, and of a Uri-Path and a Uri-Query of 256 bytes, which are
--- too long: they are of the target all the same, and not of what stands beside it
+-- a form with two Uri-Hosts, `h` and `i`, and with a Uri-Path and a Uri-Query of 256 bytes, which
+-- are too long: they still belong to the target, and not to the other options of the key
 abbrev pub odd_form : List ℕ
 odd_form =
     0x48 ∷ 1 ∷ 0 ∷ 7 ∷ 0 ∷ 0 ∷ 0 ∷ 0 ∷ 0 ∷ 0 ∷ 0 ∷ 0 ∷ 0x31 ∷ 0x68 ∷ 0x01 ∷ 0x69 ∷ 0x8D ∷ 243
@@ -98,7 +98,7 @@ odd_key =
 
 -- ---- clients with tags
 
--- a GET of the path `t` with the ETags CD and AB
+-- a GET for the path `t` with the ETags CD and AB
 abbrev pub get_with_tags : List ℕ
 get_with_tags = 0x50 ∷ 1 ∷ 0 ∷ 7 ∷ 0x41 ∷ 0xCD ∷ 0x01 ∷ 0xAB ∷ 0x71 ∷ 0x74 ∷ []
 
@@ -109,7 +109,7 @@ tagged options =
     ∷ from 0 origin (answer 0x68 0x45 1 1 (options ++ (0xFF ∷ 0x32 ∷ 0x31 ∷ []))) ∷ tick_at 2500
     ∷ []
 
--- of ten seconds seven are left
+-- seven of ten seconds are left
 abbrev pub with_tag : ℕ → List Turn
 with_tag tag = tagged (0x41 ∷ tag ∷ 0xA1 ∷ 10 ∷ [])
 
@@ -120,9 +120,9 @@ abbrev pub other_tag_sent : List Sent
 other_tag_sent =
     delivered_as (0x50 ∷ 0x45 ∷ 0 ∷ 2 ∷ 0x41 ∷ 0xEF ∷ 0xA1 ∷ 7 ∷ 0xFF ∷ 0x32 ∷ 0x31 ∷ [])
 
--- ---- Observe, and options that go on
+-- ---- Observe, and options that are forwarded
 
--- Accept goes on with a request
+-- Accept is forwarded with a request
 abbrev pub accepted : List Turn
 accepted = from 0 (client 1) (0x50 ∷ 1 ∷ 0 ∷ 7 ∷ 0xB1 ∷ 0x74 ∷ 0x61 ∷ 0x29 ∷ []) ∷ tick_at 0 ∷ []
 
@@ -138,11 +138,11 @@ observed =
 abbrev pub observed_sent : List Sent
 observed_sent = delivered_once (0x50 ∷ 0x44 ∷ 0 ∷ 2 ∷ 0xFF ∷ 0x32 ∷ [])
 
--- a payload of 109 bytes beside an Observe: without that it fits datagrams of 128 bytes
+-- a payload of 109 bytes with an Observe: without the Observe it fits a datagram of 128 bytes
 abbrev pub long_observed : List Turn
 long_observed = answered_by 0 (answer 0x68 0x45 1 1 (0x61 ∷ 3 ∷ 0xFF ∷ replicate 109 0x39))
 
--- an Observe has at most three bytes (RFC 7641, 2): a longer one isn't understood
+-- an Observe has at most three bytes (RFC 7641, 2): a longer one isn't recognised
 abbrev pub odd_observe : List Turn
 odd_observe = answered_by 0 (answer 0x68 0x44 1 1 (0x64 ∷ 0 ∷ 0 ∷ 0 ∷ 3 ∷ []))
 
@@ -153,7 +153,7 @@ with_unknown number = answered_by 0 (answer 0x68 0x44 1 1 (0xD1 ∷ (number - 13
 abbrev pub safe_sent : List Sent
 safe_sent = delivered_once (0x50 ∷ 0x44 ∷ 0 ∷ 2 ∷ 0xD1 ∷ 51 ∷ 9 ∷ [])
 
--- the longest payload beside an ETag of eight bytes that fits datagrams of 128 bytes has 101 bytes
+-- the longest payload that fits a datagram of 128 bytes with an ETag of eight bytes has 101 bytes
 abbrev pub beside_a_tag : ℕ → List Turn
 beside_a_tag n =
     answered_by 0 (answer 0x68 0x45 1 1 (0x48 ∷ (replicate 8 0xAA ++ (0xFF ∷ replicate n 0x39))))
@@ -183,7 +183,7 @@ abbrev pub with_scheme : List ℕ → List ℕ
 with_scheme options = 0x50 ∷ 1 ∷ 0 ∷ 7 ∷ (options ++ codes "coap")
 
 -- A Uri-Port of 0; the host `b`, which isn't known; a path without a map, at the proxy itself; then
--- an unsafe option and a Uri-Port of 0 at once: the options come before the target.
+-- an unsafe option and a Uri-Port of 0 together: the options are checked before the target.
 abbrev pub refused_targets : List Turn
 refused_targets =
     from 0 (client 1) (with_scheme (0x31 ∷ 0x62 ∷ 0x40 ∷ 0xD4 ∷ 19 ∷ []))
@@ -200,7 +200,7 @@ refused_targets_sent =
     ∷ to (Refused BAD_OPTION) (client 4) (0x50 ∷ 0x82 ∷ 0 ∷ 4 ∷ [])
     ∷ []
 
--- a path without a map that would be too long for datagrams of 128 bytes when sent on
+-- a path without a map that would be too long for a datagram of 128 bytes when forwarded
 abbrev pub long_without_map : List Turn
 long_without_map = from 0 (client 1) (0x50 ∷ 1 ∷ 0 ∷ 7 ∷ 0xB1 ∷ 0x75 ∷ 0x0D ∷ 105
     ∷ replicate 118 0x61) ∷ []
@@ -208,7 +208,7 @@ long_without_map = from 0 (client 1) (0x50 ∷ 1 ∷ 0 ∷ 7 ∷ 0xB1 ∷ 0x75 �
 abbrev pub long_without_map_sent : List Sent
 long_without_map_sent = to (Refused NOT_FOUND) (client 1) (0x50 ∷ 0x84 ∷ 0 ∷ 1 ∷ []) ∷ []
 
--- a request for a known host goes there, with its name
+-- a request for a known host is sent there, with its name
 abbrev pub to_sensor : List Turn
 to_sensor = from 0 (client 1) (with_scheme (0x3B ∷ (codes "SENSOR.test" ++ (0x81 ∷ 0x78 ∷ 0xD4
     ∷ 15 ∷ [])))) ∷ tick_at 0 ∷ []

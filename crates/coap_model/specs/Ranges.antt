@@ -3,7 +3,7 @@ use Rattle.std.specs.Prelude.{◌≤◌, ◌^◌, List}
 use Rattle.std.specs.List.{AllByRecursion}
 use Rattle.coap_model.specs.History.{Entry}
 
--- a moment is at most 2^62, and a draw at most 1,000
+-- a moment is at most 2^62 milliseconds, and a draw at most 1,000
 abbrev pub IsInRange : Entry → Type 0
 IsInRange e = (e.now ≤ 2 ^ 62) × (e.draw ≤ 1000)
 

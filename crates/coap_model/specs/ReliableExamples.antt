@@ -1,7 +1,6 @@
--- Reliability towards origins, computed on the definitions: when a request is sent again and when
--- it is given up, how many are sent to one endpoint at once, and message ids by windows of 247
--- seconds (RFC 7252, 4.2, 4.4, 4.7 and 4.8). The bytes are those of RFC 7252 (3, 3.1, 5.10),
--- written out.
+-- Reliability towards origin servers, computed on the definitions: when a request is retransmitted
+-- and when it is given up, how many are sent to one endpoint at once, and message ids by windows of
+-- 247 seconds (RFC 7252, 4.2, 4.4, 4.7 and 4.8). The bytes are encoded per RFC 7252 (3, 3.1, 5.10).
 use Rattle.std.specs.Prelude.{ℕ, List, [], ◌∷◌, ◌++◌, codes, map, true}
 use Rattle.coap_message.specs.declared.code.TheConstants.Code.{NOT_FOUND}
 use Rattle.coap_endpoint.specs.declared.endpoint.Endpoint.{Endpoint}
@@ -21,7 +20,7 @@ use Rattle.coap_model.specs.OptionExamples.{with_scheme}
 
 -- ---- proxies and what they send
 
--- an exchange may take a second, or ten minutes
+-- with exchanges that may take a second, or ten minutes
 abbrev pub hasty_proxy : World
 hasty_proxy = proxy_of (record default_limits { exchange_ms = 1000 })
 
@@ -31,8 +30,8 @@ patient_proxy = proxy_of (record default_limits { exchange_ms = 600000 })
 abbrev pub tick_with : ℕ → ℕ → Turn
 tick_with draw now = record { now = now; draw = draw; event = tick }
 
--- a request of another path, of two segments, and what is sent on for it, with its id and the last
--- byte of its token
+-- a request for another path, with two segments, and the request that is forwarded for it, with its
+-- id and the last byte of its token
 abbrev pub get_part : ℕ → ℕ → List ℕ
 get_part id segment = get_t_as id (1 ∷ segment ∷ [])
 
@@ -46,36 +45,37 @@ first_sent = to SentRequest origin (asked 1 1)
 abbrev pub sent_again : Sent
 sent_again = to Resent origin (asked 1 1)
 
--- 5.04, with an id
+-- a 5.04, with an id
 abbrev pub timed_out : ℕ → Sent
 timed_out id = to Delivered (client 1) (0x50 ∷ 0xA4 ∷ 0 ∷ id ∷ [])
 
--- ---- an origin that stays silent
+-- ---- an origin server that stays silent
 
--- Its request is sent five times in all, after two seconds first, and then after twice as long each
--- time. It is given up after the last wait, at 62 seconds, and the client gets 5.04.
+-- The request is sent five times in all: it is retransmitted after two seconds, and then after
+-- twice as long each time. It is given up after the last wait, at 62 seconds, and the client gets a
+-- 5.04.
 abbrev pub silent_origin : List Turn
 silent_origin =
     from 0 (client 1) (get_t []) ∷ tick_at 0 ∷ tick_at 1999 ∷ tick_at 2000 ∷ tick_at 5999
     ∷ tick_at 6000 ∷ tick_at 13999 ∷ tick_at 14000 ∷ tick_at 29999 ∷ tick_at 30000 ∷ tick_at 61999
     ∷ tick_at 62000 ∷ tick_at 62000 ∷ tick_at 62000 ∷ []
 
--- with the longest first wait, of three seconds, it is given up at 93 seconds; what is drawn after
--- the first sending changes nothing
+-- with the longest first wait, three seconds, it is given up at 93 seconds; draws after the first
+-- transmission have no effect
 abbrev pub longest_waits : List Turn
 longest_waits =
     from 0 (client 1) (get_t []) ∷ tick_with 1000 0 ∷ tick_at 2999 ∷ tick_at 3000
     ∷ tick_with 500 8999 ∷ tick_at 9000 ∷ tick_at 20999 ∷ tick_with 1 21000 ∷ tick_at 44999
     ∷ tick_at 45000 ∷ tick_at 92999 ∷ tick_with 1000 93000 ∷ tick_at 93000 ∷ tick_at 93000 ∷ []
 
--- both send the same
+-- what both send
 abbrev pub silence_sent : List Sent
 silence_sent =
     nothing Opened ∷ first_sent ∷ nothing Idle ∷ sent_again ∷ nothing Idle ∷ sent_again
     ∷ nothing Idle ∷ sent_again ∷ nothing Idle ∷ sent_again ∷ nothing Idle ∷ nothing GaveUp
     ∷ timed_out 2 ∷ nothing Idle ∷ []
 
--- each wait begins when the request was sent, and not when it was due
+-- each wait begins when the request is actually sent, and not when it was due
 abbrev pub late_ticks : List Turn
 late_ticks =
     from 0 (client 1) (get_t []) ∷ tick_at 5 ∷ tick_at 2004 ∷ tick_at 2500 ∷ tick_at 6499
@@ -85,8 +85,8 @@ abbrev pub late_ticks_sent : List Sent
 late_ticks_sent =
     nothing Opened ∷ first_sent ∷ nothing Idle ∷ sent_again ∷ nothing Idle ∷ sent_again ∷ []
 
--- Where an exchange may take longer, nothing is sent again from 93 seconds after the first sending
--- on: a request that was sent once by then is given up.
+-- If an exchange may take longer, nothing is retransmitted from 93 seconds after the first
+-- transmission on: a request that was only sent once by then is given up.
 abbrev pub first_again_at : ℕ → List Turn
 first_again_at now = from 0 (client 1) (get_t []) ∷ tick_at 0 ∷ tick_at now ∷ []
 
@@ -96,14 +96,14 @@ again_in_time = nothing Opened ∷ first_sent ∷ sent_again ∷ []
 abbrev pub too_late : List Sent
 too_late = nothing Opened ∷ first_sent ∷ nothing GaveUp ∷ []
 
--- one that was sent again just before that is given up after the wait of four seconds
+-- one that was retransmitted just before that is given up after its wait of four seconds
 abbrev pub after_the_last : List Turn
 after_the_last = first_again_at 92999 ++ tick_at 96998 ∷ tick_at 96999 ∷ tick_at 96999 ∷ []
 
 abbrev pub after_the_last_sent : List Sent
 after_the_last_sent = again_in_time ++ nothing Idle ∷ nothing GaveUp ∷ timed_out 2 ∷ []
 
--- an answer between two sendings ends the repetition
+-- an answer between two transmissions ends the retransmission
 abbrev pub answered_later : List Turn
 answered_later =
     from 0 (client 1) (get_t []) ∷ tick_at 0 ∷ tick_at 2000 ∷ from 2500 origin (got 1 1)
@@ -116,7 +116,7 @@ answered_later_sent =
 
 -- ---- how long an exchange may take
 
--- a second: it is given up before it is due to be sent again
+-- a second: it is given up before its request is due to be retransmitted
 abbrev pub deadline : List Turn
 deadline =
     from 0 (client 1) (get_t []) ∷ tick_at 0 ∷ tick_at 999 ∷ tick_at 1000 ∷ tick_at 1000 ∷ []
@@ -124,12 +124,12 @@ deadline =
 abbrev pub deadline_sent : List Sent
 deadline_sent = nothing Opened ∷ first_sent ∷ nothing Idle ∷ nothing GaveUp ∷ timed_out 2 ∷ []
 
--- it counts from the request of the client, and not from the first sending
+-- the time counts from the request of the client, and not from the first transmission
 abbrev pub sent_late : List Turn
 sent_late =
     from 0 (client 1) (get_t []) ∷ tick_at 700 ∷ tick_at 999 ∷ tick_at 1000 ∷ tick_at 1000 ∷ []
 
--- one that wasn't sent by then is never sent, and takes no id for it
+-- a request that wasn't sent by then is never sent, and takes no id
 abbrev pub never_sent : List Turn
 never_sent = from 0 (client 1) (get_t []) ∷ tick_at 1000 ∷ tick_at 1000 ∷ tick_at 1000 ∷ []
 
@@ -147,7 +147,7 @@ blocked_sent =
     nothing Opened ∷ nothing Opened ∷ first_sent ∷ nothing Idle ∷ nothing GaveUp ∷ nothing GaveUp
     ∷ timed_out 2 ∷ timed_out 3 ∷ nothing Idle ∷ []
 
--- one that came later is sent when the first is given up, and has what is left of its own second
+-- one that arrived later is sent when the first is given up, and has the rest of its own second
 abbrev pub turn_of_the_second : List Turn
 turn_of_the_second =
     from 0 (client 1) (get_t []) ∷ from 500 (client 1) (get_part 8 0x78) ∷ tick_at 500
@@ -160,8 +160,8 @@ turn_of_the_second_sent =
     ∷ to SentRequest origin (asked_part 2 2 0x78) ∷ timed_out 3 ∷ nothing Idle ∷ nothing GaveUp
     ∷ timed_out 4 ∷ []
 
--- an answer that comes after an exchange was given up is no one's, before its client is told and
--- after; and it isn't kept
+-- an answer that arrives after an exchange was given up is ignored, before its client is served and
+-- after, and it isn't kept
 abbrev pub after_the_end : List Turn
 after_the_end =
     from 0 (client 1) (get_t []) ∷ tick_at 0 ∷ tick_at 1000 ∷ from 1000 origin (got 1 1)
@@ -207,8 +207,8 @@ sensor = record { ip = V4 (192 ∷ 0 ∷ 2 ∷ 7 ∷ []); port = 5683 }
 abbrev pub get_of_sensor : List ℕ
 get_of_sensor = with_scheme (0x3B ∷ (codes "sensor.test" ++ (0x81 ∷ 0x78 ∷ 0xD4 ∷ 15 ∷ [])))
 
--- Two origins don't wait for each other: the third request is sent while the second waits for the
--- first, and its answer doesn't let the second go.
+-- Two origin servers don't wait for each other: the third request is sent while the second waits
+-- for the first, and its answer doesn't release the second.
 abbrev pub two_origins : List Turn
 two_origins =
     from 0 (client 1) (get_t []) ∷ from 0 (client 1) (get_part 8 0x78)
@@ -228,8 +228,8 @@ two_origins_sent =
 
 -- ---- message ids
 
--- Where all ids of the first 247 seconds are given, what needs one meets silence until they have
--- passed; then ids go on where they were.
+-- If all ids of the first 247 seconds are given out, a request that needs one gets no reply until
+-- the 247 seconds have passed; then ids continue from there.
 abbrev pub next_window : List Turn
 next_window =
     from 0 (client 1) (get_t []) ∷ from 246999 (client 2) (get_u 7)
@@ -243,8 +243,8 @@ next_window_sent =
     (0x48 ∷ 1 ∷ 0x80 ∷ 2 ∷ 0 ∷ 0 ∷ 0 ∷ 0 ∷ 0 ∷ 0 ∷ 0 ∷ 1 ∷ 0xB4 ∷ 0x74 ∷ 0x65 ∷ 0x6D ∷ 0x70 ∷ [])
     ∷ []
 
--- two ids of the first window are left, which are kept for an exchange and its client; they are
--- given in the next window
+-- two ids of the first window are left, which are reserved for an exchange and its client; they are
+-- given out in the next window
 abbrev pub over_the_edge : List Turn
 over_the_edge =
     from 246999 (client 1) (get_t []) ∷ from 246999 (client 2) (get_u 7) ∷ tick_at 247000
@@ -259,7 +259,7 @@ over_the_edge_sent =
     (0x48 ∷ 1 ∷ 0x7F ∷ 0xFF ∷ 0 ∷ 0 ∷ 0 ∷ 0 ∷ 0 ∷ 0 ∷ 0 ∷ 1 ∷ 0xB4 ∷ 0x74 ∷ 0x65 ∷ 0x6D ∷ 0x70 ∷ [])
     ∷ nothing (Answered NotStored) ∷ to Delivered (client 1) (0x50 ∷ 0x44 ∷ 0x80 ∷ 0 ∷ []) ∷ []
 
--- a repetition has the id of the first sending, and takes none
+-- a retransmission has the id of the first transmission, and takes no new one
 abbrev pub again_without_id : List Turn
 again_without_id =
     from 0 (client 1) (get_t []) ∷ tick_at 0 ∷ tick_at 2000 ∷ from 2000 (client 2) (get_u 7) ∷ []
@@ -273,7 +273,7 @@ again_without_id_sent =
     (0x48 ∷ 1 ∷ 0x7F ∷ 0xFE ∷ 0 ∷ 0 ∷ 0 ∷ 0 ∷ 0 ∷ 0 ∷ 0 ∷ 1 ∷ 0xB4 ∷ 0x74 ∷ 0x65 ∷ 0x6D ∷ 0x70 ∷ [])
     ∷ to (Refused NOT_FOUND) (client 2) (not_found 0x7F 0xFF) ∷ []
 
--- an answer is in the cache, and all ids are given: in an acknowledgement it needs none
+-- an answer is in the cache, and all ids are given out: in an acknowledgement it needs none
 abbrev pub spent_with_cache : World
 spent_with_cache = record (after proxy first_answer) {
   ids = record { following = 32769; window = 0; given = 32768 };
@@ -288,7 +288,7 @@ hit_without_id_sent =
     nothing NoId
     ∷ to Hit (client 2) (0x60 ∷ 0x45 ∷ 0 ∷ 1 ∷ 0xD1 ∷ 1 ∷ 10 ∷ 0xFF ∷ 0x32 ∷ 0x31 ∷ []) ∷ []
 
--- after 65,535 comes 0
+-- the id after 65,535 is 0
 abbrev pub greatest_id : World
 greatest_id = record proxy { ids = record { following = 65535; window = 0; given = 9 } }
 
@@ -302,7 +302,7 @@ after_the_greatest_sent =
     ∷ to (Refused NOT_FOUND) (client 1) (not_found 0 0)
     ∷ to (Refused NOT_FOUND) (client 1) (not_found 0 1) ∷ []
 
--- ---- the words of the history
+-- ---- the definitions of the history
 
 -- a turn, and what its entry acts on
 pub record Acting : Type 0 where
@@ -319,7 +319,8 @@ deeds_of w past (a ∷ more) =
       act = a.act;
     } ∷ past) more
 
--- a request is sent with a draw of 500, at 10, and sent again at 2,510; another waits for its turn
+-- a request is sent with a draw of 500, at 10, and is retransmitted at 2,510; another one waits for
+-- its turn
 abbrev pub sent_twice : List Acting
 sent_twice =
     record { turn = from 0 (client 1) (get_t []); act = admits 1 1 }

@@ -1,7 +1,7 @@
--- What clients are given, computed at the edges of words that the step and the history share, where
--- no law would catch a fault that both have: a client's token, two faults in one request, what a
--- response gives at some age, and what is due first. The bytes are those of RFC 7252 (3, 3.1,
--- 5.10), written out.
+-- What clients are sent, computed for edge cases of definitions that the step and the history
+-- share, where no law would catch a mistake that both have: a client's token, two faults in one
+-- request, what a response becomes at some age, and what is due first. The bytes are encoded per
+-- RFC 7252 (3, 3.1, 5.10).
 use Rattle.std.specs.Prelude.{ℕ, List, [], ◌∷◌, ◌++◌, replicate}
 use Rattle.coap_message.specs.declared.code.TheConstants.Code.{METHOD_NOT_ALLOWED, BAD_OPTION, NOT_FOUND}
 use Rattle.coap_model.specs.declared.report.Outcome.TheVariants.{Refused, Opened, Overloaded, Answered, SentRequest, Delivered}
@@ -12,12 +12,12 @@ use Rattle.coap_model.specs.LimitExamples.{asked, got, got_stale, stale_for_clie
 
 -- ---- a client's token
 
--- a GET with the token AA BB, and a path of one segment of one byte, which is its id too
+-- a GET with the token AA BB, and a path with one segment of one byte, which is also its id
 abbrev pub with_token : ℕ → List ℕ
 with_token segment = 0x52 ∷ 1 ∷ 0 ∷ segment ∷ 0xAA ∷ 0xBB ∷ 0xB1 ∷ segment ∷ []
 
--- It stands in a refusal, in a 5.03 and in what is delivered, with room for one exchange: the
--- second client asks for something else.
+-- The token is in a refusal, in a 5.03 and in a delivered answer, with room for one exchange: the
+-- second client requests something else.
 abbrev pub tokens : List Turn
 tokens =
     from 0 (client 1) (with_token 0x75) ∷ from 0 (client 1) (with_token 0x74)
@@ -34,8 +34,9 @@ tokens_sent =
 
 -- ---- two faults in one request
 
--- a request of a method that isn't known with an option that isn't understood, and a GET with one
--- of a path without a map: the method comes first, then the options
+-- a request with an unknown method and an unrecognised option, a GET with such an option for a path
+-- without a map, and an unknown method for such a path: the method is checked first, then the
+-- options
 abbrev pub two_faults : List Turn
 two_faults =
     from 0 (client 1) (0x50 ∷ 5 ∷ 0 ∷ 7 ∷ 0xB1 ∷ 0x74 ∷ 0xC1 ∷ 6 ∷ [])
@@ -48,53 +49,53 @@ two_faults_sent =
     ∷ to (Refused BAD_OPTION) (client 1) (0x50 ∷ 0x82 ∷ 0 ∷ 2 ∷ [])
     ∷ to (Refused METHOD_NOT_ALLOWED) (client 1) (0x50 ∷ 0x85 ∷ 0 ∷ 3 ∷ []) ∷ []
 
--- ---- what a response gives
+-- ---- what a response becomes
 
--- a response of class 3 is one, and goes on without Max-Age
+-- a response of class 3 is accepted, and is passed on without a Max-Age
 abbrev pub of_class_3 : List Turn
 of_class_3 = answered_by 0 (answer 0x68 0x60 1 1 [])
 
 abbrev pub of_class_3_sent : List Sent
 of_class_3_sent = delivered_once (0x50 ∷ 0x60 ∷ 0 ∷ 2 ∷ [])
 
--- a 2.04 keeps its Max-Age as it came, however old it is
+-- a 2.04 keeps its Max-Age unchanged, however old it is
 abbrev pub changed_with_age : List Turn
 changed_with_age = answered_by 5000 (answer 0x68 0x44 1 1 (0xD1 ∷ 1 ∷ 10 ∷ []))
 
 abbrev pub changed_with_age_sent : List Sent
 changed_with_age_sent = delivered_once (0x50 ∷ 0x44 ∷ 0 ∷ 2 ∷ 0xD1 ∷ 1 ∷ 10 ∷ [])
 
--- a second Max-Age isn't understood
+-- a second Max-Age isn't recognised
 abbrev pub two_ages : List Turn
 two_ages = answered_by 0 (answer 0x68 0x45 1 1 (0xD1 ∷ 1 ∷ 10 ∷ 1 ∷ 10 ∷ []))
 
--- a payload of 109 bytes beside a Max-Age of one byte: with one of four in its place it has 128
--- bytes
+-- a payload of 109 bytes with a Max-Age of one byte: with a Max-Age of four bytes instead, the
+-- message has 128 bytes
 abbrev pub beside_an_age : List Turn
 beside_an_age = answered_by 0 (answer 0x68 0x45 1 1 (0xD1 ∷ 1 ∷ 10 ∷ 0xFF ∷ replicate 109 0x39))
 
 abbrev pub beside_an_age_sent : List Sent
 beside_an_age_sent = delivered_as (0x50 ∷ 0x45 ∷ 0 ∷ 2 ∷ 0xD1 ∷ 1 ∷ 10 ∷ 0xFF ∷ replicate 109 0x39)
 
--- a Uri-Path is of requests alone: in a response it isn't understood
+-- a Uri-Path is only for requests: in a response it isn't recognised
 abbrev pub path_in_response : List Turn
 path_in_response = answered_by 0 (answer 0x68 0x44 1 1 (0xB1 ∷ 0x74 ∷ []))
 
--- a Max-Age of four bytes, a millisecond after it came
+-- a Max-Age of four bytes, a millisecond after its arrival
 abbrev pub greatest_age : List Turn
 greatest_age = answered_by 1 (answer 0x68 0x45 1 1 (0xD4 ∷ 1 ∷ 0xFF ∷ 0xFF ∷ 0xFF ∷ 0xFF ∷ []))
 
 abbrev pub greatest_age_sent : List Sent
 greatest_age_sent = delivered_as (0x50 ∷ 0x45 ∷ 0 ∷ 2 ∷ 0xD4 ∷ 1 ∷ 0xFF ∷ 0xFF ∷ 0xFF ∷ 0xFE ∷ [])
 
--- a Max-Age of two bytes, of 256 seconds, after one of them: one byte will do
+-- a Max-Age of two bytes, 256 seconds, after one second: one byte is enough
 abbrev pub shorter_age : List Turn
 shorter_age = answered_by 1000 (answer 0x68 0x45 1 1 (0xD2 ∷ 1 ∷ 1 ∷ 0 ∷ []))
 
 abbrev pub shorter_age_sent : List Sent
 shorter_age_sent = delivered_as (0x50 ∷ 0x45 ∷ 0 ∷ 2 ∷ 0xD1 ∷ 1 ∷ 255 ∷ [])
 
--- ten seconds after so many milliseconds: what is left is never below 0
+-- a Max-Age of ten seconds after this many milliseconds: the rest is never below 0
 abbrev pub ten_seconds_after : ℕ → List Turn
 ten_seconds_after age = answered_by age (answer 0x68 0x45 1 1 (0xD1 ∷ 1 ∷ 10 ∷ []))
 
@@ -106,11 +107,11 @@ one_left = delivered_as (0x50 ∷ 0x45 ∷ 0 ∷ 2 ∷ 0xD1 ∷ 1 ∷ 1 ∷ [])
 
 -- ---- what is due first
 
--- what opens an exchange, for a client by number
+-- a request that opens an exchange, from a client by number
 abbrev pub asks_at : ℕ → ℕ → Turn
 asks_at now n = from now (client n) (0x50 ∷ 1 ∷ 0 ∷ 7 ∷ 0xB1 ∷ 0x74 ∷ [])
 
--- two requests of one moment for two resources, where two may be sent at once: in order of number
+-- two requests at the same moment for two resources, with an `nstart` of 2: in order of number
 abbrev pub of_one_moment : List Turn
 of_one_moment =
     asks_at 0 1 ∷ from 0 (client 2) (get_t (1 ∷ 0x78 ∷ [])) ∷ tick_at 0 ∷ tick_at 0 ∷ []
@@ -120,8 +121,8 @@ of_one_moment_sent =
     nothing Opened ∷ nothing Opened ∷ to SentRequest origin (asked 1 1)
     ∷ to SentRequest origin (asked 2 2 ++ (1 ∷ 0x78 ∷ [])) ∷ []
 
--- a client that is to be served, and a request that is to be sent from the same moment on: the
--- request comes first
+-- a client that is due to be served, and a request that is due to be sent from the same moment on:
+-- the request comes first
 abbrev pub request_first : List Turn
 request_first =
     asks_at 0 1 ∷ tick_at 0 ∷ from 3 origin (got_stale 1 1) ∷ asks_at 3 2
@@ -133,7 +134,7 @@ request_first_sent =
     ∷ nothing Opened ∷ to SentRequest origin (asked 2 2)
     ∷ to Delivered (client 1) (stale_for_client 3) ∷ []
 
--- the same with the answer one millisecond earlier: the client comes first
+-- the same, but the answer arrives one millisecond earlier: the client comes first
 abbrev pub client_first : List Turn
 client_first =
     asks_at 0 1 ∷ tick_at 0 ∷ from 2 origin (got_stale 1 1) ∷ asks_at 3 2

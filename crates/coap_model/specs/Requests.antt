@@ -27,13 +27,13 @@ use Rattle.coap_forward.specs.Forms.{forwarded, form_fits, tag_to_send, tag_for}
 use Rattle.coap_model.specs.Verdicts.{Verdict, refused_with, may_ask, verdict_of}
 use Rattle.coap_model.specs.World.{World, Step, later, silent, says, takes_up, known_of, has_record_room, remembers, repeats, drops, next_id, can_reply, has_room_to_join, has_room_to_open}
 
--- the clock, one event on, in which a request was replied to at once
+-- the clock advances by an event in which a request gets an immediate reply
 abbrev pub replied : World → ℕ → Message → World
 replied w now m = record (later w now) {
   ids = if is_con m.kind then w.ids else called now w.ids;
 }
 
--- no id is free for a reply: silence
+-- no message id is free for a reply: nothing is sent
 abbrev pub lacks_id : World → ℕ → Step
 lacks_id w now = silent NoId (later w now)
 
@@ -52,7 +52,7 @@ overloads w now client m =
 abbrev pub next_token : World → List ℕ
 next_token w = token_of w.setting.salt (w.opened + 1)
 
--- what is kept of a stored response: all of it, if the request carries its tag
+-- the exchange's copy of a stored response: there is one if the request carries its tag
 abbrev pub copy_of : ℕ → Target → Message → Option Stored → Option Stored
 copy_of most t m None = None
 copy_of most t m (Some stored) =
@@ -62,7 +62,7 @@ copy_of most t m (Some stored) =
 abbrev pub tag_carried : ℕ → Target → Message → Option Stored → Option (List ℕ)
 tag_carried most t m stored = tag_for most t m (option_map (λ s. s.response) stored)
 
--- the exchange of a request for a key, where this is stored for it
+-- the exchange of a request for a key, if this is stored for the key
 abbrev pub new_exchange : World → ℕ → Message → CacheKey → Option Stored → Numbered Exchange
 new_exchange w now m key stored = (
   w.opened + 1,
@@ -93,7 +93,7 @@ new_waiter w client m exchange = (
   },
 )
 
--- the client waits for an exchange that is under way
+-- the client waits for an exchange in progress
 abbrev pub joins : World → ℕ → Endpoint → Message → ℕ → Step
 joins w now client m exchange =
     takes_up Joined client m (record (later w now) {
@@ -111,29 +111,29 @@ opens w now client m key stored =
       admitted = w.admitted + 1;
     })
 
--- there is no room for what could be opened
+-- there is no room to open or to join an exchange
 abbrev pub turns_away : World → ℕ → Endpoint → Message → Step
 turns_away w now client m =
     if can_reply w now m.kind then overloads w now client m else lacks_id w now
 
--- the client is refused, if an id is free to tell it
+-- the client is refused, if a message id is free for the reply
 abbrev pub turns_down : World → ℕ → Endpoint → Message → Code → Step
 turns_down w now client m code =
     if can_reply w now m.kind then refuses w now client m code else lacks_id w now
 
--- the client is shown what is stored
+-- the client is sent what is stored
 abbrev pub shows : World → ℕ → Endpoint → Message → Stored → Step
 shows w now client m stored =
     says Hit client
     (at_once m (shown now (stored_answer stored) (next_id w) m.token (tags_of m)))
     (replied w now m)
 
--- the client is answered from the store: the entry of the key moves to the front
+-- the client is answered from the store: the entry with the key moves to the front
 abbrev pub hits : World → ℕ → Endpoint → Message → CacheKey → Stored → Step
 hits w now client m key stored =
     shows (record w { store = used entry_key key w.store }) now client m stored
 
--- an exchange is wanted for the key
+-- the request needs a new exchange for the key
 abbrev pub on_wanted : World → ℕ → Endpoint → Message → CacheKey → Option Stored → Step
 on_wanted w now client m key stored =
     if form_fits w.setting.limits.datagram key.target None m
@@ -143,19 +143,19 @@ on_wanted w now client m key stored =
     else turns_away w now client m)
     else turns_down w now client m REQUEST_ENTITY_TOO_LARGE
 
--- an exchange of the key that is under way, by its number, is joined (RFC 7252, 5.7.1)
+-- an exchange in progress with the key is joined, by its number (RFC 7252, 5.7.1)
 abbrev pub on_joinable :
     World → ℕ → Endpoint → Message → CacheKey → Option Stored → Option ℕ → Step
 on_joinable w now client m key stored None = on_wanted w now client m key stored
 on_joinable w now client m key stored (Some exchange) =
     if has_room_to_join w now then joins w now client m exchange else turns_away w now client m
 
--- what is stored for the key, if something is, doesn't answer
+-- what is stored for the key, if anything, isn't usable as an answer
 abbrev pub on_miss : World → ℕ → Endpoint → Message → CacheKey → Option Stored → Step
 on_miss w now client m key stored =
     on_joinable w now client m key stored (first_that (is_joinable key) w.exchanges)
 
--- an entry of the key that is usable answers
+-- an entry with the key answers, if it is usable
 abbrev pub on_entry : World → ℕ → Endpoint → Message → CacheKey → Option Entry → Step
 on_entry w now client m key None = on_miss w now client m key None
 on_entry w now client m key (Some entry) =
@@ -174,7 +174,7 @@ abbrev pub on_verdict : World → ℕ → Endpoint → Message → Verdict → S
 on_verdict w now client m (refused_with code) = turns_down w now client m code
 on_verdict w now client m (may_ask key) = on_key w now client m key
 
--- a request that is new
+-- a new request
 abbrev pub on_new : World → ℕ → Endpoint → Message → Step
 on_new w now client m = on_verdict w now client m (verdict_of w.setting.routes m)
 

@@ -1,6 +1,6 @@
--- What origins send, computed on the definitions: Empty acknowledgements and Resets of requests,
--- and responses in acknowledgements and in messages of their own (RFC 7252, 4.2 to 4.5, 5.2 and
--- 5.3.2). The bytes are those of RFC 7252 (3, 3.1, 5.10), written out.
+-- What origin servers send, computed on the definitions: Empty acknowledgements and Resets of
+-- requests, and piggybacked and separate responses (RFC 7252, 4.2 to 4.5, 5.2 and 5.3.2). The bytes
+-- are encoded per RFC 7252 (3, 3.1, 5.10).
 use Rattle.std.specs.Prelude.{ℕ, Bool, is_some, List, [], ◌∷◌, ◌++◌, Some}
 use Rattle.coap_message.specs.declared.code.TheConstants.Code.{GET, CONTENT, NOT_FOUND}
 use Rattle.coap_message.specs.declared.kind.Kind.{Kind}
@@ -18,7 +18,7 @@ use Rattle.coap_model.specs.LimitExamples.{asked, got, for_client}
 use Rattle.coap_model.specs.DuplicateExamples.{con_u, con_not_found}
 use Rattle.coap_model.specs.ReliableExamples.{get_part, asked_part, first_sent, sent_again, timed_out, Acting}
 
--- ---- what an origin sends
+-- ---- what an origin server sends
 
 -- an Empty acknowledgement and a Reset, with this id
 abbrev pub empty_ack : ℕ → List ℕ
@@ -27,8 +27,8 @@ empty_ack id = 0x60 ∷ 0 ∷ 0 ∷ id ∷ []
 abbrev pub empty_reset : ℕ → List ℕ
 empty_reset id = 0x70 ∷ 0 ∷ 0 ∷ id ∷ []
 
--- A response in a message of its own, with the first byte of the message, its code, its id, which
--- is 256 more than this, the last byte of its token, and what follows.
+-- A separate response, with the first byte of the message, its code, its id minus 256, the last
+-- byte of its token, and what follows.
 abbrev pub separate : ℕ → ℕ → ℕ → ℕ → List ℕ → List ℕ
 separate kind code id token more =
     kind ∷ code ∷ 1 ∷ id ∷ 0 ∷ 0 ∷ 0 ∷ 0 ∷ 0 ∷ 0 ∷ 0 ∷ token ∷ more
@@ -43,22 +43,22 @@ con_got id token = separate 0x48 0x45 id token ten_seconds
 abbrev pub non_got : ℕ → ℕ → List ℕ
 non_got id token = separate 0x58 0x45 id token ten_seconds
 
--- what an origin is told of one: an Empty acknowledgement, and a Reset
+-- what an origin server is sent for one: an Empty acknowledgement, or a Reset
 abbrev pub acked_as : ℕ → List ℕ
 acked_as id = 0x60 ∷ 0 ∷ 1 ∷ id ∷ []
 
 abbrev pub reset_as : ℕ → List ℕ
 reset_as id = 0x70 ∷ 0 ∷ 1 ∷ id ∷ []
 
--- what a client is given for it after less than a second
+-- what a client is sent for it after less than a second
 abbrev pub nine_left : ℕ → List ℕ
 nine_left id = 0x50 ∷ 0x45 ∷ 0 ∷ id ∷ 0xD1 ∷ 1 ∷ 9 ∷ 0xFF ∷ 0x32 ∷ 0x31 ∷ []
 
--- 5.02, with an id
+-- a 5.02, with an id
 abbrev pub replaced : ℕ → Sent
 replaced id = to Delivered (client 1) (0x50 ∷ 0xA2 ∷ 0 ∷ id ∷ [])
 
--- ---- one request, and what comes for it
+-- ---- one request, and what arrives for it
 
 -- the request is sent, and then these turns follow
 abbrev pub then_come : List Turn → List Turn
@@ -67,14 +67,14 @@ then_come turns = from 0 (client 1) (get_t []) ∷ tick_at 0 ∷ turns
 abbrev pub then_sent : List Sent → List Sent
 then_sent sent = nothing Opened ∷ first_sent ∷ sent
 
--- one message of an endpoint at a moment, and what becomes of it
+-- one message from an endpoint at a moment, and what becomes of it
 abbrev pub comes : ℕ → Endpoint → List ℕ → List Turn
 comes now source bytes = then_come (from now source bytes ∷ [])
 
 abbrev pub becomes : Sent → List Sent
 becomes sent = then_sent (sent ∷ [])
 
--- what is sent of a response that is taken, and in which message it came
+-- what is sent for a message that is accepted, and for one that is ignored
 abbrev pub taken : List Sent
 taken = becomes (nothing (Answered Kept))
 
@@ -87,8 +87,8 @@ abbrev pub ticks_at : List ℕ → List Turn
 ticks_at [] = []
 ticks_at (now ∷ more) = tick_at now ∷ ticks_at more
 
--- One that was acknowledged isn't sent again: nothing is due until its exchange has taken as long
--- as it may. Then its client gets 5.04.
+-- A request that was acknowledged isn't retransmitted: nothing is due until the deadline of its
+-- exchange. Then its client gets a 5.04.
 abbrev pub acknowledged_until : List ℕ → List Turn
 acknowledged_until moments = then_come (from 5 origin (empty_ack 1) ∷ ticks_at moments)
 
@@ -97,8 +97,8 @@ silence_after =
     then_sent (nothing Acked ∷ nothing Idle ∷ nothing Idle ∷ nothing GaveUp ∷ timed_out 2
     ∷ nothing Idle ∷ [])
 
--- what isn't from the endpoint that was asked, or has another id, is none, and the request is sent
--- again; the right one ends that, whichever of the two sendings it is for
+-- what comes from another endpoint, or has another id, is ignored, and the request is
+-- retransmitted; the right one ends that, whichever of the two transmissions it is for
 abbrev pub of_others : List Turn
 of_others =
     from 0 (client 1) (get_t []) ∷ from 0 origin (empty_ack 1) ∷ from 0 origin (empty_reset 1)
@@ -112,7 +112,7 @@ of_others_sent =
     ∷ nothing Ignored ∷ nothing Ignored ∷ nothing Ignored ∷ sent_again ∷ nothing Acked
     ∷ nothing Idle ∷ []
 
--- a Reset is its answer, 5.02, which isn't stored, and nothing that comes after it counts
+-- a Reset becomes its answer, a 5.02, which isn't stored, and what arrives after it is ignored
 abbrev pub reset_by_origin : List Turn
 reset_by_origin =
     then_come (from 5 origin (empty_reset 1) ∷ from 5 origin (empty_reset 1)
@@ -124,7 +124,7 @@ reset_by_origin_sent =
     then_sent (nothing (Answered NotStored) ∷ nothing Ignored ∷ nothing Ignored ∷ nothing Ignored
     ∷ replaced 2 ∷ nothing Opened ∷ to SentRequest origin (asked 3 2) ∷ [])
 
--- a request is acknowledged once, and a Reset after that is none
+-- a request is acknowledged once, and a Reset after that is ignored
 abbrev pub reset_after : List Turn
 reset_after =
     then_come (from 5 origin (empty_ack 1) ∷ from 6 origin (empty_ack 1)
@@ -135,10 +135,10 @@ reset_after_sent =
     then_sent (nothing Acked ∷ nothing Ignored ∷ nothing Ignored ∷ nothing Idle
     ∷ nothing (Answered Kept) ∷ to Delivered (client 1) (for_client 2) ∷ [])
 
--- ---- responses in messages of their own
+-- ---- separate responses
 
--- A Confirmable one is acknowledged at once, and is remembered for 247 seconds, so that a duplicate
--- gets the same acknowledgement; another one, that nothing awaits, is rejected.
+-- A Confirmable one is acknowledged immediately, and is remembered for 247 seconds, so that a
+-- duplicate gets the same acknowledgement; another one, that nothing awaits, is rejected.
 abbrev pub con_response : List Turn
 con_response =
     then_come (from 1 origin (empty_ack 1) ∷ tick_at 2000 ∷ from 3000 origin (con_got 1 1)
@@ -165,7 +165,7 @@ non_response_sent =
     then_sent (nothing Acked ∷ nothing (Answered Kept) ∷ nothing Ignored
     ∷ to Delivered (client 1) (for_client 2) ∷ nothing Ignored ∷ [])
 
--- either may come before the acknowledgement, which then is none, and nothing is sent again
+-- either may arrive before the acknowledgement, which is then ignored, and nothing is retransmitted
 abbrev pub before_acknowledgement : List ℕ → List Turn
 before_acknowledgement bytes =
     then_come (from 1 origin bytes ∷ from 1 origin (empty_ack 1) ∷ tick_at 1 ∷ tick_at 2000 ∷ [])
@@ -174,7 +174,7 @@ abbrev pub before_acknowledgement_sent : Sent → List Sent
 before_acknowledgement_sent sent =
     then_sent (sent ∷ nothing Ignored ∷ to Delivered (client 1) (for_client 2) ∷ nothing Idle ∷ [])
 
--- one that can't be passed on is acknowledged all the same
+-- one that can't be passed on is still acknowledged
 abbrev pub block_in_separate : List Turn
 block_in_separate =
     then_come (from 1 origin (separate 0x48 0x45 1 1 (0xD1 ∷ 10 ∷ 6 ∷ 0xFF ∷ 0x32 ∷ 0x31 ∷ []))
@@ -184,8 +184,9 @@ abbrev pub block_in_separate_sent : List Sent
 block_in_separate_sent =
     then_sent (to (Answered NotStored) origin (acked_as 1) ∷ replaced 2 ∷ nothing Opened ∷ [])
 
--- One is taken only from the endpoint that was asked, with the token of the request, and after it
--- was sent. A Confirmable one that isn't taken is rejected, and not remembered.
+-- One is accepted only from the endpoint that the request was sent to, with the token of the
+-- request, and after it was sent. A Confirmable one that isn't accepted is rejected, and isn't
+-- remembered.
 abbrev pub of_impostors : List Turn
 of_impostors =
     from 0 (client 1) (get_t []) ∷ from 0 origin (con_got 1 1) ∷ from 0 origin (non_got 1 1)
@@ -200,7 +201,7 @@ of_impostors_sent =
     ∷ nothing Ignored ∷ to Rejected origin (reset_as 1) ∷ to (Answered Kept) origin (acked_as 1)
     ∷ []
 
--- none is awaited after the exchange was given up, before its client is told and after
+-- none is awaited after the exchange was given up, before its client is served and after
 abbrev pub after_giving_up : List Turn
 after_giving_up =
     then_come (tick_at 1000 ∷ from 1000 origin (con_got 1 1) ∷ from 1000 origin (non_got 1 1)
@@ -216,8 +217,8 @@ after_giving_up_sent =
 
 -- ---- what is remembered
 
--- Where there is no room to remember a Confirmable response it meets silence, and is taken when it
--- comes again after room came. One that is rejected needs no room.
+-- If there is no room to remember a Confirmable response, nothing is sent, and it is accepted when
+-- it arrives again once there is room. One that is rejected needs no room.
 abbrev pub no_room : List Turn
 no_room =
     from 0 (client 1) (con_u 1) ∷ from 200000 (client 1) (get_t []) ∷ tick_at 200000
@@ -235,7 +236,7 @@ no_room_sent =
     ∷ to Delivered (client 1) (for_client 2) ∷ nothing NoRecordRoom ∷ to Again origin (acked_as 1)
     ∷ to (Refused NOT_FOUND) (client 2) (con_not_found 2) ∷ []
 
--- a Non-confirmable one needs none
+-- a Non-confirmable one needs no room
 abbrev pub no_room_needed : List Turn
 no_room_needed =
     from 0 (client 1) (con_u 1) ∷ from 0 (client 1) (get_t []) ∷ tick_at 0
@@ -246,8 +247,8 @@ no_room_needed_sent =
     to (Refused NOT_FOUND) (client 1) (con_not_found 1) ∷ nothing Opened ∷ first_sent
     ∷ nothing NoRecordRoom ∷ nothing (Answered Kept) ∷ to Rejected origin (reset_as 1) ∷ []
 
--- Confirmable messages of one endpoint with one id are one, be they requests or responses, and for
--- whichever exchange. Non-confirmable ones are apart.
+-- Confirmable messages from the same endpoint with the same id are duplicates, whether they are
+-- requests or responses, and for whichever exchange. Non-confirmable ones are tracked separately.
 abbrev pub of_one_id : List Turn
 of_one_id =
     then_come (from 1 origin (0x40 ∷ 1 ∷ 1 ∷ 1 ∷ 0xB1 ∷ 0x75 ∷ []) ∷ from 1 origin (con_got 1 1)
@@ -310,7 +311,7 @@ acked_turns = comes 5 origin (empty_ack 1)
 abbrev pub answered_turns : List Turn
 answered_turns = comes 5 origin (con_got 1 1)
 
--- ---- the words of the history
+-- ---- the definitions of the history
 
 -- a request is opened, sent and acknowledged, and another one waits for its turn
 abbrev pub opened_acting : List Acting
@@ -330,7 +331,7 @@ abbrev pub reset_acting : List Acting
 reset_acting = sent_acting
     ++ record { turn = from 5 origin (empty_reset 1); act = moves 1 } ∷ []
 
--- its answer comes in a Confirmable message, and once more, and its client is served
+-- its answer arrives in a Confirmable message, and once more, and its client is served
 abbrev pub got_acting : List Acting
 got_acting = acked_acting ++ record { turn = from 9 origin (con_got 1 1); act = moves 1 }
     ∷ record { turn = from 9 origin (con_got 1 1); act = no_item } ∷ []
@@ -339,10 +340,10 @@ abbrev pub served_acting : List Acting
 served_acting = got_acting ++ record { turn = tick_at 9; act = moves 2 }
     ∷ record { turn = tick_at 9; act = serves 1 } ∷ []
 
--- its answer comes in a Non-confirmable message
+-- its answer arrives in a Non-confirmable message
 abbrev pub non_acting : List Acting
 non_acting = acked_acting ++ record { turn = from 9 origin (non_got 1 1); act = moves 1 } ∷ []
 
--- what is remembered of the answer in the Confirmable message
+-- the record of the answer in the Confirmable message
 abbrev pub record_of_response : Record
 record_of_response = record { from = origin; id = 257; at = 9; reply = Some (acked_as 1) }

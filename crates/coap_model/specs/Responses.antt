@@ -1,5 +1,4 @@
--- The step of a response: in an acknowledgement, or separately in a message of its own (RFC 7252,
--- 5.2.1, 5.2.2 and 5.3.2).
+-- The step of a piggybacked or a separate response (RFC 7252, 5.2.1, 5.2.2 and 5.3.2).
 use Rattle.std.specs.Prelude.{ℕ, ◌==◌, ◌&&◌, ◌||◌, Bool, true, false, if◌then◌else◌, Option, Some, None}
 use Rattle.std.specs.List.{find}
 use Rattle.coap_message.specs.declared.kind.Kind.{Kind}
@@ -17,21 +16,21 @@ use Rattle.coap_forward.specs.Messages.{is_ack, token_of}
 use Rattle.coap_model.specs.World.{World, Step, ignores, rejects, known_of, has_record_room, remembers, repeats, drops}
 use Rattle.coap_model.specs.Answers.{answers}
 
--- its request was sent, and has no answer
+-- the request of the exchange was sent, and has no answer
 abbrev pub is_in_flight : Exchange → Bool
 is_in_flight x = is_sent x || is_acked x
 
--- whether it was sent with this id
+-- whether the request was sent with this id
 abbrev pub was_sent_with : ℕ → Option Sending → Bool
 was_sent_with id None = false
 was_sent_with id (Some s) = s.id == id
 
--- in an acknowledgement a response has the id of its request, in a message of its own another
+-- a piggybacked response has the id of its request, and a separate one may have any id
 abbrev pub has_id : Message → Option Sending → Bool
 has_id m sending = if is_ack m.kind then was_sent_with m.id sending else true
 
--- whether the exchange awaits this response of this endpoint: it was sent and has no answer, and
--- endpoint and token are right, and in an acknowledgement the id
+-- whether the exchange awaits this response from this endpoint: its request was sent and has no
+-- answer, and the endpoint and the token match, and in an acknowledgement also the id
 abbrev pub awaits : ℕ → Endpoint → Message → Numbered Exchange → Bool
 awaits salt source m x =
     (is_in_flight x.1 && has_id m x.1.sending)
@@ -40,12 +39,12 @@ awaits salt source m x =
 abbrev pub awaiting : World → Endpoint → Message → Option (Numbered Exchange)
 awaiting w source m = find (awaits w.setting.salt source m) w.exchanges
 
--- one that isn't confirmable
+-- a response that isn't Confirmable
 abbrev pub on_awaited : World → ℕ → Bool → Endpoint → Message → Option (Numbered Exchange) → Step
 on_awaited w now grown source m None = ignores w now
 on_awaited w now grown source m (Some x) = answers w now grown source m x
 
--- one that is: it is remembered, and so there has to be room for that
+-- a Confirmable response: it will be remembered, which needs room for a record
 abbrev pub on_separate :
     World → ℕ → Bool → Endpoint → Message → Option (Numbered Exchange) → Step
 on_separate w now grown source m None = rejects w now source m.id

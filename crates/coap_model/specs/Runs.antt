@@ -1,4 +1,4 @@
--- Runs: the steps of a list of turns, one after the other, and the history that they leave.
+-- Runs: the steps of a list of turns, one after the other, and the history that they produce.
 use Rattle.std.specs.Prelude.{ℕ, ◌≤◌, Bool, List, [], ◌∷◌, map}
 use Rattle.coap_model.specs.Setting.{Setting}
 use Rattle.coap_model.specs.Events.{Event, IsEvent}
@@ -12,16 +12,16 @@ pub record Turn : Type 0 where
   pub draw : ℕ
   pub event : Event
 
--- a turn that is taken, and whether there was memory for one entry more of the store
+-- a turn that was taken, and whether there was memory for one more entry of the store
 pub record Taken : Type 0 where
   pub turn : Turn
   pub grown : Bool
 
--- the turns, whatever memory they found
+-- the turns alone, without the memory that they found
 abbrev pub turns_of : List Taken → List Turn
 turns_of taken = map (λ t. t.turn) taken
 
--- moments don't go back, and datagrams are bytes
+-- moments never decrease, and datagrams consist of bytes
 abbrev pub AreTurns : ℕ → List Turn → Type 0
 AreTurns last [] = Unit {0}
 AreTurns last (t ∷ turns) = (last ≤ t.now) × IsEvent t.event × AreTurns t.now turns
@@ -31,11 +31,11 @@ abbrev pub entry_of : ℕ → ℕ → Event → Step → Entry
 entry_of now draw event s =
     record { now = now; draw = draw; event = event; report = s.report; bytes = s.bytes }
 
--- the entry of the step of an event at a moment
+-- the entry of the step that an event makes at a moment
 abbrev pub answer_at : World → ℕ → ℕ → Bool → Event → Entry
 answer_at w now draw grown event = entry_of now draw event (step_of w now draw grown event)
 
--- a proxy, and what happened to it
+-- a proxy and its history
 pub record Run : Type 0 where
   pub world : World
   pub history : List Entry

@@ -26,14 +26,14 @@ on_no_request w now grown source m =
     then on_response w now grown source m
     else on_no_response w now grown source m
 
--- a request, a response, or an Empty message; what is none of these isn't processed
+-- a request, a response, or an Empty message; anything else isn't processed
 abbrev pub on_message : World → ℕ → Bool → Endpoint → Message → Step
 on_message w now grown source m =
     if brings_requests m.kind && is_request m.code
     then on_request w now source m
     else on_no_request w now grown source m
 
--- the message that a datagram spells, if it isn't too long
+-- the message that a datagram encodes, if the datagram isn't too long
 unfoldable pub message_in : ℕ → List ℕ → Option Message
 message_in most bytes = if nat_le (length bytes) most then result_ok (read_message bytes) else None
 
@@ -42,13 +42,14 @@ on_read w now grown source None m = ignores w now
 on_read w now grown source (Some head) None = unprocessed w now source head.kind head.id
 on_read w now grown source (Some head) (Some m) = on_message w now grown source m
 
--- fewer than four bytes, or another version, are ignored
+-- a datagram shorter than four bytes, or with another version, is ignored
 abbrev pub on_datagram : World → ℕ → Bool → Endpoint → List ℕ → Step
 on_datagram w now grown source bytes =
     on_read w now grown source (head_at bytes) (message_in w.setting.limits.datagram bytes)
 
--- One step, at a moment, with a draw, which says how long a timer runs that is started. `grown` is
--- the one choice that is left to the memory: whether there is some for one entry more of the store.
+-- One step, at a moment, with a random draw, which determines the duration of a timer that is
+-- started. `grown` is the only choice that depends on memory: whether there is enough for one more
+-- entry of the store.
 abbrev pub step_of : World → ℕ → ℕ → Bool → Event → Step
 step_of w now draw grown (arrival source bytes) = on_datagram w now grown source bytes
 step_of w now draw grown tick = on_tick w now draw

@@ -1,4 +1,4 @@
--- Answers for which there is memory in the store, or not, computed on the definitions.
+-- Answers with and without memory for them in the store, computed on the definitions.
 use Rattle.std.specs.Prelude.{Bool, List, [], ◌∷◌, ◌++◌}
 use Rattle.coap_model.specs.declared.report.Outcome.TheVariants.{Delivered}
 use Rattle.coap_model.specs.Events.{arrival}
@@ -8,13 +8,13 @@ use Rattle.coap_model.specs.Examples.{Sent, origin, client, from, tick_at, to, p
 use Rattle.coap_model.specs.LimitExamples.{got}
 use Rattle.coap_model.specs.FormExamples.{after}
 
--- the answer to the first request, where there is memory for one entry more, or not
+-- the answer to the first request, with or without memory for one more entry
 abbrev pub answer_with : Bool → Step
 answer_with grown =
     step_of (after proxy (from 0 (client 1) (get_t []) ∷ tick_at 0 ∷ [])) 0 0 grown
     (arrival origin content)
 
--- an answer to the request of another client later, in place of the one that is stored
+-- a later answer to another client's request, which replaces the stored one
 abbrev pub answer_in_place : Bool → Step
 answer_in_place grown =
     step_of

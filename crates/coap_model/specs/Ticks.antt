@@ -26,7 +26,7 @@ use Rattle.coap_model.specs.World.{World, Step, later, silent, says, next_id}
 
 -- ---- what is due
 
--- what is due first of the exchanges, and of the clients
+-- the exchange that is due first, and the client that is due first
 abbrev pub exchange_due : World → Option (ℕ × ℕ)
 exchange_due w =
     first_due (due_among w.setting.limits.nstart w.setting.limits.exchange_ms w.exchanges)
@@ -35,7 +35,7 @@ exchange_due w =
 abbrev pub waiter_due : World → Option (ℕ × ℕ)
 waiter_due w = first_due (due_after w.exchanges) w.waiters
 
--- what is due first of both; at one moment exchanges come before clients
+-- the one of these that is due first; if both are due at the same moment, the exchange
 abbrev pub first_item : Option (ℕ × ℕ) → Option (ℕ × ℕ) → Option DueItem
 first_item None None = None
 first_item None (Some v) = Some (OfWaiter v.0 v.1)
@@ -63,7 +63,8 @@ idles w now = silent Idle (later w now)
 
 -- ---- requests
 
--- the request is sent to its origin, with a new id, and is to be sent again until it is answered
+-- the request is sent to its origin server with a new id, and will be retransmitted until it is
+-- acknowledged or answered
 abbrev pub sends : World → ℕ → ℕ → ℕ → Exchange → Step
 sends w now draw number x =
     record {
@@ -78,7 +79,7 @@ sends w now draw number x =
       };
     }
 
--- it is sent again, the same bytes
+-- the request is retransmitted, with the same bytes
 abbrev pub resends : World → ℕ → ℕ → Exchange → Step
 resends w now number x =
     record {
@@ -89,7 +90,7 @@ resends w now number x =
       };
     }
 
--- no answer came in time: the proxy makes one (RFC 7252, 5.7.1)
+-- no answer came in time: the proxy generates one (RFC 7252, 5.7.1)
 abbrev pub gives_up : World → ℕ → ℕ → Step
 gives_up w now number =
     silent GaveUp (record (later w now) {
@@ -100,16 +101,16 @@ abbrev pub on_fire : World → ℕ → ℕ → Exchange → Fire → Step
 on_fire w now number x Again = resends w now number x
 on_fire w now number x GiveUp = gives_up w now number
 
--- Before its deadline a request that waits is sent, and one that was sent is sent again. One that
--- was acknowledged isn't due before it, and one that has its answer is never due, so that these
--- cases never come.
+-- Before its deadline, a queued request is sent, and one that was sent is retransmitted. One that
+-- was acknowledged isn't due before its deadline, and one that has its answer is never due, so the
+-- last two cases never occur.
 abbrev pub in_time : World → ℕ → ℕ → ℕ → Exchange → ExchangeState → Step
 in_time w now draw number x Queued = sends w now draw number x
 in_time w now draw number x Sent = on_fire w now number x (fire_of_sending now x.sending)
 in_time w now draw number x Acked = idles w now
 in_time w now draw number x (Done a) = idles w now
 
--- what is due is there, so that the first case never comes
+-- an exchange that is due exists, so the first case never occurs
 abbrev pub on_exchange : World → ℕ → ℕ → ℕ → Option Exchange → Step
 on_exchange w now draw number None = idles w now
 on_exchange w now draw number (Some x) =
@@ -119,26 +120,26 @@ on_exchange w now draw number (Some x) =
 
 -- ---- clients
 
--- when nobody waits for an exchange any more, it is closed
+-- an exchange for which no client waits any more is removed
 abbrev pub without_idle :
     ℕ → List (Numbered Waiter) → List (Numbered Exchange) → List (Numbered Exchange)
 without_idle number waiters exchanges =
     if count (waits_for number) waiters == 0 then without number exchanges else exchanges
 
--- what a client is given for the answer of its exchange, which may be to a GET: a message of the type
--- of its request, with a new id
+-- what a client is sent for the answer of its exchange, which may answer a GET: a message of the
+-- type of its request, with a new id
 abbrev pub given_to : World → ℕ → Waiter → Bool → Answer → Message
 given_to w now v to_get a = shown_as v.kind to_get now a (next_id w) v.token v.tags
 
--- the clients, after one was given this message: in a Confirmable one it is to be acknowledged, and
--- to be sent again until it is
+-- the clients, after one was sent this message: a Confirmable one will be retransmitted until it is
+-- acknowledged
 abbrev pub told : World → ℕ → ℕ → ℕ → Message → List (Numbered Waiter)
 told w now draw number m =
     if is_con m.kind
     then changed_at number (delivered (spelling m) m.id (started now draw)) w.waiters
     else without number w.waiters
 
--- the client of a number is given a message, after which these clients are left
+-- the client is sent a message, after which these clients are left
 abbrev pub tells : World → ℕ → Waiter → ℕ → Message → List (Numbered Waiter) → Step
 tells w now v exchange m waiters =
     says Delivered v.client m (record (later w now) {
@@ -147,13 +148,14 @@ tells w now v exchange m waiters =
       ids = called now w.ids;
     })
 
--- the client is given the answer of its exchange
+-- the client is sent the answer of its exchange
 abbrev pub delivers : World → ℕ → ℕ → ℕ → Waiter → ℕ → Bool → Answer → Step
 delivers w now draw number v exchange to_get a =
     tells w now v exchange (given_to w now v to_get a)
     (told w now draw number (given_to w now v to_get a))
 
--- a client is due when its exchange has its answer, so that the first cases never come
+-- a waiting client is due when its exchange has its answer, so the first cases of this and of
+-- `on_awaited` never occur
 abbrev pub on_answer : World → ℕ → ℕ → ℕ → Waiter → ℕ → Bool → Option Answer → Step
 on_answer w now draw number v exchange to_get None = idles w now
 on_answer w now draw number v exchange to_get (Some a) =
@@ -164,7 +166,7 @@ on_awaited w now draw number v exchange None = idles w now
 on_awaited w now draw number v exchange (Some x) =
     on_answer w now draw number v exchange x.is_get (answer_at x)
 
--- the answer is sent again, the same bytes
+-- the answer is retransmitted, with the same bytes
 abbrev pub redelivers : World → ℕ → ℕ → Waiter → List ℕ → Step
 redelivers w now number v bytes =
     record {
@@ -184,14 +186,14 @@ abbrev pub on_unheard : World → ℕ → ℕ → Waiter → List ℕ → Fire �
 on_unheard w now number v bytes Again = redelivers w now number v bytes
 on_unheard w now number v bytes GiveUp = abandons w now number
 
--- a client that waits is given its answer; one that was given it is given it again, or given up
+-- a waiting client is sent its answer; one that was sent it is sent it again, or is given up
 abbrev pub on_waiting : World → ℕ → ℕ → ℕ → Waiter → WaiterState → Step
 on_waiting w now draw number v (Waiting exchange) =
     on_awaited w now draw number v exchange (item_at exchange w.exchanges)
 on_waiting w now draw number v (Delivering bytes id timer) =
     on_unheard w now number v bytes (fire_of now timer)
 
--- what is due is there, so that the first case never comes
+-- a client that is due exists, so the first case never occurs
 abbrev pub on_waiter : World → ℕ → ℕ → ℕ → Option Waiter → Step
 on_waiter w now draw number None = idles w now
 on_waiter w now draw number (Some v) = on_waiting w now draw number v v.state

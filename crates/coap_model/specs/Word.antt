@@ -1,5 +1,5 @@
--- The promise in short: what a proxy keeps to at each place of its history. Of its tables it names
--- the store alone.
+-- The promise in short: what a proxy guarantees at each place of its history. The store is the only
+-- table that it names.
 use Rattle.std.specs.Prelude.{◌≡◌, ℕ, ◌≤◌, List, ◌∷◌, length}
 use Rattle.coap_message.specs.Message.{Message}
 use Rattle.coap_message.specs.declared.kind.Kind.TheVariants.{Con, Non}
@@ -21,11 +21,11 @@ use Rattle.coap_model.specs.Cached.{Cached, entry_of_cached, IsStoreOf, WasObtai
 use Rattle.coap_model.specs.Duplicates.{Repeats}
 use Rattle.coap_model.specs.Justified.{verdict_on, IsGet, IsUsable, Comes, SaysAgain, Tells, AllJustified}
 
--- the history up to a place, which is the newest of it
+-- the history up to and including a place
 abbrev pub until : Place → List Deed
 until p = p.deed ∷ p.before
 
--- Pending exchanges, clients that wait, and messages that are remembered are within their limits.
+-- Pending exchanges, waiting clients and remembered messages are within their limits.
 pub record IsWithin (setting : Setting) (history : List Deed) : Type 0 where
   pub exchanges : length (open_in history) ≤ setting.limits.exchanges
   pub waiters : length (standing_in history) ≤ setting.limits.waiters
@@ -35,9 +35,9 @@ pub record IsWithin (setting : Setting) (history : List Deed) : Type 0 where
       length (remembered_at Non (last_of history) history) ≤ setting.limits.non_records
 
 -- A reply from the cache. It answers a client's GET with a response that was received for an equal
--- key, renewed by later validations alone (`WasObtained`), which is fresh, and whose target wasn't
--- changed since it was requested (`IsUsable`). The client is shown it with its Max-Age reduced by
--- its age (RFC 7252, 5.6 and 5.9.1).
+-- key and only renewed by later validations (`WasObtained`), that is fresh, and whose target wasn't
+-- changed since it was requested (`IsUsable`). The client gets it with its Max-Age reduced by its
+-- age (RFC 7252, 5.6 and 5.9.1).
 pub record IsFromCache (setting : Setting) (past : List Deed) (e : Entry) : Type 0 where
   pub client : Endpoint
   pub request : Message
@@ -55,17 +55,17 @@ pub record IsFromCache (setting : Setting) (past : List Deed) (e : Entry) : Type
       (at_once request
       (shown e.now (stored_answer (entry_of_cached cached).1) id request.token (tags_of request))) e
 
--- A duplicate gets the reply again that was kept of the message that it repeats, and nothing else
--- is done (RFC 7252, 4.2, 4.3 and 4.5).
+-- A duplicate gets the reply that was kept for the message that it repeats, and nothing else is
+-- done (RFC 7252, 4.2, 4.3 and 4.5).
 pub record IsToldAgain (source : Endpoint) (m : Message) (former : Place) (e : Entry)
     : Type 0 where
   pub outcome : e.report.outcome ≡ Again
   pub again : SaysAgain source (told_again m.kind former.deed.entry.bytes) e
 
--- A proxy that did this, and has these tables: each entry did something that the entries before it
--- justify. At each place the limits hold; a hit is a reply from the cache; and a message that
--- repeats one that came within its lifetime is a duplicate. What it stores is the cache of that
--- history, marked where it was changed since, and within its limits, too.
+-- For a proxy with this history and these tables: each entry is justified by the entries before it.
+-- At each place the limits hold; a hit is a reply from the cache; and a message that repeats an
+-- earlier one within its lifetime is handled as a duplicate. The store corresponds to the cache of
+-- the history, is marked where the target was changed since, and is within its limits, too.
 pub record KeepsItsWord (history : List Entry) (w : World) : Type 0 where
   pub deeds : List Deed
   pub told : told_by deeds ≡ history

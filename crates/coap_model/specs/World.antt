@@ -1,4 +1,4 @@
--- The tables of a proxy as one value, and what a step makes of them.
+-- The tables of a proxy as one value, and how steps change them.
 use Rattle.std.specs.Prelude.{ℕ, ◌+◌, ◌%◌, ◌&&◌, ◌||◌, Bool, nat_le, nat_lt, if◌then◌else◌, List, [], length, Option, Some, None}
 use Rattle.coap_message.specs.Message.{Message}
 use Rattle.coap_message.specs.Spelling.{spelling}
@@ -26,25 +26,24 @@ use Rattle.coap_forward.specs.Messages.{is_con, reset, acknowledgement, told_aga
 
 pub record World : Type 0 where
   pub setting : Setting
-  -- the exchanges under way and the clients that wait, in order of number
+  -- the exchanges in progress and the waiting clients, in order of number
   pub exchanges : List (Numbered Exchange)
   pub waiters : List (Numbered Waiter)
-  -- the responses that are stored, the most recently used first
+  -- the stored responses, the most recently used first
   pub store : List Entry
-  -- what is remembered of the Confirmable and of the Non-confirmable messages that came
+  -- the records of the Confirmable and of the Non-confirmable messages that were received
   pub con_records : Records
   pub non_records : Records
-  -- how many of each there ever were
+  -- how many exchanges were ever opened, and how many clients were ever admitted
   pub opened : ℕ
   pub admitted : ℕ
-  -- the message ids that are given
+  -- the next message id, and how many were given out recently
   pub ids : Ids
   -- the last moment, and the number of events
   pub last : ℕ
   pub events : ℕ
 
--- what a step answers, the bytes of its datagram (none where it sends none), and the tables after
--- it
+-- the report of a step, the bytes of its datagram (none if it sends none), and the tables after it
 pub record Step : Type 0 where
   pub report : Report
   pub bytes : List ℕ
@@ -66,7 +65,7 @@ new_world setting = record {
   events = 0;
 }
 
--- the clock, one event on
+-- the clock advances to this moment, and one more event is counted
 abbrev pub later : World → ℕ → World
 later w now = record w { last = now; events = w.events + 1 }
 
@@ -78,47 +77,47 @@ abbrev pub says : Outcome → Endpoint → Message → World → Step
 says outcome to m w =
     record { report = record { send = Some to; outcome = outcome }; bytes = spelling m; world = w }
 
--- the datagram is no one's business
+-- the datagram is ignored
 abbrev pub ignores : World → ℕ → Step
 ignores w now = silent Ignored (later w now)
 
--- a Reset with the id of what can't be processed (RFC 7252, 4.2)
+-- a Reset with the id of a message that can't be processed (RFC 7252, 4.2)
 abbrev pub rejects : World → ℕ → Endpoint → ℕ → Step
 rejects w now source id = says Rejected source (reset id) (later w now)
 
--- what can't be processed is rejected where it is confirmable, and ignored otherwise
+-- a message that can't be processed is rejected if it is Confirmable, and ignored otherwise
 abbrev pub unprocessed : World → ℕ → Endpoint → Kind → ℕ → Step
 unprocessed w now source kind id = if is_con kind then rejects w now source id else ignores w now
 
--- a message is taken up, and nothing is replied yet: a Confirmable one is acknowledged (RFC 7252,
--- 4.2 and 5.2.2)
+-- a message is accepted, and no reply is sent yet: a Confirmable one is acknowledged (RFC 7252, 4.2
+-- and 5.2.2)
 abbrev pub takes_up : Outcome → Endpoint → Message → World → Step
 takes_up outcome source m w =
     if is_con m.kind
     then says outcome source (acknowledgement m.id) w
     else silent outcome w
 
--- ---- messages that came before
+-- ---- messages received before
 
--- what is remembered of the messages of this type that came
+-- the records of the messages of this type that were received
 abbrev pub records_of : Kind → World → Records
 records_of kind w = if is_con kind then w.con_records else w.non_records
 
--- one more may be remembered
+-- there is room to remember one more message
 abbrev pub has_record_room : World → ℕ → Kind → Bool
 has_record_room w now kind =
     nat_lt (length (living_at now (records_of kind w))) (records_of kind w).limit
 
--- what is known of a message
+-- the living record with the source, type and id of a message, if there is one
 abbrev pub known_of : World → ℕ → Endpoint → Message → Option Record
 known_of w now source m = record_of source m.id (living_at now (records_of m.kind w))
 
--- what is remembered of a message, where this goes out at once
+-- the record of a message, if this datagram is sent immediately in return
 abbrev pub record_made : ℕ → Endpoint → Message → List ℕ → Record
 record_made now source m bytes =
     record { from = source; id = m.id; at = now; reply = told_again m.kind bytes }
 
--- the message is remembered, where this goes out at once
+-- the message is remembered, with this datagram as what is sent immediately in return
 abbrev pub with_record : ℕ → Endpoint → Message → List ℕ → World → World
 with_record now source m bytes w = record w {
   con_records = if is_con m.kind
@@ -129,11 +128,11 @@ with_record now source m bytes w = record w {
       else with_kept (record_made now source m bytes) w.non_records;
 }
 
--- and so with what a step sends
+-- the same, with what a step sends
 abbrev pub remembers : ℕ → Endpoint → Message → Step → Step
 remembers now source m s = record s { world = with_record now source m s.bytes s.world }
 
--- a duplicate gets what went out at once before, and nothing else is done
+-- a duplicate gets what was sent immediately the first time, and nothing else is done
 abbrev pub repeats : World → ℕ → Endpoint → Option (List ℕ) → Step
 repeats w now source None = silent Again (later w now)
 repeats w now source (Some bytes) =
@@ -143,31 +142,31 @@ repeats w now source (Some bytes) =
       world = later w now;
     }
 
--- there is no room to remember the message: silence
+-- there is no room to remember the message: nothing is sent
 abbrev pub drops : World → ℕ → Step
 drops w now = silent NoRecordRoom (later w now)
 
 -- ---- message ids
 
--- the id that is given next (RFC 7252, 4.4)
+-- the id that is given out next (RFC 7252, 4.4)
 abbrev pub next_id : World → ℕ
 next_id w = w.ids.following
 
--- ids that are kept for clients which are still to be served, and for exchanges which are still to
--- be sent
+-- the number of ids reserved for clients that haven't been served yet, and for exchanges whose
+-- request hasn't been sent yet
 abbrev pub reserved : World → ℕ
 reserved w = count is_waiting w.waiters + count is_queued w.exchanges
 
--- so many ids are free at a moment, in the window of 247 seconds in which it lies
+-- at least `k` ids are free at a moment, in the window of 247 seconds that contains it
 abbrev pub has_ids : ℕ → World → ℕ → Bool
 has_ids k w now = nat_le (given_in now w.ids + reserved w + k) 32768
 
--- a reply may go out at once to a request that came in a message of this type: in an
--- acknowledgement it needs no id
+-- an immediate reply can be sent to a request that came in a message of this type: in an
+-- acknowledgement it needs no new id
 abbrev pub can_reply : World → ℕ → Kind → Bool
 can_reply w now kind = is_con kind || has_ids 1 w now
 
--- ---- room
+-- ---- capacity
 
 abbrev pub has_exchange_room : World → Bool
 has_exchange_room w = nat_lt (length w.exchanges) w.setting.limits.exchanges
@@ -175,11 +174,11 @@ has_exchange_room w = nat_lt (length w.exchanges) w.setting.limits.exchanges
 abbrev pub has_waiter_room : World → Bool
 has_waiter_room w = nat_lt (length w.waiters) w.setting.limits.waiters
 
--- one more client may wait for an exchange
+-- there is room for one more client to wait for an exchange
 abbrev pub has_room_to_join : World → ℕ → Bool
 has_room_to_join w now = has_waiter_room w && has_ids 1 w now
 
--- an exchange may be opened for a client
+-- there is room to open an exchange for a client
 abbrev pub has_room_to_open : World → ℕ → Bool
 has_room_to_open w now = has_exchange_room w && (has_waiter_room w && has_ids 2 w now)
 

@@ -39,8 +39,8 @@ ghost use Rattle.coap_model.specs.Forged.{setting, opened, asked};
 ghost use Rattle.coap_model.specs.ForgedHits.{reply, changed_past, overtaken_past, keeps_overtaken, opens_two};
 ghost use Rattle.coap_model.specs.CacheExamples.{storable_in, content_for, max_age, empty_max_age, entry_for, two, kept_within, answered, kept_past, hit_past, asked_past, first_entry, second_entry, first_stored};
 
-/// What may be kept of a response, by its code and its Max-Age: a 2.05 and the errors of an origin,
-/// if they stay fresh for at least a second, and no reply of the proxy's own.
+/// Which responses may be kept, by their code and Max-Age: a 2.05 and the errors of an origin
+/// server, if they stay fresh for at least a second, and no reply that the proxy generates.
 pub fn examples_of_storing()
     ensures content { storable_in 0x45 (max_age 10) ≡ Some true }
     ensures one_second { storable_in 0x45 (max_age 1) ≡ Some true }
@@ -57,8 +57,8 @@ pub fn examples_of_storing()
     ensures own_gateway { storable_in 0x43 (max_age 10) ≡ Some false }
 {}
 
-/// What is kept of a small cache: a new entry stands first, in place of the one of its key, and
-/// what no longer fits is given up; what is used moves to the front.
+/// What a small cache keeps: a new entry is put in front, it replaces the one with its key, and
+/// what no longer fits is evicted; what is used moves to the front.
 pub fn examples_of_keeping()
     ensures size { cached_size (entry_for 0x61 1) ≡ 70 }
     ensures room { kept_within 210 3 (entry_for 0x63 3) two ≡ entry_for 0x63 3 ∷ two }
@@ -79,7 +79,8 @@ pub fn examples_of_keeping()
 {}
 
 /// Runs in which clients are answered from the cache, computed on the definitions: how an answer
-/// ages, what is kept and within which limits, which requests it answers, and that it takes an id.
+/// ages, what is kept and within which limits, which requests it answers, and that it takes a
+/// message id.
 pub fn examples_of_hits()
     ensures at_once { play proxy (aged 0) ≡ aged_sent (seconds 10) }
     ensures in_the_first_second { play proxy (aged 1) ≡ aged_sent (seconds 9) }
@@ -117,9 +118,9 @@ pub fn examples_of_hits()
     ensures last_id { play (after_ids 32765) last_hit ≡ last_hit_sent }
 {}
 
-/// Histories and their caches: an answer that isn't stored, one that is kept, a client who is shown
-/// it, one that takes its place, and one that is too large. An entry isn't obtained before it is
-/// got, and the answer to another request isn't this one's.
+/// Histories and their caches: an answer that isn't stored, one that is kept, a client that gets
+/// it, one that replaces it, and one that is too large. An entry isn't obtained before its response
+/// arrives, nor with the answer to another request.
 pub fn examples_of_caches()
     ensures not_stored { IsCacheOf setting forged.past [] }
     ensures kept { IsCacheOf setting kept_past (first_entry ∷ []) }
@@ -137,10 +138,10 @@ pub fn examples_of_caches()
         }) }
 {}
 
-/// A reply from the cache that is as it is to be; replies that are right but for one thing, and an
-/// answer that is kept though a change overtook it, are not justified. A reply whose target was
-/// changed isn't one from the cache, and would be but for that. And a proxy that opened two exchanges
-/// where there is room for one doesn't keep its word.
+/// A reply from the cache that is as it should be is justified; replies that are right except for
+/// one thing, and an answer that is kept although a change overtook it, are not. A reply whose
+/// target was changed isn't one from the cache, and would be one except for that. And a proxy that
+/// opened two exchanges with room for one doesn't keep its promise.
 pub fn forged_hits_are_refused()
     ensures as_it_is { IsHit setting asked_past (reply 25 9) }
     ensures changed { WasChanged setting key_of_temp.target first_entry.asking changed_past }
@@ -158,8 +159,8 @@ pub fn forged_hits_are_refused()
         → ¬ KeepsItsWord opens_two w }
 {}
 
-/// Answers for which there is memory, or not: only a key without an entry wants it, and the client
-/// gets its answer nonetheless.
+/// Answers with and without memory for them: only a key without an entry needs memory, and the
+/// client gets its answer in any case.
 pub fn examples_of_memory()
     ensures memory { (answer_with true).report.outcome ≡ Answered Kept }
     ensures no_memory { (answer_with false).report.outcome ≡ Answered NoMemory }
@@ -167,9 +168,9 @@ pub fn examples_of_memory()
     ensures in_place { (answer_in_place false).report.outcome ≡ Answered Kept }
 {}
 
-/// What may be stored was obtained, in a justified history: it came for a GET of its key, or it was
-/// obtained for the key before, and a 2.03 that came for a GET with its tag renews it. The target
-/// wasn't changed since, and it stays fresh for some time.
+/// What may be stored was obtained, in a justified history: it arrived for a GET with its key, or
+/// it was obtained for the key before, and a 2.03 that arrived for a GET with its tag renews it.
+/// The target wasn't changed since, and it stays fresh for some time.
 pub fn what_is_stored_was_obtained()
     ensures obtained { (setting : Setting) (past : List Deed) (d : Deed)
         (here : IsObtainedHere setting past d)
@@ -187,8 +188,8 @@ pub fn what_is_stored_was_obtained()
         → IsLasting response }
 {}
 
-/// The same the other way: what came to a GET whose target wasn't changed since, and is passed on, may
-/// be stored if it may be kept; and so may what a 2.03 renews of what the GET carried the tag of.
+/// The converse: a response to a GET whose target wasn't changed since, which is passed on, may be
+/// stored if it may be kept; and so may the response whose tag the GET had, if a 2.03 renews it.
 pub fn what_came_so_may_be_stored()
     ensures as_it_came { (setting : Setting) (past : List Deed) (d : Deed) (exchange : ℕ)
         (gets : Gets setting exchange (record { before = past; deed = d })) (former : List Cached)
@@ -212,8 +213,8 @@ pub fn what_came_so_may_be_stored()
         → IsObtainedHere setting past d }
 {}
 
-/// What was obtained and counts no more than may be kept is kept where its key has an entry: only a
-/// key without one can run out of memory.
+/// What was obtained and is no larger than the limit is kept if its key has an entry: memory can
+/// only run out for a key without one.
 pub fn what_takes_a_place_is_kept()
     ensures { (setting : Setting) (past : List Deed) (d : Deed) (cached : List Cached)
         (entry : Cached) (here : IsObtainedHere setting past d)
@@ -225,8 +226,8 @@ pub fn what_takes_a_place_is_kept()
         → d.entry.report.outcome ≡ Answered Kept }
 {}
 
-/// What is shown from the cache was received: for a key that is equal to the request's, at a place
-/// before, of a request that was sent on before that, in a justified history.
+/// What is sent from the cache was received: for a key that is equal to the request's, at an
+/// earlier place, for a request that was forwarded before that, in a justified history.
 pub fn what_is_shown_was_received()
     ensures asked { (setting : Setting) (past : List Deed) (d : Deed) (hit : IsHit setting past d)
         → AreRoutes setting.routes
@@ -244,8 +245,8 @@ pub fn what_is_shown_was_received()
         → IsObtained setting hit.key hit.entry.response hit.entry.asking hit.entry.getting }
 {}
 
-/// A history has at most one cache. Each entry of it was obtained in the history, if that is
-/// justified. It keeps within the limits, and has one entry for a key.
+/// A history has at most one cache. Each entry of it was obtained in the history, if this is
+/// justified. The cache is within the limits, and has at most one entry for a key.
 pub fn caches_are_one()
     ensures one { (setting : Setting) (history : List Deed) (a b : List Cached)
         → IsCacheOf setting history a
@@ -261,10 +262,10 @@ pub fn caches_are_one()
         → IsStore (store_limits setting) (map entry_of_cached cached) }
 {}
 
-/// A store has the cache of the history, and what is done to the one is done to the other: at
-/// first both are empty, an answer that is kept stands first, one that is too large gives up the
-/// entry of its key, a request that is answered moves it to the front, and all else leaves both. What
-/// an answer changes is marked besides.
+/// A store corresponds to the cache of the history, and what is done to one is done to the other:
+/// at first both are empty, an answer that is kept is put in front, one that is too large removes
+/// the entry with its key, a request that is answered moves it to the front, and every other
+/// outcome leaves both as they are. In addition, what an answer changes is marked.
 pub fn stores_follow_caches()
     ensures new { (setting : Setting) → IsStoreOf setting [] [] }
     ensures kept { (setting : Setting) (past : List Deed) (d : Deed) (exchange : ℕ)
@@ -305,9 +306,9 @@ pub fn stores_follow_caches()
         → IsStoreOf setting (d ∷ past) store }
 {}
 
-/// A store that has the cache of the history has for each key what the cache has, marked where its
-/// target was changed since it was asked for, and nothing else.
-/// It counts as much, keeps within the limits, and has one entry for a key.
+/// A store that corresponds to the cache of the history has for each key what the cache has, marked
+/// if its target was changed since it was requested, and nothing else. It has the same size in
+/// bytes and entries, is within the limits, and has at most one entry for a key.
 pub fn stores_have_what_caches_have()
     ensures found { (setting : Setting) (history : List Deed) (store : List Entry)
         (s : IsStoreOf setting history store) (key : CacheKey) (stored : Stored)
@@ -333,9 +334,9 @@ pub fn stores_have_what_caches_have()
         → IsStore (store_limits setting) store }
 {}
 
-/// An answer that is kept stands first: in the cache of the history, and in the store of a proxy,
-/// with the response that came or was renewed, the numbers of the events in which it was asked for
-/// and got, and the moment of the latter, and without a mark.
+/// An answer that is kept comes first: in the cache of the history, and in the store of a proxy,
+/// with the response that arrived or was renewed, the numbers of the events in which it was
+/// requested and in which it arrived, and the moment of the latter, and without a mark.
 pub fn what_is_kept_stands_first()
     ensures in_the_cache { (setting : Setting) (past : List Deed) (d : Deed)
         (cached : List Cached)

@@ -1,5 +1,5 @@
-//! Runs and words computed on the definitions: public functions that do nothing, whose contracts say
-//! what comes of them.
+//! Runs and values computed on the definitions: public functions that do nothing, whose contracts
+//! state the results.
 ghost use Rattle.std.specs.Prelude.{◌≡◌, true, [], ◌∷◌, ◌++◌, Some, None, false, ◌+◌, ◌-◌, length};
 ghost use Rattle.coap_message.specs.declared.kind.Kind.TheVariants.{Non, Ack, Con};
 ghost use Rattle.coap_message.specs.Spelling.{spelling, with_id};
@@ -64,7 +64,7 @@ pub fn runs()
     ensures wrapping { play wrapping_proxy wrapping ≡ wrapping_sent }
 {}
 
-/// Runs of the step with other limits, another first id and another salt, and where ids run out,
+/// Runs of the step with other limits, another first id and another salt, and when ids run out,
 /// computed on the definitions.
 pub fn limits()
     ensures one_exchange { play one_exchange until_served ≡ until_served_sent }
@@ -78,9 +78,9 @@ pub fn limits()
     ensures kept_ids { play (after_ids 32766) kept_ids ≡ kept_ids_sent }
 {}
 
-/// What clients are given, computed at the edges of words that the step and the history share: a
-/// client's token, two faults in one request, what a response gives at some age, and what is due
-/// first.
+/// What clients are sent, computed for edge cases of definitions that the step and the history
+/// share: a client's token, two faults in one request, what a response becomes at some age, and
+/// what is due first.
 pub fn replies()
     ensures tokens { play one_exchange tokens ≡ tokens_sent }
     ensures two_faults { play proxy two_faults ≡ two_faults_sent }
@@ -99,9 +99,9 @@ pub fn replies()
     ensures client_first { play proxy client_first ≡ client_first_sent }
 {}
 
-/// The form of a target with a host and a query, and that target read back off it; replies of the
-/// proxy's own, and ids that are put in; what is held, counted and due after some turns; which
-/// outcomes need no memory and which may; and what a proxy is made with.
+/// The form of a target with a host and a query, and that target read back from it; replies that
+/// the proxy generates, and ids that are put in; what is held, counted and due after some turns;
+/// which pairs of outcomes agree on memory; and the configuration that a proxy is created with.
 pub fn forms_and_tables()
     ensures form { spelling (forwarded eight_zeros named None bare_get 7) ≡ named_form }
     ensures own { spelling (own_reply NOT_FOUND [] 7 (0xAA ∷ []))
@@ -146,8 +146,8 @@ pub fn forms_and_tables()
     ensures due_at_opening { next_due (after proxy (asks_at 5 1 ∷ [])) ≡ Some 5 }
 {}
 
-/// Which steps may run out of memory, by their outcomes: those that remember a request that is new, keep an
-/// answer, or give one to a client in a Confirmable message; and no other.
+/// Which steps may run out of memory, by their outcomes: those that remember a new request, keep an
+/// answer, or send one to a client in a Confirmable message; and no others.
 pub fn memory()
     ensures ignored { takes_memory Ignored [] ≡ false }
     ensures rejected { takes_memory Rejected [] ≡ false }
@@ -170,9 +170,9 @@ pub fn memory()
     ensures non_confirmable { takes_memory Delivered (content_for_client 10) ≡ false }
 {}
 
-/// Words about options and targets, computed: the form that is sent on and the keys read off it and
-/// off a client's request, clients with tags, Observe, options that aren't recognised, what fits
-/// beside a tag, and targets by a Proxy-Scheme.
+/// Definitions about options and targets, computed: the form that is forwarded, its key and the key
+/// of a client's request, clients with tags, Observe, options that aren't recognised, what fits a
+/// datagram with a tag, and targets by a Proxy-Scheme.
 pub fn options()
     ensures form { spelling (forwarded eight_zeros named None get_with_others 7) ≡ form_with_others }
     ensures read_back { key_in origin form_with_others ≡ Some key_of_others }
@@ -196,9 +196,9 @@ pub fn options()
     ensures to_sensor { play forward_proxy to_sensor ≡ to_sensor_sent }
 {}
 
-/// Duplicates and Confirmable requests, computed: how long a request is remembered of each type,
-/// what is told again, which requests are one, where there is no room to remember one, what is held
-/// and counted, and that an acknowledgement needs no message id.
+/// Duplicates and Confirmable requests, computed: how long a request of each type is remembered,
+/// what is sent again, which requests are the same, when there is no room to remember one, what is
+/// held and counted, and that an acknowledgement needs no message id.
 pub fn duplicates()
     ensures non_again { play proxy (twice_until 144999 (get_u 7))
         ≡ refused_with (not_found 0 1) (nothing Again) }
@@ -253,9 +253,9 @@ pub fn duplicates()
         } }
 {}
 
-/// Reliability towards origins, computed: when a request is sent again and when it is given up, how
-/// many are sent to one endpoint at once, message ids by windows of 247 seconds, and what the
-/// history says of them.
+/// Reliability towards origin servers, computed: when a request is retransmitted and when it is
+/// given up, how many are sent to one endpoint at once, message ids by windows of 247 seconds, and
+/// what the history says about them.
 pub fn reliability()
     ensures silent_origin { play proxy silent_origin ≡ silence_sent }
     ensures longest_waits { play proxy longest_waits ≡ silence_sent }
@@ -290,9 +290,9 @@ pub fn reliability()
     ensures second_window { window_ids 1 (history_of two_windows) ≡ 1 }
 {}
 
-/// What origins send, computed: acknowledgements and Resets of requests, until when they count and
-/// what they let go, responses in messages of their own, which are awaited, acknowledged and
-/// remembered, and what the history says of them.
+/// What origin servers send, computed: acknowledgements and Resets of requests, until when they
+/// count and which requests they release; separate responses, which are awaited, acknowledged and
+/// remembered; and what the history says about them.
 pub fn responses()
     ensures acked_at_last { play proxy (comes 246999 origin (empty_ack 1))
         ≡ becomes (nothing Acked) }
@@ -381,9 +381,9 @@ pub fn responses()
     ensures none_of_non { remembered_at Con 9 (history_of non_acting) ≡ [] }
 {}
 
-/// Clients that ask for the same, computed: one request to the origin, and each client served once
-/// and by itself; until when an exchange is joined, and by whom; where there is no room to; and what
-/// the history says of them.
+/// Clients that request the same, computed: one request to the origin server, and each client
+/// served once and individually; until when an exchange is joined, and by which clients; when there
+/// is no room to join; and what the history says about them.
 pub fn joining()
     ensures collapsing { play proxy joining.collapsing ≡ joining.collapsing_sent }
     ensures joined_twice { play proxy joining.joined_twice ≡ joining.joined_twice_sent }
@@ -437,8 +437,8 @@ pub fn joining()
     ensures is_closed { stage_of 1 (history_of joining.none_left_acting) ≡ None }
 {}
 
-/// Clients that ask in Confirmable messages: what they are told at once and later, what closes them,
-/// and what they count for.
+/// Clients with Confirmable requests: what they are sent immediately and later, what closes them,
+/// and until when they count.
 pub fn confirmable_clients()
     ensures confirmable { play proxy confirmable.confirmable ≡ confirmable.confirmable_sent }
     ensures repeated_request { play proxy confirmable.repeated_request
@@ -477,8 +477,8 @@ pub fn confirmable_clients()
     ensures short_datagram { is_con_datagram (0x40 ∷ 0 ∷ 0 ∷ []) ≡ false }
 {}
 
-/// Requests of other methods and their responses: what these change of what is stored and of what is
-/// on its way, what a 2.01 names, and stored responses that are validated, and renewed or not.
+/// Requests with other methods and their responses: how these affect stored responses and exchanges
+/// in progress, what a 2.01 names, and stored responses that are validated, and renewed or not.
 pub fn changes()
     ensures changed { play proxy changes.changed ≡ changes.changed_sent }
     ensures not_deleted { play proxy changes.not_deleted ≡ changes.not_deleted_sent }

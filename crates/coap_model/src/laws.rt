@@ -48,8 +48,8 @@ ghost use Rattle.coap_model.specs.Carries.{Bears, Carries};
 ghost use Rattle.coap_model.specs.Word.{KeepsItsWord};
 ghost use Rattle.coap_model.specs.Promised.{Promised};
 
-/// Each request that is sent on has the cache key of the client's request for which it is sent,
-/// read off the bytes that were sent.
+/// Each forwarded request has the cache key of the client's request for which it is sent, according
+/// to the bytes that were sent.
 pub fn requests_keep_their_key()
     ensures { (setting : Setting) (past : List Deed) (d : Deed)
         (f : IsForwarding setting past d) (m : Message)
@@ -58,15 +58,15 @@ pub fn requests_keep_their_key()
         → key_sent f.to_send.key.target.at m ≡ f.to_send.key }
 {}
 
-/// Where no option of a request is refused, what is sent on of it shows by each option alone.
+/// If no option of a request is refused, each option alone decides whether it is forwarded.
 pub fn what_goes_on_shows_by_itself()
     ensures { (m : Message)
         → first_refused Side.Request m.options ≡ None
         → sent_on m ≡ filter (goes_on m.code) m.options }
 {}
 
-/// What is left of a Max-Age and the age add up to it: no more than it, and more than it with one
-/// second more.
+/// The rest of a Max-Age and the age add up to the Max-Age: to no more than it, and with one more
+/// second to more than it.
 pub fn left_and_age_add_up()
     ensures within { (now : ℕ) (a : Answer)
         → 0 < left_of now a
@@ -75,7 +75,7 @@ pub fn left_and_age_add_up()
         → 1000 * max_age_of a.message < 1000 * (left_of now a + 1) + (now - a.got) }
 {}
 
-/// A tick of what a proxy carries does nothing exactly where nothing is due, or only later.
+/// A tick of a proxy that carries a history does nothing exactly if nothing is due, or only later.
 pub fn ticks_are_idle_where_nothing_is_due()
     ensures none { (w : World) (now draw : ℕ) (grown : Bool)
         → next_due w ≡ None
@@ -91,8 +91,8 @@ pub fn ticks_are_idle_where_nothing_is_due()
         → (step_of w now draw grown tick).report.outcome ≢ Idle }
 {}
 
-/// A delivery is justified, to a client that asked in a Non-confirmable message and to one that asked
-/// in a Confirmable message; deliveries that are right but for one thing are not. An acknowledgement
+/// A delivery is justified, to a client with a Non-confirmable request and to one with a
+/// Confirmable request; deliveries that are right except for one thing are not. An acknowledgement
 /// with the id of an answer, from its client, closes it; one with another id doesn't, nor does one
 /// from another client.
 pub fn forged_deliveries_are_refused()
@@ -124,7 +124,7 @@ pub fn forged_deliveries_are_refused()
 {}
 
 /// Each step of a proxy that carries a history leaves a proxy that carries the history with the
-/// step's entry in front, where moments don't go back and datagrams are bytes.
+/// step's entry in front, if moments never decrease and datagrams consist of bytes.
 pub fn steps_are_carried()
     ensures carried { (w : World) (history : List Entry) (now draw : ℕ) (grown : Bool)
         (event : Event)
@@ -142,17 +142,17 @@ pub fn new_proxies_carry_nothing()
         → Carries [] (new_world setting) }
 {}
 
-/// No step changes the limits, the routes, the first message id and the salt, where datagrams are
-/// bytes.
+/// No step changes the limits, the routes, the first message id or the salt, if datagrams consist
+/// of bytes.
 pub fn settings_stay()
     ensures stays { (w : World) (now draw : ℕ) (grown : Bool) (event : Event)
         → IsEvent event
         → (step_of w now draw grown event).world.setting ≡ w.setting }
 {}
 
-/// Whether there was memory for one entry more of the store is the one choice of a step that its
-/// event leaves open, and its report tells it: the step is the one of its own report, and only what
-/// wasn't stored, since memory ran out, tells that there was none.
+/// Whether there was memory for one more entry of the store is the only choice that the event of a
+/// step leaves open, and its report says it: the step is the one that its own report determines,
+/// and only an answer that wasn't stored since memory ran out says that there was none.
 pub fn memory_is_told()
     ensures step { (w : World) (now draw : ℕ) (event : Event) (grown : Bool)
         → step_of w now draw (grown_of (step_of w now draw grown event).report.outcome) event
@@ -160,9 +160,9 @@ pub fn memory_is_told()
     ensures wanting { (outcome : Outcome) → grown_of outcome ≡ false → outcome ≡ Answered NoMemory }
 {}
 
-/// What a proxy counts is what the deeds left of which its tables are made: as many exchanges as are
-/// open and as many clients as wait, the entries and bytes of the cache of these deeds, and as
-/// many records as messages that are still remembered.
+/// The counts of a proxy agree with the deeds that made its tables: the number of open exchanges
+/// and of pending clients, the entries and bytes of the cache of these deeds, and the number of
+/// messages that are still remembered.
 pub fn counts_are_of_the_history()
     ensures exchanges { (deeds : List Deed) (w : World)
         → Bears deeds w
@@ -186,21 +186,22 @@ pub fn counts_are_of_the_history()
         → (counts w).non_records ≡ length (remembered_at Non w.last deeds) }
 {}
 
-/// What a proxy carries it promises: each entry is justified by the entries before it, each waiter
-/// is served at most once, message ids count up and none comes back within 247 seconds, each request
-/// is sent by its schedule, at most so many to one endpoint as may be, and exchanges, waiters, what
-/// is remembered, what is stored and the bytes held are within their limits.
+/// A proxy that carries a history keeps this promise about it: each entry is justified by the
+/// entries before it, each waiter is served at most once, message ids count up and none is reused
+/// within 247 seconds, each message is sent by its schedule, at most `nstart` requests to one
+/// endpoint are outstanding, and exchanges, waiters, records, the store and the bytes held are
+/// within their limits.
 pub fn what_is_carried_is_promised()
     ensures promised { (history : List Entry) (w : World) → Carries history w → Promised history w }
 {}
 
-/// The promise in short. A proxy keeps its word of whatever history it carries, at each place of
-/// it: pending exchanges, clients that wait, messages that are remembered, and the cache are within
-/// their limits; each reply from the cache is a response that was received for an equal key,
-/// renewed by later validations alone, fresh, with its Max-Age reduced by its age, and its target
-/// unchanged since it was requested; and each message that repeats one within its lifetime gets the
-/// kept reply again. So does a new proxy, whatever datagrams and ticks come at moments that don't
-/// go back.
+/// The promise in short. A proxy keeps its promise for any history that it carries, at each place
+/// of it: pending exchanges, waiting clients, remembered messages and the cache are within their
+/// limits; each reply from the cache is a response that was received for an equal key, only renewed
+/// by later validations, fresh, with its Max-Age reduced by its age, and with a target that wasn't
+/// changed since it was requested; and each message that repeats one within its lifetime gets the
+/// kept reply again. So does a new proxy, whatever datagrams and ticks come at moments that never
+/// decrease.
 pub fn the_word_is_kept()
     ensures carried { (history : List Entry) (w : World)
         → Carries history w
@@ -212,10 +213,11 @@ pub fn the_word_is_kept()
         (run_of (new_run setting) turns).world }
 {}
 
-/// What is promised, place by place: each deed is justified by those before it, comes no earlier
-/// than they did, and gives the message id that is due, which no other gave within 247 seconds; each
-/// request is sent by its schedule, and at most so many to one endpoint as may be; the history tells
-/// of these deeds and of nothing else; and what the proxy counts and holds is within its limits.
+/// What is promised, place by place: each deed is justified by those before it, isn't earlier than
+/// they are, and gives out the next message id, if any, which no other gave out within 247 seconds;
+/// each message is sent by its schedule, and at most `nstart` requests to one endpoint are
+/// outstanding; the history consists of the entries of these deeds; and what the proxy counts and
+/// holds is within its limits.
 pub fn what_is_promised_holds_at_each_place()
     ensures justified { (history : List Entry) (w : World) (p : Promised history w) (place : Place)
         → IsPlaceOf p.deeds place
@@ -267,11 +269,11 @@ pub fn what_is_promised_holds_at_each_place()
         → held w ≤ most_held w.setting.limits }
 {}
 
-/// What is promised gives what is owed, place by place: a message that repeats a place before it is
-/// told again; a request that isn't known, or an answer in a Confirmable message, meets silence
-/// where there is no room to remember it; a new GET whose key has an entry that is fresh, and whose
-/// target wasn't changed since, is answered from the cache; and an answer is stored by its size where
-/// it was obtained, memory aside, and not stored where it wasn't.
+/// A promise includes what is owed, place by place: a message that repeats an earlier place is
+/// treated as a duplicate; a request that isn't known, or an answer in a Confirmable message, gets
+/// no reply if there is no room to remember it; a new GET whose key has a fresh entry, whose target
+/// wasn't changed since, is answered from the cache; and an answer that was obtained is stored if
+/// its size allows it, unless memory runs out, and one that wasn't obtained isn't stored.
 pub fn what_is_owed_is_given_at_each_place()
     ensures again { (history : List Entry) (w : World) (p : Promised history w)
         (place former : Place) (source : Endpoint) (message : Message)
@@ -330,9 +332,9 @@ pub fn what_is_owed_is_given_at_each_place()
 {}
 
 /// In a justified history nothing is done twice: the request of an exchange is sent for the first
-/// time at one place, the exchange is got or given up at one place, and a client is served at one
-/// place. Nothing is done for a client that was let go: where its answer was acknowledged, was given
-/// up, or went out in a Non-confirmable message.
+/// time at one place, the exchange is answered or given up at one place, and a client is served at
+/// one place. Nothing is done for a client that is finished: after its answer was acknowledged, was
+/// given up, or was sent in a Non-confirmable message.
 pub fn nothing_is_done_twice()
     ensures sent { (setting : Setting) (history : List Deed) (exchange : ℕ) (a b : Place)
         → AllJustified setting history
@@ -362,17 +364,17 @@ pub fn nothing_is_done_twice()
         → Never (LetsGo waiter) place.before }
 {}
 
-/// What is owed is given, where an entry is justified by what was done before it: a message that is
-/// remembered is told again what it was told, and a request for which there is no room to remember
-/// it meets silence; of the other requests a GET whose key has an entry that is fresh, and whose
-/// target wasn't changed since, is answered from the cache, one whose key has none, but an exchange
-/// that may be joined, joins it, with room, and a request that may be asked for and that nothing
-/// answers, with room, is opened. A message that answers an
-/// exchange is its answer, which is kept by its size where it was obtained; in a Confirmable
-/// message it is taken where it is new, and meets silence where it isn't known and there is no room
-/// to remember it. An acknowledgement of a request that waits for one settles it, and an
-/// acknowledgement or a Reset of an answer that waits for one settles that; a confirmable datagram
-/// that can't be processed is rejected; and a tick at which something is due does what is due first.
+/// What is owed is done, if an entry is justified by the deeds before it: a duplicate of a
+/// remembered message gets what is remembered, and a request that there is no room to remember gets
+/// no reply. Of the other requests, a GET whose key has a fresh entry, whose target wasn't changed
+/// since, is answered from the cache; a GET whose key has no such entry, but an exchange that may
+/// be joined, joins it, if there is room; and a request that may and has to be forwarded opens an
+/// exchange, if there is room. A message that answers an exchange becomes its answer, which is kept
+/// if it was obtained and its size allows it; in a Confirmable message it is accepted if it is new,
+/// and gets no reply if it isn't known and there is no room to remember it. An acknowledgement of a
+/// request that waits for one settles it, and an acknowledgement or a Reset of an answer that waits
+/// for one settles that; a Confirmable datagram that can't be processed is rejected; and a tick at
+/// which something is due does what is due first.
 pub fn what_is_owed_is_given()
     ensures owed { (setting : Setting) (past : List Deed) (d : Deed)
         → JustifiedBy d.entry.report.outcome setting past d
@@ -438,10 +440,10 @@ pub fn what_is_owed_is_given()
         → IsActing setting past d }
 {}
 
-/// A message is known where it repeats one, by the places of the history, and what is known of it
-/// is what was sent at once there: so a duplicate is told what its message was told, or nothing. It
-/// repeats one place alone, whichever is looked at; and where it is Confirmable, what was sent
-/// there went to its source.
+/// A message is known if it repeats an earlier one, in terms of the places of the history, and its
+/// record is what was sent immediately there: so a duplicate gets what the first message got, or
+/// nothing. It repeats at most one place; and if it is Confirmable, what was sent there was sent to
+/// its source.
 pub fn duplicates_repeat_a_place()
     ensures known { (past : List Deed) (now : ℕ) (source : Endpoint) (message : Message)
         (known : Record)
@@ -480,10 +482,10 @@ pub fn duplicates_repeat_a_place()
         → p.deed.entry.report.send ≡ Some source }
 {}
 
-/// The histories allow one answer: two deeds that may follow the same deeds, of one event at one
-/// moment with one draw, are one deed, where less than 2^64 exchanges were opened; and the entry of
-/// what may follow what a proxy carries is what its step answers. So the traffic alone says all
-/// that a proxy does.
+/// The histories allow only one result: two deeds that may follow the same deeds, with the same
+/// event, moment, draw and memory, are equal, if fewer than 2^64 exchanges were opened; and the
+/// entry of a deed that may follow the history of a proxy is the one that its step makes. So the
+/// traffic alone determines everything that a proxy does.
 pub fn one_answer_is_justified()
     ensures one { (setting : Setting) (past : List Deed) (d e : Deed)
         → AllJustified setting past
@@ -503,8 +505,8 @@ pub fn one_answer_is_justified()
         → d.entry ≡ answer_at w d.entry.now d.entry.draw grown d.entry.event }
 {}
 
-/// The moment at which a tick is wanted is the least at which anything is due by the history, which
-/// is one moment, and none is wanted where nothing is.
+/// The moment at which the next tick is needed is the earliest at which anything is due according
+/// to the history, which is unique, and none is needed if nothing is due.
 pub fn next_due_is_least()
     ensures next { (w : World) (history : List Entry) (c : Carries history w) (at : ℕ)
         → next_due w ≡ Some at
@@ -519,8 +521,8 @@ pub fn next_due_is_least()
         → a ≡ b }
 {}
 
-/// Where moments are at most 2^62 and draws at most 1,000, nothing is due later than ten minutes
-/// after 2^62.
+/// If moments are at most 2^62 milliseconds and draws at most 1,000, nothing is due later than ten
+/// minutes after 2^62.
 pub fn dues_are_bounded()
     ensures bounded { (w : World) (history : List Entry) (at : ℕ)
         → Carries history w
@@ -530,7 +532,7 @@ pub fn dues_are_bounded()
         → at ≤ 2 ^ 62 + 600000 }
 {}
 
-/// No datagram that a step sends is longer than the limit `datagram`, where the limits are within
+/// No datagram that a step sends is longer than the limit `datagram`, if the limits are within
 /// their ranges.
 pub fn datagrams_fit()
     ensures fits { (w : World) (history : List Entry) (now draw : ℕ) (grown : Bool) (event : Event)
@@ -540,8 +542,8 @@ pub fn datagrams_fit()
         → length (step_of w now draw grown event).bytes ≤ w.setting.limits.datagram }
 {}
 
-/// The bytes held, as values count, are at most those that are kept of them, and so within the same
-/// bound.
+/// The bytes held, as the values count, are at most those that are kept for them, and so within the
+/// same bound.
 pub fn bytes_held_are_kept()
     ensures kept { (w : World) → bytes_held w ≤ held w }
     ensures within { (w : World) (history : List Entry)
@@ -549,8 +551,8 @@ pub fn bytes_held_are_kept()
         → bytes_held w ≤ most_held w.setting.limits }
 {}
 
-/// Whatever happens to a new proxy at moments that don't go back, where datagrams are bytes and
-/// origins are targets, it promises the same of all that happened.
+/// Whatever happens to a new proxy at moments that never decrease, if datagrams consist of bytes
+/// and the origins of the routes are targets, it promises the same for its whole history.
 pub fn runs_are_promised()
     ensures kept { (setting : Setting) (turns : List Taken)
         → AreRoutes setting.routes

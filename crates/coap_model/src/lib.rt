@@ -1,5 +1,5 @@
-//! What a proxy means: its tables as one value, one step over them, histories, and the laws that
-//! join them. There is next to no code here.
+//! The meaning of a proxy: its tables as one value, one step over them, histories, and the laws
+//! that relate them. There is almost no code here.
 #![tactic(auto)]
 
 pub mod cache_laws;

@@ -1,28 +1,28 @@
-//! What a step answers.
+//! What a step returns.
 use coap_endpoint::Endpoint;
 use coap_message::Code;
 
-/// What was done with an answer towards the cache.
+/// What the cache did with an answer.
 #[derive(Clone, Copy, Debug, PartialEq, Eq)]
 pub enum Storing {
-    /// It stands first in the cache.
+    /// It was put in front of the cache.
     Kept,
-    /// It alone is over the budget of the cache.
+    /// It alone exceeds the byte limit of the cache.
     TooLarge,
-    /// There was no memory for it.
+    /// Memory ran out for it.
     NoMemory,
-    /// It isn't to be stored.
+    /// It must not be stored.
     NotStored,
 }
 
 /// What a step did.
 #[derive(Clone, Copy, Debug, PartialEq, Eq)]
 pub enum Outcome {
-    /// Nothing: the datagram is no one's business.
+    /// Nothing: the datagram was ignored.
     Ignored,
-    /// A confirmable message that can't be processed got a Reset (RFC 7252, 4.2).
+    /// A Confirmable message that can't be processed got a Reset (RFC 7252, 4.2).
     Rejected,
-    /// A duplicate: a Confirmable one got its kept reply again, a Non-confirmable one nothing.
+    /// A duplicate: a Confirmable one got the kept reply again, a Non-confirmable one nothing.
     Again,
     /// There was no room for a duplicate record.
     NoRecordRoom,
@@ -30,7 +30,7 @@ pub enum Outcome {
     Refused(Code),
     /// A request was answered from the cache.
     Hit,
-    /// A client waits for an exchange that was under way.
+    /// A client joined an exchange in progress, and waits for it.
     Joined,
     /// An exchange was opened, and the client waits for it.
     Opened,
@@ -38,31 +38,31 @@ pub enum Outcome {
     Overloaded,
     /// No message id was free for the reply.
     NoId,
-    /// An exchange has its answer.
+    /// An exchange got its answer.
     Answered { storing: Storing },
-    /// A message of the proxy's was acknowledged.
+    /// A message from the proxy was acknowledged, or an answer was rejected with a Reset.
     Acked,
-    /// A request was sent to its origin.
+    /// A request was sent to its origin server.
     SentRequest,
-    /// A message was sent once more.
+    /// A message was retransmitted.
     Resent,
-    /// A client was given its answer.
+    /// A client was sent its answer.
     Delivered,
-    /// No answer came in time, or no acknowledgement after the last repetition.
+    /// No answer came in time, or no acknowledgement after the last retransmission.
     GaveUp,
     /// Nothing was due.
     Idle,
 }
 
-/// What a step did, and where its datagram goes, if it sends one.
+/// What a step did, and the destination of its datagram, if it sends one.
 #[derive(Clone, Copy, Debug, PartialEq, Eq)]
 pub struct Report {
     pub send: Option<Endpoint>,
     pub outcome: Outcome,
 }
 
-/// How much a proxy holds: bytes and entries of its cache, duplicate records, exchanges, clients
-/// that wait. Of the records those that live count.
+/// How much a proxy holds: bytes and entries of its cache, duplicate records, exchanges, and
+/// pending clients. Expired records don't count.
 #[derive(Clone, Copy, Debug, PartialEq, Eq)]
 pub struct Counts {
     pub cached_bytes: u64,

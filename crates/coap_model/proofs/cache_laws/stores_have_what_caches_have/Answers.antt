@@ -10,7 +10,7 @@ use Rattle.coap_model.proofs.Stores.{found-cached, cached-found, none-found, sto
 use Rattle.coap_model.proofs.Pairs.{Pairs-length, Pairs-total}
 use Rattle.coap_model.proofs.cache_laws.stores_have_what_caches_have.Goals as goal
 
--- what the cache has for a key is in the store, with its mark
+-- the entry of the cache for a key is in the store, with its mark
 kept-there : (setting : Setting) (history : List Deed) (store : List Entry) (s : IsStoreOf setting history store) (key : CacheKey) (entry : Cached) → of_key cached_key key s.cached ≡ Some entry
     → (marked : Bool) × (of_key entry_key key store ≡ Some (entry_marked marked entry)) × IsTold marked setting entry.key.target entry.asking history
 kept-there setting history store s key entry found =
