@@ -1,4 +1,4 @@
--- The numbers of records: which record has one, and what becomes of them as records come and go.
+-- The numbers of records: which record has which one, and how they change as records come and go.
 use Rattle.std.proofs.Common.{◌≡◌, ℕ, ◌+◌, ◌-◌, ◌%◌, ◌^◌, ◌<◌, Bool, true, false, cond, List, [], ◌∷◌, ◌++◌, length, zero, suc, Option, Some, None, drop, refl, sym, ap, subst, ◌∙◌, arith, slice_get}
 use Rattle.std.specs.BTreeMap.{BTreeMap, get}
 use Rattle.std.specs.Option.{option_or}
@@ -29,11 +29,12 @@ number_of-push n k (r ∷ rs) x = rw (number_of-push (n + 1) k rs x) (go (is_of 
     go true p o = ap (λ m. Some (m % 2 ^ 64)) (omega arith)
     go false p o = refl
 
--- nothing is both there and not
+-- an option isn't both `Some` and `None`
 apart_from_none : (o : Option ℕ) (l : ℕ) → o ≡ Some l → o ≡ None → ⊥
 apart_from_none o l some none = cc
 
--- what has a number has a record, as far after the first as its number is after that of the first
+-- a key with a number has a record, which comes as far after the first as its number does after
+-- that of the first
 pub number_of-place : (n : ℕ) (k : Key) (rs : List Record) (m : ℕ) → AreApart rs → number_of n k rs ≡ Some m → (i : ℕ) × (i < length rs) × (m ≡ (n + i) % 2 ^ 64) × (slice_get rs i ≡ record_of k.from k.id rs)
 number_of-place n k [] m apart e = absurd cc
 number_of-place n k (r ∷ rs) m apart e = go (number_of (n + 1) k rs) refl (is_of k.from k.id r) refl e (number_of-place (n + 1) k rs m apart.1)
@@ -51,7 +52,7 @@ number_of-place n k (r ∷ rs) m apart e = go (number_of (n + 1) k rs) refl (is_
         (zero, omega arith, sym value ∙ ap (λ j. j % 2 ^ 64) (omega arith), sym (rw of refl))
     go None is false of found rest = absurd cc
 
--- what has no number has no record
+-- a key without a number has no record
 pub record_of-unnumbered : (n : ℕ) (k : Key) (rs : List Record) → number_of n k rs ≡ None → record_of k.from k.id rs ≡ None
 record_of-unnumbered n k [] none = refl
 record_of-unnumbered n k (r ∷ rs) none = go (is_of k.from k.id r) (number_of (n + 1) k rs) refl none (record_of-unnumbered (n + 1) k rs)
@@ -72,7 +73,7 @@ found-at first index rs k m apart are few number =
     let here : (m + (2 ^ 64 - first)) % 2 ^ 64 ≡ i = omega arith in
     ap (slice_get rs) here ∙ at
 
--- a further record has the next number
+-- one more record gets the next number
 pub AreNumbered-push : (first : ℕ) (index new : BTreeMap Key ℕ) (rs : List Record) (x : Record) (next : ℕ) → AreNumbered first index rs → next ≡ (first + length rs) % 2 ^ 64 → ((k : Key) → get key_cmp new k ≡ cond (same_key (key_of x) k) (Some next) (get key_cmp index k)) → AreNumbered first new (rs ++ x ∷ [])
 AreNumbered-push first index new rs x next are is_next puts = record {
   origin = are.origin;
@@ -83,13 +84,13 @@ AreNumbered-push first index new rs x next are is_next puts = record {
     same : next ≡ (are.origin + length rs) % 2 ^ 64
     same = let value = are.is_first in omega arith
 
--- as the order finds the keys
+-- the same, with keys compared by their order
 pub AreNumbered-insert : (first : ℕ) (index new : BTreeMap Key ℕ) (rs : List Record) (x : Record) (next : ℕ) → AreNumbered first index rs → next ≡ (first + length rs) % 2 ^ 64 → ((k : Key) → get key_cmp new k ≡ cond (is_eq (key_cmp (key_of x) k)) (Some next) (get key_cmp index k)) → AreNumbered first new (rs ++ x ∷ [])
 AreNumbered-insert first index new rs x next are is_next puts = AreNumbered-push first index new rs x next are is_next (λ k. puts k ∙ ap (λ b. cond b (Some next) (get key_cmp index k)) (is_eq-key_cmp (key_of x) k))
 
--- what one list of numbers says, the other says without its first
+-- the numbers of a list, without its first record
 module _ (first : ℕ) (index new : BTreeMap Key ℕ) (r : Record) (rs : List Record) where
-  -- the number of the first record is taken out, where none of the others is of the same message
+  -- the number of the first record is removed, if none of the others is of the same message
   pub AreNumbered-rest : record_of r.from r.id rs ≡ None → ((k : Key) → get key_cmp new k ≡ cond (same_key (key_of r) k) None (get key_cmp index k)) → AreNumbered first index (r ∷ rs) → AreNumbered ((first + 1) % 2 ^ 64) new rs
   AreNumbered-rest none takes are = record { origin = are.origin + 1; is_first = (let value = are.is_first in omega arith); numbered = λ k. takes k ∙ go k (same_key (key_of r) k) refl }
     where
@@ -101,9 +102,10 @@ module _ (first : ℕ) (index new : BTreeMap Key ℕ) (r : Record) (rs : List Re
           last None = refl
           last (Some m) = refl
 
--- The first record goes, and a new one has its number already. Its own number is taken out, unless the new one is of the
--- same message.
+-- The first record is released, and a new one has its number already. The number of the first is
+-- removed, unless the new one is of the same message.
 module _ (first : ℕ) (index : BTreeMap Key ℕ) (rs : List Record) (r x : Record) (apart : AreApart rs) (at : Some r ≡ slice_get rs 0) (are : AreNumbered first index (rs ++ x ∷ [])) where
+  -- of another message: the number of the first is removed
   pub first-goes : (new : BTreeMap Key ℕ) → same_key (key_of r) (key_of x) ≡ false → ((k : Key) → get key_cmp new k ≡ cond (is_eq (key_cmp (key_of r) k)) None (get key_cmp index k)) → AreNumbered ((first + 1) % 2 ^ 64) new (drop 1 rs ++ x ∷ [])
   first-goes new other takes = go rs apart at are
     where
@@ -116,6 +118,7 @@ module _ (first : ℕ) (index : BTreeMap Key ℕ) (rs : List Record) (r x : Reco
           let all : AreNumbered first index (r ∷ (ss ++ x ∷ [])) = subst (λ y. AreNumbered first index (y ∷ (ss ++ x ∷ []))) same nums in
           AreNumbered-rest first index new r (ss ++ x ∷ []) left (λ k. takes k ∙ ap (λ b. cond b None (get key_cmp index k)) (is_eq-key_cmp (key_of r) k)) all
 
+  -- of the same message: the index stays as it is
   pub first-stays : same_key (key_of r) (key_of x) ≡ true → AreNumbered ((first + 1) % 2 ^ 64) index (drop 1 rs ++ x ∷ [])
   first-stays same_message = go rs at are
     where

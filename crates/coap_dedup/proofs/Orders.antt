@@ -1,4 +1,4 @@
--- The order of keys: in it no keys are alike but those that are equal.
+-- The order of keys: in it only equal keys compare as equal.
 use Rattle.std.proofs.Common.{◌≡◌, ◌==◌, Bool, true, false, refl, sym, subst, ◌∙◌, eq-eqb}
 use Rattle.std.specs.Ordering.{is_eq, nat_cmp}
 use Rattle.std.proofs.lemmas.Bool.{and_parts, and_from, eqb-true}
@@ -9,13 +9,13 @@ use Rattle.coap_dedup.specs.declared.key.Key.{Key}
 use Rattle.coap_dedup.specs.Indexing.{key_cmp}
 use Rattle.coap_dedup.specs.Keys.{same_key}
 
--- keys
+-- for keys
 Ranks-key : Ranks key_cmp
 Ranks-key =
     Ranks-in_turn (λ (k : Key). k.id) (λ (k : Key). k.from) nat_cmp endpoint_cmp Ranks-nat Ranks-endpoint
     (λ a b id from. λ i. record { from = from i; id = id i })
 
--- keys that are one are equal
+-- keys that the test finds the same are equal
 pub same_key-only : (a b : Key) → same_key a b ≡ true → a ≡ b
 same_key-only a b e =
     let parts = and_parts (same_endpoint a.from b.from) (a.id == b.id) e in
@@ -23,15 +23,15 @@ same_key-only a b e =
     let id : a.id ≡ b.id = eqb-true a.id b.id parts.1 in
     λ i. record { from = from i; id = id i }
 
--- and each is one with itself
+-- and each is the same as itself
 pub same_key-itself : (a : Key) → same_key a a ≡ true
 same_key-itself a = and_from (same_endpoint a.from a.from) (a.id == a.id) (Tells-endpoint.itself a.from) (eq-eqb a.id a.id refl)
 
--- so the order finds the keys that are one
+-- so the order and the test agree
 pub is_eq-key_cmp : (a b : Key) → is_eq (key_cmp a b) ≡ same_key a b
 is_eq-key_cmp = ranks-tell key_cmp same_key Ranks-key (record { only = same_key-only; itself = same_key-itself })
 
--- and it tells both ways round
+-- and the test is symmetric
 pub same_key-flips : (a b : Key) → same_key a b ≡ same_key b a
 same_key-flips a b = go (same_key a b) refl (same_key b a) refl
   where

@@ -1,4 +1,4 @@
--- Records of the examples.
+-- Records for the examples.
 use Rattle.std.specs.Prelude.{ℕ, List, [], ◌∷◌, Option, Some, None}
 use Rattle.coap_endpoint.specs.declared.endpoint.Endpoint.{Endpoint}
 use Rattle.coap_endpoint.specs.declared.endpoint.Ip.TheVariants.{V4}
@@ -10,11 +10,11 @@ use Rattle.coap_dedup.specs.Records.{Records, no_records, with_kept}
 abbrev pub client : ℕ → Endpoint
 client port = record { ip = V4 (127 ∷ 0 ∷ 0 ∷ 1 ∷ []); port = port }
 
--- an empty acknowledgement of the message 9
+-- an empty Acknowledgement of message 9
 abbrev pub acknowledgement : List ℕ
 acknowledgement = 0x60 ∷ 0 ∷ 0 ∷ 9 ∷ []
 
--- the message 9 of the client 40001, which came at this moment and was acknowledged
+-- message 9 from client 40001, which arrived at this time and was acknowledged
 abbrev pub confirmable : ℕ → Record
 confirmable at = record { from = client 40001; id = 9; at = at; reply = Some acknowledgement }
 
@@ -22,11 +22,11 @@ confirmable at = record { from = client 40001; id = 9; at = at; reply = Some ack
 abbrev pub unanswered : ℕ → Record
 unanswered at = record { from = client 40001; id = 9; at = at; reply = None }
 
--- a message of this id, to which nothing was replied
+-- a message with this Message ID, to which no reply was sent
 abbrev pub message : ℕ → ℕ → Record
 message id at = record { from = client 40001; id = id; at = at; reply = None }
 
--- two places for ten milliseconds, taken at the moments 0 and 5
+-- two places and a lifetime of ten milliseconds, filled at the times 0 and 5
 abbrev pub two : Records
 two = with_kept (message 2 5) (with_kept (message 1 0) (no_records 2 10))
 
@@ -34,10 +34,10 @@ two = with_kept (message 2 5) (with_kept (message 1 0) (no_records 2 10))
 abbrev pub third : Records
 third = with_kept (message 3 10) two
 
--- one place, taken at the moment 0
+-- one place, filled at the time 0
 abbrev pub one : Records
 one = with_kept (confirmable 0) (no_records 1 247000)
 
--- what is found for the message 9 of the client 40001, among records of this lifetime
+-- what is found for message 9 from client 40001 among records with this lifetime
 abbrev pub found_at : ℕ → ℕ → List Record → Option Record
 found_at lifetime now records = record_of (client 40001) 9 (living lifetime now records)

@@ -1,14 +1,14 @@
--- The records of one kind of messages, within a limit.
+-- The records of messages of one type, within a limit.
 use Rattle.std.specs.Prelude.{ℕ, ◌≤◌, List, [], length}
 use Rattle.coap_dedup.specs.declared.record.Record.{Record}
 use Rattle.coap_dedup.specs.Lists.{kept_with, living, AreInOrder, AreApart}
 
 pub record Records : Type 0 where
-  -- those that are held, in order of keeping, whether they live or not
+  -- the records that are held, in the order in which they were kept, live or expired
   pub items : List Record
-  -- the most that are held
+  -- the maximum number of records
   pub limit : ℕ
-  -- for how long each lives, in milliseconds
+  -- how long each record lives, in milliseconds
   pub lifetime : ℕ
 
 pub record AreRecords (t : Records) : Type 0 where
@@ -19,11 +19,11 @@ pub record AreRecords (t : Records) : Type 0 where
 abbrev pub no_records : ℕ → ℕ → Records
 no_records limit lifetime = record { items = []; limit = limit; lifetime = lifetime }
 
--- those that live at this moment
+-- those that are live at this time
 abbrev pub living_at : ℕ → Records → List Record
 living_at now t = living t.lifetime now t.items
 
--- one record more is kept
+-- with one more record kept
 abbrev pub with_kept : Record → Records → Records
 with_kept r t =
     record { items = kept_with t.lifetime r t.items; limit = t.limit; lifetime = t.lifetime }

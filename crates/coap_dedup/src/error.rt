@@ -8,10 +8,10 @@ use thiserror::Error;
 /// Why a message wasn't kept.
 #[derive(Clone, Copy, Debug, PartialEq, Eq, Error)]
 pub enum Refused {
-    /// As many records live as there may be.
+    /// The number of live records has reached the limit.
     #[error("no room")]
     Full,
-    /// The allocator had no memory.
+    /// Allocation failed.
     #[error("out of memory")]
     OutOfMemory,
 }

@@ -1,4 +1,4 @@
-//! Examples, computed on the definitions.
+//! Examples, computed with the definitions.
 ghost use Rattle.std.specs.Prelude.{◌≡◌, ◌^◌, ◌-◌, ◌∷◌, [], true, false, None, Some, length};
 ghost use Rattle.coap_endpoint.specs.declared.endpoint.Ip.TheVariants.{V6};
 ghost use Rattle.coap_dedup.specs.Examples.{acknowledgement, client, confirmable, found_at, message, one, third, two, unanswered};
@@ -10,7 +10,7 @@ ghost use Rattle.coap_dedup.specs.Records.{living_at, no_records, with_kept};
 
 use crate::record::{EXCHANGE_LIFETIME, NON_LIFETIME};
 
-/// For how long messages are remembered (RFC 7252, 4.8.2).
+/// How long messages are remembered (RFC 7252, 4.8.2).
 pub fn remembered()
     ensures exchange_lifetime { EXCHANGE_LIFETIME ≡ 247000 }
     ensures non_lifetime { NON_LIFETIME ≡ 145000 }
@@ -39,7 +39,8 @@ pub fn found()
         ≡ None }
 {}
 
-/// What is held as messages come: two places for ten milliseconds, and one for 247 seconds.
+/// What is held as messages arrive: with two places and a lifetime of ten milliseconds, and with
+/// one place and a lifetime of 247 seconds.
 pub fn held()
     ensures taken { two.items ≡ message 1 0 ∷ message 2 5 ∷ [] }
     ensures full { length (living_at 9 two) ≡ two.limit }
@@ -55,7 +56,7 @@ pub fn held()
     ensures no_place { length (living_at 0 (no_records 0 247000)) ≡ 0 }
 {}
 
-/// What counts: each reply, also of a record that is held and doesn't live any more.
+/// What is counted: every reply, including that of a record that is held but has expired.
 pub fn counted()
     ensures nothing { bytes_of [] ≡ 0 }
     ensures no_reply { bytes_of (unanswered 0 ∷ []) ≡ 0 }
@@ -66,7 +67,7 @@ pub fn counted()
     ensures replaced { bytes_of (with_kept (unanswered 247000) one).items ≡ 0 }
 {}
 
-/// The numbers of the index, which begin anew after the last that has room.
+/// The numbers in the index, which start again at 0 after the greatest that fits.
 pub fn numbered()
     ensures first { number_of 7 (key_of (message 1 0)) two.items ≡ Some 7 }
     ensures second { number_of 7 (key_of (message 2 5)) two.items ≡ Some 8 }

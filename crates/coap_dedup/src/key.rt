@@ -1,4 +1,4 @@
-//! By what a message is known again.
+//! The key by which a message is recognised as a duplicate.
 ghost use Rattle.std.proofs.Common.{rules};
 ghost use Rattle.std.specs.Cmp.Rules.{comparing};
 ghost use Rattle.coap_endpoint.specs.Alike.{endpoints_equiv};
@@ -6,8 +6,8 @@ ghost use Rattle.coap_dedup.specs.Keys.{same_key};
 
 use coap_endpoint::Endpoint;
 
-/// Which message: from which endpoint it came, and with which message id (RFC 7252, 4.4). Keys are
-/// in order of message id first, which mostly tells two apart at the first look.
+/// What identifies a message: its source endpoint and its Message ID (RFC 7252, 4.4). Keys are
+/// ordered by Message ID first, which usually differs already.
 #[derive(Clone, Copy, Debug, PartialOrd, Ord)]
 pub(crate) struct Key {
     pub(crate) id: u16,

@@ -6,8 +6,8 @@ ghost use Rattle.coap_dedup.specs.declared.record.Record.{Record};
 ghost use Rattle.coap_dedup.specs.Lists.{AreApart, AreInOrder, AreUpTo, bytes_of, is_living, is_of, living, record_of, reply_bytes};
 ghost use Rattle.coap_dedup.specs.Records.{AreRecords, Records, living_at, no_records, with_kept};
 
-/// What is kept is found until its lifetime ends, and what was found before is found still. Each
-/// record is what is found for its message, and no other is.
+/// What is kept is found until its lifetime ends, and what was found before is still found. Looking
+/// up the message of a record finds that record, and what is found is of the message looked up.
 pub fn what_is_kept_is_found()
     ensures kept { (r : Record) (t : Records) (now : ℕ)
         → record_of r.from r.id (living_at r.at t) ≡ None
@@ -27,14 +27,15 @@ pub fn what_is_kept_is_found()
         → is_of from id r ≡ true }
 {}
 
-/// What lives from the moment of keeping on: all that lived, and after it what is kept.
+/// From the moment of a keep on, the live records are those that live without it, followed by the
+/// kept one while it lives.
 pub fn nothing_that_lives_is_given_up()
     ensures { (r : Record) (t : Records) (now : ℕ)
         → r.at ≤ now
         → living_at now (with_kept r t) ≡ living_at now t ++ living t.lifetime now (r ∷ []) }
 {}
 
-/// As time passes, records leave from the front, the oldest first.
+/// As time passes, records expire from the front, the oldest first.
 pub fn time_takes_from_the_front()
     ensures front { (lifetime now later : ℕ) (records : List Record)
         → AreInOrder records
@@ -51,7 +52,7 @@ pub fn time_takes_from_the_front()
         → is_living lifetime now r ≡ true }
 {}
 
-/// Records are within their limit, in order of their moments, and no two are of one message.
+/// Records are within their limit, in order of their times, and no two are of the same message.
 pub fn records_stay_so()
     ensures none { (limit lifetime : ℕ) → AreRecords (no_records limit lifetime) }
     ensures kept { (r : Record) (t : Records)
@@ -66,8 +67,8 @@ pub fn records_stay_so()
     ensures few { (t : Records) (now : ℕ) → AreRecords t → length (living_at now t) ≤ t.limit }
 {}
 
-/// How many bytes are held: those of one reply more at most, and within the limit times the
-/// longest.
+/// The number of bytes held: a keep adds at most those of its reply, and the total is at most the
+/// limit times the longest reply.
 pub fn bytes_are_bounded()
     ensures kept { (r : Record) (t : Records)
         → bytes_of (with_kept r t).items ≤ bytes_of t.items + reply_bytes r }

@@ -1,4 +1,4 @@
-//! What is remembered of a message.
+//! What is remembered about a message.
 ghost use Rattle.std.specs.Prelude.{◌≡◌};
 ghost use Rattle.std.specs.Option.{option_copied};
 ghost use Rattle.coap_dedup.specs.Keys.{key_of};
@@ -8,21 +8,21 @@ use crate::key::Key;
 use coap_endpoint::Endpoint;
 use coap_message::Seq;
 
-/// For how long the record of a Confirmable message lives, in milliseconds: EXCHANGE_LIFETIME
-/// (RFC 7252, 4.8.2).
+/// The lifetime of the record of a Confirmable message, in milliseconds: EXCHANGE_LIFETIME (RFC
+/// 7252, 4.8.2).
 pub const EXCHANGE_LIFETIME: u64 = 247_000;
 
-/// For how long the record of a Non-confirmable message lives, in milliseconds: NON_LIFETIME
-/// (RFC 7252, 4.8.2).
+/// The lifetime of the record of a Non-confirmable message, in milliseconds: NON_LIFETIME (RFC
+/// 7252, 4.8.2).
 pub const NON_LIFETIME: u64 = 145_000;
 
-/// A message that was seen, and what was sent at once in reply to it.
+/// A message that was seen, and what was sent immediately in reply to it.
 pub struct Record {
-    /// Where the message came from.
+    /// The endpoint that the message came from.
     pub from: Endpoint,
-    /// Its message id.
+    /// Its Message ID.
     pub id: u16,
-    /// The moment at which it came, in milliseconds.
+    /// The time at which it arrived, in milliseconds.
     pub at: u64,
     /// The datagram that was sent in reply, if one was.
     pub reply: Option<Seq<u8>>,
@@ -40,7 +40,7 @@ impl Drop for Record {
 }
 
 impl Record {
-    /// A record, whose reply takes no more room than it has bytes.
+    /// A record, whose reply is shrunk to fit.
     pub(crate) fn new(from: Endpoint, id: u16, at: u64, reply: Option<Seq<u8>>) -> Record
         ensures { result ≡ record { from = from; id = id; at = at; reply = reply } }
     {
@@ -69,7 +69,7 @@ impl Record {
         }
     }
 
-    /// By what the message is known again.
+    /// The key of the message.
     pub(crate) fn key(&self) -> Key
         ensures { result ≡ key_of self.now }
     {
@@ -79,7 +79,7 @@ impl Record {
         }
     }
 
-    /// Whether less than a lifetime has passed since the message came.
+    /// Whether less than `lifetime` milliseconds have passed since the message arrived.
     pub(crate) fn is_living(&self, lifetime: u64, now: u64) -> bool
         ensures { result ≡ is_living lifetime now self.now }
     {

@@ -1,4 +1,4 @@
-//! Records of the messages of one kind.
+//! Records of messages of one type.
 ghost use Rattle.std.specs.Prelude.{◌≡◌, ◌↔◌, ◌==◌, ◌+◌, ◌<◌, ◌++◌, ◌∷◌, [], None, length, drop, slice_get, not, option_map, false, IfOk, IfErr, OnOk, OnErr};
 ghost use Rattle.std.specs.Option.{option_copied, option_map_or};
 ghost use Rattle.circular_buffer.specs.Buffer.{buffer};
@@ -19,20 +19,20 @@ use std::alloc::Global;
 use std::collections::BTreeMap;
 use std::marker::Model;
 
-/// Records of the messages of one kind, in order of keeping. A contract sees them as a list, with
-/// the most that are held and their lifetime. Moments are in milliseconds and don't go back.
+/// Records of messages of one type, in the order in which they were kept. A contract sees them as a
+/// list, with its limit and their lifetime. Times are in milliseconds and never decrease.
 ///
-/// A look-up and a `keep` cost what a look-up in the index does, whatever keys strangers choose;
-/// beside that each record is let go once.
+/// A lookup and a `keep` cost as much as a lookup in the index, whatever keys a peer chooses; in
+/// addition, each record is released once.
 pub struct Records {
-    /// The records, in as many places as the limit.
+    /// The records, in a buffer whose capacity is the limit.
     ring: HeapCircularBuffer<Record>,
-    /// A number for each record, one more than that of the record before it; after the greatest
-    /// comes 0.
+    /// A number for each record, one more than that of the record before it, wrapping around to 0
+    /// after the greatest.
     index: BTreeMap<Key, u64>,
-    /// The number of the first record; where there is none, that of the next.
+    /// The number of the first record, or of the next one if there is none.
     first: u64,
-    /// For how long each lives, in milliseconds.
+    /// How long each record lives, in milliseconds.
     lifetime: u64,
 }
 
@@ -64,7 +64,11 @@ impl Model for Records {
 }
 
 impl Records {
-    /// No records, with places for as many as the limit. Each will live for so many milliseconds.
+    /// No records, with room for `limit` of them, each of which will live for `lifetime`
+    /// milliseconds.
+    ///
+    /// # Errors
+    /// Out of memory.
     pub fn new(alloc: Global, limit: usize, lifetime: u64) -> Result<Records, OutOfMemory>
         ensures empty { IfOk result (λ records. records ≡ no_records limit lifetime) }
     {
@@ -76,8 +80,8 @@ impl Records {
         })
     }
 
-    /// Whether a message from this endpoint with this message id was seen, and what was replied
-    /// (RFC 7252, 4.5). It takes no memory.
+    /// Whether a message from this endpoint with this Message ID was seen before, and what was sent
+    /// in reply (RFC 7252, 4.5). Doesn't allocate.
     pub fn seen(&self, from: Endpoint, id: u16, now: u64) -> Seen<'_>
         ensures exact { told result
             ≡ option_map (λ r. r.reply) (record_of from id (living_at now self.now)) }
@@ -89,26 +93,26 @@ impl Records {
         }
     }
 
-    /// How many records live. It takes no memory.
+    /// The number of live records. Doesn't allocate.
     pub fn living(&self, now: u64) -> usize
         ensures exact { result ≡ length (living_at now self.now) }
     {
         self.ring.len() - count_dead(&self.ring, self.lifetime, now)
     }
 
-    /// Whether as many records live as there may be. It takes no memory.
+    /// Whether the number of live records has reached the limit. Doesn't allocate.
     pub fn is_full(&self, now: u64) -> bool
         ensures exact { result ≡ (length (living_at now self.now) == self.now.limit) }
     {
         self.ring.len() == self.ring.capacity() && !is_first_dead(&self.ring, self.lifetime, now)
     }
 
-    /// Keeps a record of a message that came now and wasn't seen, with the datagram that is sent in
-    /// reply to it, if one is (RFC 7252, 4.5). Records that no longer live are let go.
+    /// Keeps a record of a message that has just arrived and wasn't seen before, with the datagram
+    /// that is sent in reply to it, if there is one (RFC 7252, 4.5). Expired records are released.
     ///
     /// # Errors
-    /// 1. `Full` where as many records live as there may be. 2. `OutOfMemory`. Nothing is changed
-    /// then.
+    /// 1. `Full` if the number of live records has reached the limit. 2. `OutOfMemory`. In both
+    /// cases nothing is changed.
     pub fn keep(
         &mut self,
         from: Endpoint,
@@ -144,7 +148,7 @@ impl Records {
         Ok(())
     }
 
-    /// The record of a key, whether it lives or not.
+    /// The record with a key, whether it is live or has expired.
     fn record(&self, key: Key) -> Option<&Record>
         ensures found { option_copied result ≡ record_of key.from key.id self.now.items }
         ensures sound { AreRecords self.now }
@@ -155,7 +159,7 @@ impl Records {
     }
 }
 
-/// How many records don't live any more. They are the first ones.
+/// The number of expired records, which are the first ones.
 fn count_dead(ring: &HeapCircularBuffer<Record>, lifetime: u64, now: u64) -> usize
     requires { AreInOrder ring.now.items }
     ensures { result + length (living lifetime now ring.now.items) ≡ length ring.now.items }
@@ -173,7 +177,7 @@ fn count_dead(ring: &HeapCircularBuffer<Record>, lifetime: u64, now: u64) -> usi
     dead
 }
 
-/// Whether the record at a place lives.
+/// Whether the record at a position is live.
 fn lives_at(ring: &HeapCircularBuffer<Record>, place: usize, lifetime: u64, now: u64) -> bool
     ensures { result
         ≡ option_map_or (is_living lifetime now) (slice_get ring.now.items place) false }
@@ -184,7 +188,7 @@ fn lives_at(ring: &HeapCircularBuffer<Record>, place: usize, lifetime: u64, now:
     }
 }
 
-/// Whether the first record doesn't live any more.
+/// Whether the first record has expired.
 fn is_first_dead(ring: &HeapCircularBuffer<Record>, lifetime: u64, now: u64) -> bool
     ensures { result
         ≡ option_map_or (λ r. not (is_living lifetime now r)) (slice_get ring.now.items 0) false }
@@ -195,8 +199,8 @@ fn is_first_dead(ring: &HeapCircularBuffer<Record>, lifetime: u64, now: u64) -> 
     }
 }
 
-/// Lets the records go that don't live any more when the new one is kept, whose number the index
-/// has already.
+/// Releases the records that have expired when the new one is kept. The number of the new one is in
+/// the index already.
 fn release_dead(
     ring: &mut HeapCircularBuffer<Record>,
     index: &mut BTreeMap<Key, u64>,
@@ -216,7 +220,7 @@ fn release_dead(
     }
 }
 
-/// Lets the first record go, and its number, unless the new one is of the same message.
+/// Releases the first record, and removes its number unless the new record is of the same message.
 fn release_first(
     ring: &mut HeapCircularBuffer<Record>,
     index: &mut BTreeMap<Key, u64>,

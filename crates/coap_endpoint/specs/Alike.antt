@@ -1,4 +1,4 @@
--- What compares as equal is equal, and hashed alike.
+-- Values that compare as equal are equal, and feed a hasher the same.
 use Rattle.std.specs.Prelude.{◌≡◌, ℕ, true, refl, List, Option, Some, None, ◌==◌, ◌&&◌}
 use Rattle.std.proofs.Common.{ap, subst, eq-eqb}
 use Rattle.std.proofs.lemmas.Bool.{and_from}
@@ -17,32 +17,32 @@ use Rattle.coap_endpoint.specs.Hashing.{fed_endpoint, fed_target}
 bytes_same : (a b : List ℕ) → same_bytes a b ≡ true → a ≡ b
 bytes_same a b e = (pointwise_decides unsigned_Decides a b).0 e
 
--- and bytes are the same as themselves
+-- and bytes compare as equal to themselves
 bytes_itself : (a : List ℕ) → same_bytes a a ≡ true
 bytes_itself a = (pointwise_decides unsigned_Decides a a).1 refl
 
--- addresses
+-- so for addresses
 pub ip_same : (a b : Ip) → same_ip a b ≡ true → a ≡ b
 ip_same (V4 a) (V4 b) e = ap V4 (bytes_same a b e)
 ip_same (V6 a) (V6 b) e = ap V6 (bytes_same a b e)
 ip_same (V4 a) (V6 b) e = absurd cc
 ip_same (V6 a) (V4 b) e = absurd cc
 
--- endpoints
+-- for endpoints
 pub endpoint_same : (a b : Endpoint) → same_endpoint a b ≡ true → a ≡ b
 endpoint_same a b e =
     let ip = ip_same a.ip b.ip (first_so _ _ e) in
     let port = (unsigned_Decides a.port b.port).0 (second_so _ _ e) in
     λ i. record { ip = ip i; port = port i }
 
--- names, or none
+-- for names, or their absence
 name_same : (a b : Option (List ℕ)) → same_name a b ≡ true → a ≡ b
 name_same None None e = refl
 name_same (Some a) (Some b) e = ap Some (bytes_same a b e)
 name_same None (Some b) e = absurd cc
 name_same (Some a) None e = absurd cc
 
--- targets
+-- and for targets
 pub target_same : (a b : Target) → same_target a b ≡ true → a ≡ b
 target_same a b e =
     let rest = second_so _ _ e in
@@ -53,17 +53,17 @@ target_same a b e =
     let query = (same_pieces-Decides a.query b.query).0 (second_so _ _ lists) in
     λ i. record { host = host i; at = at i; path = path i; query = query i }
 
--- an address is the same as itself
+-- an address compares as equal to itself
 pub ip_itself : (a : Ip) → same_ip a a ≡ true
 ip_itself (V4 a) = bytes_itself a
 ip_itself (V6 a) = bytes_itself a
 
--- an endpoint
+-- so does an endpoint
 pub endpoint_itself : (a : Endpoint) → same_endpoint a a ≡ true
 endpoint_itself a =
     and_from (same_ip a.ip a.ip) (a.port == a.port) (ip_itself a.ip) (eq-eqb a.port a.port refl)
 
--- a name, or none
+-- a name, or its absence
 name_itself : (a : Option (List ℕ)) → same_name a a ≡ true
 name_itself None = refl
 name_itself (Some a) = bytes_itself a
@@ -88,12 +88,12 @@ pub targets_equiv : IsEquivalence same_target
 targets_equiv = decided same_target
     (λ a b. (target_same a b, λ e. subst (λ x. same_target a x ≡ true) e (target_itself a)))
 
--- equal endpoints are hashed alike
+-- equal endpoints feed a hasher the same
 pub endpoints_fed :
     (a b : Endpoint) → same_endpoint a b ≡ true → fed_endpoint a ≡ fed_endpoint b
 endpoints_fed a b e = ap fed_endpoint (endpoint_same a b e)
 
--- and equal targets
+-- and so do equal targets
 pub targets_fed :
     (a b : Target) → same_target a b ≡ true → fed_target a ≡ fed_target b
 targets_fed a b e = ap fed_target (target_same a b e)

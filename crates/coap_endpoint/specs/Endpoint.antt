@@ -1,4 +1,4 @@
--- When two endpoints are one.
+-- When two endpoints are equal.
 use Rattle.std.specs.Prelude.{Bool, false, ◌&&◌, ◌==◌, nat_eq}
 use Rattle.std.specs.Cmp.Lexicographic.{pointwise}
 use Rattle.coap_endpoint.specs.declared.endpoint.Ip.{Ip}

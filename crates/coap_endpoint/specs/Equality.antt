@@ -1,4 +1,4 @@
--- When targets are the same, part by part.
+-- When two targets are equal, part by part.
 use Rattle.std.specs.Prelude.{ℕ, Bool, true, false, ◌&&◌, nat_eq, List, Option, Some, None}
 use Rattle.std.specs.Cmp.Lexicographic.{pointwise}
 use Rattle.coap_endpoint.specs.declared.target.Target.{Target}

@@ -1,9 +1,9 @@
--- Targets whose parts fit the options that say them.
+-- Targets whose parts fit into the options that carry them.
 use Rattle.std.specs.Prelude.{ℕ, ◌≤◌, List, length, IfSome}
 use Rattle.std.specs.List.{AllByRecursion}
 use Rattle.coap_endpoint.specs.declared.target.Target.{Target}
 
--- hosts, segments and parts of a query have at most 255 bytes (RFC 7252, 5.10)
+-- hosts, path segments and query parts have at most 255 bytes (RFC 7252, 5.10)
 abbrev pub IsShort : List ℕ → Type 0
 IsShort bytes = length bytes ≤ 255
 

@@ -1,4 +1,4 @@
-//! Endpoints: an address and a port of UDP (RFC 7252, 1.2).
+//! Endpoints: an IP address and a UDP port (RFC 7252, 1.2).
 ghost use Rattle.std.specs.Cmp.{partial_equiv_from_equiv};
 ghost use Rattle.coap_endpoint.specs.Endpoint.{same_endpoint};
 ghost use Rattle.coap_endpoint.specs.Hashing.{fed_endpoint};
@@ -6,14 +6,14 @@ ghost use Rattle.coap_endpoint.specs.Alike.{endpoints_equiv, endpoints_fed};
 
 use std::hash::{Hash, Hasher};
 
-/// An IP address, its bytes in network order.
+/// An IP address, with its bytes in network order.
 #[derive(Clone, Copy, Debug, PartialEq, Eq, PartialOrd, Ord)]
 pub enum Ip {
     V4([u8; 4]),
     V6([u8; 16]),
 }
 
-/// An address and a port: where a datagram came from, or goes to.
+/// An address and a port: the source or the destination of a datagram.
 #[derive(Clone, Copy, Debug, PartialOrd, Ord)]
 pub struct Endpoint {
     pub ip: Ip,
@@ -34,7 +34,7 @@ impl PartialEq for Endpoint {
     }
 }
 
-/// In whole words of 8 bytes, which a hasher takes quickest.
+/// In whole words of 8 bytes, which a hasher processes fastest.
 impl Hash for Endpoint {
     ghost hash_input = { fed_endpoint };
 

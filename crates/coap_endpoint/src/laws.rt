@@ -6,7 +6,7 @@ ghost use Rattle.coap_endpoint.specs.declared.target.Target.{Target};
 ghost use Rattle.coap_endpoint.specs.Endpoint.{same_endpoint, same_ip};
 ghost use Rattle.coap_endpoint.specs.Equality.{same_target};
 
-/// What compares as equal is equal in all parts.
+/// Values that compare as equal are equal in all their parts.
 pub fn equal_is_the_same()
     ensures ips { (a b : Ip) → (same_ip a b ≡ true) ↔ (a ≡ b) }
     ensures endpoints { (a b : Endpoint) → (same_endpoint a b ≡ true) ↔ (a ≡ b) }

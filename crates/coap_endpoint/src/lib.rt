@@ -1,4 +1,4 @@
-//! Endpoints, and targets: the resources of origins that requests are for (RFC 7252, 1.2 and
+//! Endpoints, and targets: the resources on origin servers that requests are for (RFC 7252, 1.2 and
 //! 5.7.2).
 #![tactic(auto)]
 

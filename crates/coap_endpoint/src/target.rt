@@ -1,4 +1,4 @@
-//! Targets: the resource of an origin that a request is for (RFC 7252, 5.7.2).
+//! Targets: the resource on an origin server that a request is for (RFC 7252, 5.7.2).
 ghost use Rattle.std.specs.Prelude.{◌≡◌, IfOk, OnOk};
 ghost use Rattle.std.specs.Cmp.{partial_equiv_from_equiv};
 ghost use Rattle.coap_endpoint.specs.Equality.{same_target};
@@ -9,8 +9,8 @@ use crate::endpoint::Endpoint;
 use coap_message::{OutOfMemory, Pieces, Seq};
 use std::hash::{Hash, Hasher};
 
-/// A resource of an origin: the host by which it is asked for, none for an address; the endpoint;
-/// the segments of its path and the parts of its query, decoded.
+/// A resource on an origin server: the host name that it is requested by, or none for an address;
+/// the endpoint; and the segments of its path and the parts of its query, decoded.
 #[derive(Clone)]
 pub struct Target {
     pub host: Option<Seq<u8>>,
@@ -30,10 +30,10 @@ impl Drop for Target {
     }
 }
 
-/// Puts a copy of a host in place of another, whose room is used again.
+/// Overwrites `copy` with a copy of `host`, and reuses its room.
 ///
 /// # Errors
-/// Out of memory. Then the other may hold a part of the host.
+/// Out of memory. `copy` may then hold a part of the host.
 pub fn copy_host(host: &Option<Seq<u8>>, copy: &mut Option<Seq<u8>>) -> Result<(), OutOfMemory>
     ensures { OnOk result (copy.new ≡ host.now) }
 {
@@ -49,7 +49,7 @@ impl Eq for Target {
     ghost laws = { targets_equiv };
 }
 
-/// Part by part.
+/// Compares part by part.
 impl PartialEq for Target {
     ghost eq = { same_target };
 
@@ -64,10 +64,10 @@ impl PartialEq for Target {
 }
 
 impl Target {
-    /// Puts a copy in place of another target, whose room is used again.
+    /// Overwrites another target with a copy of this one, and reuses its room.
     ///
     /// # Errors
-    /// Out of memory. Then the other target holds parts of both.
+    /// Out of memory. The other target then holds parts of both.
     pub fn copy_to(&self, target: &mut Target) -> Result<(), OutOfMemory>
         ensures { OnOk result (target.new ≡ self.now) }
     {
@@ -79,7 +79,7 @@ impl Target {
         target.query.append(&self.query.iter())
     }
 
-    /// A copy, in no more room than it needs.
+    /// A copy that takes no more room than it needs.
     ///
     /// # Errors
     /// Out of memory.
@@ -90,7 +90,7 @@ impl Target {
     }
 }
 
-/// The endpoint, the sizes of the runs of bytes, and each run in one write.
+/// The endpoint, the sizes of the runs of bytes, and then each run in one write.
 impl Hash for Target {
     ghost hash_input = { fed_target };
 
@@ -110,9 +110,9 @@ impl Hash for Target {
     }
 }
 
-/// The sizes of the host, or 65,535 for none, of the path and of the query in one number. It tells
-/// them apart where the host has less bytes than that and the others less than 2^24, as those of a
-/// request have.
+/// The sizes of the host (65,535 if there is none), of the path and of the query, combined into one
+/// number. The number determines them if the host has fewer bytes than that and the others have
+/// fewer than 2^24, as they do in a request.
 fn sizes_word(host: usize, path: usize, query: usize) -> u64
     ensures { result ≡ sizes_word host path query }
 {

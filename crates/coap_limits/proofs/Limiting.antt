@@ -1,4 +1,4 @@
--- Limits of which none is at fault are within their ranges.
+-- Limits none of which is at fault are within their ranges.
 use Rattle.std.proofs.Common.{◌≡◌, Bool, true, false, leb, None, refl}
 use Rattle.std.specs.Prelude.{not}
 use Rattle.std.specs.List.{AllByRecursion}
@@ -19,7 +19,7 @@ allowed l limit e =
     let parts = and_parts (leb (range_of limit).0 (value_of l limit)) (leb (value_of l limit) (range_of limit).1) (not_out _ e) in
     (leb-true _ _ parts.0, leb-true _ _ parts.1)
 
--- none is missing in the list of all
+-- the list of all limits contains each
 each : (P : Limit → Type 0) → AllByRecursion P all_limits → (limit : Limit) → P limit
 each P all CacheBytes = all.0
 each P all CacheEntries = all.1.0
@@ -32,6 +32,6 @@ each P all Datagram = all.1.1.1.1.1.1.1.0
 each P all ExchangeMs = all.1.1.1.1.1.1.1.1.0
 each P all RetryS = all.1.1.1.1.1.1.1.1.1.0
 
--- limits of which none is at fault are limits
+-- limits none of which is at fault are within their ranges
 pub are-limits : (l : Limits) → first_fault l ≡ None → AreLimits l
 are-limits l e limit = allowed l limit (each (λ m. is_out l m ≡ false) (none-found (is_out l) all_limits e) limit)

@@ -1,4 +1,4 @@
--- The limits of a proxy, the range of each, and which is at fault.
+-- The limits of a proxy, the range of each, and which is out of range.
 use Rattle.std.specs.Prelude.{ℕ, ◌≤◌, ◌&&◌, Bool, not, nat_le, List, [], ◌∷◌, Option}
 use Rattle.std.specs.List.{find}
 use Rattle.coap_limits.specs.declared.limits.Limit.{Limit}
@@ -36,11 +36,11 @@ range_of Datagram = (128, 4096)
 range_of ExchangeMs = (1000, 600000)
 range_of RetryS = (0, 3600)
 
--- a limit may have this value
+-- the limit may have this value
 abbrev pub MayBe : Limit → ℕ → Type 0
 MayBe limit n = ((range_of limit).0 ≤ n) × (n ≤ (range_of limit).1)
 
--- each is within its range
+-- each limit is within its range
 abbrev pub AreLimits : Limits → Type 0
 AreLimits limits = (limit : Limit) → MayBe limit (value_of limits limit)
 
@@ -51,7 +51,7 @@ is_out l limit =
     not
     (nat_le (range_of limit).0 (value_of l limit) && nat_le (value_of l limit) (range_of limit).1)
 
--- in the order in which they are checked
+-- all limits, in the order in which they are checked
 abbrev pub all_limits : List Limit
 all_limits =
     CacheBytes ∷ CacheEntries ∷ ConRecords ∷ NonRecords ∷ Exchanges
@@ -61,7 +61,7 @@ all_limits =
 abbrev pub first_fault : Limits → Option Limit
 first_fault l = find (is_out l) all_limits
 
--- ---- what a proxy has that is told nothing else
+-- ---- defaults
 
 abbrev pub default_limits : Limits
 default_limits = record {

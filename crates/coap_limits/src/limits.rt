@@ -5,7 +5,7 @@ ghost use Rattle.coap_limits.specs.Limits.{AreLimits, default_limits, range_of, 
 use std::marker::Model;
 use thiserror::Error;
 
-/// Each limit, by its name.
+/// The names of the limits.
 #[derive(Clone, Copy, Debug, PartialEq, Eq)]
 pub enum Limit {
     CacheBytes,
@@ -24,7 +24,7 @@ pub enum Limit {
 #[derive(Clone, Copy, Debug, PartialEq, Eq, Error)]
 #[error("limit out of range")]
 pub struct LimitError {
-    /// The name of the first such limit, in the order of `Limit`.
+    /// The first such limit, in the order of `Limit`.
     pub name: Limit,
 }
 
@@ -74,25 +74,26 @@ impl Limit {
 /// Values for the limits, within their ranges or not.
 #[derive(Clone, Copy, Debug, PartialEq, Eq)]
 pub struct LimitValues {
-    /// The greatest size of the cache, in bytes.
+    /// The maximum size of the cache, in bytes.
     pub cache_bytes: u64,
-    /// The greatest number of entries in the cache.
+    /// The maximum number of entries in the cache.
     pub cache_entries: u64,
-    /// The greatest number of duplicate records of confirmable messages.
+    /// The maximum number of deduplication records of Confirmable messages.
     pub con_records: u64,
-    /// The greatest number of duplicate records of non-confirmable messages.
+    /// The maximum number of deduplication records of Non-confirmable messages.
     pub non_records: u64,
-    /// The greatest number of exchanges under way.
+    /// The maximum number of exchanges in progress.
     pub exchanges: u64,
-    /// The greatest number of clients that wait.
+    /// The maximum number of waiting clients.
     pub waiters: u64,
-    /// How many requests to one endpoint may be neither acknowledged nor answered (RFC 7252, 4.7).
+    /// The maximum number of outstanding requests to one endpoint: those that are neither
+    /// acknowledged nor answered (RFC 7252, 4.7).
     pub nstart: u64,
-    /// The greatest length of a datagram, in bytes.
+    /// The maximum length of a datagram, in bytes.
     pub datagram: u64,
     /// How long an exchange may take, in milliseconds.
     pub exchange_ms: u64,
-    /// After how long a refused client may try again, in seconds.
+    /// After how long a rejected client may retry, in seconds.
     pub retry_s: u64,
 }
 
@@ -124,7 +125,7 @@ impl LimitValues {
 }
 
 impl Default for LimitValues {
-    /// Those of a proxy that is told nothing else.
+    /// The limits of a proxy that isn't configured otherwise.
     fn default() -> LimitValues
         ensures exact { result ≡ default_limits }
     {
@@ -162,7 +163,7 @@ impl Model for Limits {
 }
 
 impl Limits {
-    /// Limits of these values, where each is within its range.
+    /// Limits with these values, if each is within its range.
     ///
     /// # Errors
     /// The first limit that is out of its range, in the order of `Limit`.
@@ -177,7 +178,7 @@ impl Limits {
         }
     }
 
-    /// The value of each, within its range.
+    /// The values, each within its range.
     pub fn values(&self) -> &LimitValues
         ensures exact { result.now ≡ self.now }
         ensures in_range { AreLimits self.now }

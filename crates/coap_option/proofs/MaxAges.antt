@@ -1,4 +1,4 @@
--- The Max-Age that is found fits four bytes.
+-- The Max-Age that is found fits into four bytes.
 use Rattle.std.proofs.Common.{◌≡◌, ◌==◌, ◌&&◌, ◌≤◌, Bool, true, false, cond, Some, List, [], ◌∷◌, length, find, nat_le, refl}
 use Rattle.std.proofs.lemmas.Bool.{and_parts, eqb-true, leb-true}
 use Rattle.std.specs.Option.{option_map}
@@ -14,7 +14,7 @@ length-max_age p holds =
     let fits : (nat_le 0 (length p.option.value) && nat_le (length p.option.value) 4 && p.before == 0) ≡ true = rw (eqb-true p.option.number 14 parts.0) at parts.1 in
     leb-true (length p.option.value) 4 (and_parts (nat_le 0 (length p.option.value)) (nat_le (length p.option.value) 4) (and_parts (nat_le 0 (length p.option.value) && nat_le (length p.option.value) 4) (p.before == 0) fits).0).1
 
--- so has the first of them
+-- so has the first one found
 pub length-first_max_age : (ps : List PlacedOption) (x : Opt) → option_map (λ p. p.option) (find (is_of Response 14) ps) ≡ Some x → length x.value ≤ 4
 length-first_max_age [] x found = absurd (cc)
 length-first_max_age (p ∷ ps) x found = go (is_of Response 14 p) refl (length-first_max_age ps x) found

@@ -1,4 +1,4 @@
--- One pass over options in order, which counts the options of the last number.
+-- One pass over options in order, which counts the options with the last number.
 use Rattle.std.proofs.Common.{◌≡◌, ◌==◌, ℕ, ◌+◌, ◌<◌, ◌≤◌, false, cond, List, [], ◌∷◌, ◌++◌, refl, sym, ap, subst, ◌∙◌, arith, eq-eqb, ⊎_elim}
 use Rattle.std.proofs.lemmas.Bool.{cases_eq, ne_eqb}
 use Rattle.std.proofs.lemmas.List.Sums.{sum_by-cons, sum_by_push}
@@ -10,12 +10,12 @@ use Rattle.coap_option.specs.declared.places.Run.{Run}
 use Rattle.coap_option.specs.Passing.{before_of, run_behind, places_after}
 use Rattle.coap_option.specs.Places.{PlacedOption, count_of, places, places_behind}
 
--- numbers don't go down
+-- numbers don't decrease
 last_number-le : (b : ℕ) (xs : List Opt) → AreOptions b xs → b ≤ last_number b xs
 last_number-le b [] are = omega arith
 last_number-le b (y ∷ ys) are = omega (arith, are.0, last_number-le y.number ys are.3)
 
--- no option has a number above the last
+-- no option has a number above the last one
 count_of-above : (n b : ℕ) (xs : List Opt) → AreOptions b xs → last_number b xs < n → count_of n xs ≡ 0
 count_of-above n b [] are above = refl
 count_of-above n b (y ∷ ys) are above =
@@ -24,7 +24,7 @@ count_of-above n b (y ∷ ys) are above =
     let rest : count_of n ys ≡ 0 = count_of-above n y.number ys are.3 above in
     rw (sum_by-cons (λ (o : Opt). cond (o.number == n) 1 0) y ys, other, rest) refl
 
--- the run after the options passed says how many of its number stand before the next option
+-- the run after the options passed gives how many with the same number precede the next option
 before_is : (passed : List Opt) (x : Opt) (run : Run) (before : ℕ) → AreOptions 0 passed → run.number ≡ last_number 0 passed → run.count ≡ count_of run.number passed → last_number 0 passed ≤ x.number → before ≡ cond (x.number == run.number) run.count 0 → before ≡ count_of x.number passed
 before_is passed x run before in_order number count le counted =
     ⊎_elim
@@ -33,11 +33,11 @@ before_is passed x run before in_order number count le counted =
     (rw (ne_eqb x.number run.number other) at counted) ∙ sym (count_of-above x.number 0 passed in_order above))
     (cases_eq x.number run.number)
 
--- an option with so many of its number before it
+-- an option with this many before it that have the same number
 abbrev placed : Opt → ℕ → PlacedOption
 placed o n = record { option = o; before = n }
 
--- the places of the options that are left, as they are counted in passing
+-- the places of the remaining options, as they are counted in the pass
 places_behind-after : (passed left : List Opt) (run : Run) → AreOptions 0 passed → AreOptions (last_number 0 passed) left → run.number ≡ last_number 0 passed → run.count ≡ count_of run.number passed
     → places_behind passed left ≡ places_after run left
 places_behind-after passed [] run are left number count = refl
@@ -48,6 +48,6 @@ places_behind-after passed (o ∷ os) run are left number count =
     let others = places_behind-after (passed ++ o ∷ []) os (run_behind run o) (AreOptions-push 0 passed o are left.0 left.1 left.2) (subst (λ (n : ℕ). AreOptions n os) (sym last) left.3) (sym last) more in
     ap (λ (n : ℕ). placed o n ∷ places_behind (passed ++ o ∷ []) os) (sym here) ∙ ap (λ (ps : List PlacedOption). record { option = o; before = before_of run o } ∷ ps) others
 
--- the places of a message's options
+-- the places of a message's options, as they are counted in the pass
 pub places-after : (options : List Opt) → AreOptions 0 options → places options ≡ places_after (record { number = 0; count = 0 }) options
 places-after options are = places_behind-after [] options (record { number = 0; count = 0 }) tt are refl refl

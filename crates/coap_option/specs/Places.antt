@@ -1,10 +1,11 @@
--- The options of a message, each in its place: with how many of its number stand before it.
+-- The options of a message, each in its place: with the number of options before it that have the
+-- same option number.
 use Rattle.std.specs.Prelude.{ℕ, Bool, ◌==◌, List, [], ◌∷◌, ◌++◌, count_by, length}
 use Rattle.coap_message.specs.declared.options.Opt.{Opt}
 use Rattle.coap_option.specs.declared.side.Side.{Side}
 use Rattle.coap_option.specs.Recognition.{is_recognised}
 
--- an option, and how many of its number stand before it
+-- an option, and the number of options before it that have the same option number
 pub record PlacedOption : Type 0 where
   pub option : Opt
   pub before : ℕ
@@ -13,7 +14,7 @@ pub record PlacedOption : Type 0 where
 abbrev pub count_of : ℕ → List Opt → ℕ
 count_of number options = count_by (λ o. o.number == number) options
 
--- the places of options that stand after those passed
+-- the places of the options that come after those passed
 abbrev pub places_behind : List Opt → List Opt → List PlacedOption
 places_behind passed [] = []
 places_behind passed (o ∷ os) =

@@ -1,4 +1,5 @@
--- Which options of a message are sent on, are part of the key, or say how it is cached.
+-- Which options of a message are forwarded, are part of the cache key, or determine how it is
+-- cached.
 use Rattle.std.specs.Prelude.{ℕ, Bool, ◌==◌, ◌&&◌, ◌||◌, not, List, [], ◌∷◌, filter, find, map}
 use Rattle.std.specs.List.{list_any}
 use Rattle.std.specs.Option.{option_map_or}
@@ -15,26 +16,26 @@ use Rattle.coap_option.specs.Classes.{is_no_cache_key}
 use Rattle.coap_option.specs.Places.{PlacedOption, places, is_recognised_at}
 use Rattle.coap_option.specs.Side.{side_of}
 
--- the options in places for which the test holds, in order
+-- the options for which, in their places, the test holds, in order
 abbrev pub selected : (PlacedOption → Bool) → List Opt → List Opt
 selected test options = map (λ p. p.option) (filter test (places options))
 
--- what these say is used up at the proxy (RFC 7252, 5.7 and 5.10.2; RFC 7641, 2)
+-- the options that the proxy consumes (RFC 7252, 5.7 and 5.10.2; RFC 7641, 2)
 abbrev pub used_up : List ℕ
 used_up =
     URI_HOST ∷ OBSERVE ∷ URI_PORT ∷ URI_PATH ∷ MAX_AGE ∷ URI_QUERY ∷ PROXY_URI ∷ PROXY_SCHEME ∷ []
 
--- an ETag of a GET, which the proxy answers itself (RFC 7252, 5.10.6.2)
+-- an ETag in a GET, which the proxy handles itself (RFC 7252, 5.10.6.2)
 abbrev pub is_tag_of_get : Code → ℕ → Bool
 is_tag_of_get code number = is_code code GET && number == ETAG
 
--- the option of a request stays at the proxy: it is recognised, and one of those
+-- the option of a request isn't forwarded: it is recognised, and one of those
 abbrev pub stays : Code → PlacedOption → Bool
 stays code p =
     is_recognised_at Request p
     && (list_any (λ n. n == p.option.number) used_up || is_tag_of_get code p.option.number)
 
--- the options of a request that are sent on
+-- the options of a request that are forwarded
 abbrev pub sent_on : Message → List Opt
 sent_on m = selected (λ p. not (stays m.code p)) m.options
 
@@ -46,7 +47,7 @@ is_key code p = not (stays code p) && not (is_no_cache_key p.option.number)
 abbrev pub key_of : Message → List Opt
 key_of m = selected (is_key m.code) m.options
 
--- a recognised option of this side and number
+-- a recognised option with this number, on this side
 abbrev pub is_of : Side → ℕ → PlacedOption → Bool
 is_of side number p = p.option.number == number && is_recognised_at side p
 
@@ -54,7 +55,7 @@ is_of side number p = p.option.number == number && is_recognised_at side p
 abbrev pub tags_of : Message → List (List ℕ)
 tags_of m = map (λ p. p.option.value) (filter (is_of (side_of m.code) ETAG) (places m.options))
 
--- the recognised Max-Age of a response, in seconds: 60 where it has none (RFC 7252, 5.10.5)
+-- the recognised Max-Age of a response, in seconds, or 60 if it has none (RFC 7252, 5.10.5)
 abbrev pub max_age_of : Message → ℕ
 max_age_of m =
     option_map_or (λ p. uint_of p.option.value) (find (is_of Response MAX_AGE) (places m.options))

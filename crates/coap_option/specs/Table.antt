@@ -1,13 +1,14 @@
 -- The options that are recognised (RFC 7252, 5.10; Observe: RFC 7641, 2).
--- Max-Age stands for requests too, so that it is taken off there and doesn't refuse the request.
+-- Max-Age is recognised in requests too, so that it is removed there instead of causing a
+-- rejection.
 use Rattle.std.specs.Prelude.{◌==◌, ℕ, List, [], ◌∷◌, Option, find}
 use Rattle.coap_option.specs.declared.numbers.TheConstants.{IF_MATCH, URI_HOST, ETAG, IF_NONE_MATCH, OBSERVE, URI_PORT, LOCATION_PATH, URI_PATH, CONTENT_FORMAT, MAX_AGE, URI_QUERY, ACCEPT, LOCATION_QUERY, PROXY_URI, PROXY_SCHEME, SIZE1}
 use Rattle.coap_option.specs.declared.table.Row.{Row}
 use Rattle.coap_option.specs.declared.table.Times.{Times}
 use Rattle.coap_option.specs.declared.table.Times.TheVariants.{Never, Once, Many}
 
--- number; how often in a request, and in a response; least and greatest length of the value, in
--- bytes
+-- number; how often it may occur in a request, and in a response; least and greatest length of the
+-- value, in bytes
 abbrev pub entry : ℕ → Times → Times → ℕ → ℕ → Row
 entry number requests responses shortest longest =
     record {
@@ -38,6 +39,6 @@ option_table =
     ∷ entry SIZE1 Once Once 0 4
     ∷ []
 
--- the row of a number, where it has one
+-- the row with a number, if there is one
 abbrev pub row_of : ℕ → Option Row
 row_of number = find (λ r. r.number == number) option_table

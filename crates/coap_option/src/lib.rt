@@ -1,5 +1,6 @@
-//! What a proxy makes of CoAP options: their classes, which of them it recognises, which messages
-//! it refuses for their options, and which options it sends on (RFC 7252, 5.4, 5.6, 5.7 and 5.10).
+//! How a proxy treats CoAP options: their classes, which of them it recognises, which messages it
+//! rejects because of their options, and which options it forwards (RFC 7252, 5.4, 5.6, 5.7 and
+//! 5.10).
 #![tactic(auto)]
 
 mod classes;

@@ -1,6 +1,6 @@
-//! One pass over the options of a message, each in its place: with how many of its number stand
-//! before it. Options come in order of number (RFC 7252, 3.1), so that a pass which looks for
-//! certain numbers begins and ends with those.
+//! One pass over the options of a message, each in its place: with the number of options before it
+//! that have the same option number. Options come in order of number (RFC 7252, 3.1), so a pass
+//! that looks for certain numbers begins and ends with those.
 ghost use Rattle.std.specs.Prelude.{◌≡◌, ◌≢◌, ◌==◌, ◌+◌, ◌-◌, ◌^◌, ◌<◌, if◌then◌else◌, filter, find, map, [], IfOk, OnOk, OnErr};
 ghost use Rattle.std.specs.Option.{option_map};
 ghost use Rattle.coap_message.specs.OptRef.{seen};
@@ -15,27 +15,27 @@ use coap_message::{OptRef, OptRefs, OptionList, Options, OutOfMemory, Pieces};
 use std::alloc::Global;
 use std::marker::Model;
 
-/// A question about an option in its place.
+/// A test of an option in its place.
 pub(crate) trait Test {
     ghost use Rattle.std.specs.Prelude.{Bool};
     ghost use Rattle.coap_message.specs.OptRef.{seen};
 
     ghost holds: { Self → PlacedOption → Bool };
 
-    /// Whether it holds of an option after so many of its number, of which the row says what is
-    /// known.
+    /// Whether it holds for an option that follows `before` options with the same number. The row
+    /// is that of its number.
     fn holds_of(&self, option: OptRef<'_>, before: usize, row: Option<Row>) -> bool
         requires { row ≡ row_of option.number }
         ensures { result
             ≡ holds self.now (record { option = seen option.entry; before = before }) };
 
-    /// The least and the greatest number of the options of which it can hold.
+    /// The least and the greatest number of the options for which it can hold.
     fn numbers(&self) -> (u16, u16)
         ensures { HoldsWithin (holds self.now) result.0 result.1 };
 }
 
-/// How many options of the last number were passed. Options come in order of number, so those of
-/// one number are neighbours (RFC 7252, 3.1).
+/// The number of the last option passed, and how many options with it were passed. Options come in
+/// order of number, so those with the same number are adjacent (RFC 7252, 3.1).
 #[derive(Clone, Copy)]
 struct Run {
     number: u16,
@@ -43,7 +43,7 @@ struct Run {
 }
 
 impl Run {
-    /// No option was passed.
+    /// No option has been passed.
     fn new() -> Run
         ensures { result ≡ record { number = 0; count = 0 } }
     {
@@ -53,7 +53,8 @@ impl Run {
         }
     }
 
-    /// How many options of this number were passed. It is passed too.
+    /// Passes an option with this number, and returns how many with the same number were passed
+    /// before it.
     fn pass(&mut self, number: u16) -> usize
         requires { self.old.count < 2 ^ 64 - 1 }
         ensures before { result ≡ (if number == self.old.number then self.old.count else 0) }
@@ -66,7 +67,7 @@ impl Run {
     }
 }
 
-/// What is known of options of a number: what was known of the last option, if it was of it too.
+/// The row of a number, which is that of the last option if that has the same number.
 fn row_after(last: Run, row: Option<Row>, number: u16) -> Option<Row>
     requires { row ≡ row_of last.number }
     ensures { result ≡ row_of number }
@@ -78,7 +79,8 @@ fn row_after(last: Run, row: Option<Row>, number: u16) -> Option<Row>
     }
 }
 
-/// The options that are left for which a test holds, in order. A contract sees the list.
+/// An iterator over the remaining options for which a test holds, in order. A contract sees the
+/// list.
 #[derive(Drop)]
 pub(crate) struct Picked<'a, 't, T: Test> {
     left: OptRefs<'a>,
@@ -128,7 +130,7 @@ impl<'a, 't, T: Test> Iterator for Picked<'a, 't, T> {
 }
 
 impl<'a, 't, T: Test> Picked<'a, 't, T> {
-    /// The options for which the test holds, one by one.
+    /// An iterator over the options for which the test holds.
     fn of(options: &Options<'a>, test: &'t T) -> Picked<'a, 't, T>
         ensures list { result ≡ selected (T.holds test.now) options.now }
         ensures in_order { AreOptions 0 (selected (T.holds test.now) options.now) }
@@ -152,7 +154,7 @@ pub(crate) fn first<'a, T: Test>(options: &Options<'a>, test: &T) -> Option<OptR
     picked.next()
 }
 
-/// Puts the options for which the test holds, in order, in place of those of a list.
+/// Replaces the options of a list by those for which the test holds, in order.
 pub(crate) fn select_into<T: Test>(
     list: &mut OptionList,
     options: &Options<'_>,
@@ -183,7 +185,7 @@ pub(crate) fn select<T: Test>(
     Ok(list)
 }
 
-/// Puts the values of the options for which the test holds, in order, in place of those of a list.
+/// Replaces the values of a list by those of the options for which the test holds, in order.
 pub(crate) fn values_into<T: Test>(
     list: &mut Pieces,
     options: &Options<'_>,

@@ -10,17 +10,18 @@ use crate::side::Side;
 use crate::table::Row;
 use coap_message::OptRef;
 
-/// Whether an option is recognised: it is defined for this side, its value's length, in bytes, is
-/// in the range of its definition (RFC 7252, 5.4.3), and it is repeatable on this side or the first
-/// of its number (RFC 7252, 5.4.5). `before` is how many options of its number stand earlier in the
-/// message.
+/// Whether an option is recognised: it is defined for this side, the length of its value, in bytes,
+/// is in the range of its definition (RFC 7252, 5.4.3), and it is repeatable on this side or is the
+/// first with its number (RFC 7252, 5.4.5). `before` is the number of earlier options in the
+/// message that have the same option number.
 pub fn recognised(side: Side, number: u16, length: usize, before: usize) -> bool
     ensures { result ≡ is_recognised side number length before }
 {
     is_known(Row::of(number), side, length, before)
 }
 
-/// Whether an option is recognised after so many of its number, of which the row says what is known.
+/// Whether an option that follows `before` options with the same number is recognised. The row is
+/// that of its number.
 pub(crate) fn option_recognised(
     side: Side,
     option: OptRef<'_>,
@@ -34,7 +35,7 @@ pub(crate) fn option_recognised(
     is_known(row, side, option.value.len(), before)
 }
 
-/// Whether an option with a value of this length is recognised, by what is known of its number.
+/// Whether an option with a value of this length is recognised, by the row of its number.
 fn is_known(row: Option<Row>, side: Side, length: usize, before: usize) -> bool
     ensures { result ≡ option_map_or (λ row. recognises row side length before) row false }
 {

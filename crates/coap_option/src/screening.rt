@@ -1,4 +1,4 @@
-//! Messages that a proxy refuses for an option (RFC 7252, 5.4.1, 5.4.2 and 5.7.1).
+//! Messages that a proxy rejects because of an option (RFC 7252, 5.4.1, 5.4.2 and 5.7.1).
 ghost use Rattle.std.specs.Prelude.{◌≡◌, OnOk, IfErr};
 ghost use Rattle.coap_option.specs.Screening.{is_refused, first_refused};
 
@@ -33,8 +33,8 @@ impl Test for Refused {
     }
 }
 
-/// Refuses a request for its first option that is unsafe and not recognised (RFC 7252, 5.7.1: a
-/// proxy answers it with 4.02).
+/// Rejects a request because of its first option that is unsafe and not recognised (RFC 7252,
+/// 5.7.1: a proxy responds with 4.02).
 ///
 /// # Errors
 /// The number of that option.
@@ -46,7 +46,7 @@ pub fn screen_request(message: &Message) -> Result<(), BadOption>
     screen(Side::Request, &message.options.lent())
 }
 
-/// The same of a request that is read where it lies.
+/// The same for a request that is borrowed.
 ///
 /// # Errors
 /// The number of its first option that is unsafe and not recognised.
@@ -58,8 +58,8 @@ pub fn screen_request_ref(message: &MessageRef<'_>) -> Result<(), BadOption>
     screen(Side::Request, &message.option_list())
 }
 
-/// Refuses a response for its first option that is unsafe and not recognised (RFC 7252, 5.7.1: a
-/// proxy answers 5.02 in its place).
+/// Rejects a response because of its first option that is unsafe and not recognised (RFC 7252,
+/// 5.7.1: a proxy sends 5.02 instead).
 ///
 /// # Errors
 /// The number of that option.
@@ -71,7 +71,7 @@ pub fn screen_response(message: &Message) -> Result<(), BadOption>
     screen(Side::Response, &message.options.lent())
 }
 
-/// The same of a response that is read where it lies.
+/// The same for a response that is borrowed.
 ///
 /// # Errors
 /// The number of its first option that is unsafe and not recognised.
@@ -83,7 +83,8 @@ pub fn screen_response_ref(message: &MessageRef<'_>) -> Result<(), BadOption>
     screen(Side::Response, &message.option_list())
 }
 
-/// Refuses the options of a message of this side for the first that is unsafe and not recognised.
+/// Rejects the options of a message of this side because of the first that is unsafe and not
+/// recognised.
 fn screen(side: Side, options: &Options<'_>) -> Result<(), BadOption>
     ensures ok { OnOk result (first_refused side options.now ≡ None) }
     ensures err { IfErr result (λ bad. first_refused side options.now ≡ Some bad.number) }

@@ -1,5 +1,5 @@
-//! Which options of a message are sent on, are part of the cache key, or say how it is cached
-//! (RFC 7252, 5.4.2, 5.6, 5.7 and 5.10).
+//! Which options of a message are forwarded, are part of the cache key, or determine how it is
+//! cached (RFC 7252, 5.4.2, 5.6, 5.7 and 5.10).
 ghost use Rattle.std.specs.Prelude.{◌≡◌, ◌≢◌, [], IfOk, OnOk, OnErr, not};
 ghost use Rattle.coap_option.specs.Selection.{is_key, is_of, key_of, max_age_of, sent_on, stays, tags_of};
 
@@ -15,7 +15,8 @@ use std::alloc::Global;
 /// The Max-Age of a response that has none, in seconds (RFC 7252, 5.10.5).
 const DEFAULT_MAX_AGE: u32 = 60;
 
-/// In a request with this code, sent on: not recognised, or not one that stays at the proxy.
+/// In a request with this code: forwarded, because it isn't recognised or isn't consumed by the
+/// proxy.
 #[derive(Clone, Copy)]
 struct Forwarded(Code);
 
@@ -43,7 +44,7 @@ impl Test for Forwarded {
     }
 }
 
-/// In a request with this code, sent on and part of the cache key.
+/// In a request with this code: forwarded, and part of the cache key.
 #[derive(Clone, Copy)]
 struct InKey(Code);
 
@@ -59,7 +60,7 @@ impl Test for InKey {
     }
 }
 
-/// Recognised on this side, and of this number.
+/// Recognised on this side, and with this number.
 #[derive(Clone, Copy)]
 struct OfNumber {
     side: Side,
@@ -78,12 +79,12 @@ impl Test for OfNumber {
     }
 }
 
-/// The options of a request that are sent on, in order: all but the recognised ones of Uri-Host,
-/// Observe, Uri-Port, Uri-Path, Max-Age, Uri-Query, Proxy-Uri and Proxy-Scheme, and in a GET all
-/// but the recognised ETags, too.
+/// The options of a request that are forwarded, in order: all except the recognised ones among
+/// Uri-Host, Observe, Uri-Port, Uri-Path, Max-Age, Uri-Query, Proxy-Uri and Proxy-Scheme, and in a
+/// GET also except the recognised ETags.
 ///
 /// # Errors
-/// Out of memory; where no option is sent on, none is taken.
+/// Out of memory. Nothing is allocated if no option is forwarded.
 pub fn forward_options(alloc: Global, message: &Message) -> Result<OptionList, OutOfMemory>
     ensures ok { IfOk result (λ list. list ≡ sent_on message.now) }
     ensures err { OnErr result (sent_on message.now ≢ []) }
@@ -91,11 +92,11 @@ pub fn forward_options(alloc: Global, message: &Message) -> Result<OptionList, O
     select(alloc, &message.options.lent(), &Forwarded(message.code))
 }
 
-/// The options of a request that are part of its cache key, in order: those that are sent on, less
-/// the NoCacheKey ones (RFC 7252, 5.4.2 and 5.6).
+/// The options of a request that are part of its cache key, in order: those that are forwarded,
+/// without the NoCacheKey ones (RFC 7252, 5.4.2 and 5.6).
 ///
 /// # Errors
-/// Out of memory; for an empty key, none is taken.
+/// Out of memory. Nothing is allocated for an empty key.
 pub fn key_options(alloc: Global, message: &Message) -> Result<OptionList, OutOfMemory>
     ensures ok { IfOk result (λ list. list ≡ key_of message.now) }
     ensures err { OnErr result (key_of message.now ≢ []) }
@@ -103,11 +104,11 @@ pub fn key_options(alloc: Global, message: &Message) -> Result<OptionList, OutOf
     select(alloc, &message.options.lent(), &InKey(message.code))
 }
 
-/// Puts the options of a request that are part of its cache key in place of those of a list, whose
-/// room is used again.
+/// Replaces the options of a list by those of a request that are part of its cache key, and reuses
+/// the room of the list.
 ///
 /// # Errors
-/// Out of memory. Then the list holds some of them.
+/// Out of memory. The list then holds some of them.
 pub fn key_options_into(list: &mut OptionList, message: &MessageRef<'_>) -> Result<(), OutOfMemory>
     ensures ok { OnOk result (list.new ≡ key_of message.now) }
     ensures err { OnErr result (key_of message.now ≢ []) }
@@ -115,11 +116,11 @@ pub fn key_options_into(list: &mut OptionList, message: &MessageRef<'_>) -> Resu
     select_into(list, &message.option_list(), &InKey(message.code()))
 }
 
-/// The values of the recognised ETags, in order: of a request any number, of a response the first
-/// alone, and that only if its length is in range (RFC 7252, 5.10.6).
+/// The values of the recognised ETags, in order: of a request, any number of them; of a response,
+/// only the first, and only if its length is in range (RFC 7252, 5.10.6).
 ///
 /// # Errors
-/// Out of memory; without a recognised ETag, none is taken.
+/// Out of memory. Nothing is allocated if there is no recognised ETag.
 pub fn tags(alloc: Global, message: &Message) -> Result<Pieces, OutOfMemory>
     ensures ok { IfOk result (λ tags. tags ≡ tags_of message.now) }
     ensures err { OnErr result (tags_of message.now ≢ []) }
@@ -130,10 +131,10 @@ pub fn tags(alloc: Global, message: &Message) -> Result<Pieces, OutOfMemory>
     Ok(list)
 }
 
-/// Puts the values of the recognised ETags in place of those of a list, whose room is used again.
+/// Replaces the values of a list by those of the recognised ETags, and reuses the room of the list.
 ///
 /// # Errors
-/// Out of memory. Then the list holds some of them.
+/// Out of memory. The list then holds some of them.
 pub fn tags_into(list: &mut Pieces, message: &MessageRef<'_>) -> Result<(), OutOfMemory>
     ensures ok { OnOk result (list.new ≡ tags_of message.now) }
     ensures err { OnErr result (tags_of message.now ≢ []) }
@@ -145,7 +146,7 @@ pub fn tags_into(list: &mut Pieces, message: &MessageRef<'_>) -> Result<(), OutO
     values_into(list, &message.option_list(), &tag)
 }
 
-/// The recognised Max-Age of a response, in seconds: 60 where it has none (RFC 7252, 5.10.5).
+/// The recognised Max-Age of a response, in seconds, or 60 if it has none (RFC 7252, 5.10.5).
 pub fn max_age(message: &Message) -> u32
     ensures { result ≡ max_age_of message.now }
 {

@@ -13,8 +13,8 @@ pub enum Side {
 impl Side {
     ghost use Rattle.coap_option.specs.Side.{side_of};
 
-    /// The side of a message with this code: a code of class 0 is that of a request, each other
-    /// that of a response.
+    /// The side of a message with this code: requests for a code of class 0, responses for any
+    /// other.
     pub fn of(code: Code) -> Side
         ensures { result ≡ side_of code }
     {

@@ -4,7 +4,7 @@ ghost use Rattle.std.specs.Prelude.{◌≡◌};
 use crate::numbers;
 use crate::side::Side;
 
-/// How often an option may stand in one message of a side (RFC 7252, 5.4.5).
+/// How often an option may occur in one message of a side (RFC 7252, 5.4.5).
 #[derive(Clone, Copy)]
 pub(crate) enum Times {
     Never,
@@ -15,7 +15,7 @@ pub(crate) enum Times {
 impl Times {
     ghost use Rattle.coap_option.specs.Recognition.{may_stand};
 
-    /// Whether one more may stand after so many of them.
+    /// Whether one more may follow `before` of them.
     fn allows(self, before: usize) -> bool
         ensures { result ≡ may_stand self before }
     {
@@ -27,8 +27,8 @@ impl Times {
     }
 }
 
-/// What is known of an option: how often it may stand in a request and in a response, and the least
-/// and the greatest length of its value.
+/// The definition of an option: its number, how often it may occur in a request and in a response,
+/// and the least and the greatest length of its value, in bytes.
 #[derive(Clone, Copy)]
 pub(crate) struct Row {
     number: u16,
@@ -42,7 +42,7 @@ impl Row {
     ghost use Rattle.coap_option.specs.Table.{row_of};
     ghost use Rattle.coap_option.specs.Recognition.{times_of, recognises};
 
-    /// What is known of an option of this number, if it is defined at all.
+    /// The definition of the option with this number, if it is defined at all.
     pub(crate) fn of(number: u16) -> Option<Row>
         ensures { result ≡ row_of number }
     {
@@ -74,7 +74,7 @@ impl Row {
         })
     }
 
-    /// How often the option may stand in a message of this side.
+    /// How often the option may occur in a message of this side.
     fn times(self, side: Side) -> Times
         ensures { result ≡ times_of side self }
     {
@@ -84,8 +84,8 @@ impl Row {
         }
     }
 
-    /// Whether an option with a value of this length is allowed on this side, after so many of its
-    /// number.
+    /// Whether an option with a value of this length, in bytes, is allowed on this side after
+    /// `before` options with the same number.
     pub(crate) fn recognises(self, side: Side, length: usize, before: usize) -> bool
         ensures { result ≡ recognises self side length before }
     {

@@ -1,4 +1,4 @@
--- The store that is kept as a list keeps its word.
+-- The store as a plain list satisfies the invariant of a store.
 use Rattle.std.proofs.Common.{◌≡◌, List, sym, subst}
 use Rattle.coap_store_list.specs.declared.list_store.ListStore.{ListStore}
 use Rattle.coap_store.specs.Entries.{Entry, Limits, IsStore}
@@ -7,7 +7,7 @@ use Rattle.coap_store.specs.Entries.{Entry, Limits, IsStore}
 abbrev pub limits_of : ListStore → Limits
 limits_of s = record { bytes = s.most_bytes; entries = s.most_entries }
 
--- it keeps within its limits, and keys are distinct
+-- it stays within its limits, and its keys are distinct
 pub is_store : (s : ListStore) → IsStore (limits_of s) s.entries.items
 is_store s = record { distinct = s.distinct; within_bytes = s.within_bytes; within_entries = s.within_entries }
 

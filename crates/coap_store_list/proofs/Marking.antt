@@ -9,6 +9,6 @@ module _ {X : Type 0} (f : X → X) where
   read-behind (x ∷ xs) zero d = refl
   read-behind (x ∷ xs) (suc i) d = read-behind xs i d
 
-  -- the element that comes is the one of the list as it was
+  -- the next element is the one of the original list
   pub comes : (xs ys : List X) (i : ℕ) (x : X) → ys ≡ map f (take i xs) ++ drop i xs → x ≡ get_or ys i x → get_or xs i x ≡ x
   comes xs ys i x so_far is = sym (is ∙ ap (λ l. get_or l i x) so_far ∙ read-behind xs i x)

@@ -8,11 +8,13 @@ use coap_message::OutOfMemory;
 use coap_store::{CacheKey, Put, Store, Stored, bytes_of};
 use std::alloc::Global;
 
-/// A store that keeps its entries as a list, the most recently used first, and walks it for each
+/// A store that keeps its entries in a list, the most recently used first, and searches it in each
 /// call.
 pub struct ListStore {
     entries: Vec<(CacheKey, Stored)>,
+    /// The maximum number of bytes that the entries may count for.
     most_bytes: u64,
+    /// The maximum number of entries.
     most_entries: usize,
     ghost distinct: { are_distinct entry_key entries.items ≡ true },
     ghost within_bytes: { total entry_size entries.items ≤ most_bytes },
@@ -92,14 +94,14 @@ impl Store for ListStore {
     }
 }
 
-/// The place of the entry of a key.
+/// The position of the entry with a key.
 fn place_of(entries: &[(CacheKey, Stored)], key: &CacheKey) -> Option<usize>
     ensures { result ≡ position (has_key entry_key key.now) entries.now }
 {
     entries.iter().position(|entry| entry.0 == *key)
 }
 
-/// Takes out the entry of a key. There is room for another then.
+/// Removes the entry with a key. There is then room for another.
 fn take_out(entries: &mut Vec<(CacheKey, Stored)>, key: &CacheKey) -> Option<(CacheKey, Stored)>
     requires { are_distinct entry_key entries.old.items ≡ true }
     ensures entry { result ≡ of_key entry_key key.now entries.old.items }
@@ -112,7 +114,7 @@ fn take_out(entries: &mut Vec<(CacheKey, Stored)>, key: &CacheKey) -> Option<(Ca
     }
 }
 
-/// Puts an entry first, where there is room for it.
+/// Puts an entry first. There must be room for it.
 fn put_back(entries: &mut Vec<(CacheKey, Stored)>, entry: (CacheKey, Stored))
     requires { vec_len entries.old < vec_capacity entries.old }
     ensures { entries.new.items ≡ entry ∷ entries.old.items }
@@ -122,7 +124,7 @@ fn put_back(entries: &mut Vec<(CacheKey, Stored)>, entry: (CacheKey, Stored))
     }
 }
 
-/// Takes out the entry of a key and lets it go. Says whether there was one: then there is room for
+/// Removes the entry with a key and drops it. Returns whether there was one; there is then room for
 /// another.
 fn forget_entry(entries: &mut Vec<(CacheKey, Stored)>, key: &CacheKey) -> bool
     requires { are_distinct entry_key entries.old.items ≡ true }
@@ -133,7 +135,7 @@ fn forget_entry(entries: &mut Vec<(CacheKey, Stored)>, key: &CacheKey) -> bool
     take_out(entries, key).is_some()
 }
 
-/// Puts an entry first, in place of the one of its key.
+/// Puts an entry first, replacing the one with its key.
 fn put_entry(
     entries: &mut Vec<(CacheKey, Stored)>,
     key: CacheKey,
@@ -153,7 +155,7 @@ fn put_entry(
     Ok(())
 }
 
-/// The number of entries from the first on that keep within the limits.
+/// The number of entries from the front that are within the limits.
 fn count_fitting(entries: &[(CacheKey, Stored)], bytes: u64, most: usize) -> usize
     requires { bytes < 2 ^ 63 }
     ensures { take result entries.now ≡ cut entry_size bytes most entries.now }
@@ -171,7 +173,7 @@ fn count_fitting(entries: &[(CacheKey, Stored)], bytes: u64, most: usize) -> usi
     count
 }
 
-/// Gives up the entries after those that keep within the limits.
+/// Evicts the entries after those that are within the limits.
 fn cut_to(entries: &mut Vec<(CacheKey, Stored)>, bytes: u64, most: usize)
     requires { bytes < 2 ^ 63 }
     ensures { entries.new.items ≡ cut entry_size bytes most entries.old.items }
@@ -180,7 +182,7 @@ fn cut_to(entries: &mut Vec<(CacheKey, Stored)>, bytes: u64, most: usize)
     entries.truncate(count);
 }
 
-/// Moves the entry of a key to the front.
+/// Moves the entry with a key to the front.
 fn use_entry(entries: &mut Vec<(CacheKey, Stored)>, key: &CacheKey)
     requires { are_distinct entry_key entries.old.items ≡ true }
     ensures { entries.new.items ≡ used entry_key key.now entries.old.items }
@@ -191,7 +193,7 @@ fn use_entry(entries: &mut Vec<(CacheKey, Stored)>, key: &CacheKey)
     }
 }
 
-/// Marks the entry, if it is one of this target, and says whether it is.
+/// Marks the entry if it is for this target, and returns whether it is.
 fn mark_entry(entry: &mut (CacheKey, Stored), target: &Target) -> bool
     ensures answer { result ≡ is_for target.now entry.old }
     ensures marked { entry.new ≡ marked target.now entry.old }
@@ -203,7 +205,7 @@ fn mark_entry(entry: &mut (CacheKey, Stored), target: &Target) -> bool
     is_for
 }
 
-/// Marks the entries of a target, wherever they stand, and counts them.
+/// Marks the entries for a target, wherever they are, and counts them.
 fn mark_all(entries: &mut Vec<(CacheKey, Stored)>, target: &Target) -> usize
     ensures counted { result ≡ count_by (is_for target.now) entries.old.items }
     ensures marked { entries.new.items ≡ map (marked target.now) entries.old.items }
@@ -211,7 +213,7 @@ fn mark_all(entries: &mut Vec<(CacheKey, Stored)>, target: &Target) -> usize
     mark_entries(entries, target)
 }
 
-/// Marks those of some entries that are of a target, and counts them.
+/// Marks those among some entries that are for a target, and counts them.
 fn mark_entries(entries: &mut [(CacheKey, Stored)], target: &Target) -> usize
     ensures counted { result ≡ count_by (is_for target.now) entries.old }
     ensures marked { entries.new ≡ map (marked target.now) entries.old }
@@ -225,7 +227,7 @@ fn mark_entries(entries: &mut [(CacheKey, Stored)], target: &Target) -> usize
     count
 }
 
-/// How many bytes entries count.
+/// The number of bytes that entries count for.
 fn total_of(entries: &[(CacheKey, Stored)]) -> u64
     requires { total entry_size entries.now < 2 ^ 63 }
     ensures { result ≡ total entry_size entries.now }

@@ -1,4 +1,4 @@
--- Entries that are given up from the end, one by one, for as long as they are too many.
+-- Entries are evicted from the end, one by one, as long as there are too many.
 use Rattle.std.proofs.Common.{◌≡◌, ℕ, zero, suc, ◌-◌, ◌<◌, ◌≤◌, ◌&&◌, ◌⊎◌, inl, inr, Bool, true, false, cond, nat_le, nat_lt, ◌||◌, List, [], ◌∷◌, ◌++◌, Some, None, length, take, slice_get, refl, sym, ap, subst, ◌∙◌, arith}
 use Rattle.std.specs.List.{list_all}
 use Rattle.std.proofs.lemmas.Bool.{and_parts, leb-true, lt-leb, ltb-false, ltb-true, not-true, or_cases, or_parts}
@@ -11,7 +11,7 @@ use Rattle.coap_store.proofs.Cuts.{cut-fits}
 use Rattle.coap_store.specs.Alike.{same_key-itself}
 use Rattle.coap_store_lru.proofs.Recency.{same_key-flips}
 
--- the last one stands after those before it
+-- the last element comes after those before it
 last_by : {X : Type 0} (n : ℕ) (xs : List X) (x : X) → length xs ≡ suc n → slice_get xs n ≡ Some x → xs ≡ take n xs ++ x ∷ []
 last_by n [] x len is = absurd (omega (arith, len))
 last_by zero (y ∷ []) x len is = let same : y ≡ x = cc in ap (λ z. z ∷ []) same
@@ -19,7 +19,7 @@ last_by zero (y ∷ z ∷ zs) x len is = absurd (omega (arith, len))
 last_by (suc n) (y ∷ ys) x len is = ap (λ l. y ∷ l) (last_by n ys x (omega (arith, len)) is)
 
 module _ {X : Type 0} (size : X → ℕ) where
-  -- what is within both limits is kept whole
+  -- a list within both limits is kept whole
   pub cut-whole : (bytes count : ℕ) (xs : List X) → total size xs ≤ bytes → length xs ≤ count → cut size bytes count xs ≡ xs
   cut-whole bytes count [] small few = refl
   cut-whole bytes count (x ∷ xs) small few =
@@ -27,7 +27,7 @@ module _ {X : Type 0} (size : X → ℕ) where
       let rest = cut-whole (bytes - size x) (count - 1) xs (omega (arith, small, sum)) (omega (arith, few)) in
       rw (cut-fits size bytes count x xs (omega (arith, small, sum)) (omega (arith, few)), rest) refl
 
-  -- of what isn't within them the last one isn't kept
+  -- of a list that isn't, the last element isn't kept
   cut-without_last : (bytes count : ℕ) (xs : List X) (x : X) → (bytes < total size (xs ++ x ∷ [])) ⊎ (count < length (xs ++ x ∷ [])) → cut size bytes count (xs ++ x ∷ []) ≡ cut size bytes count xs
   cut-without_last bytes count [] x (inl large) = rw (lt-leb (size x) bytes (omega (arith, large, sum_by-cons size x []))) refl
   cut-without_last bytes count [] x (inr many) = go (nat_le (size x) bytes)
@@ -53,12 +53,12 @@ pub record IsLast (entries : List Entry) (x : Entry) : Type 0 where
   pub found : of_key entry_key x.0 entries ≡ Some x
   pub left : take (length entries - 1) entries ≡ others entry_key x.0 entries
 
--- the last element passes what all pass
+-- the last element passes a test that all pass
 last_passes : {X : Type 0} (p : X → Bool) (ys : List X) (x : X) → list_all p (ys ++ x ∷ []) ≡ true → p x ≡ true
 last_passes p [] x all = (and_parts (p x) true all).0
 last_passes p (y ∷ ys) x all = last_passes p ys x (and_parts (p y) (list_all p (ys ++ x ∷ [])) all).1
 
--- it is found, and the others stand before it
+-- it is found, and the others come before it
 last_of : (ys : List Entry) (x : Entry) → are_distinct entry_key (ys ++ x ∷ []) ≡ true → (of_key entry_key x.0 (ys ++ x ∷ []) ≡ Some x) × (ys ≡ others entry_key x.0 (ys ++ x ∷ []))
 last_of [] x distinct = rw (same_key-itself x.0) (refl, refl)
 last_of (y ∷ ys) x distinct =
@@ -67,7 +67,7 @@ last_of (y ∷ ys) x distinct =
     let apart : same_key y.0 x.0 ≡ false = same_key-flips y.0 x.0 ∙ not-true (same_key x.0 y.0) (last_passes (has_other_key entry_key y.0) ys x parts.0) in
     rw apart (rest.0, ap (λ l. y ∷ l) rest.1)
 
--- the entry at the last place is the last
+-- the entry at the last position is the last one
 pub IsLast-of : (entries : List Entry) (x : Entry) → are_distinct entry_key entries ≡ true → slice_get entries (length entries - 1) ≡ Some x → IsLast entries x
 IsLast-of [] x distinct is = absurd cc
 IsLast-of (e ∷ es) x distinct is =
@@ -80,13 +80,13 @@ IsLast-of (e ∷ es) x distinct is =
       left = ap (λ m. take m (e ∷ es)) len ∙ last.1 ∙ ap (others entry_key x.0) (sym split);
     }
 
--- there is a last one
+-- a list that isn't empty has a last element
 has_last : {X : Type 0} (n : ℕ) (xs : List X) → length xs ≡ suc n → (x : X) × (slice_get xs n ≡ Some x)
 has_last n [] len = absurd (omega (arith, len))
 has_last zero (y ∷ ys) len = (y, refl)
 has_last (suc n) (y ∷ ys) len = has_last n ys (omega (arith, len))
 
--- so too many entries are cut as they are without the last
+-- so cutting too many entries gives the same without the last one
 pub cut-taken : (bytes count : ℕ) (entries : List Entry) → (bytes < total entry_size entries) ⊎ (count < length entries) → cut entry_size bytes count (take (length entries - 1) entries) ≡ cut entry_size bytes count entries
 cut-taken bytes count [] exceeds = refl
 cut-taken bytes count (e ∷ es) exceeds =
@@ -98,13 +98,13 @@ cut-taken bytes count (e ∷ es) exceeds =
     let shorter = cut-without_last entry_size bytes count ys last.0 (subst (λ l. (bytes < total entry_size l) ⊎ (count < length l)) split exceeds) in
     ap (λ m. cut entry_size bytes count (take m (e ∷ es))) len ∙ sym shorter ∙ ap (cut entry_size bytes count) (sym split)
 
--- too many entries are some, and fewer without the last
+-- if there are too many entries, there are fewer without the last one
 pub fewer : (bytes count : ℕ) (entries : List Entry) → (bytes < total entry_size entries) ⊎ (count < length entries) → length (take (length entries - 1) entries) < length entries
 fewer bytes count [] (inl large) = absurd (omega (arith, large))
 fewer bytes count [] (inr many) = absurd (omega (arith, many))
 fewer bytes count (e ∷ es) exceeds = omega (arith, length-take (length (e ∷ es) - 1) (e ∷ es))
 
--- where there is no last one, nothing is left out
+-- if there is no last one, nothing is left out
 pub take-none : (entries : List Entry) → slice_get entries (length entries - 1) ≡ None → take (length entries - 1) entries ≡ entries
 take-none [] none = refl
 take-none (e ∷ es) none =
@@ -122,7 +122,7 @@ exceeds-of bytes count entries counted are is = go (or_cases (nat_lt bytes count
     go (inl large) = inl (omega (arith, are, ltb-true bytes counted large))
     go (inr many) = inr (ltb-true count (length entries) many)
 
--- or none is
+-- or none is, and all are kept
 pub cut-kept : (bytes count : ℕ) (entries : List Entry) (counted : ℕ) → counted ≡ total entry_size entries → (nat_lt bytes counted || nat_lt count (length entries)) ≡ false → cut entry_size bytes count entries ≡ entries
 cut-kept bytes count entries counted are is =
     let parts = or_parts (nat_lt bytes counted) (nat_lt count (length entries)) is in

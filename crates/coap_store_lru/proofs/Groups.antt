@@ -1,4 +1,5 @@
--- The keys of a target in the group of its digest are those of the entries of that target, each once.
+-- The keys with a target in the group of its digest are those of the entries for the target, each
+-- once.
 use Rattle.std.proofs.Common.{◌≡◌, ◌≢◌, ℕ, nat_eq, eq-eqb, Result, Ok, Err, OnOk, OnErr, ◌&&◌, ◌||◌, Bool, true, false, cond, not, List, [], ◌∷◌, Option, Some, None, map, filter, length, count_by, refl, sym, ap, subst, ◌∙◌}
 use Rattle.std.specs.Cmp.{IsEquivalence}
 use Rattle.std.specs.HashMap.{get}
@@ -32,7 +33,7 @@ same_key-equiv = record {
   congr = λ x y z e. subst (λ w. same_key x z ≡ same_key w z) (same_key-only x y e) refl;
 }
 
--- entries of which no two have one key have distinct keys
+-- entries with other keys have no key equal to this one
 apart_all : (k : CacheKey) (es : List Entry) → list_all (has_other_key entry_key k) es ≡ true → AllByRecursion (λ y. same_key k y ≡ false) (map entry_key es)
 apart_all k [] all = tt
 apart_all k (e ∷ es) all =
@@ -43,7 +44,7 @@ apart_all k (e ∷ es) all =
     go true n = sym n
     go false n = refl
 
--- so no key of theirs stands twice
+-- so no key of distinct entries occurs twice
 pub distinct-keys : (es : List Entry) → are_distinct entry_key es ≡ true → IsDistinct same_key (map entry_key es)
 unfolding IsDistinct
 distinct-keys [] distinct = tt
@@ -51,7 +52,7 @@ distinct-keys (e ∷ es) distinct =
     let parts = and_parts (list_all (has_other_key entry_key e.0) es) (are_distinct entry_key es) distinct in
     IsDistinct-cons same_key e.0 (map entry_key es) (apart_all e.0 es parts.0) (distinct-keys es parts.1)
 
--- the entries of a target have the keys of that target that have entries
+-- the entries for a target have the keys with that target that have entries
 held-of : (target : Target) (es : List Entry) (q : CacheKey) → is_held (filter (is_for target) es) q ≡ (same_target q.target target && is_held es q)
 held-of target [] q = go (same_target q.target target)
   where
@@ -70,7 +71,7 @@ held-of target (e ∷ es) q = go (is_for target e) (same_key q e.0) refl refl (h
     go false true of same rest = rw (rest, alike same, of) refl
     go false false of same rest = rest
 
--- the keys of a target in a list are those of the list that are of the target
+-- the keys with a target in a list are those in the list that have the target
 keys-of : (target : Target) (ks : List CacheKey) (q : CacheKey) → is_member same_key (filter (is_of target) ks) q ≡ (is_of target q && is_member same_key ks q)
 keys-of target [] q = go (is_of target q)
   where
@@ -89,12 +90,12 @@ keys-of target (k ∷ ks) q = go (is_of target k) (same_key q k) refl refl (keys
     go false true of same rest = rw (rest, alike same, of) refl
     go false false of same rest = rest
 
--- nor where there is one key alone
+-- a single key is distinct
 pub distinct-one : (key : CacheKey) → IsDistinct same_key (key ∷ [])
 unfolding IsDistinct
 distinct-one key = IsDistinct-cons same_key key [] tt tt
 
--- what holds of all keys holds of some
+-- what holds for all keys holds for some of them
 all-filtered : (apart : CacheKey → Type 0) (test : CacheKey → Bool) (ks : List CacheKey) → AllByRecursion apart ks → AllByRecursion apart (filter test ks)
 all-filtered apart test [] all = tt
 all-filtered apart test (k ∷ ks) all = go (test k) (all-filtered apart test ks all.1)
@@ -103,7 +104,7 @@ all-filtered apart test (k ∷ ks) all = go (test k) (all-filtered apart test ks
     go true rest = (all.0, rest)
     go false rest = rest
 
--- keys that are distinct stay so without some of them
+-- distinct keys stay distinct when some are removed
 distinct-of : (target : Target) (ks : List CacheKey) → IsDistinct same_key ks → IsDistinct same_key (filter (is_of target) ks)
 unfolding IsDistinct
 distinct-of target [] distinct = tt
@@ -113,7 +114,7 @@ distinct-of target (k ∷ ks) distinct = go (is_of target k) (all-filtered (λ y
     go true apart rest = IsDistinct-cons same_key k (filter (is_of target) ks) apart rest
     go false apart rest = rest
 
--- each entry's key is held
+-- the key of each entry is held
 all_held : (all es : List Entry) → ((k : CacheKey) → is_held es k ≡ true → is_held all k ≡ true) → list_all (λ (e : Entry). is_held all e.0) es ≡ true
 all_held all [] within = refl
 all_held all (e ∷ es) within =
@@ -121,7 +122,7 @@ all_held all (e ∷ es) within =
     (within e.0 (rw (same_key-itself e.0) refl))
     (all_held all es (λ k h. within k (or_right (same_key k e.0) (is_held es k) h)))
 
--- of entries that are all held, those are marked that a test names beside
+-- among entries that are all held, a test that also asks for that marks the same ones
 map-marked_held : (p q : CacheKey → Bool) (all es : List Entry) → ((k : CacheKey) → p k ≡ (q k && is_held all k)) → list_all (λ (e : Entry). is_held all e.0) es ≡ true → map (marked_by p) es ≡ map (marked_by q) es
 map-marked_held p q all [] same held = refl
 map-marked_held p q all (e ∷ es) same held =
@@ -133,32 +134,32 @@ map-marked_held p q all (e ∷ es) same held =
     go true b e = e
     go false b e = refl
 
--- a key that is put into a set, or taken out of it
+-- a set contains the key that was put into it, and those from before
 pub put_in : (p b : Bool) → cond p true b ≡ (p || b)
 put_in true b = refl
 put_in false b = refl
 
--- taken out, a key is none of the set
+-- and it doesn't contain the key that was removed
 pub taken_out : (p b : Bool) → cond p false b ≡ (not p && b)
 taken_out true b = refl
 taken_out false b = refl
 
--- what is shown of both outcomes
+-- what follows from either result holds
 pub by_result : {T E P Q G : Type 0} (r : Result T E) → OnOk r P → OnErr r Q → (P → G) → (Q → G) → G
 by_result (Ok x) ok err f g = f ok
 by_result (Err e) ok err f g = g err
 
--- a list that has a key isn't empty
+-- a list that contains a key isn't empty
 pub some-keys : (ks : List CacheKey) (k : CacheKey) → list_any (same_key k) ks ≡ true → length ks ≢ 0
 some-keys [] k is = absurd cc
 some-keys (x ∷ ks) k is = λ none. absurd cc
 
--- an empty one has no key
+-- an empty one contains no key
 pub no-keys : (ks : List CacheKey) → length ks ≡ 0 → (k : CacheKey) → list_any (same_key k) ks ≡ false
 no-keys [] none k = refl
 no-keys (x ∷ ks) none k = absurd cc
 
--- and with more keys it still has some
+-- and with more keys it still isn't empty
 pub still-keys : (ks more : List CacheKey) (added : CacheKey → Bool) → ((k : CacheKey) → list_any (same_key k) more ≡ (added k || list_any (same_key k) ks)) → length ks ≢ 0 → length more ≢ 0
 still-keys [] more added changed some = absurd (some refl)
 still-keys (x ∷ ks) more added changed some = some-keys more x (changed x ∙ ap (λ b. added x || (b || list_any (same_key x) ks)) (same_key-itself x) ∙ go (added x))
@@ -167,12 +168,12 @@ still-keys (x ∷ ks) more added changed some = some-keys more x (changed x ∙ 
     go true = refl
     go false = refl
 
--- no key changes nothing
+-- adding no key changes nothing
 pub none_added : (added b : Bool) → ((added && false) || b) ≡ b
 none_added true b = refl
 none_added false b = refl
 
--- the only key of a group: it is taken out, or another is
+-- removing a key from a group with one key, whether it is that key or another
 pub only-left : (only key k : CacheKey) → (not (same_key only key) && (same_key k only || false)) ≡ (not (same_key key k) && (same_key k only || false))
 only-left only key k = go (same_key only key) (same_key k only) refl refl
   where
@@ -190,35 +191,35 @@ only-left only key k = go (same_key only key) (same_key k only) refl refl
         go_none true = refl
         go_none false = refl
 
--- the keys of a group that is found
+-- the keys of the group that was found
 pub in_group-found : {H J S : Type 0} (groups : Groups H J S) (at : ℕ) (group : Option (Group H J)) → group ≡ get nat_eq groups at → (k : CacheKey) → option_map_or (λ held. has held k) group false ≡ in_group groups at k
 in_group-found groups at group is k = ap (λ found. option_map_or (λ held. has held k) found false) is
 
--- where a group is put, or let go, that is what is found
+-- if a group is put or removed, that is what is found for its digest
 module _ {H J S : Type 0} (groups new : Groups H J S) (at : ℕ) (group : Option (Group H J)) (put : (e : ℕ) → get nat_eq new e ≡ cond (nat_eq at e) group (get nat_eq groups e)) where
   pub put-here : get nat_eq new at ≡ group
   put-here = put at ∙ ap (λ b. cond b group (get nat_eq groups at)) (eq-eqb at at refl)
 
-  -- and elsewhere what was
+  -- and for other digests what was found before
   pub put-elsewhere : (e : ℕ) → nat_eq at e ≡ false → get nat_eq new e ≡ get nat_eq groups e
   put-elsewhere e other = put e ∙ ap (λ b. cond b group (get nat_eq groups e)) other
 
--- a group that has keys is filled
+-- a digest whose group contains keys is filled
 pub filled_by : {H J S : Type 0} (groups : Groups H J S) (at : ℕ) (group : Group H J) → get nat_eq groups at ≡ Some group → length (keys_in group) ≢ 0 → IsFilled groups at
 filled_by groups at group is some held found =
     let one : Some group ≡ Some held = sym is ∙ found in
     let same : group ≡ held = cc in
     subst (λ (g : Group _ _). length (keys_in g) ≢ 0) same some
 
--- so is one that there isn't
+-- so is one without a group
 pub filled_none : {H J S : Type 0} (groups : Groups H J S) (at : ℕ) → get nat_eq groups at ≡ None → IsFilled groups at
 filled_none groups at none held found = let differ : None ≡ Some held = sym none ∙ found in absurd (cc)
 
--- it has no key either
+-- a digest without a group has no key
 pub none-in_group : {H J S : Type 0} (groups : Groups H J S) (at : ℕ) → get nat_eq groups at ≡ None → (k : CacheKey) → in_group groups at k ≡ false
 none-in_group groups at none k = ap (λ found. option_map_or (λ held. has held k) found false) none
 
--- and needs no key taken out
+-- and removing a key from it changes nothing
 pub none_left : {H J S : Type 0} (groups : Groups H J S) (at : ℕ) (key : CacheKey) → get nat_eq groups at ≡ None → (k : CacheKey) → in_group groups at k ≡ (not (same_key key k) && in_group groups at k)
 none_left groups at key none k = none-in_group groups at none k ∙ go (same_key key k) ∙ ap (λ b. not (same_key key k) && b) (sym (none-in_group groups at none k))
   where
@@ -226,16 +227,16 @@ none_left groups at key none k = none-in_group groups at none k ∙ go (same_key
     go true = refl
     go false = refl
 
--- a group of one key has that key
+-- a group with one key contains just that key
 pub one-key : (ks : List CacheKey) (key : CacheKey) → ks ≡ key ∷ [] → (k : CacheKey) → list_any (same_key k) ks ≡ (same_key key k || false)
 one-key ks key are k = ap (list_any (same_key k)) are ∙ ap (λ b. b || false) (same_key-flips k key)
 
--- no key passes both a test and none
+-- no key passes both a test and one that always fails
 pub and_none : (b : Bool) → (b && false) ≡ false
 and_none true = refl
 and_none false = refl
 
--- a key of a target that isn't the key
+-- if a key doesn't have the target, no key with the target equals it
 pub none_of : (target : Target) (key : CacheKey) → is_of target key ≡ false → (k : CacheKey) → (is_of target k && same_key k key) ≡ false
 none_of target key other k = go (same_key k key) refl
   where
@@ -243,7 +244,7 @@ none_of target key other k = go (same_key k key) refl
     go true same = rw (same_key-only k key same, other) refl
     go false e = and_none (is_of target k)
 
--- and one that is
+-- if it does, the keys that equal it have the target
 pub one_of : (target : Target) (key : CacheKey) → is_of target key ≡ true → (k : CacheKey) → (is_of target k && same_key k key) ≡ same_key k key
 one_of target key of k = go (same_key k key) refl
   where
@@ -251,17 +252,17 @@ one_of target key of k = go (same_key k key) refl
     go true same = rw (same_key-only k key same, of) refl
     go false e = and_none (is_of target k)
 
--- the same groups have the same keys
+-- the same groups are found at each digest
 pub same_groups : {H J S : Type 0} (groups new : Groups H J S) → new.entries ≡ groups.entries → (e : ℕ) → get nat_eq new e ≡ get nat_eq groups e
 same_groups groups new same e = ap (λ (es : List (ℕ × Group _ _)). lookup (nat_eq e) es) same
 
--- and each has a key, as before
+-- and each still contains a key
 pub filled-along : {H J S : Type 0} (groups new : Groups H J S) → new.entries ≡ groups.entries → AreFilled groups → AreFilled new
 filled-along groups new same filled e held is = filled e held (sym (same_groups groups new same e) ∙ is)
 
--- One group is changed, or let go.
+-- One group is changed or removed.
 module _ {H J S : Type 0} (groups new : Groups H J S) (at : ℕ) (others : (e : ℕ) → nat_eq at e ≡ false → get nat_eq new e ≡ get nat_eq groups e) where
-  -- then each has a key, where this one has
+  -- then each contains a key, if this one does
   pub filled-but : AreFilled groups → IsFilled new at → AreFilled new
   filled-but filled here e held is = go (nat_eq at e) refl
     where
@@ -283,9 +284,9 @@ module _ {H J S : Type 0} (groups new : Groups H J S) (at : ℕ) (others : (e : 
           apart true e = let same : nat_eq at (digest secret k.target) ≡ true = eq-eqb at (digest secret k.target) (of ∙ ap (λ (j : CacheKey). digest secret j.target) (same_key-only key k e)) in absurd (cc)
           apart false e = refl
 
--- The entries of a store whose keys are indexed.
+-- A store whose entries' keys are indexed.
 module _ {H J S : Type 0} (secret : ℕ) (groups : Groups H J S) (es : List Entry) (target : Target) (indexed : (k : CacheKey) → is_indexed secret groups k ≡ is_held es k) where
-  -- the group of a target's digest has the keys of that target that have entries
+  -- the group of a target's digest contains the keys with that target that have entries
   pub in_group-is : (k : CacheKey) → (is_of target k && in_group groups (digest secret target) k) ≡ (is_of target k && is_held es k)
   in_group-is k = go (is_of target k) refl
     where
@@ -293,11 +294,11 @@ module _ {H J S : Type 0} (secret : ℕ) (groups : Groups H J S) (es : List Entr
       go true e = subst (λ t. in_group groups (digest secret t) k ≡ is_held es k) (Tells-target.only k.target target e) (indexed k)
       go false e = refl
 
-  -- so a mark on each of these is one on each entry of the target
+  -- so marking the entries for these keys is marking all entries for the target
   pub map-marked_group : map (marked_by (λ k. is_of target k && in_group groups (digest secret target) k)) es ≡ map (marked target) es
   map-marked_group = map-marked_held (λ k. is_of target k && in_group groups (digest secret target) k) (is_of target) es es in_group-is (all_held es es (λ k h. h))
 
-  -- and they are as many as the target has entries
+  -- and there are as many of them as there are entries for the target
   pub length-group : (keys : List CacheKey) → are_distinct entry_key es ≡ true → IsDistinct same_key keys → ((k : CacheKey) → is_member same_key keys k ≡ in_group groups (digest secret target) k) → count_by (is_of target) keys ≡ count_by (is_for target) es
   length-group keys distinct apart same =
       let of = filter (is_for target) es in

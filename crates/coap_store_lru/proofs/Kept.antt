@@ -1,4 +1,4 @@
--- What is done to entries, their total and their groups keeps the three together.
+-- Operations on the entries, their total and their groups keep the three consistent.
 use Rattle.std.proofs.Common.{◌≡◌, ℕ, ◌+◌, ◌≤◌, ◌&&◌, ◌||◌, Bool, true, false, not, length, List, [], ◌∷◌, Option, Some, None, map, refl, sym, ap, subst, ◌∙◌, arith}
 use Rattle.std.specs.List.{list_any}
 use Rattle.std.specs.Option.{option_map, option_map_or}
@@ -18,7 +18,7 @@ use Rattle.coap_store.specs.Alike.{same_key-only}
 use Rattle.coap_store_lru.proofs.Recency.{found-held, held-front, held-others, held-used, none_held, total-others}
 
 module _ (entries : List Entry) (bytes : ℕ) (indexed : CacheKey → Bool) (are : AreThoseOf entries bytes indexed) where
-  -- without the entry of a key
+  -- without the entry with a key
   pub AreThoseOf-others : (k : CacheKey) (x : Entry) (new : CacheKey → Bool) (left : ℕ) → of_key entry_key k entries ≡ Some x → ((q : CacheKey) → new q ≡ (not (same_key k q) && indexed q)) → left + entry_size x ≡ bytes
       → AreThoseOf (others entry_key k entries) left new
   AreThoseOf-others k x new left found less counts = record {
@@ -27,7 +27,7 @@ module _ (entries : List Entry) (bytes : ℕ) (indexed : CacheKey → Bool) (are
     indexed_are = λ q. less q ∙ ap (λ b. not (same_key k q) && b) (are.indexed_are q) ∙ sym (held-others k entries q);
   }
 
-  -- with an entry before those of other keys
+  -- with an entry in front of those with other keys
   pub AreThoseOf-front : (x : Entry) (new : CacheKey → Bool) (more : ℕ) → ((q : CacheKey) → new q ≡ (same_key x.0 q || indexed q)) → more ≡ entry_size x + total entry_size (others entry_key x.0 entries)
       → AreThoseOf (x ∷ others entry_key x.0 entries) more new
   AreThoseOf-front x new more adds counts = record {
@@ -40,7 +40,7 @@ module _ (entries : List Entry) (bytes : ℕ) (indexed : CacheKey → Bool) (are
   pub AreThoseOf-along : (new : CacheKey → Bool) → ((q : CacheKey) → new q ≡ indexed q) → AreThoseOf entries bytes new
   AreThoseOf-along new same = record { distinct = are.distinct; counted = are.counted; indexed_are = λ q. same q ∙ are.indexed_are q }
 
-  -- with the entry of a key at the front
+  -- with the entry with a key moved to the front
   pub AreThoseOf-used : (k : CacheKey) → AreThoseOf (used entry_key k entries) bytes indexed
   AreThoseOf-used k = record {
     distinct = used-distinct k;
@@ -55,7 +55,7 @@ module _ (entries : List Entry) (bytes : ℕ) (indexed : CacheKey → Bool) (are
       total-used None e = refl
       total-used (Some x) e = omega (arith, sum_by-cons entry_size x (others entry_key k entries), total-others k entries x are.distinct e)
 
-  -- with the entries of a target marked
+  -- with the entries for a target marked
   pub AreThoseOf-marked : (target : Target) → AreThoseOf (map (marked target) entries) bytes indexed
   AreThoseOf-marked target = record {
     distinct = distinct-map entry_key (marked target) entries (marked-key target) are.distinct;
@@ -67,7 +67,7 @@ module _ (entries : List Entry) (bytes : ℕ) (indexed : CacheKey → Bool) (are
       keys-marked [] = refl
       keys-marked (e ∷ es) = rw (marked-key target e, keys-marked es) refl
 
--- a use keeps how many entries there are, at most
+-- a use doesn't increase the number of entries
 pub length-used : (k : CacheKey) (es : List Entry) → length (used entry_key k es) ≤ length es
 length-used k es = go (of_key entry_key k es) refl
   where
@@ -75,7 +75,7 @@ length-used k es = go (of_key entry_key k es) refl
     go None e = omega arith
     go (Some x) e = front-length entry_key k es x e
 
--- a key that is added and taken out again, and wasn't there before, changes nothing
+-- adding a key that wasn't there before and removing it again changes nothing
 pub put_back : (indexed between new : CacheKey → Bool) (entries : List Entry) (k : CacheKey) → ((q : CacheKey) → indexed q ≡ is_held entries q) → of_key entry_key k entries ≡ None
     → ((q : CacheKey) → between q ≡ (same_key k q || indexed q)) → ((q : CacheKey) → new q ≡ (not (same_key k q) && between q)) → (q : CacheKey) → new q ≡ indexed q
 put_back indexed between new entries k are none adds takes q = takes q ∙ ap (λ b. not (same_key k q) && b) (adds q) ∙ go (same_key k q) refl
@@ -92,7 +92,7 @@ held_already indexed entries k x are found q = go (same_key k q) refl
     go true e = subst (λ j. indexed j ≡ true) (same_key-only k q e) (are k ∙ found-held k entries x found)
     go false e = refl
 
--- what may be used of an entry, by what is stored for its key
+-- whether there is a usable entry, by what is stored for its key
 pub usable-of : (k : CacheKey) (now : ℕ) (es : List Entry) → has_usable k now es ≡ option_map_or (is_usable now) (stored_for k es) false
 usable-of k now es = go (of_key entry_key k es)
   where
@@ -100,6 +100,6 @@ usable-of k now es = go (of_key entry_key k es)
     go None = refl
     go (Some x) = refl
 
--- the entry of a key counts what is stored for it
+-- the size of the entry with a key is that of what is stored for it
 pub former-size : (k : CacheKey) (es : List Entry) (x : Entry) (s : Stored) → of_key entry_key k es ≡ Some x → x.1 ≡ s → entry_size x ≡ size_of k s
 former-size k es x s found is = ap (λ (j : CacheKey). size_of j x.1) (of_key-key entry_key k es x found) ∙ ap (size_of k) is

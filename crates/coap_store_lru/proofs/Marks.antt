@@ -1,4 +1,4 @@
--- Entries that are marked by key, one key after the other.
+-- Entries are marked by key, one key after the other.
 use Rattle.std.proofs.Common.{◌≡◌, ◌&&◌, ◌||◌, Bool, true, false, cond, not, List, [], ◌∷◌, Some, None, map, refl, sym, ap, subst, ◌∙◌}
 use Rattle.std.specs.List.{list_all}
 use Rattle.std.specs.Map.{lookup, set_value}
@@ -13,7 +13,7 @@ use Rattle.coap_store.proofs.Distinct.{distinct-map}
 use Rattle.coap_store.specs.Alike.{same_key-only}
 use Rattle.coap_store_lru.proofs.Recency.{same_key-flips}
 
--- a mark keeps the key
+-- marking keeps the key
 pub marked_by-key : (test : CacheKey → Bool) (e : Entry) → (marked_by test e).0 ≡ e.0
 marked_by-key test e = go (test e.0)
   where
@@ -21,7 +21,7 @@ marked_by-key test e = go (test e.0)
     go true = refl
     go false = refl
 
--- two marks are one by either test
+-- marking by two tests is marking by either
 pub marked_by-twice : (p q : CacheKey → Bool) (e : Entry) → marked_by q (marked_by p e) ≡ marked_by (λ k. p k || q k) e
 marked_by-twice p q e = go (p e.0) (q e.0) refl refl
   where
@@ -31,7 +31,7 @@ marked_by-twice p q e = go (p e.0) (q e.0) refl refl
     go false true e1 e2 = rw e2 refl
     go false false e1 e2 = rw e2 refl
 
--- two changes in turn are one
+-- two changes in sequence are one change
 map-map : (f g : Entry → Entry) (es : List Entry) → map f (map g es) ≡ map (λ e. f (g e)) es
 map-map f g [] = refl
 map-map f g (e ∷ es) = ap (λ l. f (g e) ∷ l) (map-map f g es)
@@ -41,11 +41,11 @@ map-same : (f g : Entry → Entry) (es : List Entry) → ((e : Entry) → f e �
 map-same f g [] same = refl
 map-same f g (e ∷ es) same = rw (same e, map-same f g es same) refl
 
--- so the entries that two tests mark in turn are those that either marks
+-- so marking entries by two tests in sequence is marking them by either
 pub map-marked_twice : (p q : CacheKey → Bool) (es : List Entry) → map (marked_by q) (map (marked_by p) es) ≡ map (marked_by (λ k. p k || q k)) es
 map-marked_twice p q es = map-map (marked_by q) (marked_by p) es ∙ map-same (λ e. marked_by q (marked_by p e)) (marked_by (λ k. p k || q k)) es (marked_by-twice p q)
 
--- marks that no entry gets change nothing
+-- marking by a test that no entry passes changes nothing
 map-unmarked : (test : CacheKey → Bool) (es : List Entry) → list_all (λ (e : Entry). not (test e.0)) es ≡ true → map (marked_by test) es ≡ es
 map-unmarked test [] none = refl
 map-unmarked test (e ∷ es) none =
@@ -56,18 +56,18 @@ map-unmarked test (e ∷ es) none =
     go true n rest = absurd cc
     go false n rest = ap (λ l. e ∷ l) rest
 
--- the entries after one of the key have other keys
+-- the entries after one with the key have other keys
 others-unmarked : (k : CacheKey) (es : List Entry) → list_all (has_other_key entry_key k) es ≡ true → list_all (λ (e : Entry). not (same_key k e.0)) es ≡ true
 others-unmarked k [] all = refl
 others-unmarked k (e ∷ es) all =
     let parts = and_parts (not (same_key e.0 k)) (list_all (has_other_key entry_key k) es) all in
     rw (same_key-flips k e.0, parts.0, others-unmarked k es parts.1) refl
 
--- the same, with the key compared from the other side
+-- the same, with the keys compared the other way round
 from_behind : (k : CacheKey) (es : List Entry) → map (marked_by (same_key k)) es ≡ map (marked_by (λ j. same_key j k)) es
 from_behind k es = map-same (marked_by (same_key k)) (marked_by (λ j. same_key j k)) es (λ e. ap (λ b. cond b (e.0, record e.1 { marked = true }) e) (same_key-flips k e.0))
 
--- a mark on what is stored for a key marks its entry alone
+-- marking what is stored for a key marks only its entry
 set_marked : (k : CacheKey) (es : List Entry) (s : Stored) → are_distinct entry_key es ≡ true → lookup (same_key k) es ≡ Some s
     → set_value (same_key k) es (record s { marked = true }) ≡ map (marked_by (same_key k)) es
 set_marked k [] s distinct found = absurd cc
@@ -86,7 +86,7 @@ set_marked k (e ∷ es) s distinct found =
         rw none (ap (λ (t : Stored). (e.0, record t { marked = true }) ∷ es) (sym same))
     go false is apart rest f = ap (λ l. e ∷ l) (rest f)
 
--- where nothing is stored for it, it marks none
+-- if nothing is stored for it, no entry is marked
 none_marked : (k : CacheKey) (es : List Entry) → lookup (same_key k) es ≡ None → map (marked_by (same_key k)) es ≡ es
 none_marked k [] none = refl
 none_marked k (e ∷ es) none = go (same_key k e.0) (λ f. none_marked k es f) none
@@ -96,28 +96,28 @@ none_marked k (e ∷ es) none = go (same_key k e.0) (λ f. none_marked k es f) n
     go true rest f = absurd cc
     go false rest f = ap (λ l. e ∷ l) (rest f)
 
--- what a write to the entry of a key makes of the entries
+-- what a write to the entry with a key makes of the entries
 pub marked-written : (k : CacheKey) (es : List Entry) (s : Stored) → are_distinct entry_key es ≡ true → lookup (same_key k) es ≡ Some s → set_value (same_key k) es (record s { marked = true }) ≡ map (marked_by (λ j. same_key j k)) es
 marked-written k es s distinct found = set_marked k es s distinct found ∙ from_behind k es
 
--- where nothing is written, none is marked
+-- if nothing is written, no entry is marked
 pub unmarked-unwritten : (k : CacheKey) (es : List Entry) → lookup (same_key k) es ≡ None → es ≡ map (marked_by (λ j. same_key j k)) es
 unmarked-unwritten k es none = sym (none_marked k es none) ∙ from_behind k es
 
--- either of two tests beside a third
+-- either of two tests, combined with a third
 pub either : (p a b : Bool) → ((p && a) || (p && b)) ≡ (p && (a || b))
 either true a b = refl
 either false a b = refl
 
--- marks by no key
+-- marking by no key changes nothing
 pub marked_by_none : (es : List Entry) → es ≡ map (marked_by (λ k. false)) es
 marked_by_none [] = refl
 marked_by_none (e ∷ es) = ap (λ l. e ∷ l) (marked_by_none es)
 
--- tests that answer alike mark alike
+-- tests with the same results mark the same entries
 pub map-same_marks : (p q : CacheKey → Bool) (es : List Entry) → ((k : CacheKey) → p k ≡ q k) → map (marked_by p) es ≡ map (marked_by q) es
 map-same_marks p q es same = map-same (marked_by p) (marked_by q) es (λ e. ap (λ b. cond b (e.0, record e.1 { marked = true }) e) (same e.0))
 
--- marks keep entries distinct
+-- marking keeps entries distinct
 pub marked_by-distinct : (test : CacheKey → Bool) (es : List Entry) → are_distinct entry_key es ≡ true → are_distinct entry_key (map (marked_by test) es) ≡ true
 marked_by-distinct test es distinct = distinct-map entry_key (marked_by test) es (marked_by-key test) distinct

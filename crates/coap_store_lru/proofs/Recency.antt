@@ -1,4 +1,5 @@
--- Entries as a recency map has them: it compares a key from the other side, and takes out the first entry that it finds.
+-- Entries as an LRU map has them: it compares keys the other way round, and removes the first entry
+-- that it finds.
 use Rattle.std.proofs.Common.{◌≡◌, ◌+◌, ◌-◌, ◌≤◌, is_some, length, take, slice_get, ◌&&◌, ◌||◌, Bool, true, false, cond, not, List, [], ◌∷◌, Option, Some, None, refl, sym, ap, subst, ◌∙◌, arith}
 use Rattle.std.specs.List.{list_all}
 use Rattle.std.specs.Map.{lookup, lookup_entry, remove_entry}
@@ -19,7 +20,7 @@ use Rattle.coap_store.proofs.Distinct.{of_key-key}
 use Rattle.coap_store.proofs.Found.{filter-all}
 use Rattle.coap_store.specs.Alike.{same_key-itself, same_key-only}
 
--- two keys compare alike from either side
+-- comparing keys is symmetric
 pub same_key-flips : (a b : CacheKey) → same_key a b ≡ same_key b a
 same_key-flips a b = go (same_key a b) (same_key b a) refl refl
   where
@@ -30,7 +31,7 @@ same_key-flips a b = go (same_key a b) (same_key b a) refl refl
     go false true e f = sym e ∙ subst (λ x. same_key a x ≡ true) (sym (same_key-only b a f)) (same_key-itself a)
 
 module _ (k : CacheKey) where
-  -- the entry that is found is that of the key
+  -- the entry that is found is the one with the key
   pub lookup_entry-is : (es : List Entry) → lookup_entry (same_key k) es ≡ of_key entry_key k es
   lookup_entry-is [] = refl
   lookup_entry-is (e ∷ es) = rw (same_key-flips k e.0, lookup_entry-is es) refl
@@ -44,13 +45,13 @@ module _ (k : CacheKey) where
       go true = refl
       go false = refl
 
-  -- what stands after the entry of a key has other keys
+  -- the entries after the one with the key have other keys
   rest-others : (e : Entry) (es : List Entry) → same_key e.0 k ≡ true → are_distinct entry_key (e ∷ es) ≡ true → others entry_key k es ≡ es
   rest-others e es is distinct =
       let parts = and_parts (list_all (has_other_key entry_key e.0) es) (are_distinct entry_key es) distinct in
       filter-all (has_other_key entry_key k) es (subst (λ q. list_all (has_other_key entry_key q) es ≡ true) (same_key-only e.0 k is) parts.0)
 
-  -- a use of the first entry leaves all as they are
+  -- using the first entry leaves all as they are
   pub first-used : (es : List Entry) (x : Entry) → are_distinct entry_key es ≡ true → slice_get es 0 ≡ Some x → same_key x.0 k ≡ true → used entry_key k es ≡ es
   first-used [] x distinct first is = absurd cc
   first-used (e ∷ es) x distinct first is =
@@ -58,7 +59,7 @@ module _ (k : CacheKey) where
       let same : same_key e.0 k ≡ true = ap (λ (y : Entry). same_key y.0 k) one ∙ is in
       rw same (ap (λ l. e ∷ l) (rest-others e es same distinct))
 
-  -- what is left without it is the others
+  -- its removal leaves the others
   pub remove_entry-is : (es : List Entry) → are_distinct entry_key es ≡ true → remove_entry (same_key k) es ≡ others entry_key k es
   remove_entry-is [] distinct = refl
   remove_entry-is (e ∷ es) distinct =
@@ -69,11 +70,11 @@ module _ (k : CacheKey) where
       go true is rest = sym (rest-others e es is distinct)
       go false is rest = ap (λ l. e ∷ l) rest
 
-  -- the entry of a key that is used goes to the front
+  -- the entry with a key that is used moves to the front
   pub promoted-is : (es : List Entry) → are_distinct entry_key es ≡ true → promoted (same_key k) es ≡ used entry_key k es
   promoted-is es distinct = rw (lookup_entry-is es, remove_entry-is es distinct) refl
 
-  -- the entry of a key and the others count what all count
+  -- the entry with a key and the others count for as many bytes as all
   pub total-others : (es : List Entry) (x : Entry) → are_distinct entry_key es ≡ true → of_key entry_key k es ≡ Some x → total entry_size (others entry_key k es) + entry_size x ≡ total entry_size es
   total-others [] x distinct found = absurd cc
   total-others (e ∷ es) x distinct found =
@@ -87,7 +88,7 @@ module _ (k : CacheKey) where
           omega (arith, ap entry_size same, ap (total entry_size) (rest-others e es is distinct), sum_by-cons entry_size e es)
       go false is rest f = omega (arith, rest f, sum_by-cons entry_size e es, sum_by-cons entry_size e (others entry_key k es))
 
--- the others have each key but the one
+-- the others have all keys except for that one
 pub held-others : (k : CacheKey) (es : List Entry) (q : CacheKey) → is_held (others entry_key k es) q ≡ (not (same_key k q) && is_held es q)
 held-others k [] q = go (same_key k q)
   where
@@ -110,7 +111,7 @@ held-others k (e ∷ es) q = go (same_key e.0 k) (same_key k q) (same_key q e.0)
     go false false true is same at rest = rw at refl
     go false false false is same at rest = rw (at, rest) refl
 
--- an entry before the others adds its key
+-- an entry in front of the others adds its key
 pub held-front : (x : Entry) (es : List Entry) (q : CacheKey) → is_held (x ∷ others entry_key x.0 es) q ≡ (same_key x.0 q || is_held es q)
 held-front x es q = rw (held-others x.0 es q, same_key-flips q x.0) (go (same_key x.0 q) (is_held es q))
   where
@@ -151,8 +152,9 @@ held-used k es q = go (of_key entry_key k es) refl
         let front : is_held (x ∷ others entry_key k es) q ≡ (same_key k q || is_held es q) = subst (λ j. is_held (x ∷ others entry_key j es) q ≡ (same_key j q || is_held es q)) key (held-front x es q) in
         front ∙ again x e (same_key k q) refl
 
--- The map's own words, at the comparison that it has.
+-- The map's own definitions, for the comparison that it uses.
 module _ (k : CacheKey) (es : List Entry) where
+  -- what is stored for a key
   pub peeked : lookup (keys.ghosts.eq k) es ≡ stored_for k es
   peeked = ap (λ (eq : CacheKey → CacheKey → Bool). lookup (eq k) es) key_eq ∙ lookup-is k es
 
@@ -176,7 +178,7 @@ module _ (k : CacheKey) (es : List Entry) where
       go None e = refl
       go (Some x) e = absurd cc
 
-  -- what is stored for a key stands in its entry
+  -- what is stored for a key is in its entry
   pub some_stored : (s : Stored) → stored_for k es ≡ Some s → (x : Entry) × (of_key entry_key k es ≡ Some x) × (x.1 ≡ s)
   some_stored s = go (of_key entry_key k es)
     where
@@ -185,7 +187,7 @@ module _ (k : CacheKey) (es : List Entry) where
       go (Some x) e = (x, refl, cc)
 
 module _ (c : LruCache CacheKey Stored) (k : CacheKey) (v : Stored) where
-  -- a put in place of an entry
+  -- a put that replaces an entry
   pub put-replaced : are_distinct entry_key c.entries ≡ true → is_some (stored_for k c.entries) ≡ true → put_entries keys.ghosts.eq c k v ≡ (k, v) ∷ others entry_key k c.entries
   put-replaced distinct some = rw (popped k c.entries, removed k c.entries distinct) (go (of_key entry_key k c.entries) refl some)
     where
@@ -194,6 +196,6 @@ module _ (c : LruCache CacheKey Stored) (k : CacheKey) (v : Stored) where
       go None e some = absurd cc
       go (Some x) e some = ap (λ j. (j, v) ∷ others entry_key k c.entries) (of_key-key entry_key k c.entries x e)
 
-  -- a put of another key
+  -- a put with a new key
   pub put-added : stored_for k c.entries ≡ None → length c.entries ≤ c.cap - 1 → put_entries keys.ghosts.eq c k v ≡ (k, v) ∷ c.entries
   put-added none few = rw (popped k c.entries, none_stored k c.entries none, take_all (c.cap - 1) c.entries few) refl

@@ -1,4 +1,4 @@
--- The keys of a store's entries, in groups by digests of their targets.
+-- The keys of a store's entries, in groups by the digests of their targets.
 use Rattle.std.specs.Prelude.{◌≡◌, ◌≢◌, ℕ, Bool, true, false, if◌then◌else◌, nat_eq, List, [], ◌∷◌, ◌++◌, length, map}
 use Rattle.std.specs.Hash.{u64}
 use Rattle.std.specs.Hash.DefaultHasher as sip
@@ -15,49 +15,49 @@ use Rattle.coap_store.specs.Lists.{are_distinct, total}
 use Rattle.coap_store_lru.specs.declared.group.Group.{Group}
 use Rattle.coap_store_lru.specs.declared.group.Group.TheVariants.{One, Several}
 
--- the digest of a target, hashed behind a number that strangers don't know
+-- the digest of a target, hashed after a number that peers don't know
 unfoldable pub digest : ℕ → Target → ℕ
 digest secret target =
     sip.finish (fold sip.write sip.initial (u64 secret ++ (targets.ghosts).hash_input target))
 
--- the keys of a group, over a hasher H that makes a J for each key
+-- the keys in a group, for a hasher H that makes a J for each key
 abbrev pub keys_in : {H J : Type 0} → Group H J → List CacheKey
 keys_in (One key) = key.value ∷ []
 keys_in (Several keys) = keys.value.keys
 
--- a group has this key
+-- the group contains this key
 abbrev pub has : {H J : Type 0} → Group H J → CacheKey → Bool
 has group key = list_any (same_key key) (keys_in group)
 
--- groups of keys, by digests
+-- groups of keys, by digest
 abbrev pub Groups : Type 0 → Type 0 → Type 0 → Type 0
 Groups H J S = HashMap ℕ (Group H J) S
 
--- the group of a digest has this key
+-- the group of a digest contains this key
 abbrev pub in_group : {H J S : Type 0} → Groups H J S → ℕ → CacheKey → Bool
 in_group groups at key = option_map_or (λ group. has group key) (get nat_eq groups at) false
 
--- the group of its own target's digest has the key
+-- the group of the digest of its own target contains the key
 abbrev pub is_indexed : {H J S : Type 0} → ℕ → Groups H J S → CacheKey → Bool
 is_indexed secret groups key = in_group groups (digest secret key.target) key
 
--- the group of a digest has a key, if there is one
+-- the group of a digest, if there is one, contains a key
 abbrev pub IsFilled : {H J S : Type 0} → Groups H J S → ℕ → Type 0
 IsFilled groups at = ForSome (get nat_eq groups at) (λ group. length (keys_in group) ≢ 0)
 
--- every group has a key: with its last key a group is let go
+-- every group contains a key: a group is removed with its last key
 abbrev pub AreFilled : {H J S : Type 0} → Groups H J S → Type 0
 AreFilled groups = (at : ℕ) → IsFilled groups at
 
--- the key is of this target
+-- the key has this target
 abbrev pub is_of : Target → CacheKey → Bool
 is_of target key = same_target key.target target
 
--- there is an entry of the key
+-- there is an entry with the key
 abbrev pub is_held : List Entry → CacheKey → Bool
 is_held entries key = list_any (same_key key) (map entry_key entries)
 
--- an entry, marked where its key passes a test
+-- an entry, marked if its key passes a test
 abbrev pub marked_by : (CacheKey → Bool) → Entry → Entry
 marked_by test entry = if test entry.0 then (entry.0, record entry.1 { marked = true }) else entry
 

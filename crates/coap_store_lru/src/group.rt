@@ -11,8 +11,8 @@ use std::alloc::Global;
 use std::collections::HashSet;
 use std::hash::BuildHasher;
 
-/// Keys whose targets have one digest, as those of one target have. A key alone has no set, which
-/// would take many times its room.
+/// Keys whose targets have the same digest, as those with the same target do. A single key isn't
+/// put into a set, which would take many times its room.
 pub(crate) enum Group<H: BuildHasher> {
     One(Box<CacheKey>),
     Several(Box<HashSet<CacheKey, H>>),
@@ -28,14 +28,14 @@ impl<H: BuildHasher + Drop> Drop for Group<H> {
 }
 
 impl<H: BuildHasher + Copy> Group<H> {
-    /// The group of one key.
+    /// A group with one key.
     pub(crate) fn of(alloc: Global, key: CacheKey) -> Result<Group<H>, OutOfMemory>
         ensures { IfOk result (λ group. keys_in group ≡ key ∷ []) }
     {
         Ok(Group::One(Box::new(alloc, key)?))
     }
 
-    /// Adds a key. Where there is no memory, the keys stay as they are.
+    /// Adds a key. If memory runs out, the keys are unchanged.
     pub(crate) fn add(&mut self, alloc: Global, hasher: H, key: CacheKey) -> Result<(), OutOfMemory>
         ensures { (k : CacheKey)
             → has self.new k ≡ ((is_ok result && same_key key k) || has self.old k) }
@@ -48,8 +48,8 @@ impl<H: BuildHasher + Copy> Group<H> {
         Ok(())
     }
 
-    /// Takes a key out of the group, and says whether no other is left: then the group is to be let
-    /// go, and may still have this one. It takes no memory.
+    /// Removes a key from the group, and returns whether no other is left; if so, the group is to
+    /// be dropped, and may still contain this key. Doesn't allocate.
     pub(crate) fn leave(&mut self, key: &CacheKey) -> bool
         ensures left { (k : CacheKey) → (not result && has self.new k)
             ≡ (not (same_key key.now k) && has self.old k) }
@@ -91,7 +91,7 @@ fn add<H: BuildHasher>(keys: &mut HashSet<CacheKey, H>, key: CacheKey) -> Result
     Ok(())
 }
 
-/// Takes a key out of a set, and says whether that has no key any more.
+/// Removes a key from a set, and returns whether the set is empty now.
 fn delete<H: BuildHasher>(keys: &mut HashSet<CacheKey, H>, key: &CacheKey) -> bool
     ensures left { (k : CacheKey)
         → contains same_key keys.new k

@@ -1,4 +1,4 @@
-//! A store of responses as a recency map, with the contracts of `coap_store`'s `Store`.
+//! A store of responses as an LRU map, with the contracts of `coap_store`'s `Store`.
 #![tactic(auto)]
 
 mod group;

@@ -1,4 +1,4 @@
-//! A store as a recency map.
+//! A store as an LRU map.
 ghost use Rattle.std.specs.Prelude.{◌≡◌, ◌+◌, ◌<◌, ◌≤◌, ◌^◌, ◌-◌, ◌∷◌, None, Ok, true, is_some, IsTrue, OnOk, OnErr, length, take, map, nat_lt, ◌||◌, ◌&&◌, count_by, if◌then◌else◌};
 ghost use Rattle.std.specs.HashSet.{contains};
 ghost use Rattle.std.specs.List.{IsDistinct};
@@ -19,14 +19,17 @@ use std::alloc::Global;
 use std::collections::HashSet;
 use std::hash::BuildHasher;
 
-/// A store that finds an entry by the hash of its key, and the keys of a target by a digest of
-/// that. Strangers choose both, so that the hasher is to have keys drawn at random, as
-/// `RandomState` has.
+/// A store that finds an entry by the hash of its key, and the keys with a target by a digest of
+/// the target. Peers choose both, so the hasher should have keys that are drawn at random, as
+/// `RandomState` does.
 pub struct LruStore<H: BuildHasher> {
     recent: LruCache<CacheKey, Stored, H>,
+    /// The number of bytes that the entries count for.
     total: u64,
     index: TargetIndex<H>,
+    /// The maximum number of bytes that the entries may count for.
     most_bytes: u64,
+    /// The maximum number of entries.
     most_entries: usize,
     ghost are_those: { AreThoseOf recent.entries total (is_indexed index.secret index.groups) },
     ghost unlimited: { recent.cap ≡ 2 ^ 64 - 1 },
@@ -125,7 +128,8 @@ impl<H: BuildHasher + Copy> Store for LruStore<H> {
     }
 }
 
-/// Whether the entry of a key is the most recently used, which needs no hash of the key.
+/// Whether the entry with a key is the most recently used one, which is found without hashing the
+/// key.
 fn is_first<H: BuildHasher>(recent: &LruCache<CacheKey, Stored, H>, key: &CacheKey) -> bool
     requires { are_distinct entry_key recent.now.entries ≡ true }
     ensures { IsTrue result → used entry_key key.now recent.now.entries ≡ recent.now.entries }
@@ -136,7 +140,7 @@ fn is_first<H: BuildHasher>(recent: &LruCache<CacheKey, Stored, H>, key: &CacheK
     }
 }
 
-/// Takes out the entry of a key and lets it go. Says whether there was one.
+/// Removes the entry with a key and drops it. Returns whether there was one.
 fn take_out<H: BuildHasher + Copy>(
     recent: &mut LruCache<CacheKey, Stored, H>,
     total: &mut u64,
@@ -161,7 +165,7 @@ fn take_out<H: BuildHasher + Copy>(
     }
 }
 
-/// Puts an entry first, in place of the one of its key.
+/// Puts an entry first, replacing the one with its key.
 fn put_first<H: BuildHasher + Copy>(
     recent: &mut LruCache<CacheKey, Stored, H>,
     total: &mut u64,
@@ -192,7 +196,7 @@ fn put_first<H: BuildHasher + Copy>(
     }
 }
 
-/// Puts an entry in place of the one of its key, which counts `former` bytes. It takes no memory.
+/// Replaces the entry with the same key, which counts for `former` bytes. Doesn't allocate.
 fn replace<H: BuildHasher>(
     recent: &mut LruCache<CacheKey, Stored, H>,
     total: &mut u64,
@@ -216,7 +220,7 @@ fn replace<H: BuildHasher>(
     Ok(())
 }
 
-/// Puts an entry of another key first.
+/// Puts an entry with a new key first.
 fn put_new<H: BuildHasher + Copy>(
     recent: &mut LruCache<CacheKey, Stored, H>,
     total: &mut u64,
@@ -252,7 +256,7 @@ fn put_new<H: BuildHasher + Copy>(
     }
 }
 
-/// Gives up the least recently used entries until the rest keeps within the limits.
+/// Evicts the least recently used entries until the rest is within the limits.
 fn cut_to<H: BuildHasher + Copy>(
     recent: &mut LruCache<CacheKey, Stored, H>,
     total: &mut u64,
@@ -272,7 +276,7 @@ fn cut_to<H: BuildHasher + Copy>(
     }
 }
 
-/// Whether entries that count so many bytes exceed a limit.
+/// Whether entries that count for `total` bytes exceed a limit.
 fn is_over<H: BuildHasher>(
     recent: &LruCache<CacheKey, Stored, H>,
     total: u64,
@@ -284,7 +288,7 @@ fn is_over<H: BuildHasher>(
     total > bytes || recent.len() > most
 }
 
-/// Gives up the least recently used entry, if there is one.
+/// Evicts the least recently used entry, if there is one.
 fn take_last<H: BuildHasher + Copy>(
     recent: &mut LruCache<CacheKey, Stored, H>,
     total: &mut u64,
@@ -306,7 +310,7 @@ fn take_last<H: BuildHasher + Copy>(
     }
 }
 
-/// Marks the entries of those keys of a group that are of a target, and counts these keys.
+/// Marks the entries for those keys in a group that have a target, and counts these keys.
 fn mark_group<H: BuildHasher>(
     recent: &mut LruCache<CacheKey, Stored, H>,
     group: &Group<H>,
@@ -348,7 +352,7 @@ fn mark_keys<H: BuildHasher>(
     count
 }
 
-/// Marks the entry of a key, if the key is of a target, and counts it then.
+/// Marks the entry with a key, if the key has a target, and returns 1 then and otherwise 0.
 fn mark_of<H: BuildHasher>(
     recent: &mut LruCache<CacheKey, Stored, H>,
     key: &CacheKey,
@@ -369,7 +373,7 @@ fn mark_of<H: BuildHasher>(
     }
 }
 
-/// Marks the entry of a key, if there is one.
+/// Marks the entry with a key, if there is one.
 fn mark_key<H: BuildHasher>(recent: &mut LruCache<CacheKey, Stored, H>, key: &CacheKey)
     requires { are_distinct entry_key recent.old.entries ≡ true }
     ensures { recent.new

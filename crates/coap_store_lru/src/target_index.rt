@@ -1,4 +1,4 @@
-//! Which keys there are, by their targets.
+//! An index of the keys, by their targets.
 ghost use Rattle.std.specs.Prelude.{◌≡◌, ◌&&◌, ◌||◌, ℕ, None, false, nat_eq, not, is_ok, IsFalse};
 ghost use Rattle.std.specs.Option.{option_copied};
 ghost use Rattle.std.specs.HashMap.{get};
@@ -14,13 +14,13 @@ use std::alloc::Global;
 use std::collections::HashMap;
 use std::hash::{BuildHasher, DefaultHasher, Hash, Hasher};
 
-/// Keys in groups, one for each digest of a target, so that no target is held beside those of the
-/// keys.
+/// Keys in groups, one for each digest of a target, so that no targets are stored in addition to
+/// those of the keys.
 pub(crate) struct TargetIndex<H: BuildHasher> {
-    /// By digests, which strangers can't aim at, so that any hasher will do.
+    /// The groups by digest. Peers can't aim at a digest, so any hasher will do.
     pub(crate) groups: HashMap<u64, Group<H>>,
-    /// What stands before each target that is digested. The hasher makes it, whose own keys are to
-    /// be drawn at random, since strangers choose targets.
+    /// What is hashed before each target to get its digest. It is made by the hasher, whose own
+    /// keys should be drawn at random, since peers choose targets.
     pub(crate) secret: u64,
     hasher: H,
     alloc: Global,
@@ -39,7 +39,7 @@ impl<H: BuildHasher + Drop> Drop for TargetIndex<H> {
 }
 
 impl<H: BuildHasher + Copy> TargetIndex<H> {
-    /// No keys.
+    /// An index without keys.
     pub(crate) fn new(alloc: Global, hasher: H) -> TargetIndex<H>
         ensures { (k : CacheKey) → is_indexed result.secret result.groups k ≡ false }
     {
@@ -51,7 +51,8 @@ impl<H: BuildHasher + Copy> TargetIndex<H> {
         }
     }
 
-    /// The keys of a target, and of others only where these have its digest.
+    /// The group with the keys of a target, which has those of other targets only if they have the
+    /// same digest.
     pub(crate) fn group_of(&self, target: &Target) -> Option<&Group<H>>
         ensures { option_copied result
             ≡ get nat_eq self.now.groups (digest self.now.secret target.now) }
@@ -59,7 +60,7 @@ impl<H: BuildHasher + Copy> TargetIndex<H> {
         self.groups.get(&digest_of(self.secret, target))
     }
 
-    /// Adds a key. Where there is no memory, the keys stay as they are.
+    /// Adds a key. If memory runs out, the keys are unchanged.
     pub(crate) fn insert(&mut self, key: &CacheKey) -> Result<(), OutOfMemory>
         ensures { (k : CacheKey)
             → is_indexed self.new.secret self.new.groups k
@@ -75,7 +76,7 @@ impl<H: BuildHasher + Copy> TargetIndex<H> {
         }
     }
 
-    /// Adds the first key of a digest.
+    /// Adds the first key with a digest.
     fn open(&mut self, at: u64, key: CacheKey) -> Result<(), OutOfMemory>
         requires at { at ≡ digest self.old.secret key.target }
         requires new { get nat_eq self.old.groups at ≡ None }
@@ -88,7 +89,7 @@ impl<H: BuildHasher + Copy> TargetIndex<H> {
         Ok(())
     }
 
-    /// Takes out a key, and with the last key of a digest its group. It takes no memory.
+    /// Removes a key, and with the last key of a digest its group. Doesn't allocate.
     pub(crate) fn remove(&mut self, key: &CacheKey)
         ensures { (k : CacheKey) → is_indexed self.new.secret self.new.groups k
             ≡ (not (same_key key.now k) && is_indexed self.old.secret self.old.groups k) }
@@ -100,8 +101,8 @@ impl<H: BuildHasher + Copy> TargetIndex<H> {
     }
 }
 
-/// Takes a key out of the group of a digest, and says whether no other is left in it: then the
-/// group is to be let go.
+/// Removes a key from the group of a digest, and returns whether no other is left in it; if so, the
+/// group is to be removed.
 fn leave<H: BuildHasher + Copy>(
     groups: &mut HashMap<u64, Group<H>>,
     at: u64,

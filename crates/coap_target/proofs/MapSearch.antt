@@ -5,12 +5,12 @@ use Rattle.std.proofs.lemmas.List.{drop_more}
 use Rattle.coap_target.specs.declared.map.Map.{Map}
 use Rattle.coap_target.specs.Routes.{begins, is_longer, longer, map_of}
 
--- the best so far against what is found later
+-- the better of the best so far and what is found later
 abbrev pub best_of : Option Map → Option Map → Option Map
 best_of None later = later
 best_of (Some m) later = longer m later
 
--- a map that is longer than the best so far takes its place
+-- a map that is longer than the best so far replaces it
 replaces : (best : Option Map) (m : Map) (later : Option Map) → is_longer m best ≡ true → best_of best (longer m later) ≡ longer m later
 replaces None m later is = refl
 replaces (Some b) m None is = rw is refl
@@ -34,17 +34,17 @@ stays (Some b) m (Some n) is = go (nat_lt (length m.prefix) (length n.prefix)) r
         let short : nat_lt (length b.prefix) (length n.prefix) ≡ false = le-ltb _ _ (omega (arith, ltb-false _ _ more, ltb-false _ _ is)) in
         rw (is, short) refl
 
--- the loop comes to the map at `i`
+-- the loop arrives at the map at `i`
 module _ (maps : List Map) (path : List (List ℕ)) (i : ℕ) (m : Map) (within : i < length maps) (item : m ≡ get_or maps i m) where
-  -- so it is the first of those left
+  -- it is the first of the remaining ones
   more : drop i maps ≡ m ∷ drop (i + 1) maps
   more = drop_more maps i m within ∙ ap (λ (x : Map). x ∷ drop (i + 1) maps) (sym item)
 
-  -- it is longer than the best, and begins the path
+  -- if it is longer than the best, and begins the path, it becomes the best
   best_of-takes : (best : Option Map) → is_longer m best ≡ true → begins m.prefix path ≡ true → best_of best (map_of (drop i maps) path) ≡ best_of (Some m) (map_of (drop (i + 1) maps) path)
   best_of-takes best is holds = rw (more, holds) (replaces best m (map_of (drop (i + 1) maps) path) is)
 
-  -- it isn't longer
+  -- if it isn't longer, it is passed over
   best_of-shorter : (best : Option Map) → is_longer m best ≡ false → best_of best (map_of (drop i maps) path) ≡ best_of best (map_of (drop (i + 1) maps) path)
   best_of-shorter best is = rw more (go (begins m.prefix path))
     where
@@ -52,6 +52,6 @@ module _ (maps : List Map) (path : List (List ℕ)) (i : ℕ) (m : Map) (within 
       go true = stays best m (map_of (drop (i + 1) maps) path) is
       go false = refl
 
-  -- it doesn't begin the path
+  -- if it doesn't begin the path, it is passed over
   best_of-other : (best : Option Map) → begins m.prefix path ≡ false → best_of best (map_of (drop i maps) path) ≡ best_of best (map_of (drop (i + 1) maps) path)
   best_of-other best fails = rw (more, fails) refl

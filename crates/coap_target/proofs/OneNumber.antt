@@ -1,4 +1,4 @@
--- The values of the options of one number, which are neighbours.
+-- The values of the options with one number, which are adjacent.
 use Rattle.std.proofs.Common.{◌≡◌, ℕ, ◌<◌, Bool, false, List, [], ◌∷◌, refl, sym, ap, subst, ◌∙◌, inl, inr, arith}
 use Rattle.std.specs.List.{list_any}
 use Rattle.std.proofs.lemmas.Bool.{cases_lt, ne_eqb}
@@ -8,7 +8,7 @@ use Rattle.coap_message.proofs.Runs.{from-below, from-here, values-above, values
 use Rattle.coap_option.proofs.Picking.{AreOptions-from}
 use Rattle.coap_target.specs.Routes.{values_of}
 
--- none stands below the number
+-- no option before that has the number
 pub values-from : (n : ℕ) (os : List Opt) → values_of n (from_number n os) ≡ values_of n os
 values-from n [] = refl
 values-from n (o ∷ os) =
@@ -17,23 +17,24 @@ values-from n (o ∷ os) =
       | inr above ↦ ap (values_of n) (from-here n o os above)
     ]
 
--- The next option of those that are left.
+-- The next of the remaining options.
 module _ (n : ℕ) (left rest : List Opt) (o : Opt) (next : left ≡ o ∷ rest) (are : AreOptions 0 left) where
-  -- those behind it are in order
+  -- those after it are in order
   pub rest-in_order : AreOptions 0 rest
   rest-in_order = let from = subst (AreOptions 0) next are in AreOptions-from 0 o.number rest from.0 from.3
 
-  -- where it is above, no value is left
+  -- if its number is greater, no value is left
   pub values-past : n < o.number → (values_of n left ≡ []) × (values_of n rest ≡ [])
   values-past above =
       let from = subst (AreOptions 0) next are in
       (ap (values_of n) next ∙ values-above n o.number (o ∷ rest) (omega arith, from.1, from.2, from.3) above, values-above n o.number rest from.3 above)
 
-  -- where it is of another number, those behind it have all values
+  -- if its number is another, those after it have all the values
   pub values-passed : (o.number ≡ n → ⊥) → values_of n rest ≡ values_of n left
   values-passed other = sym (ap (values_of n) next ∙ rw (ne_eqb o.number n other) refl)
 
--- what fails of options below a number holds of some option just where it holds of some from there on
+-- if a test fails for options with lower numbers, it holds for any option exactly if it holds for
+-- any from the number on
 pub any-from : (test : Opt → Bool) (n : ℕ) (os : List Opt) → ((o : Opt) → o.number < n → test o ≡ false) → list_any test (from_number n os) ≡ list_any test os
 any-from test n [] fails = refl
 any-from test n (o ∷ os) fails =

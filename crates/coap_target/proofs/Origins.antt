@@ -24,19 +24,19 @@ use Rattle.coap_target.specs.RouteTexts.{Pair, prefix_of, target_at, without_que
 use Rattle.coap_endpoint.specs.Target.{IsShort, IsTarget}
 use Rattle.coap_uri.specs.Uri.{is_short, is_short_host, are_short, host_part, port_part, path_parts, query_parts, is_plain, with_host, url_or_bad, uri_read, uri_of}
 
--- parts that are all short enough
+-- if all parts are short enough, each is
 pub All-list_all : (xs : List (List ℕ)) → list_all is_short xs ≡ true → AllByRecursion IsShort xs
 All-list_all [] all = tt
 All-list_all (x ∷ xs) all =
     let parts = and_parts (is_short x) (list_all is_short xs) all in
     (leb-true (length x) 255 parts.0, All-list_all xs parts.1)
 
--- what was chosen by a test
+-- the value chosen by a test
 chosen : {T E : Type 0} (b : Bool) (x y : T) (e : E) → cond b (Ok x) (Err e) ≡ Ok y → (b ≡ true) × (x ≡ y)
 chosen true x y e is = (refl, cc)
 chosen false x y e is = absurd cc
 
--- a test that did not refuse
+-- the result after a test that didn't fail
 chosen-next : {T E : Type 0} (b : Bool) (r : Result T E) (y : T) (e : E) → cond b r (Err e) ≡ Ok y → r ≡ Ok y
 chosen-next true r y e is = is
 chosen-next false r y e is = absurd cc
@@ -50,12 +50,12 @@ with_host-short url (Some host) uri is =
     let short = (and_parts (not (made.port == 0)) (are_short made) (and_parts (is_plain url) (not (made.port == 0) && are_short made) pick.0).1).1 in
     subst (λ (u : UriParts). are_short u ≡ true) pick.1 short
 
--- what is read of a URI is short
+-- the parts of what is read from a URL are short
 uri_read-short : (r : Result Parts UriError) (uri : UriParts) → uri_read r ≡ Ok uri → are_short uri ≡ true
 uri_read-short (Err e) uri is = absurd cc
 uri_read-short (Ok url) uri is = with_host-short url (nonempty_host url) uri (chosen-next (bytes_eq url.scheme (codes "coap")) (with_host url (nonempty_host url)) uri Scheme is)
 
--- and so is what is read of a text
+-- and so are those of what is read from a text
 pub uri_of-short : (text : List ℕ) (uri : UriParts) → uri_of text ≡ Ok uri → are_short uri ≡ true
 unfolding uri_of
 uri_of-short text uri is = uri_read-short (url_or_bad (parse_url None text)) uri is
@@ -78,19 +78,19 @@ module _ (hosts : List KnownHost) (uri : UriParts) (t : Target) (path : AllByRec
       let same : made ≡ t = cc in
       subst IsTarget same (record { host = tt; path = path; query = query })
 
--- the target at an address or a known host is one
+-- so is the target at an address or a known host
 remote-is : (hosts : List KnownHost) (uri : UriParts) (t : Target) → are_short uri ≡ true → remote hosts uri ≡ Ok t → IsTarget t
 remote-is hosts uri t short is =
     let host = and_parts (is_short_host uri.host) (list_all is_short uri.path && list_all is_short uri.query) short in
     let rest = and_parts (list_all is_short uri.path) (list_all is_short uri.query) host.1 in
     target_at_host-is hosts uri t (All-list_all uri.path rest.0) (All-list_all uri.query rest.1) uri.host host.0 is
 
--- an origin is a target
+-- the target of a result that has one
 target_at-ok : (r : Result Target TargetError) (t : Target) → target_at r ≡ Some t → r ≡ Ok t
 target_at-ok (Ok x) t is = let same : x ≡ t = cc in ap Ok same
 target_at-ok (Err e) t is = absurd cc
 
--- and without a query it is an origin
+-- an origin without a query is a target
 without_query-is : (hosts : List KnownHost) (uri : UriParts) (query : List (List ℕ)) (t : Target) → are_short uri ≡ true → without_query hosts uri query ≡ Some t → IsTarget t
 without_query-is hosts uri [] t short is = remote-is hosts uri t short (target_at-ok (remote hosts uri) t is)
 without_query-is hosts uri (part ∷ query) t short is = absurd cc
@@ -100,7 +100,7 @@ origin_at-is : (hosts : List KnownHost) (r : Result UriParts UriError) (t : Targ
 origin_at-is hosts (Err e) t short is = absurd cc
 origin_at-is hosts (Ok uri) t short is = without_query-is hosts uri uri.query t (short uri refl) is
 
--- so is that of each map that was read
+-- the origin of a map is the one that was read
 map_with-origin : (prefix : Option (List (List ℕ))) (origin : Option Target) (m : Map) → map_with prefix origin ≡ Some m → origin ≡ Some m.origin
 map_with-origin None origin m is = absurd cc
 map_with-origin (Some prefix) None m is = absurd cc
@@ -119,13 +119,13 @@ all_of-parts (Some x) rest all is = go (all_of rest) refl is
     go None e f = absurd cc
     go (Some xs) e f = (x, xs, refl, e, cc)
 
--- and so is that of each of many
+-- and so are those of a list of maps that was read
 all-is : (hosts : List KnownHost) (pairs : List Pair) (maps : List Map) → all_of (map (map_read hosts) pairs) ≡ Some maps → HaveTargets maps
 all-is hosts [] maps is = let same : [] ≡ maps = cc in subst HaveTargets same tt
 all-is hosts (pair ∷ pairs) maps is =
     let (m, ms, of_first, of_rest, same) = all_of-parts (map_read hosts pair) (map (map_read hosts) pairs) maps is in
     subst HaveTargets same (map_read-is hosts pair m of_first, all-is hosts pairs ms of_rest)
 
--- the maps of routes that were read
+-- the origins of the maps that were read are targets
 pub maps-are : (hosts : List KnownHost) (pairs : List Pair) (maps : List Map) → ok_or (all_of (map (map_read hosts) pairs)) Unreadable ≡ Ok maps → HaveTargets maps
 maps-are hosts pairs maps is = all-is hosts pairs maps (read-some Unreadable (all_of (map (map_read hosts) pairs)) maps is)

@@ -1,4 +1,4 @@
--- The target of a request is a target: its parts fit options.
+-- The target of a request is a target: its parts fit into options.
 use Rattle.std.proofs.Common.{◌≡◌, ◌==◌, ◌&&◌, ℕ, ◌≤◌, Bool, true, false, cond, List, [], ◌∷◌, length, map, Option, Some, None, option_map, Result, Ok, Err, ok_or, refl, sym, subst}
 use Rattle.std.specs.Char.{to_ascii_lowercase}
 use Rattle.std.specs.List.{AllByRecursion}
@@ -40,7 +40,7 @@ module _ (routes : Routes) (are : AreRoutes routes) (t : Target) where
           let same : mapped path query n ≡ t = cc in
           subst IsTarget same (mapped-is path query n (All-map_of (λ k. IsTarget k.origin) routes.maps path n are found) of_path of_query)
 
-  -- what a URI of short parts leads to
+  -- what a URI with short parts leads to
   resolved-is : (uri : UriParts) → is_short_host uri.host ≡ true → AllByRecursion IsShort uri.path → AllByRecursion IsShort uri.query → resolved routes uri ≡ Ok t → IsTarget t
   resolved-is uri host path query e = go (is_own routes.names uri.host) e
     where
@@ -67,7 +67,7 @@ module _ (routes : Routes) (are : AreRoutes routes) (t : Target) where
       go true f = of_uri-is (uri_of text) (uri_of-short text) f
       go false f = absurd cc
 
-  -- a host that stands alone is as long as it is written
+  -- a host on its own is as long as it is written
   host_or-short : (ip : Option Ip) (lower : List ℕ) → length lower ≤ 255 → is_short_host (host_or ip lower) ≡ true
   host_or-short None lower short = le-leb (length lower) 255 short
   host_or-short (Some ip) lower short = refl
@@ -91,7 +91,7 @@ module _ (routes : Routes) (are : AreRoutes routes) (t : Target) where
         go true false f = composed-is (value_of 3 m) refl f
         go false z f = absurd cc
 
-    -- a proxy that gives a target has own names
+    -- a target that `if_any` gives is the one that it was given
     if_any-ok : (names : List HostPart) (r : Result Target TargetError) → if_any names r ≡ Ok t → r ≡ Ok t
     if_any-ok [] r f = absurd cc
     if_any-ok (name ∷ names) r f = f
@@ -107,7 +107,7 @@ pub request_target-is : (routes : Routes) (m : Message) (t : Target) → AreRout
 unfolding request_target
 request_target-is routes m t are screened e = by_options-is routes are t m screened (value_of 35 m) (value_of 39 m) e
 
--- that of a request without proxy options is the mapped one
+-- the target of a request without proxy options is the mapped one
 pub request_target-mapped : (routes : Routes) (m : Message) → value_of 35 m ≡ None → value_of 39 m ≡ None → request_target routes m ≡ ok_or (mapped_target routes m) NotFound
 unfolding request_target mapped_target
 request_target-mapped routes m uri scheme = rw (uri, scheme) refl

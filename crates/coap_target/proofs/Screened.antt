@@ -1,4 +1,4 @@
--- The values of options of a request that was screened are as long as their definitions allow.
+-- In a request that was screened, option values are as long as their definitions allow.
 use Rattle.std.proofs.Common.{◌≡◌, ◌==◌, ℕ, ◌≤◌, Bool, true, false, cond, ◌&&◌, not, nat_le, List, [], ◌∷◌, ◌++◌, length, filter, map, find, Option, Some, None, option_map, refl}
 use Rattle.std.specs.List.{AllByRecursion}
 use Rattle.std.proofs.lemmas.Bool.{and_parts, eqb-true, leb-true}
@@ -24,7 +24,7 @@ not-refused ps none = go (find (is_refused Request) ps) none
 abbrev place_behind : List Opt → Opt → PlacedOption
 place_behind passed o = record { option = o; before = count_of o.number passed }
 
--- An option of number n, which is unsafe, has at most `most` bytes where it is recognised.
+-- An option with the number n, which is unsafe, has at most `most` bytes if it is recognised.
 module _ (n most : ℕ) (unsafe : is_unsafe n ≡ true) (range : (length before : ℕ) → is_recognised Request n length before ≡ true → nat_le length most ≡ true) where
   -- so one that isn't refused is short enough
   passed-short : (p : PlacedOption) → p.option.number ≡ n → is_refused Request p ≡ false → length p.option.value ≤ most
@@ -37,7 +37,7 @@ module _ (n most : ℕ) (unsafe : is_unsafe n ≡ true) (range : (length before 
       go true false of told' = absurd cc
       go false r of told' = absurd cc
 
-  -- all of its number
+  -- so are all with this number
   values-behind : (passed options : List Opt) → find (is_refused Request) (places_behind passed options) ≡ None → AllByRecursion (λ v. length v ≤ most) (values_of n options)
   values-behind passed [] none = tt
   values-behind passed (o ∷ options) none = go (λ e. values-behind (passed ++ o ∷ []) options e) (is_refused Request (place_behind passed o)) refl none
@@ -50,33 +50,33 @@ module _ (n most : ℕ) (unsafe : is_unsafe n ≡ true) (range : (length before 
       go rest true is none' = absurd cc
       go rest false is none' = keep (rest none') is (o.number == n) refl
 
-  -- in a request that was screened
+  -- so are those of a request that was screened
   pub values-short : (options : List Opt) → first_refused Request options ≡ None → AllByRecursion (λ v. length v ≤ most) (values_of n options)
   values-short options none = values-behind [] options (not-refused (places options) none)
 
--- the first of them
+-- so is the first of them
 first-short : (most : ℕ) (values : List (List ℕ)) (value : List ℕ) → AllByRecursion (λ v. length v ≤ most) values → Some value ≡ first_value values → length value ≤ most
 first-short most [] value all is = absurd cc
 first-short most (v ∷ values) value all is = let same : v ≡ value = cc in rw (← same) all.0
 
--- Uri-Port
+-- for Uri-Port
 pub uri_port-short : (options : List Opt) (value : List ℕ) → first_refused Request options ≡ None → Some value ≡ first_value (values_of 7 options) → length value ≤ 2
 uri_port-short options value screened is =
     first-short 2 (values_of 7 options) value
     (values-short 7 2 refl (λ length before fits. (and_parts (nat_le 0 length) (nat_le length 2) (and_parts (nat_le 0 length && nat_le length 2) (before == 0) fits).0).1) options screened)
     is
 
--- Uri-Path
+-- for Uri-Path
 pub path_of-short : (m : Message) → first_refused Request m.options ≡ None → AllByRecursion (λ v. length v ≤ 255) (path_of m)
 path_of-short m screened =
     values-short 11 255 refl (λ length before fits. (and_parts (nat_le 0 length) (nat_le length 255) (and_parts (nat_le 0 length && nat_le length 255) true fits).0).1) m.options screened
 
--- Uri-Query
+-- for Uri-Query
 pub query_of-short : (m : Message) → first_refused Request m.options ≡ None → AllByRecursion (λ v. length v ≤ 255) (query_of m)
 query_of-short m screened =
     values-short 15 255 refl (λ length before fits. (and_parts (nat_le 0 length) (nat_le length 255) (and_parts (nat_le 0 length && nat_le length 255) true fits).0).1) m.options screened
 
--- Uri-Host
+-- for Uri-Host
 pub uri_host-short : (m : Message) (value : List ℕ) → first_refused Request m.options ≡ None → Some value ≡ first_value (values_of 3 m.options) → length value ≤ 255
 uri_host-short m value screened is =
     first-short 255 (values_of 3 m.options) value

@@ -9,13 +9,13 @@ use Rattle.coap_endpoint.specs.Target.{IsShort, IsTarget}
 use Rattle.coap_target.specs.Routes.{begins, longer, map_of, mapped, path_of, query_of, mapped_target, AreRoutes}
 use Rattle.coap_endpoint.proofs.Lists.{All-append}
 
--- what holds of each holds of those after some
+-- what holds for each item holds for each after the first `n`
 All-drop : (P : List ℕ → Type 0) (n : ℕ) (xs : List (List ℕ)) → AllByRecursion P xs → AllByRecursion P (drop n xs)
 All-drop P zero xs all = all
 All-drop P (suc n) [] all = tt
 All-drop P (suc n) (x ∷ xs) all = All-drop P n xs all.1
 
--- the map of a path is one of the maps
+-- the map found for a path is one of the maps
 pub All-map_of : (P : Map → Type 0) (maps : List Map) (path : List (List ℕ)) (m : Map) → AllByRecursion P maps → map_of maps path ≡ Some m → P m
 All-map_of P [] path m all found = absurd cc
 All-map_of P (n ∷ maps) path m all found = go (λ later e. All-map_of P maps path later all.1 e) (begins n.prefix path) (map_of maps path) refl found
@@ -30,7 +30,7 @@ All-map_of P (n ∷ maps) path m all found = go (λ later e. All-map_of P maps p
     go holds false None e is = absurd cc
     go holds false (Some later) e is = subst P (let same : later ≡ m = cc in same) (holds later e)
 
--- a mapped path and query make a target
+-- a path and a query are mapped to a target
 pub mapped-is : (path query : List (List ℕ)) (m : Map) → IsTarget m.origin → AllByRecursion IsShort path → AllByRecursion IsShort query → IsTarget (mapped path query m)
 mapped-is path query m is of_path of_query = record {
   host = is.host;

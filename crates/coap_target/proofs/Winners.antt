@@ -7,7 +7,7 @@ use Rattle.coap_target.specs.Routes.{begins, longer, map_of}
 use Rattle.coap_target.specs.Winner.{Wins}
 use Rattle.coap_endpoint.proofs.Lists.{All-append, All-weaken}
 
--- where none is found, no prefix begins the path
+-- if none is found, no prefix begins the path
 pub map_of-none : (maps : List Map) (path : List (List ℕ)) → map_of maps path ≡ None → AllByRecursion (λ m. begins m.prefix path ≡ false) maps
 map_of-none [] path e = tt
 map_of-none (m ∷ maps) path e = go (λ f. map_of-none maps path f) (begins m.prefix path) refl (map_of maps path) refl e
@@ -24,7 +24,7 @@ map_of-none (m ∷ maps) path e = go (λ f. map_of-none maps path f) (begins m.p
 
 -- one more map in front
 module _ (m : Map) (maps : List Map) (path : List (List ℕ)) where
-  -- none of the others begins the path
+  -- it wins if no prefix of the others begins the path
   alone : begins m.prefix path ≡ true → AllByRecursion (λ k. begins k.prefix path ≡ false) maps → Wins (m ∷ maps) path m
   alone is none = record {
     earlier = [];
@@ -35,7 +35,7 @@ module _ (m : Map) (maps : List Map) (path : List (List ℕ)) where
     as_long_as_later = All-weaken (λ k. begins k.prefix path ≡ false) (λ k. begins k.prefix path ≡ true → length k.prefix ≤ length m.prefix) maps (λ k no' yes'. absurd cc) none;
   }
 
-  -- it is passed over for a later one
+  -- it is passed over for a later one that wins
   passed : (n : Map) → (begins m.prefix path ≡ true → length m.prefix < length n.prefix) → Wins maps path n → Wins (m ∷ maps) path n
   passed n less wins = record {
     earlier = m ∷ wins.earlier;
@@ -46,7 +46,7 @@ module _ (m : Map) (maps : List Map) (path : List (List ℕ)) where
     as_long_as_later = wins.as_long_as_later;
   }
 
-  -- it is as long as the one that wins among the others
+  -- it wins if its prefix is at least as long as that of the winner among the others
   instead : (n : Map) → begins m.prefix path ≡ true → length n.prefix ≤ length m.prefix → Wins maps path n → Wins (m ∷ maps) path m
   instead n is most wins = record {
     earlier = [];

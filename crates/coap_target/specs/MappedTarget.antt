@@ -1,4 +1,4 @@
--- The target that a request is mapped to, as it is lent.
+-- The target that a request is mapped to, borrowed.
 use Rattle.std.specs.Prelude.{◌++◌}
 use Rattle.coap_target.specs.declared.mapped.MappedTarget.{MappedTarget}
 use Rattle.coap_endpoint.specs.declared.target.Target.{Target}

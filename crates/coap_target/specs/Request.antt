@@ -23,7 +23,7 @@ use Rattle.coap_target.specs.Hosts.{is_own, address_of}
 use Rattle.coap_target.specs.Routes.{values_of, path_of, query_of, mapped_by}
 use Rattle.coap_uri.specs.Uri.{host_of, uri_of}
 
--- the value of the first option of a number
+-- the value of the first option with a number
 abbrev pub first_value : List (List ℕ) → Option (List ℕ)
 first_value [] = None
 first_value (value ∷ values) = Some value
@@ -35,12 +35,12 @@ value_of number m = first_value (values_of number m.options)
 abbrev pub say_uri : List Opt → Bool
 say_uri options = list_any (λ o. o.number == PROXY_URI || o.number == PROXY_SCHEME) options
 
--- the request says its target by a URI (RFC 7252, 5.10.2)
+-- the request gives its target as a URI (RFC 7252, 5.10.2)
 abbrev pub says_uri : Message → Bool
 says_uri m = say_uri m.options
 
--- The port that Uri-Port says. Without one it is that of the scheme (RFC 7252, 6.1), not the one
--- that the request came to (5.10.1).
+-- The port that Uri-Port gives. Without one it is that of the scheme (RFC 7252, 6.1), not the one
+-- that the request arrived at (5.10.1).
 abbrev pub uri_port : Option (List ℕ) → ℕ
 uri_port None = 5683
 uri_port (Some value) = uint_of value
@@ -52,7 +52,7 @@ port_of m = uri_port (value_of URI_PORT m)
 abbrev pub local : Routes → List (List ℕ) → List (List ℕ) → Result Target TargetError
 local routes path query = ok_or (mapped_by routes.maps path query) NotFound
 
--- the target at an address; for a name at the address of the host of this name
+-- the target at an address, which for a name is that of the host with this name
 abbrev pub named_target : Option Ip → List ℕ → UriParts → Result Target TargetError
 named_target None name uri = Err NotProxied
 named_target (Some ip) name uri =
@@ -76,16 +76,16 @@ target_at_host hosts (Addr ip) uri =
 abbrev pub remote : List KnownHost → UriParts → Result Target TargetError
 remote hosts uri = target_at_host hosts uri.host uri
 
--- A request for a URI. One whose host is an own name is to the proxy itself (RFC 7252, 5.7.2),
--- whatever its port.
+-- A request for a URI. If the host is one of the proxy's own names, the request is for the proxy
+-- itself (RFC 7252, 5.7.2), whatever the port.
 abbrev pub resolved : Routes → UriParts → Result Target TargetError
 resolved routes uri =
     if is_own routes.names uri.host
     then local routes uri.path uri.query
     else remote routes.hosts uri
 
--- by Proxy-Uri: the URI says it all (RFC 7252, 5.10.2); what a text says takes no memory, so that
--- the last case never comes
+-- by Proxy-Uri: the URI gives the whole target (RFC 7252, 5.10.2); what a text means doesn't depend
+-- on memory, so the last case never occurs
 abbrev pub of_uri : Routes → Result UriParts UriError → Result Target TargetError
 of_uri routes (Ok uri) = resolved routes uri
 of_uri routes (Err uri_error.Bad) = Err BadUri
@@ -107,7 +107,7 @@ composed routes m (Some host) =
       query = query_of m;
     })
 
--- the one scheme that is served, in either case (RFC 3986, 3.1)
+-- the only scheme that is served, ignoring case (RFC 3986, 3.1)
 abbrev pub is_coap : List ℕ → Bool
 is_coap scheme = bytes_eq (map to_ascii_lowercase scheme) (codes "coap")
 
@@ -117,13 +117,13 @@ by_scheme routes m scheme =
     then (if port_of m == 0 then Err BadUri else composed routes m (value_of URI_HOST m))
     else Err NotProxied
 
--- a proxy without own names is none for others
+-- a proxy without own names serves no URIs
 abbrev pub if_any : List HostPart → Result Target TargetError → Result Target TargetError
 if_any [] target = Err NotProxied
 if_any (name ∷ names) target = target
 
--- By Proxy-Uri, if the request has one; else by Proxy-Scheme, if it has one (RFC 7252, 5.10.2).
--- With neither it is one to the proxy itself, of whatever Uri-Host and Uri-Port.
+-- By Proxy-Uri, if the request has one; otherwise by Proxy-Scheme, if it has one (RFC 7252,
+-- 5.10.2). Without either it is for the proxy itself, whatever its Uri-Host and Uri-Port.
 abbrev pub by_options : Routes → Message → Option (List ℕ) → Option (List ℕ)
     → Result Target TargetError
 by_options routes m None None = local routes (path_of m) (query_of m)

@@ -1,4 +1,4 @@
--- What the routes of a proxy are.
+-- The routes of a proxy, as lists.
 use Rattle.std.specs.Prelude.{List}
 use Rattle.std.specs.List.{AllByRecursion}
 use Rattle.coap_uri.specs.declared.uri.HostPart.{HostPart}

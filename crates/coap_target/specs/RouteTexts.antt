@@ -1,4 +1,4 @@
--- Routes as texts of a configuration, and what they say.
+-- Routes as the texts of a configuration, and what they mean.
 use Rattle.std.specs.Prelude.{ℕ, Bool, true, not, ◌&&◌, ◌==◌, nat_eq, nat_le, nat_lt, List, [], ◌∷◌, length, map, slice_index, Option, Some, None, option_map, String, string_bytes, Result, Ok, Err, if◌then◌else◌}
 use Rattle.std.specs.List.{list_any, list_all}
 use Rattle.std.specs.Cmp.Lexicographic.{pointwise}
@@ -23,7 +23,7 @@ use Rattle.coap_uri.specs.Uri.{host_of, is_short, path_parts, uri_of}
 abbrev pub Pair : Type 0
 Pair = List ℕ × List ℕ
 
--- what a pair of strings says
+-- a pair of strings as texts
 abbrev pub pair_of : {A B : Type 0} → String A × String B → Pair
 pair_of pair = (string_bytes pair.0, string_bytes pair.1)
 
@@ -39,7 +39,7 @@ is_name text = nat_lt 0 (length text) && (is_short text && list_all is_name_byte
 abbrev pub name_of : List ℕ → Option HostPart
 name_of text = if is_name text then Some (host_of text) else None
 
--- a host: a name that is no address, and an address
+-- a host: a name that isn't an address, and an address
 abbrev pub host_with : Option HostPart → Option Ip → Option KnownHost
 host_with None ip = None
 host_with (Some (Addr a)) ip = None
@@ -49,18 +49,18 @@ host_with (Some (Name name)) (Some ip) = Some (record { name = name; ip = ip })
 abbrev pub known_of : Pair → Option KnownHost
 known_of pair = host_with (name_of pair.0) (ip_of pair.1)
 
--- no name stands twice
+-- no name occurs twice
 abbrev pub are_distinct : List KnownHost → Bool
 are_distinct [] = true
 are_distinct (h ∷ hosts) =
     not (list_any (λ other. pointwise nat_eq other.name h.name) hosts) && are_distinct hosts
 
--- neither a query nor a fragment begins here
+-- no query and no fragment begins here
 abbrev pub is_unmarked : ℕ → Bool
 is_unmarked b = not (b == question_mark) && not (b == number_sign)
 
--- A prefix begins with a slash, and holds neither query nor fragment. After each slash stands a
--- segment; the slash alone has none.
+-- A prefix begins with a slash, and has no query and no fragment. Each slash is followed by a
+-- segment; a slash alone has none.
 abbrev pub is_prefix : List ℕ → Bool
 is_prefix text = (slice_index text 0 == slash) && list_all is_unmarked text
 
@@ -89,7 +89,7 @@ map_with (Some prefix) (Some origin) = Some (record { prefix = prefix; origin = 
 abbrev pub map_read : List KnownHost → Pair → Option Map
 map_read hosts pair = map_with (prefix_of pair.0) (origin_at hosts (uri_of pair.1))
 
--- all of them, where each can be read
+-- all of them, if each can be read
 abbrev pub all_of : {A : Type 0} → List (Option A) → Option (List A)
 all_of [] = Some []
 all_of (None ∷ rest) = None
@@ -102,7 +102,7 @@ if_distinct (Some hosts) = if are_distinct hosts then Some hosts else None
 abbrev pub hosts_of : List Pair → Option (List KnownHost)
 hosts_of hosts = if_distinct (all_of (map known_of hosts))
 
--- the routes: names, hosts and maps in the order in which they were handed in
+-- the routes: names, hosts and maps in the order in which they were passed in
 abbrev pub with_maps : List HostPart → List KnownHost → Option (List Map) → Option RouteLists
 with_maps names hosts None = None
 with_maps names hosts (Some maps) = Some (record { names = names; hosts = hosts; maps = maps })
@@ -115,7 +115,7 @@ abbrev pub with_names : Option (List HostPart) → List Pair → List Pair → O
 with_names None hosts maps = None
 with_names (Some names) hosts maps = with_hosts names (hosts_of hosts) maps
 
--- there may be 64 names, 256 hosts and 64 maps
+-- there may be at most 64 names, 256 hosts and 64 maps
 abbrev pub are_few : List (List ℕ) → List Pair → List Pair → Bool
 are_few names hosts maps =
     nat_le (length names) 64 && (nat_le (length hosts) 256 && nat_le (length maps) 64)
@@ -124,7 +124,7 @@ abbrev pub routes_or : Bool → Option RouteLists → Result RouteLists RouteErr
 routes_or few None = Err Unreadable
 routes_or few (Some routes) = if few then Ok routes else Err TooMany
 
--- the routes that the texts say, or why they say none
+-- the routes that the texts describe, or why they describe none
 unfoldable pub routes_of : List (List ℕ) → List Pair → List Pair → Result RouteLists RouteError
 routes_of names hosts maps =
     routes_or (are_few names hosts maps) (with_names (all_of (map name_of names)) hosts maps)

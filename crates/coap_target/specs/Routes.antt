@@ -29,18 +29,19 @@ abbrev pub is_longer : Map → Option Map → Bool
 is_longer m None = true
 is_longer m (Some n) = nat_lt (length n.prefix) (length m.prefix)
 
--- of a map and what is found among later ones: the one with the longer prefix, then the earlier
+-- of a map and what is found among later ones: the one with the longer prefix, else the earlier one
 abbrev pub longer : Map → Option Map → Option Map
 longer m None = Some m
 longer m (Some n) = if nat_lt (length m.prefix) (length n.prefix) then Some n else Some m
 
--- the map of a path: among those whose prefix begins it the one with the longest, then the earliest
+-- the map for a path: among those whose prefix begins it, the one with the longest prefix, and the
+-- earliest of several
 abbrev pub map_of : List Map → List (List ℕ) → Option Map
 map_of [] path = None
 map_of (m ∷ maps) path =
     if begins m.prefix path then longer m (map_of maps path) else map_of maps path
 
--- the origin's path followed by what stands after the prefix, and the request's query
+-- the origin's path followed by what comes after the prefix, and the request's query
 abbrev pub mapped : List (List ℕ) → List (List ℕ) → Map → Target
 mapped path query m =
     record {
@@ -53,7 +54,7 @@ mapped path query m =
 abbrev pub mapped_by : List Map → List (List ℕ) → List (List ℕ) → Option Target
 mapped_by maps path query = option_map (mapped path query) (map_of maps path)
 
--- the target of a request to the proxy itself, if one of the maps has its path
+-- the target of a request to the proxy itself, if one of the maps matches its path
 unfoldable pub mapped_target : Routes → Message → Option Target
 mapped_target routes m = mapped_by routes.maps (path_of m) (query_of m)
 

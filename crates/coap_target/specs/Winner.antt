@@ -1,11 +1,11 @@
--- Which of the maps is that of a path.
+-- Which map is the one for a path.
 use Rattle.std.specs.Prelude.{◌≡◌, ℕ, true, ◌<◌, ◌≤◌, List, ◌∷◌, ◌++◌, length}
 use Rattle.std.specs.List.{AllByRecursion}
 use Rattle.coap_target.specs.declared.map.Map.{Map}
 use Rattle.coap_target.specs.Routes.{begins}
 
--- Its prefix begins the path. Each earlier map whose prefix does so too has a shorter one, and no
--- later one has a longer one.
+-- Its prefix begins the path. Any earlier map whose prefix also does has a shorter one, and no
+-- such later map has a longer one.
 pub record Wins (maps : List Map) (path : List (List ℕ)) (m : Map) : Type 0 where
   pub earlier : List Map
   pub later : List Map

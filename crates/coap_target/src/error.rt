@@ -1,4 +1,4 @@
-//! What can be refused.
+//! Errors.
 ghost use Rattle.std.specs.Prelude.{◌≡◌};
 ghost use Rattle.coap_target.specs.declared.error.TargetError.TheVariants as target_errors;
 ghost use Rattle.coap_target.specs.declared.error.RouteError.TheVariants as route_errors;
@@ -9,17 +9,18 @@ use thiserror::Error;
 /// Why a request has no target.
 #[derive(Clone, Copy, Debug, PartialEq, Eq, Error)]
 pub enum TargetError {
-    /// Its Proxy-Uri is no URI that can be carried, or its Uri-Port is 0 (4.00, RFC 7252, 5.9.2.1).
+    /// Its Proxy-Uri isn't a URI that can be carried, or it has a Proxy-Scheme and its Uri-Port is
+    /// 0 (4.00, RFC 7252, 5.9.2.1).
     #[error("a bad URI")]
     BadUri,
-    /// The proxy doesn't serve that host or scheme, or has no own name and serves none (5.05, RFC
-    /// 7252, 5.10.2).
+    /// The proxy doesn't serve that host or scheme, or it has no own names and so serves none
+    /// (5.05, RFC 7252, 5.10.2).
     #[error("not proxied")]
     NotProxied,
-    /// It is one to the proxy itself, and no map has its path (4.04).
+    /// It is for the proxy itself, and no map matches its path (4.04).
     #[error("not found")]
     NotFound,
-    /// The allocator had no memory for the target.
+    /// There was no memory for the target.
     #[error("out of memory")]
     OutOfMemory,
 }
@@ -32,17 +33,17 @@ impl From<OutOfMemory> for TargetError {
     }
 }
 
-/// Why texts are no routes: of `Unreadable` and `TooMany` the first that applies. Running out of memory
-/// may be answered in place of either.
+/// Why texts aren't routes: the first of `Unreadable` and `TooMany` that applies. Running out of
+/// memory may be reported instead of either.
 #[derive(Clone, Copy, Debug, PartialEq, Eq, Error)]
 pub enum RouteError {
-    /// A name, host, address, prefix or origin can't be read, or a host stands twice.
+    /// A name, host, address, prefix or origin can't be read, or a host occurs twice.
     #[error("an unreadable route")]
     Unreadable,
-    /// A list is longer than it may be: 64 for names and for maps, 256 for hosts.
+    /// A list is too long: the limit is 64 for names and for maps, and 256 for hosts.
     #[error("too many routes")]
     TooMany,
-    /// The allocator had no memory for them.
+    /// There was no memory for them.
     #[error("out of memory")]
     OutOfMemory,
 }

@@ -14,7 +14,7 @@ ghost use Rattle.coap_option.specs.declared.side.Side.{Side};
 ghost use Rattle.coap_target.specs.declared.error.TargetError.{TargetError};
 ghost use Rattle.coap_target.specs.declared.routes.Routes.{Routes};
 
-/// The map of a path is the one that wins, and there is none where no prefix begins the path.
+/// The map found for a path is the one that wins, and if none is found, no prefix begins the path.
 pub fn the_longest_prefix_wins()
     ensures wins { (maps : List Map) (path : List (List ℕ)) (m : Map)
         → map_of maps path ≡ Some m
@@ -24,8 +24,8 @@ pub fn the_longest_prefix_wins()
         → AllByRecursion (λ m. begins m.prefix path ≡ false) maps }
 {}
 
-/// The target of a request that passed screening has a host, segments and parts of a query of at
-/// most 255 bytes each, as they fit options (RFC 7252, 5.10).
+/// The target of a request that passed screening has a host, path segments and query parts of at
+/// most 255 bytes each, which fit into options (RFC 7252, 5.10).
 pub fn targets_fit_options()
     ensures { (routes : Routes) (m : Message) (t : Target)
         → AreRoutes routes

@@ -1,7 +1,7 @@
 //! Where requests go: routes, and the targets of requests (RFC 7252, 5.7).
 //!
-//! Endpoints and targets themselves are `coap_endpoint`'s, reading URIs is `coap_uri`'s; both are
-//! offered here too.
+//! Endpoints and targets themselves are in `coap_endpoint`, and reading URIs is in `coap_uri`; both
+//! are re-exported here.
 #![tactic(auto)]
 
 mod error;

@@ -2,8 +2,8 @@
 use coap_endpoint::{Ip, Target};
 use coap_message::{Pieces, Seq};
 
-/// Where paths lead that begin with the prefix: to the origin, with what is left of the path after
-/// the origin's own.
+/// Maps paths that begin with the prefix to the origin: what follows the prefix is appended to the
+/// origin's own path.
 pub struct Map {
     pub prefix: Pieces,
     pub origin: Target,
@@ -18,7 +18,7 @@ impl Drop for Map {
     }
 }
 
-/// A host's name, in ASCII lower case, and its address.
+/// The name of a host, in ASCII lower case, and its address.
 pub struct KnownHost {
     pub name: Seq<u8>,
     pub ip: Ip,

@@ -1,10 +1,10 @@
-//! Targets that requests are mapped to, as they are lent.
+//! Targets that requests are mapped to, borrowed.
 use crate::options::Values;
 use coap_endpoint::Target;
 
-/// The target that a request to the proxy itself is mapped to, none of it copied: the origin's
-/// host, endpoint and path, what is left of the request's path after the prefix of the map, and the
-/// request's query.
+/// The target that a request to the proxy itself is mapped to, without copying any of it: the
+/// origin's host, endpoint and path, the rest of the request's path after the prefix of the map,
+/// and the request's query.
 #[derive(Drop)]
 pub struct MappedTarget<'m, 'a> {
     pub origin: &'m Target,

@@ -1,11 +1,11 @@
-//! The options of one number. They are neighbours (RFC 7252, 3.1), so that those of lower numbers are
-//! passed once, and those of greater ones never.
+//! The options with one number. They are adjacent (RFC 7252, 3.1), so lower numbers are skipped
+//! once, and a pass ends at the first greater one.
 ghost use Rattle.std.specs.Prelude.{◌≡◌, ◌++◌, OnOk};
 
 use coap_message::{OptRefs, Options, OutOfMemory, Pieces};
 use std::marker::Model;
 
-/// The values that are left of the options of a number. A contract sees the list.
+/// An iterator over the remaining values of the options with a number. A contract sees the list.
 #[derive(Drop)]
 pub struct Values<'a> {
     number: u16,
@@ -51,7 +51,7 @@ impl<'a> Iterator for Values<'a> {
 impl<'a> Values<'a> {
     ghost use Rattle.coap_target.specs.Routes.{values_of};
 
-    /// A copy, which goes on from the same place.
+    /// A copy, which continues from the same position.
     pub(crate) fn clone(&self) -> Values<'a>
         ensures { result ≡ self.now }
     {
@@ -61,7 +61,7 @@ impl<'a> Values<'a> {
         }
     }
 
-    /// The values of the options of a number.
+    /// The values of the options with a number.
     pub(crate) fn of(options: &Options<'a>, number: u16) -> Values<'a>
         ensures { result ≡ values_of number options.now }
     {
@@ -71,8 +71,8 @@ impl<'a> Values<'a> {
         }
     }
 
-    /// Adds copies of the values to a list. An `Err` means that memory ran out: then some of them may
-    /// have been added.
+    /// Appends copies of the values to a list. `Err` means that memory ran out; some of them may
+    /// then have been appended.
     pub(crate) fn append_to(self, list: &mut Pieces) -> Result<(), OutOfMemory>
         ensures { OnOk result (list.new ≡ list.old ++ self.entry) }
     {

@@ -22,7 +22,7 @@ use coap_option::numbers;
 use coap_uri::{DEFAULT_PORT, HostPart, UriError, UriParts, read_host, split_uri};
 use std::alloc::Global;
 
-/// The value of the first option of a number.
+/// The value of the first option with a number.
 fn value_of<'a>(request: &MessageRef<'a>, number: u16) -> Option<&'a [u8]>
     ensures { option_copied result ≡ spec.value_of number request.now }
 {
@@ -40,7 +40,7 @@ fn copy_of(alloc: Global, host: &Option<Seq<u8>>) -> Result<Option<Seq<u8>>, Out
     }
 }
 
-/// The origin's path followed by what stands after the map's prefix, and the query.
+/// The origin's path followed by what comes after the map's prefix, and the query.
 fn mapped<'a, P: Segments<'a>>(
     alloc: Global,
     map: &Map,
@@ -68,10 +68,10 @@ impl MappedTarget<'_, '_> {
         self.origin.host.is_some()
     }
 
-    /// Puts a copy in place of a target, whose room is used again.
+    /// Overwrites a target with a copy of this one, and reuses its room.
     ///
     /// # Errors
-    /// Out of memory. Then the target holds parts of both.
+    /// Out of memory. The target then holds parts of both.
     pub fn copy_to(&self, target: &mut Target) -> Result<(), OutOfMemory>
         ensures { OnOk result (target.new ≡ seen self.now) }
     {
@@ -85,7 +85,7 @@ impl MappedTarget<'_, '_> {
     }
 }
 
-/// The port that Uri-Port says.
+/// The port that Uri-Port gives, or the default port.
 fn port_of(request: &MessageRef<'_>) -> u16
     requires { first_refused Side.Request request.now.options ≡ None }
     ensures { result ≡ spec.port_of request.now }
@@ -96,7 +96,7 @@ fn port_of(request: &MessageRef<'_>) -> u16
     }
 }
 
-/// The address of the first host of a name.
+/// The address of the first host with a name.
 fn address_of(hosts: &[KnownHost], name: &Seq<u8>) -> Option<Ip>
     ensures { result ≡ names.address_of hosts.now name.now }
 {
@@ -106,7 +106,7 @@ fn address_of(hosts: &[KnownHost], name: &Seq<u8>) -> Option<Ip>
     Some(host.ip)
 }
 
-/// The target of a request for a URI whose host is no own name.
+/// The target of a request for a URI whose host isn't one of the proxy's own names.
 pub(crate) fn remote(hosts: &[KnownHost], uri: UriParts) -> Result<Target, TargetError>
     ensures { result ≡ spec.remote hosts.now uri }
 {
@@ -145,7 +145,7 @@ fn query_of<'a>(request: &MessageRef<'a>) -> Values<'a>
     Values::of(&request.option_list(), numbers::URI_QUERY)
 }
 
-/// Whether a request says its target by a URI, in a Proxy-Uri or by a Proxy-Scheme (RFC 7252,
+/// Whether a request gives its target as a URI, by a Proxy-Uri or a Proxy-Scheme (RFC 7252,
 /// 5.10.2).
 pub fn says_uri(request: &MessageRef<'_>) -> bool
     ensures { result ≡ spec.says_uri request.now }
@@ -165,7 +165,7 @@ fn say_uri(options: &Options<'_>) -> bool
     false
 }
 
-/// Whether a scheme is `coap`, in either case (RFC 3986, 3.1).
+/// Whether a scheme is `coap`, ignoring case (RFC 3986, 3.1).
 fn is_coap(scheme: &[u8]) -> bool
     ensures { result ≡ spec.is_coap scheme.now }
 {
@@ -173,8 +173,8 @@ fn is_coap(scheme: &[u8]) -> bool
 }
 
 impl Routes {
-    /// What a request to the proxy itself is mapped to, if one of the maps has its path (RFC 7252,
-    /// 5.7.3). Nothing is copied, so that it takes no memory.
+    /// What a request to the proxy itself is mapped to, if one of the maps matches its path (RFC
+    /// 7252, 5.7.3). Copies nothing and doesn't allocate.
     #[tactic(auto, unfolding(crate::specs::Routes::mapped_target))]
     pub fn mapped<'m, 'a>(&'m self, request: &MessageRef<'a>) -> Option<MappedTarget<'m, 'a>>
         ensures exact { option_map seen result ≡ mapped_target self.now request.now }
@@ -206,7 +206,7 @@ impl Routes {
         }
     }
 
-    /// Whether a host is one of the own names.
+    /// Whether a host is one of the proxy's own names.
     fn is_own(&self, host: &HostPart) -> bool
         ensures { result ≡ names.is_own self.now.names host.now }
     {
@@ -240,7 +240,7 @@ impl Routes {
         }
     }
 
-    /// The target of a request with a Proxy-Scheme and no Proxy-Uri.
+    /// The target of a request with a Proxy-Scheme and without a Proxy-Uri.
     #[tactic(auto, unfolding(crate::specs::Request::by_scheme))]
     fn by_scheme(
         &self,
@@ -271,14 +271,16 @@ impl Routes {
         self.resolved(alloc, uri)
     }
 
-    /// The target of a request that passed screening (RFC 7252, 5.7.2 and 5.7.3): by its Proxy-Uri,
-    /// else by its Proxy-Scheme and its Uri options, else by the maps. A host that is an own name
-    /// makes it a request to the proxy itself, which is mapped too.
+    /// The target of a request that passed screening (RFC 7252, 5.7.2 and 5.7.3): by its Proxy-Uri;
+    /// otherwise by its Proxy-Scheme and its Uri options; otherwise by the maps. If the host is one
+    /// of the proxy's own names, the request is for the proxy itself, and is mapped too.
     ///
     /// # Errors
-    /// 1. `BadUri`: the Proxy-Uri is no URI that can be carried, or the Uri-Port is 0. 2.
-    ///    `NotProxied`: there are no own names, or the scheme or the host is not served.
-    /// 3. `NotFound`: no map has the path of a request to the proxy itself. 4. `OutOfMemory`.
+    /// - `BadUri`: the Proxy-Uri isn't a URI that can be carried, or Uri-Port is 0 in a request
+    ///   with a Proxy-Scheme.
+    /// - `NotProxied`: there are no own names, or the scheme or the host isn't served.
+    /// - `NotFound`: no map matches the path of a request to the proxy itself.
+    /// - `OutOfMemory`.
     pub fn target_of(&self, alloc: Global, request: &Message) -> Result<Target, TargetError>
         requires { first_refused Side.Request request.now.options ≡ None }
         ensures { Answers errors.OutOfMemory result (spec.request_target self.now request.now) }
@@ -286,10 +288,10 @@ impl Routes {
         self.target_of_ref(alloc, &request.lent())
     }
 
-    /// The same of a request that is read where it lies.
+    /// The same for a request that is borrowed.
     ///
     /// # Errors
-    /// As those of `target_of`.
+    /// Those of `target_of`.
     #[tactic(auto, unfolding(crate::specs::Request::request_target))]
     pub fn target_of_ref(
         &self,

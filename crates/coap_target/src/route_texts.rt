@@ -1,4 +1,4 @@
-//! Routes, read from texts of a configuration.
+//! Routes, read from the texts of a configuration.
 ghost use Rattle.std.specs.Prelude.{◌≡◌, map, nat_eq, ok_or, string_bytes};
 ghost use Rattle.std.specs.Cmp.Lexicographic.{pointwise};
 ghost use Rattle.std.specs.List.{list_all, list_any};
@@ -16,28 +16,28 @@ use coap_message::{Pieces, Seq};
 use coap_uri::{HostPart, LONGEST, UriError, path_parts, read_address, read_host, split_uri};
 use std::alloc::Global;
 
-/// The most own names.
+/// The maximum number of own names.
 const MOST_NAMES: usize = 64;
 
-/// The most hosts.
+/// The maximum number of hosts.
 const MOST_HOSTS: usize = 256;
 
-/// The most maps.
+/// The maximum number of maps.
 const MOST_MAPS: usize = 64;
 
-/// Reads an entry of a list of a configuration.
+/// Reads an entry of a list in a configuration.
 trait Reader<E, T> {
     ghost use Rattle.std.specs.Prelude.{Option};
 
     ghost part_of: { Self → E → Option T };
 
-    /// What the entry says.
+    /// Reads the entry.
     fn read(&self, alloc: Global, entry: &E) -> Result<T, RouteError>
         ensures { Answers errors.OutOfMemory result
             (ok_or (part_of self.now entry.now) errors.Unreadable) };
 }
 
-/// All entries of a list, in order.
+/// Reads all entries of a list, in order.
 fn read_all<E, T: Drop, R: Reader<E, T>>(
     alloc: Global,
     reader: &R,
@@ -54,14 +54,14 @@ fn read_all<E, T: Drop, R: Reader<E, T>>(
     Ok(parts)
 }
 
-/// Whether a byte may stand in a name: printable ASCII, neither space nor comma.
+/// Whether a byte may occur in a name: printable ASCII except for space and comma.
 fn is_name_byte(byte: u8) -> bool
     ensures { result ≡ spec.is_name_byte byte }
 {
     byte > b' ' && byte < 0x7F && byte != b','
 }
 
-/// Whether all bytes may stand in a name.
+/// Whether all bytes may occur in a name.
 fn are_name_bytes(bytes: &[u8]) -> bool
     ensures { result ≡ list_all spec.is_name_byte bytes.now }
 {
@@ -76,7 +76,7 @@ pub fn is_name(text: &[u8]) -> bool
     !text.is_empty() && text.len() <= LONGEST && are_name_bytes(text)
 }
 
-/// The own name, or the host, that a text is.
+/// Reads a text as an own name or as the name of a host.
 fn read_name(alloc: Global, text: &String) -> Result<HostPart, RouteError>
     ensures { Answers errors.OutOfMemory result
         (ok_or (spec.name_of (string_bytes text.now)) errors.Unreadable) }
@@ -99,7 +99,7 @@ impl Reader<String, HostPart> for Names {
     }
 }
 
-/// All own names.
+/// Reads all own names.
 fn read_names(alloc: Global, names: &[String]) -> Result<Seq<HostPart>, RouteError>
     ensures { Answers errors.OutOfMemory result
         (ok_or (spec.all_of (map spec.name_of (map string_bytes names.now))) errors.Unreadable) }
@@ -107,7 +107,7 @@ fn read_names(alloc: Global, names: &[String]) -> Result<Seq<HostPart>, RouteErr
     read_all(alloc, &Names, names)
 }
 
-/// Hosts: names that are no addresses, and their addresses.
+/// Hosts: names that aren't addresses, and their addresses.
 #[derive(Clone, Copy)]
 struct Hosts;
 
@@ -132,7 +132,7 @@ fn is_unmarked(text: &[u8]) -> bool
     text.iter().all(|byte| *byte != b'?' && *byte != b'#')
 }
 
-/// Whether a text may be a prefix: it begins with a slash, and holds neither query nor fragment.
+/// Whether a text may be a prefix: it begins with a slash, and has no query and no fragment.
 fn is_prefix(text: &[u8]) -> bool
     ensures { result ≡ spec.is_prefix text.now }
 {
@@ -142,7 +142,7 @@ fn is_prefix(text: &[u8]) -> bool
     }
 }
 
-/// The segments of a prefix.
+/// Reads the segments of a prefix.
 fn read_prefix(alloc: Global, text: &String) -> Result<Pieces, RouteError>
     ensures { Answers errors.OutOfMemory result
         (ok_or (spec.prefix_of (string_bytes text.now)) errors.Unreadable) }
@@ -153,8 +153,8 @@ fn read_prefix(alloc: Global, text: &String) -> Result<Pieces, RouteError>
     Ok(path_parts(alloc, text.as_bytes())?)
 }
 
-/// The target that an origin's text says: a URI without a query, whose host is an address or one of
-/// the hosts.
+/// Reads an origin as a target: a URI without a query, whose host is an address or one of the
+/// hosts.
 fn read_origin(alloc: Global, hosts: &[KnownHost], text: &String) -> Result<Target, RouteError>
     ensures { Answers errors.OutOfMemory result
         (ok_or (spec.origin_at hosts.now (uri_of (string_bytes text.now))) errors.Unreadable) }
@@ -189,7 +189,7 @@ impl Reader<(String, String), Map> for Maps<'_> {
     }
 }
 
-/// All maps.
+/// Reads all maps.
 fn read_maps(
     alloc: Global,
     hosts: &[KnownHost],
@@ -203,7 +203,7 @@ fn read_maps(
     read_all(alloc, &Maps { hosts }, maps)
 }
 
-/// Whether one of the hosts has a name.
+/// Whether one of the hosts has this name.
 fn has_host(hosts: &[KnownHost], name: &Seq<u8>) -> bool
     ensures { result ≡ list_any (λ other. pointwise nat_eq other.name name.now) hosts.now }
 {
@@ -212,7 +212,7 @@ fn has_host(hosts: &[KnownHost], name: &Seq<u8>) -> bool
         .any(|host| host.name.as_slice() == name.as_slice())
 }
 
-/// Whether no name stands twice.
+/// Whether no name occurs twice.
 fn are_distinct(hosts: &[KnownHost]) -> bool
     ensures { result ≡ spec.are_distinct hosts.now }
 {
@@ -226,7 +226,7 @@ fn are_distinct(hosts: &[KnownHost]) -> bool
     true
 }
 
-/// All hosts.
+/// Reads all hosts.
 fn read_known(alloc: Global, hosts: &[(String, String)]) -> Result<Seq<KnownHost>, RouteError>
     ensures { Answers errors.OutOfMemory result
         (ok_or (spec.all_of (map spec.known_of (map spec.pair_of hosts.now))) errors.Unreadable) }
@@ -234,7 +234,7 @@ fn read_known(alloc: Global, hosts: &[(String, String)]) -> Result<Seq<KnownHost
     read_all(alloc, &Hosts, hosts)
 }
 
-/// All hosts, if no name stands twice.
+/// Reads all hosts, if no name occurs twice.
 fn read_hosts(alloc: Global, hosts: &[(String, String)]) -> Result<Seq<KnownHost>, RouteError>
     ensures { Answers errors.OutOfMemory result
         (ok_or (spec.hosts_of (map spec.pair_of hosts.now)) errors.Unreadable) }
@@ -247,7 +247,7 @@ fn read_hosts(alloc: Global, hosts: &[(String, String)]) -> Result<Seq<KnownHost
     }
 }
 
-/// Whether there are as few as there may be.
+/// Whether each list is within its limit.
 fn are_few(names: &[String], hosts: &[(String, String)], maps: &[(String, String)]) -> bool
     ensures { result
         ≡ spec.are_few (map string_bytes names.now) (map spec.pair_of hosts.now)
@@ -257,19 +257,19 @@ fn are_few(names: &[String], hosts: &[(String, String)], maps: &[(String, String
 }
 
 impl Routes {
-    /// The routes that texts of a configuration say: own names; hosts, each a name and an address;
-    /// maps, each a prefix and an origin.
+    /// Reads the routes from the texts of a configuration: own names; hosts, each a name and an
+    /// address; and maps, each a prefix and an origin.
     ///
     /// Names of either kind have at least one byte and at most 255, all of them visible ASCII
     /// characters other than a comma, and are compared in lower case. A text that reads as an
-    /// address is that address among the own names, and no name for a host. A prefix begins with a
-    /// slash and has neither `?` nor `#`. An origin is a URI without a query, whose host is an
-    /// address or one of the hosts.
+    /// address is that address among the own names, and can't be the name of a host. A prefix
+    /// begins with a slash and contains neither `?` nor `#`. An origin is a URI without a query,
+    /// whose host is an address or one of the hosts.
     ///
     /// # Errors
-    /// `Unreadable` where a text is none of these, or a host stands twice; else `TooMany` for a
-    /// list with more names (64), hosts (256) or maps (64) than fit. Running out of memory may come in
-    /// place of either.
+    /// `Unreadable` if a text is none of these, or a host occurs twice; otherwise `TooMany` if
+    /// there are more than 64 names, 256 hosts or 64 maps. Running out of memory may be reported
+    /// instead of either.
     #[tactic(auto, unfolding(crate::specs::RouteTexts::routes_of))]
     pub fn new(
         alloc: Global,

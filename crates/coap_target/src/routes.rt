@@ -1,5 +1,5 @@
-//! Routes: the own names of a proxy, the hosts that it knows, and the origins that its paths are
-//! mapped to (RFC 7252, 5.7.2 and 5.7.3).
+//! Routes: a proxy's own names, the hosts that it knows, and the origins that its paths are mapped
+//! to (RFC 7252, 5.7.2 and 5.7.3).
 ghost use Rattle.std.specs.Prelude.{◌≡◌, IfOk};
 ghost use Rattle.std.specs.Option.{option_copied};
 ghost use Rattle.coap_target.specs.Routes as spec;
@@ -12,9 +12,9 @@ use coap_uri::HostPart;
 use std::alloc::Global;
 use std::marker::Model;
 
-/// The routes of a proxy: its own names, the addresses of hosts, and its maps, each in the order in
-/// which it was handed in. A contract sees the three lists. The origins of the maps are targets:
-/// host, segments and parts of the query have at most 255 bytes each.
+/// The routes of a proxy: its own names, the addresses of hosts, and its maps, each list in the
+/// order in which it was passed in. A contract sees the three lists. The origins of the maps are
+/// targets: host, path segments and query parts have at most 255 bytes each.
 pub struct Routes {
     pub(crate) names: Seq<HostPart>,
     pub(crate) hosts: Seq<KnownHost>,
@@ -56,7 +56,10 @@ impl Routes {
         self.maps.as_slice()
     }
 
-    /// The path `t` is mapped to `coap://127.0.0.1:5690/temp`.
+    /// Routes that map the path `t` to `coap://127.0.0.1:5690/temp`.
+    ///
+    /// # Errors
+    /// Out of memory.
     pub fn fixed(alloc: Global) -> Result<Routes, OutOfMemory>
         ensures { IfOk result (λ routes. routes ≡ fixed_routes) }
     {
@@ -84,8 +87,8 @@ impl Routes {
     }
 }
 
-/// The map of a path: among those whose prefix begins it the one with the longest, then the
-/// earliest.
+/// The map for a path: among those whose prefix begins the path, the one with the longest prefix,
+/// and the earliest of several.
 pub(crate) fn map_of<'m, 'a, P: Segments<'a>>(maps: &'m [Map], path: &P) -> Option<&'m Map>
     ensures { option_copied result ≡ spec.map_of maps.entry.now (P.left path.now) }
 {

@@ -1,4 +1,4 @@
-//! Segments of paths and parts of queries, wherever they are kept.
+//! Path segments and query parts, wherever they are stored.
 ghost use Rattle.std.specs.Prelude.{◌≡◌, ◌++◌, ◌∷◌, [], IfOk, MatchOption, OnOk, drop as drop_list};
 ghost use Rattle.coap_target.specs.Routes as spec;
 
@@ -6,7 +6,7 @@ use crate::options::Values;
 use coap_message::{OutOfMemory, PieceRefs, Pieces};
 use std::alloc::Global;
 
-/// Segments of a path, or parts of a query, that are left. A contract sees the list.
+/// The remaining segments of a path or parts of a query. A contract sees the list.
 pub trait Segments<'a>: Drop {
     ghost use Rattle.std.specs.Prelude.{ℕ, List};
 
@@ -17,12 +17,14 @@ pub trait Segments<'a>: Drop {
         ensures { MatchOption result ((left self.old ≡ []) × (left self.new ≡ [])) (λ s.
             left self.old ≡ s.now ∷ left self.new) };
 
-    /// A copy, which goes on from the same place.
+    /// A copy, which continues from the same position.
     fn clone(&self) -> Self
         ensures { left result ≡ left self.now };
 
-    /// Adds copies of them at the end of a list. An `Err` means that memory ran out: then some of them
-    /// may have been added.
+    /// Appends copies of them to a list.
+    ///
+    /// # Errors
+    /// Out of memory. Some of them may then have been appended.
     fn append_to(self, list: &mut Pieces) -> Result<(), OutOfMemory>
         ensures { OnOk result (list.new ≡ list.old ++ left self) };
 }
@@ -43,7 +45,7 @@ impl<'a> Segments<'a> for PieceRefs<'a> {
     }
 }
 
-/// Options' values (RFC 7252, 5.10.1).
+/// The values of options (RFC 7252, 5.10.1).
 impl<'a> Segments<'a> for Values<'a> {
     ghost left = { λ values. values };
 
@@ -77,7 +79,7 @@ pub(crate) fn begins<'a, P: Segments<'a>>(prefix: &Pieces, path: P) -> bool
     true
 }
 
-/// Passes so many segments.
+/// Skips `count` segments.
 pub(crate) fn skip<'a, P: Segments<'a>>(path: &mut P, count: usize)
     ensures { P.left path.new ≡ drop_list count (P.left path.old) }
 {
@@ -87,7 +89,7 @@ pub(crate) fn skip<'a, P: Segments<'a>>(path: &mut P, count: usize)
     }
 }
 
-/// How many bytes copies of segments take, as `Pieces` keeps them.
+/// The number of bytes that copies of segments take in `Pieces`.
 fn size_of<'a, P: Segments<'a>>(segments: P) -> usize {
     let mut segments = segments;
     let mut size = 0usize;
@@ -106,7 +108,7 @@ pub(crate) fn copies<'a, P: Segments<'a>>(alloc: Global, segments: P) -> Result<
     Ok(copies)
 }
 
-/// Pieces and copies of segments after them, in no more room than they need.
+/// Pieces followed by copies of segments, in no more room than they need.
 pub(crate) fn joined<'a, P: Segments<'a>>(
     alloc: Global,
     front: &Pieces,

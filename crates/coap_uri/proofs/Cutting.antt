@@ -6,7 +6,7 @@ use Rattle.std.proofs.lemmas.List.Sums.{prefix_len-le-length}
 use Rattle.std.proofs.lemmas.List.Splits.{slice_split_first, slice_split-cons_no}
 use Rattle.std.proofs.lemmas.Option.{none-some}
 
--- a place is found where the test holds first
+-- the position that is found is where the test first holds
 pub position_is : {X : Type 0} (p : X → Bool) (xs : List X) (i : ℕ) → position p xs ≡ Some i → (position_or_len p xs ≡ i) × (position_or_len p xs < length xs)
 position_is p xs i found =
     ⊎_elim
@@ -14,7 +14,7 @@ position_is p xs i found =
     (λ no. absurd (none-some i (rw no at found)))
     (cases_Bool (ltb (position_or_len p xs) (length xs)))
 
--- no place is found only where the test holds nowhere
+-- no position is found only if the test holds nowhere
 position_none : {X : Type 0} (p : X → Bool) (xs : List X) → position p xs ≡ None → length xs ≤ position_or_len p xs
 position_none p xs none =
     ⊎_elim
@@ -22,13 +22,13 @@ position_none p xs none =
     (λ no. ltb-false (position_or_len p xs) (length xs) no)
     (cases_Bool (ltb (position_or_len p xs) (length xs)))
 
--- and then that is the length
+-- and then the cut is at the end
 pub position_end : {X : Type 0} (p : X → Bool) (xs : List X) → position p xs ≡ None → length xs ≡ position_or_len p xs
 position_end p xs none =
     let most = prefix_len-le-length (λ x. not (p x)) xs in
     omega (arith, position_none p xs none, most)
 
--- where the test holds nowhere the list is one part
+-- if the test holds nowhere, the list is one part
 split-whole : {X : Type 0} (p : X → Bool) (xs : List X) → length xs ≤ position_or_len p xs → slice_split p xs ≡ xs ∷ []
 split-whole p [] all = refl
 split-whole p (x ∷ xs) all =
@@ -47,6 +47,6 @@ slice_split-cut p (x ∷ xs) i found =
     let is = position_is p (x ∷ xs) i found in
     rw (is.0) at (slice_split_first p (x ∷ xs) x is.1)
 
--- and of one without separator
+-- and those of a text without a separator
 pub slice_split-whole : {X : Type 0} (p : X → Bool) (xs : List X) → position p xs ≡ None → slice_split p xs ≡ xs ∷ []
 slice_split-whole p xs none = split-whole p xs (position_none p xs none)

@@ -5,7 +5,7 @@ use Rattle.std.proofs.lemmas.Bool.{or_parts, eqb-false}
 use Rattle.percent_encoding.specs.Percent.{percent_decode}
 use Rattle.percent_encoding.proofs.PercentLemmas.{percent_decode-nil, percent_decode_not_percent}
 
--- a text without `%` stays as it is
+-- a text without `%` isn't changed by decoding
 pub percent_decode_plain : (text : List ℕ) → list_any (λ b. b == 37) text ≡ false → percent_decode text ≡ text
 percent_decode_plain [] none = percent_decode-nil
 percent_decode_plain (b ∷ text) none =

@@ -1,4 +1,4 @@
--- What `url` reads in the text of a URI whose parts stand there as it writes them.
+-- What `url` reads in the text of a URI whose parts appear in it as `url` writes them.
 use Rattle.std.proofs.Common.{◌≡◌, ◌≢◌, ◌==◌, ◌<◌, ◌-◌, ◌^◌, ◌++◌, ℕ, true, false, not, List, [], ◌∷◌, length, get_or, take, drop, nat_eq, codes, decimal, All, Option, Some, None, Ok, IfSome, refl, sym, ap, ◌∙◌, subst, append-nil, arith, lit<, inl, ⊎_elim, true≢false}
 use Rattle.std.specs.Cmp.{unsigned_Decides}
 use Rattle.std.specs.Cmp.Lexicographic.{pointwise, pointwise_decides}
@@ -29,7 +29,7 @@ use Rattle.coap_uri.specs.Uri.{uri_of, with_host}
 
 -- ---- segments
 
--- bytes of a path, as what stands before the first slash, and the segments after it
+-- bytes of a path, as what comes before the first slash and the segments after it
 record Cut (bytes : List ℕ) : Type 0 where
   front : List ℕ
   segments : List (List ℕ)
@@ -50,6 +50,7 @@ longer b front kept other segment =
       resolved = rw (dot, percent) refl;
     }
 
+-- bytes of a path can be cut so
 cut : (bytes : List ℕ) → All (IsKept PATH) bytes → Cut bytes
 cut [] all = record { front = []; segments = []; joined = refl; first = empty_segment NotSpecial; others = All-nil (IsSegment NotSpecial) }
 cut (b ∷ rest) all =
@@ -85,49 +86,58 @@ rooted_list (b ∷ rest) all root =
 
 -- ---- the text
 
+-- the text with these parts is what `url` writes for them
 spelled : (host path : List ℕ) (port : Option ℕ) (query : Option (List ℕ)) → codes "coap://" ++ (host ++ (port_text port ++ (path ++ query_text query))) ≡ serialize (plain_url host port path query)
 spelled host path None None = refl
 spelled host path (Some n) None = refl
 spelled host path None (Some q) = ap (λ l. codes "coap://" ++ (host ++ (path ++ 63 ∷ l))) (sym (append-nil q))
 spelled host path (Some n) (Some q) = ap (λ l. codes "coap://" ++ (host ++ (58 ∷ decimal n ++ (path ++ 63 ∷ l)))) (sym (append-nil q))
 
--- the last of bytes that are no spaces
+-- the last of bytes without a space isn't a space
 last_visible : (xs : List ℕ) → All (IsNot 32) xs → get_or xs (length xs - 1) 0 ≢ 32
 last_visible [] all = omega arith
 last_visible (x ∷ xs) all = All-get_or (IsNot 32) (x ∷ xs) (length (x ∷ xs) - 1) 0 (omega arith) all
 
+-- a path without a space doesn't end in one
 no_space : (path : List ℕ) → All (IsNot 32) path → ends_in_space path ≡ false
 no_space [] all = refl
 no_space (x ∷ xs) all =
     let other = ne_eqb (get_or (x ∷ xs) (length (x ∷ xs) - 1) 0) 32 (last_visible (x ∷ xs) all) in
     grind (arith, nat_tests)
 
+-- the scheme contains no space
 scheme_visible : All (IsNot 32) (codes "coap://")
 scheme_visible = All-weaker (Passes (λ b. not (b == 32))) (IsNot 32) (λ b passes e. grind (arith, nat_tests)) (codes "coap://") (All_from_list_all (λ b. not (b == 32)) (codes "coap://") refl)
 
+-- nor does the port
 port_visible : (port : Option ℕ) → IsPortOf (codes "coap") port → All (IsNot 32) (port_text port)
 port_visible None valid = All-nil (IsNot 32)
 port_visible (Some n) valid =
     All-cons (IsNot 32) 58 (decimal n) (omega arith) (All-weaker (Passes is_host_byte) (IsNot 32) (λ b passes e. grind (arith, nat_tests)) (decimal n) (port_bytes (codes "coap") (Some n) valid))
 
+-- nor does the query
 query_visible : (query : Option (List ℕ)) → IfSome query (All (IsKept QUERY)) → All (IsNot 32) (query_text query)
 query_visible None kept = All-nil (IsNot 32)
 query_visible (Some q) kept = All-cons (IsNot 32) 63 q (omega arith) (All_kept_differs QUERY 32 refl q kept)
 
 -- ---- the URL
 
+-- `coap` is the name of a scheme
 coap_scheme : IsScheme (codes "coap")
 unfolding scheme_len
 coap_scheme = record { nonempty = lit< tt; whole = refl; lower = refl }
 
+-- it has no default port in `url`
 no_default : default_port (codes "coap") ≡ None
 unfolding default_port
 no_default = refl
 
+-- a port of 16 bits is a port of the scheme
 port_is : (port : Option ℕ) → IfSome port (λ n. n < 2 ^ 16) → IsPortOf (codes "coap") port
 port_is None small = tt
 port_is (Some n) small = (small, λ e. none-some n (sym no_default ∙ e))
 
+-- the query has only bytes that `url` doesn't escape in one
 query_is : (query : Option (List ℕ)) → IfSome query (All (IsKept QUERY)) → IfSome query (All (IsKept set.QUERY))
 query_is None kept = tt
 query_is (Some q) kept = All_kept_by_smaller QUERY set.QUERY refl q kept
@@ -168,10 +178,11 @@ module _ (host path : List ℕ) (port : Option ℕ) (query : Option (List ℕ)) 
     no_space path (All_kept_differs PATH 32 refl path kept),
   )
 
+  -- the text is read as the URL with these parts
   pub plain_parsed : parse_url None (codes "coap://" ++ (host ++ (port_text port ++ (path ++ query_text query)))) ≡ Ok (plain_url host port path query)
   plain_parsed = ap (parse_url None) (spelled host path port query) ∙ parse_url-serialize (plain_url host port path query) None valid canonical
 
-  -- the same of a text that is cut piece by piece
+  -- the same for a text that is cut piece by piece
   pub text_parsed : (text after_scheme after_host after_port after_path : List ℕ) → text ≡ codes "coap://" ++ after_scheme → after_scheme ≡ host ++ after_host → after_host ≡ port_text port ++ after_port → after_port ≡ path ++ after_path → after_path ≡ query_text query → parse_url None text ≡ Ok (plain_url host port path query)
   text_parsed text after_scheme after_host after_port after_path a b c d e =
       ap (parse_url None) (a ∙ ap (λ l. codes "coap://" ++ l) (b ∙ ap (λ l. host ++ l) (c ∙ ap (λ l. port_text port ++ l) (d ∙ ap (λ l. path ++ l) e)))) ∙ plain_parsed
@@ -181,7 +192,7 @@ pub stripped : (text rest front : List ℕ) → pointwise nat_eq (take (length f
 stripped text rest front same is =
     sym (take-append-drop (length front) text) ∙ (λ i. (pointwise_decides unsigned_Decides (take (length front) text) front).0 same i ++ sym is i)
 
--- the URI of such a text
+-- the URI that such a text is read as
 pub plain_read : (text : List ℕ) (plain : Plain) → parse_url None text ≡ Ok (url_of plain) → 0 < length plain.host.now → uri_of text ≡ with_host (url_of plain) (Some (Domain plain.host.now))
 unfolding uri_of
 plain_read text plain read some =

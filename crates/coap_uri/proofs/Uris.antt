@@ -1,4 +1,4 @@
--- What compares as equal of hosts and URIs, part by part, is equal.
+-- Hosts and URIs that compare as equal, part by part, are equal.
 use Rattle.std.proofs.Common.{◌≡◌, ◌==◌, true, ap, refl, eq-eqb}
 use Rattle.std.proofs.lemmas.Bool.{eqb-true}
 use Rattle.coap_endpoint.specs.Equality.{same_parts}
@@ -15,12 +15,12 @@ host-only (Addr a) (Addr b) e = ap Addr (Tells-ip.only a b e)
 host-only (Name a) (Addr b) e = absurd cc
 host-only (Addr a) (Name b) e = absurd cc
 
--- and each is the same as itself
+-- and each compares as equal to itself
 host-itself : (a : HostPart) → same_host a a ≡ true
 host-itself (Name a) = Tells-bytes.itself a
 host-itself (Addr a) = Tells-ip.itself a
 
--- hosts
+-- for hosts
 pub Tells-host : Tells same_host
 Tells-host = record { only = host-only; itself = host-itself }
 
@@ -34,6 +34,6 @@ uri-only a b e =
     let query : a.query ≡ b.query = Tells-parts.only a.query b.query parts.3 in
     λ i. record { host = host i; port = port i; path = path i; query = query i }
 
--- URIs
+-- for URIs
 pub Tells-uri : Tells same_uri
 Tells-uri = record { only = uri-only; itself = λ a. of_four (same_host a.host a.host) (a.port == a.port) (same_parts a.path a.path) (same_parts a.query a.query) (host-itself a.host) (eq-eqb a.port a.port refl) (Tells-parts.itself a.path) (Tells-parts.itself a.query) }

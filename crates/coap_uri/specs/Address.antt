@@ -1,4 +1,4 @@
--- Addresses written as texts.
+-- Addresses written as text.
 use Rattle.std.specs.Prelude.{ℕ, ◌-◌, Bool, ◌&&◌, ◌||◌, ◌==◌, List, ◌++◌, length, slice_index, slice_range, codes, Option, Some, None, Result, Ok, Err, option_map, option_and_then, if◌then◌else◌}
 use Rattle.std.specs.Option.{option_or}
 use Rattle.std.specs.List.{list_all}
@@ -13,16 +13,15 @@ use Rattle.url.specs.Parts.{Parts, nonempty_host}
 use Rattle.coap_endpoint.specs.declared.endpoint.Ip.{Ip}
 use Rattle.coap_endpoint.specs.declared.endpoint.Ip.TheVariants.{V4, V6}
 
--- the four bytes of an IPv4 address in dotted-decimal form, each written in one way (RFC 3986,
--- 3.2.2)
+-- the four bytes of an IPv4 address in dotted-decimal form, without leading zeros (RFC 3986, 3.2.2)
 unfoldable pub ipv4_of : List ℕ → Option (List ℕ)
 ipv4_of text = whole_value (read_ipv4 text)
 
--- what may stand between the brackets of an IPv6 address: hexadecimal digits, colons and dots
+-- a byte that may occur between the brackets of an IPv6 address: hexadecimal digit, colon or dot
 abbrev pub is_address_byte : ℕ → Bool
 is_address_byte b = is_digit b 16 || (b == colon || b == dot)
 
--- what stands between the brackets of a text in brackets
+-- what is between the brackets of a text in brackets
 abbrev pub inner_of : List ℕ → Option (List ℕ)
 inner_of text =
     if (slice_index text 0 == left_bracket) && (slice_index text (length text - 1) == right_bracket)
@@ -44,7 +43,7 @@ ipv6_read (Err e) = None
 abbrev pub bracketed_uri : List ℕ → List ℕ
 bracketed_uri inner = codes "coap://[" ++ inner ++ codes "]"
 
--- what stands between brackets is an IPv6 address where `url` reads it as the host of a URI
+-- what is between brackets is an IPv6 address if `url` reads it as the host of a URI
 unfoldable pub ipv6_between : List ℕ → Option (List ℕ)
 ipv6_between inner =
     if list_all is_address_byte inner

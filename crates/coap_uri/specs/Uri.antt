@@ -1,4 +1,4 @@
--- What the text of a `coap` URI means (RFC 7252, 6.1 and 6.4), over what `url` reads in it.
+-- What the text of a `coap` URI means (RFC 7252, 6.1 and 6.4), in terms of what `url` reads in it.
 use Rattle.std.specs.Prelude.{ℕ, Bool, true, not, ◌&&◌, ◌==◌, nat_le, List, [], ◌∷◌, length, drop, map, codes, bytes_eq, Option, Some, None, is_some, unwrap_or, Result, Ok, Err, if◌then◌else◌}
 use Rattle.std.specs.List.{list_all, slice_split}
 use Rattle.std.specs.Char.{to_ascii_lowercase}
@@ -19,7 +19,7 @@ use Rattle.coap_uri.specs.declared.error.UriError.{UriError}
 use Rattle.coap_uri.specs.declared.error.UriError.TheVariants.{Bad, Scheme}
 use Rattle.coap_uri.specs.Address.{ipv4_of, ip_of}
 
--- the parts of a text between separators, if there is one
+-- the parts of a text between separators, if there is a text
 abbrev pub parts_left : ℕ → Option (List ℕ) → List (List ℕ)
 parts_left separator None = []
 parts_left separator (Some text) = slice_split (λ b. b == separator) text
@@ -28,7 +28,7 @@ parts_left separator (Some text) = slice_split (λ b. b == separator) text
 abbrev pub decoded_parts : ℕ → List ℕ → List (List ℕ)
 decoded_parts separator text = map percent_decode (slice_split (λ b. b == separator) text)
 
--- the segments of a path: those after its first slash, and none where nothing stands there
+-- the segments of a path: those after its first slash, or none if nothing follows it
 abbrev pub segments_after : List ℕ → List (List ℕ)
 segments_after [] = []
 segments_after (b ∷ rest) = decoded_parts slash (b ∷ rest)
@@ -41,7 +41,7 @@ abbrev pub query_parts : Option (List ℕ) → List (List ℕ)
 query_parts None = []
 query_parts (Some query) = decoded_parts 0x26 query
 
--- a host's text: the address that it is, or a name in ASCII lower case, then percent-decoded
+-- the text of a host: the IPv4 address that it is, or a name in ASCII lower case, then decoded
 abbrev pub name_or : Option (List ℕ) → List ℕ → HostPart
 name_or (Some octets) text = Addr (V4 octets)
 name_or None text = Name (percent_decode (map to_ascii_lowercase text))
@@ -51,8 +51,8 @@ host_part (Domain text) = name_or (ipv4_of text) text
 host_part (Ipv4 address) = Addr (V4 (ipv4_octets address))
 host_part (Ipv6 address) = Addr (V6 (ipv6_octets address))
 
--- a host that stands alone, as in Uri-Host (RFC 7252, 5.10.1): in ASCII lower case, an address, or
--- else a name as it stands
+-- a host on its own, as in Uri-Host (RFC 7252, 5.10.1), in ASCII lower case: an address, or
+-- otherwise a name, which isn't decoded
 abbrev pub host_or : Option Ip → List ℕ → HostPart
 host_or (Some ip) lower = Addr ip
 host_or None lower = Name lower
@@ -60,7 +60,7 @@ host_or None lower = Name lower
 abbrev pub host_of : List ℕ → HostPart
 host_of text = let lower : List ℕ = map to_ascii_lowercase text in host_or (ip_of lower) lower
 
--- hosts, segments and parts of a query have at most 255 bytes (RFC 7252, 5.10)
+-- hosts, path segments and query parts have at most 255 bytes (RFC 7252, 5.10)
 abbrev pub is_short : List ℕ → Bool
 is_short bytes = nat_le (length bytes) 255
 
@@ -72,12 +72,11 @@ abbrev pub are_short : UriParts → Bool
 are_short uri =
     is_short_host uri.host && (list_all is_short uri.path && list_all is_short uri.query)
 
--- the port, 5683 where none is written (RFC 7252, 6.1)
+-- the port, or 5683 if none is given (RFC 7252, 6.1)
 abbrev pub port_part : Option ℕ → ℕ
 port_part port = unwrap_or port 5683
 
--- neither a user name nor a password nor a fragment, which `coap` URIs don't have (RFC 7252, 6.1
--- and 6.4)
+-- no user name, no password and no fragment, which `coap` URIs don't have (RFC 7252, 6.1 and 6.4)
 abbrev pub is_plain : Parts → Bool
 is_plain url = not (has_credentials url) && not (is_some url.fragment)
 
@@ -91,14 +90,14 @@ parts_of url host =
       query = query_parts url.query;
     }
 
--- a URI has a host, and nothing that can't be carried
+-- the URI has a host, and nothing that a request can't carry
 abbrev pub with_host : Parts → Option (Host (List ℕ)) → Result UriParts UriError
 with_host url None = Err Bad
 with_host url (Some host) =
     let uri : UriParts = parts_of url host in
     if is_plain url && (not (uri.port == 0) && are_short uri) then Ok uri else Err Bad
 
--- what `url` refuses is no URI
+-- what `url` rejects isn't a URI
 abbrev pub url_or_bad : Result Parts ParseError → Result Parts UriError
 url_or_bad (Ok url) = Ok url
 url_or_bad (Err e) = Err Bad
@@ -108,6 +107,6 @@ uri_read (Err e) = Err e
 uri_read (Ok url) =
     if bytes_eq url.scheme (codes "coap") then with_host url (nonempty_host url) else Err Scheme
 
--- the parts of a `coap` URI, or why the text is none
+-- the parts of a `coap` URI, or why the text isn't one
 unfoldable pub uri_of : List ℕ → Result UriParts UriError
 uri_of text = uri_read (url_or_bad (parse_url None text))

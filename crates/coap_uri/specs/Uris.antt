@@ -1,4 +1,4 @@
--- When hosts and URIs are the same, part by part.
+-- When hosts and URIs are equal, part by part.
 use Rattle.std.specs.Prelude.{Bool, false, nat_eq, ◌&&◌, ◌==◌}
 use Rattle.std.specs.Cmp.Lexicographic.{pointwise}
 use Rattle.coap_endpoint.specs.Endpoint.{same_ip}

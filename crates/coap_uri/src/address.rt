@@ -1,4 +1,4 @@
-//! Addresses written as texts (RFC 3986, 3.2.2).
+//! Addresses written as text (RFC 3986, 3.2.2).
 ghost use Rattle.std.specs.Prelude.{◌≡◌, None, IfOk, ok_or};
 ghost use Rattle.std.specs.List.{list_all};
 ghost use Rattle.std.specs.Option.{option_map, option_copied};
@@ -18,7 +18,7 @@ use std::alloc::Global;
 use std::net::Ipv4Addr;
 use url::{Host, ParseError, Url};
 
-/// The URL of a text.
+/// Parses a text as a URL.
 pub(crate) fn read_url(alloc: Global, text: &str) -> Result<Url, UriError>
     ensures { Answers errors.OutOfMemory result (url_or_bad (parse_url None text.now)) }
 {
@@ -29,8 +29,8 @@ pub(crate) fn read_url(alloc: Global, text: &str) -> Result<Url, UriError>
     }
 }
 
-/// The bytes of the IPv4 address that a text is in dotted-decimal form, each number written in one
-/// way (RFC 3986, 3.2.2).
+/// The bytes of the IPv4 address that a text is in dotted-decimal form, without leading zeros (RFC
+/// 3986, 3.2.2).
 pub fn read_ipv4(text: &[u8]) -> Option<[u8; 4]>
     ensures { result ≡ ipv4_of text.now }
 {
@@ -40,21 +40,21 @@ pub fn read_ipv4(text: &[u8]) -> Option<[u8; 4]>
     }
 }
 
-/// Whether a byte may stand in an IPv6 address.
+/// Whether a byte may occur in an IPv6 address.
 fn is_address_byte(byte: u8) -> bool
     ensures { result ≡ is_address_byte byte }
 {
     byte.is_ascii_hexdigit() || byte == b':' || byte == b'.'
 }
 
-/// Whether all bytes may stand in an IPv6 address.
+/// Whether all bytes may occur in an IPv6 address.
 fn are_address_bytes(bytes: &[u8]) -> bool
     ensures { result ≡ list_all is_address_byte bytes.now }
 {
     bytes.iter().all(|byte| is_address_byte(*byte))
 }
 
-/// What stands between the brackets of a text in brackets.
+/// What is between the brackets of a text in brackets.
 fn inner(text: &[u8]) -> Option<&[u8]>
     ensures { option_copied result ≡ inner_of text.now }
 {
@@ -64,7 +64,7 @@ fn inner(text: &[u8]) -> Option<&[u8]>
     }
 }
 
-/// The IPv6 address that a host is.
+/// The IPv6 address of a host that is one.
 fn ipv6_host(host: Option<Host<&str>>) -> Option<Ip>
     ensures { result ≡ option_map V6 (ipv6_host (option_map borrowed_host host.entry)) }
 {
@@ -87,7 +87,7 @@ fn read_between(alloc: Global, inner: &str) -> Result<Option<Ip>, OutOfMemory>
     }
 }
 
-/// The IPv6 address that stands between brackets.
+/// The IPv6 address between brackets, if it is one.
 fn read_ipv6(alloc: Global, inner: &[u8]) -> Result<Option<Ip>, OutOfMemory>
     ensures { IfOk result (λ ip. ip ≡ option_map V6 (ipv6_between inner.now)) }
 {
@@ -101,6 +101,9 @@ fn read_ipv6(alloc: Global, inner: &[u8]) -> Result<Option<Ip>, OutOfMemory>
 }
 
 /// The address that a text is, if it is one.
+///
+/// # Errors
+/// Out of memory.
 pub fn read_address(alloc: Global, text: &[u8]) -> Result<Option<Ip>, OutOfMemory>
     ensures { IfOk result (λ ip. ip ≡ ip_of text.now) }
 {
@@ -113,8 +116,11 @@ pub fn read_address(alloc: Global, text: &[u8]) -> Result<Option<Ip>, OutOfMemor
     }
 }
 
-/// The address that a text is: IPv4 in dotted-decimal form, each number written in one way, or IPv6
-/// in brackets (RFC 3986, 3.2.2). Any other text is `Bad`; `Scheme` never comes.
+/// The address that a text is: IPv4 in dotted-decimal form without leading zeros, or IPv6 in
+/// brackets (RFC 3986, 3.2.2).
+///
+/// # Errors
+/// `Bad` for any other text, or `OutOfMemory`. `Scheme` is never returned.
 pub fn read_ip(alloc: Global, text: &str) -> Result<Ip, UriError>
     ensures { Answers errors.OutOfMemory result (ok_or (ip_of text.now) errors.Bad) }
 {
@@ -124,7 +130,11 @@ pub fn read_ip(alloc: Global, text: &str) -> Result<Ip, UriError>
     }
 }
 
-/// The host that a text is, in ASCII lower case: an address, or a name as it stands.
+/// The host that a text is, in ASCII lower case: an address, or otherwise a name, which isn't
+/// decoded.
+///
+/// # Errors
+/// Out of memory.
 pub fn read_host(alloc: Global, text: &[u8]) -> Result<HostPart, OutOfMemory>
     ensures { IfOk result (λ host. host ≡ host_of text.now) }
 {

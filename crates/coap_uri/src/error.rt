@@ -1,4 +1,4 @@
-//! What can be refused.
+//! Errors.
 ghost use Rattle.std.specs.Prelude.{◌≡◌};
 ghost use Rattle.coap_uri.specs.declared.error.UriError.TheVariants as errors;
 
@@ -6,16 +6,16 @@ use coap_message::OutOfMemory;
 use std::alloc::AllocError;
 use thiserror::Error;
 
-/// Why a text was not read as a URI or an address.
+/// Why a text couldn't be read as a URI or an address.
 #[derive(Clone, Copy, Debug, PartialEq, Eq, Error)]
 pub enum UriError {
-    /// It is none, or has a part that can't be carried (RFC 7252, 6.4).
+    /// It isn't one, or it has a part that a request can't carry (RFC 7252, 6.4).
     #[error("no URI that can be carried")]
     Bad,
-    /// Its scheme is another than `coap`.
+    /// Its scheme isn't `coap`.
     #[error("a scheme other than coap")]
     Scheme,
-    /// The allocator had no memory for it.
+    /// There was no memory for it.
     #[error("out of memory")]
     OutOfMemory,
 }

@@ -6,13 +6,13 @@ ghost use Rattle.coap_uri.specs.declared.uri.UriParts.{UriParts};
 ghost use Rattle.coap_uri.specs.Address.{ipv4_of};
 ghost use Rattle.coap_uri.specs.Uris.{same_host, same_uri};
 
-/// An IPv4 address is read exactly where the grammar of RFC 3986, 3.2.2, has one.
+/// A text is read as an IPv4 address exactly if it is one by the grammar of RFC 3986, 3.2.2.
 pub fn four_numbers_are_read()
     ensures read { (text octets : List ℕ) → IsDotted text octets → ipv4_of text ≡ Some octets }
     ensures only { (text octets : List ℕ) → ipv4_of text ≡ Some octets → IsDotted text octets }
 {}
 
-/// What compares as equal is equal in all parts.
+/// Values that compare as equal are equal in all their parts.
 pub fn equal_is_the_same()
     ensures hosts { (a b : HostPart) → (same_host a b ≡ true) ↔ (a ≡ b) }
     ensures uris { (a b : UriParts) → (same_uri a b ≡ true) ↔ (a ≡ b) }

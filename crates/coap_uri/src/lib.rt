@@ -1,4 +1,4 @@
-//! `coap` URIs and addresses, read from texts (RFC 7252, 6; RFC 3986, 3.2.2).
+//! `coap` URIs and addresses, read from text (RFC 7252, 6; RFC 3986, 3.2.2).
 #![tactic(auto)]
 
 mod address;

@@ -1,4 +1,4 @@
-//! Parts of a URI's text between separators, percent-decoded (RFC 3986, 2.1; RFC 7252, 6.4).
+//! Parts of the text of a URI between separators, percent-decoded (RFC 3986, 2.1; RFC 7252, 6.4).
 ghost use Rattle.std.specs.Prelude.{◌≡◌, ◌==◌, ◌<◌, ◌∷◌, IfOk, IfSome, length, position};
 ghost use Rattle.std.specs.List.{list_all, slice_split};
 ghost use Rattle.std.specs.Cow.{cow_slice_items};
@@ -12,11 +12,11 @@ use percent_encoding::percent_decode;
 use std::alloc::Global;
 use std::borrow::CowSlice;
 
-/// The longest host, segment of a path or part of a query, in bytes (RFC 7252, 5.10).
+/// The maximum length of a host, a path segment or a query part, in bytes (RFC 7252, 5.10).
 pub const LONGEST: usize = 255;
 
-/// A text with its escapes decoded, which is lent where it has none. A `%` that begins no escape is
-/// an ordinary byte.
+/// A text with its escapes decoded, borrowed if it has no `%`. A `%` that doesn't begin an escape
+/// is an ordinary byte.
 #[tactic(auto, using(crate::proofs::Escapes::percent_decode_plain))]
 pub(crate) fn decoded(alloc: Global, text: &[u8]) -> Result<CowSlice<'_, u8>, OutOfMemory>
     ensures value { IfOk result (λ bytes. cow_slice_items bytes ≡ spec.percent_decode text.now) }
@@ -32,8 +32,8 @@ pub(crate) fn decoded(alloc: Global, text: &[u8]) -> Result<CowSlice<'_, u8>, Ou
     Ok(CowSlice::Owned(bytes))
 }
 
-/// Each part of a text between separators, decoded. They lie in a block of just their length, which
-/// is made at once.
+/// The parts of a text between separators, each decoded. They are stored in one block, which is
+/// allocated up front and shrunk to their length.
 pub(crate) fn split_decoded(
     alloc: Global,
     text: &[u8],
@@ -52,7 +52,7 @@ pub(crate) fn split_decoded(
     Ok(parts)
 }
 
-/// What stands before the first separator, and what stands after it, if there is one.
+/// What comes before the first separator, and what comes after it, if there is one.
 pub fn first_part(text: &[u8], separator: u8) -> (&[u8], Option<&[u8]>)
     ensures parts { slice_split (λ b. b == separator) text.now
         ≡ result.0.now ∷ parts_left separator (option_copied result.1) }
@@ -64,7 +64,7 @@ pub fn first_part(text: &[u8], separator: u8) -> (&[u8], Option<&[u8]>)
     }
 }
 
-/// Where a byte stands first.
+/// The position of the first occurrence of a byte.
 fn place_of(text: &[u8], byte: u8) -> Option<usize>
     ensures { result ≡ position (λ b. b == byte) text.now }
 {

@@ -1,5 +1,5 @@
-//! URIs that stand in their texts as they are read, with nothing to put right or to decode in the
-//! host and the path.
+//! URIs whose parts appear in their texts as they are read, with nothing to normalize or to decode
+//! in the host and the path.
 ghost use Rattle.std.specs.Prelude.{◌≡◌, ◌++◌, ◌<◌, ◌≤◌, None, Ok, All, IfSome, length, decimal, position};
 ghost use Rattle.std.specs.List.{position_or_len};
 ghost use Rattle.std.specs.Option.{option_copied};
@@ -10,7 +10,7 @@ ghost use Rattle.coap_uri.specs.Plain as spec;
 
 use percent_encoding::{AsciiSet, NON_ALPHANUMERIC, ascii_set};
 
-/// What ends a host's name: all but letters, digits and these.
+/// The bytes that end a host name: all except letters, digits and these.
 const NAME: AsciiSet = ascii_set!(
     NON_ALPHANUMERIC
         .remove(b'-')
@@ -19,8 +19,8 @@ const NAME: AsciiSet = ascii_set!(
         .remove(b'~')
 );
 
-/// What ends a path: all but letters, digits and these. A dot ends it too, so that no segment is `.`
-/// or `..`.
+/// The bytes that end a path: all except letters, digits and these. A dot ends it too, so that no
+/// segment is `.` or `..`.
 const PATH: AsciiSet = ascii_set!(
     NON_ALPHANUMERIC
         .remove(b'/')
@@ -32,7 +32,7 @@ const PATH: AsciiSet = ascii_set!(
         .remove(b':')
 );
 
-/// What ends a query: all but letters, digits and these.
+/// The bytes that end a query: all except letters, digits and these.
 const QUERY: AsciiSet = ascii_set!(
     NON_ALPHANUMERIC
         .remove(b'/')
@@ -47,7 +47,7 @@ const QUERY: AsciiSet = ascii_set!(
         .remove(b'%')
 );
 
-/// The parts of a URI, as they stand in its text.
+/// The parts of a URI, as they appear in its text.
 #[derive(Clone, Copy)]
 pub(crate) struct Plain<'a> {
     pub(crate) host: &'a [u8],
@@ -56,14 +56,14 @@ pub(crate) struct Plain<'a> {
     pub(crate) query: Option<&'a [u8]>,
 }
 
-/// Where the first byte stands that is in a set or not in ASCII.
+/// The position of the first byte that is in a set or isn't ASCII.
 fn place_in(text: &[u8], set: AsciiSet) -> Option<usize>
     ensures { result ≡ position (should_percent_encode set) text.now }
 {
     text.iter().position(|b| set.should_percent_encode(*b))
 }
 
-/// How many bytes stand before the first that is in a set or not in ASCII.
+/// The number of bytes before the first that is in a set or isn't ASCII.
 #[tactic(auto, using(crate::proofs::Cutting::position_is, crate::proofs::Cutting::position_end))]
 fn end_of(text: &[u8], set: AsciiSet) -> usize
     ensures end { result ≡ position_or_len (should_percent_encode set) text.now }
@@ -75,7 +75,7 @@ fn end_of(text: &[u8], set: AsciiSet) -> usize
     }
 }
 
-/// The bytes before the first that is in a set or not in ASCII, and the others.
+/// The bytes before the first that is in a set or isn't ASCII, and the rest.
 #[tactic(auto, using(crate::proofs::Kept::kept_take))]
 fn cut(text: &[u8], set: AsciiSet) -> (&[u8], &[u8])
     ensures whole { text.now ≡ result.0.now ++ result.1.now }
@@ -84,7 +84,7 @@ fn cut(text: &[u8], set: AsciiSet) -> (&[u8], &[u8])
     text.split_at(end_of(text, set))
 }
 
-/// The number that digits at the front are, if they are as it is written, and what follows them.
+/// The number at the front, if it is read as its decimal form, and what follows it.
 #[tactic(auto, using(crate::proofs::Digits::first_digit, crate::proofs::Digits::more_digit))]
 fn read_digits(text: &[u8]) -> Option<(u16, &[u8])>
     ensures { IfSome result (λ read. text.now ≡ decimal read.0 ++ read.1.now) }
@@ -144,8 +144,8 @@ fn is_rooted(path: &[u8]) -> bool
     }
 }
 
-/// The parts of a URI of the scheme `coap` that stand in its text as `url` reads them. None says only
-/// that they may not.
+/// The parts of a URI with the scheme `coap`, if they appear in its text as `url` reads them.
+/// `None` means only that they may not.
 pub(crate) fn read_plain(text: &[u8]) -> Option<Plain<'_>>
     ensures parsed { IfSome result (λ plain. parse_url None text.now ≡ Ok (spec.url_of plain)) }
     ensures host { IfSome result (λ plain. 0 < length plain.host.now) }

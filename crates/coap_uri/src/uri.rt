@@ -31,8 +31,8 @@ pub enum HostPart {
     Addr(Ip),
 }
 
-/// The parts of a `coap` URI, decoded. A name of a host is in ASCII lower case but for what its
-/// escapes stood for.
+/// The parts of a `coap` URI, decoded. A host name is in ASCII lower case, except for what its
+/// escapes encode.
 #[derive(Drop, PartialEq, Eq)]
 pub struct UriParts {
     pub host: HostPart,
@@ -42,7 +42,7 @@ pub struct UriParts {
 }
 
 impl UriParts {
-    /// Whether host, segments and parts of the query have at most 255 bytes each.
+    /// Whether the host, the segments and the query parts have at most 255 bytes each.
     fn are_short(&self) -> bool
         ensures { result ≡ spec.are_short self.now }
     {
@@ -56,9 +56,10 @@ impl UriParts {
 
 /// The parts of the URI that a text is (RFC 7252, 6.4): what the `url` crate reads in it, decoded.
 ///
-/// `Bad` is what it refuses, and a URI without host, with a user name, a password or a fragment
-/// (RFC 7252, 6.1), with port 0, or with a part of more than 255 bytes. A URI of another scheme is
-/// `Scheme`, whatever its other parts are.
+/// # Errors
+/// `Bad` for a text that `url` rejects, and for a URI without a host, with a user name, a password
+/// or a fragment (RFC 7252, 6.1), with port 0, or with a part of more than 255 bytes. `Scheme` for
+/// a URI with another scheme, whatever its other parts are. `OutOfMemory`.
 #[tactic(auto, using(crate::proofs::PlainUrls::plain_read))]
 pub fn split_uri(alloc: Global, text: &str) -> Result<UriParts, UriError>
     ensures { Answers errors.OutOfMemory result (spec.uri_of text.now) }
@@ -69,7 +70,7 @@ pub fn split_uri(alloc: Global, text: &str) -> Result<UriParts, UriError>
     }
 }
 
-/// The parts of a URI that stand in its text as they are read.
+/// The parts of a URI that appear in its text as they are read.
 fn split_plain(alloc: Global, plain: Plain<'_>) -> Result<UriParts, UriError>
     ensures { Answers errors.OutOfMemory result
         (spec.with_host (url_of plain.entry) (Some (Domain plain.entry.host.now))) }
@@ -87,7 +88,7 @@ fn split_plain(alloc: Global, plain: Plain<'_>) -> Result<UriParts, UriError>
     }
 }
 
-/// The parts of the URI that any text is, by what `url` reads in it.
+/// The parts of the URI that any text is, as `url` reads it.
 #[tactic(auto, unfolding(crate::specs::Uri::uri_of))]
 fn split_any(alloc: Global, text: &str) -> Result<UriParts, UriError>
     ensures { Answers errors.OutOfMemory result (spec.uri_of text.now) }
@@ -107,7 +108,7 @@ fn split_any(alloc: Global, text: &str) -> Result<UriParts, UriError>
     }
 }
 
-/// The parts of a URL that has this host, decoded.
+/// The parts of a URL with this host, decoded.
 fn parts_of(alloc: Global, url: &Url, host: Host<&str>) -> Result<UriParts, OutOfMemory>
     ensures { IfOk result (λ parts. parts ≡ spec.parts_of url.now (borrowed_host host.entry)) }
 {
@@ -119,14 +120,14 @@ fn parts_of(alloc: Global, url: &Url, host: Host<&str>) -> Result<UriParts, OutO
     })
 }
 
-/// Whether a URL has neither user name nor password nor fragment.
+/// Whether a URL has no user name, no password and no fragment.
 fn is_plain(url: &Url) -> bool
     ensures { result ≡ spec.is_plain url.now }
 {
     url.username().is_empty() && url.password().is_none() && url.fragment().is_none()
 }
 
-/// A host that `url` has read: an address, or a name in ASCII lower case, then decoded.
+/// A host as read by `url`: an address, or a name in ASCII lower case, then decoded.
 fn host_part(alloc: Global, host: Host<&str>) -> Result<HostPart, OutOfMemory>
     ensures { IfOk result (λ part. part ≡ spec.host_part (borrowed_host host.entry)) }
 {
@@ -137,7 +138,7 @@ fn host_part(alloc: Global, host: Host<&str>) -> Result<HostPart, OutOfMemory>
     }
 }
 
-/// The address that a host's text is, or else the name.
+/// The address that the text of a host is, or otherwise the name.
 fn named(alloc: Global, text: &[u8]) -> Result<HostPart, OutOfMemory>
     ensures { IfOk result (λ part. part ≡ spec.name_or (ipv4_of text.now) text.now) }
 {
@@ -158,7 +159,10 @@ fn name_of(alloc: Global, text: &[u8]) -> Result<Seq<u8>, OutOfMemory>
     }
 }
 
-/// The segments after the first slash of a path; none where nothing stands there.
+/// The segments after the first slash of a path, or none if nothing follows it.
+///
+/// # Errors
+/// Out of memory.
 pub fn path_parts(alloc: Global, path: &[u8]) -> Result<Pieces, OutOfMemory>
     ensures { IfOk result (λ segments. segments ≡ spec.path_parts path.now) }
 {
@@ -175,7 +179,7 @@ fn query_of(url: &Url) -> Option<&[u8]>
     Some(url.query()?.as_bytes())
 }
 
-/// The parts of a query between `&`; none without a query.
+/// The parts of a query between `&`, or none without a query.
 fn query_parts(alloc: Global, query: Option<&[u8]>) -> Result<Pieces, OutOfMemory>
     ensures { IfOk result (λ parts. parts ≡ spec.query_parts (option_copied query.entry)) }
 {

@@ -1,14 +1,14 @@
-//! What can go wrong.
+//! Errors.
 use coap_message::OutOfMemory;
 use thiserror::Error;
 
-/// Why a stored response isn't renewed. The first that applies, in this order.
+/// Why a stored response isn't renewed: the first reason that applies, in this order.
 #[derive(Clone, Copy, Debug, PartialEq, Eq, Error)]
 pub enum RenewError {
-    /// It is no 2.05 with a 2.03 of its ETag.
+    /// It isn't a 2.05, or the other response isn't a 2.03 with its ETag.
     #[error("the tag isn't that of the stored response")]
     WrongTag,
-    /// The allocator had no memory for the renewed response.
+    /// There was no memory for the renewed response.
     #[error("out of memory")]
     OutOfMemory,
 }

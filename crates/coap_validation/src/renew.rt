@@ -1,4 +1,4 @@
-//! Renewing a stored response that an origin validates (RFC 7252, 5.6.2 and 5.9.1.3).
+//! Renewing a stored response that an origin server validates (RFC 7252, 5.6.2 and 5.9.1.3).
 ghost use Rattle.std.specs.Prelude.{◌≡◌, ◌↔◌, false, IfOk, Err};
 ghost use Rattle.coap_store.specs.Renewing.{is_validated, news_of, renewed, safe_options};
 
@@ -8,9 +8,9 @@ use coap_option::{is_unsafe, max_age};
 use coap_store::{Stored, tag_of, updated, with_max_age};
 use std::alloc::Global;
 
-/// The stored response, a 2.05, renewed by a 2.03 with its ETag: its Max-Age is that of the 2.03,
-/// 60 seconds where that has none, in as few bytes as will do; each other kind of safe option that
-/// stands in the 2.03 replaces that kind (RFC 7252, 5.9.1.3).
+/// The stored response, a 2.05, renewed by a 2.03 with its ETag. Its Max-Age is that of the 2.03,
+/// or 60 seconds if that has none, encoded in the fewest bytes. The other safe options of the 2.03
+/// replace all those with the same numbers (RFC 7252, 5.9.1.3).
 ///
 /// # Errors
 /// 1. `WrongTag`: the stored one isn't a 2.05, or the other isn't a 2.03, or their ETags differ, or
@@ -30,7 +30,7 @@ pub fn renewed(alloc: Global, stored: &Stored, valid: &Message) -> Result<Messag
     }
 }
 
-/// Whether the stored response is a 2.05 and the other a 2.03 with its ETag.
+/// Whether the stored response is a 2.05 and the other one a 2.03 with its ETag.
 fn is_validated(response: &Message, valid: &Message) -> bool
     ensures { result ≡ is_validated response.now valid.now }
 {
@@ -46,7 +46,7 @@ fn is_validated(response: &Message, valid: &Message) -> bool
     }
 }
 
-/// A stored 2.05 with the options that a 2.03 renews.
+/// A stored 2.05 with its options renewed by a 2.03.
 fn renew(alloc: Global, response: &Message, valid: &Message) -> Result<Message, OutOfMemory>
     requires { response.now.code ≡ Code.CONTENT }
     ensures { IfOk result (λ message. message ≡ renewed response.now valid.now) }

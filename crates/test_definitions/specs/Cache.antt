@@ -1,4 +1,4 @@
--- Keys, responses and stores of the examples.
+-- Keys, responses and stores for the examples.
 use Rattle.std.specs.Prelude.{ℕ, false, List, [], ◌∷◌, None, Some, codes}
 use Rattle.coap_message.specs.declared.kind.Kind.TheVariants.{Non}
 use Rattle.coap_message.specs.declared.options.Opt.{Opt}
@@ -13,7 +13,7 @@ use Rattle.coap_store.specs.declared.stored.Stored.{Stored}
 use Rattle.coap_store.specs.Entries.{Entry, entry_key, entry_size}
 use Rattle.coap_store.specs.Lists.{put}
 
--- a resource of an origin with an address: this path, and no query
+-- a resource on an origin server with an address: this path, and no query
 abbrev pub at : List (List ℕ) → Target
 at path =
     record {
@@ -27,14 +27,14 @@ at path =
 abbrev pub get : List Opt → Message
 get options = message_of (record { kind = Non; code = code_of 0 1; id = 7 }) [] options []
 
--- the key of one of that resource
+-- the key of a GET of that resource, with these options
 abbrev pub key_at : List (List ℕ) → List Opt → CacheKey
 key_at path options = record { target = at path; options = key_of (get options) }
 
 abbrev pub temp : CacheKey
 temp = key_at (codes "temp" ∷ []) []
 
--- a host of eleven bytes, and the root of its paths
+-- a key with a host of eleven bytes and the root path
 abbrev pub sensor : CacheKey
 sensor =
     record {
@@ -47,7 +47,7 @@ abbrev pub response : ℕ → ℕ → List Opt → List ℕ → Message
 response class detail options payload =
     message_of (record { kind = Non; code = code_of class detail; id = 7 }) [] options payload
 
--- stored at the moment 0
+-- stored at the time 0
 abbrev pub kept : Message → Stored
 kept m = record { response = m; asked = 0; got_no = 1; got = 0; marked = false }
 
@@ -60,8 +60,8 @@ format n = option_of 12 (n ∷ [])
 abbrev pub max_age : ℕ → Opt
 max_age n = option_of 14 (n ∷ [])
 
--- a 2.05 of two bytes, fresh for ten seconds; with a tag; and renewed by a 2.03 with a
--- Content-Format
+-- a 2.05 with two bytes, fresh for ten seconds; the same with a tag; and that renewed by a 2.03
+-- with a Content-Format
 abbrev pub plain : Message
 plain = response 2 5 (max_age 10 ∷ []) (codes "21")
 
@@ -71,7 +71,7 @@ tagged = response 2 5 (tag (0xAB ∷ []) ∷ max_age 10 ∷ []) (codes "21")
 abbrev pub tagged_again : Message
 tagged_again = response 2 5 (tag (0xAB ∷ []) ∷ format 50 ∷ max_age 60 ∷ []) (codes "21")
 
--- elements of a key and a size
+-- elements with a key and a size
 abbrev pub Sized : Type 0
 Sized = CacheKey × ℕ
 
@@ -87,7 +87,7 @@ y = sized (codes "y") 90
 abbrev pub z : ℕ → Sized
 z size = sized (codes "z") size
 
--- a store of 80, 90 and 100 bytes
+-- a store with elements of 80, 90 and 100 bytes
 abbrev pub three : List Sized
 three = x ∷ y ∷ z 100 ∷ []
 
@@ -97,12 +97,12 @@ sized_key e = e.0
 abbrev pub sized_size : Sized → ℕ
 sized_size e = e.1
 
--- put into a store of so many bytes, and of so many entries
+-- put into a store that is limited to this many bytes and this many entries
 abbrev pub put_within : ℕ → ℕ → Sized → List Sized → List Sized
 put_within bytes entries e es = put sized_key sized_size bytes entries e es
 
--- responses for one target, of requests that accept three formats, put in turn into a store of two
--- entries
+-- responses for one target, to requests that accept three different formats, put in sequence into a
+-- store of two entries
 abbrev pub accepting : ℕ → Entry
 accepting n = (key_at (codes "temp" ∷ []) (option_of 17 (n ∷ []) ∷ []), kept plain)
 
@@ -112,7 +112,7 @@ put_entry e es = put entry_key entry_size 1000 2 e es
 abbrev pub last_two : List Entry
 last_two = put_entry (accepting 3) (put_entry (accepting 2) (put_entry (accepting 1) []))
 
--- a target of another origin with the same path, and a 2.05 for it
+-- a target on another origin server with the same path, and a 2.05 for it
 abbrev pub other_origin : Target
 other_origin =
     record (at (codes "temp" ∷ [])) {

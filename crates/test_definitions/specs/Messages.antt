@@ -1,4 +1,4 @@
--- Datagrams whose reading and spelling are computed on the definitions.
+-- Datagrams whose reading and encoding are computed with the definitions.
 use Rattle.std.specs.Prelude.{◌≡◌, ℕ, List, [], ◌∷◌, codes, Err}
 use Rattle.coap_message.specs.declared.error.DecodeError.{DecodeError}
 use Rattle.coap_message.specs.declared.error.DecodeError.TheVariants.{Format}
@@ -56,7 +56,7 @@ told id token =
 abbrev pub empty : Kind → ℕ → Message
 empty kind id = message_of (head kind 0 id) [] [] []
 
--- a GET with a token of eight bytes, the most that there may be
+-- a GET with a token of eight bytes, the maximum
 abbrev pub longest_token_bytes : List ℕ
 longest_token_bytes = 0x58 ∷ 1 ∷ 0 ∷ 7 ∷ 1 ∷ 2 ∷ 3 ∷ 4 ∷ 5 ∷ 6 ∷ 7 ∷ 8 ∷ []
 
@@ -75,7 +75,7 @@ abbrev pub old_bytes : List ℕ
 old_bytes = 0x10 ∷ 1 ∷ 0 ∷ 7 ∷ []
 
 -- a token of nine bytes; the nibble 15 as a delta; a value past the end; a marker with nothing
--- after it; an option number of 65,536; and an Empty message with a byte too many
+-- after it; an option number of 65,536; and an Empty message with one byte too many
 abbrev pub malformed : List (List ℕ)
 malformed =
     (0x59 ∷ 1 ∷ 0 ∷ 7 ∷ 0 ∷ 0 ∷ 0 ∷ 0 ∷ 0 ∷ 0 ∷ 0 ∷ 0 ∷ 0 ∷ [])
@@ -89,7 +89,7 @@ abbrev pub AllRefused : List (List ℕ) → Type 0
 AllRefused [] = Unit {0}
 AllRefused (bytes ∷ others) = refused bytes Format × AllRefused others
 
--- one option of the greatest number
+-- one option, with the greatest number
 abbrev pub last_option_bytes : List ℕ
 last_option_bytes = 0x50 ∷ 1 ∷ 0 ∷ 7 ∷ 0xE0 ∷ 0xFE ∷ 0xF2 ∷ []
 
@@ -97,7 +97,7 @@ abbrev pub last_option_message : Message
 last_option_message =
     message_of (head Non 1 7) [] (option_of 65535 [] ∷ []) []
 
--- the boundaries between the three ways to write a delta or a length
+-- the boundaries between the three ways to encode a delta or a length
 abbrev pub Boundaries : Type 0
 Boundaries =
     (bits_of 12 ≡ 12) × (more_of 12 ≡ [])

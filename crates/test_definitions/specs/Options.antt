@@ -1,4 +1,4 @@
--- Messages of the examples, and what is computed over the whole option table.
+-- Messages for the examples, and what is computed over the whole option table.
 use Rattle.std.specs.Prelude.{ℕ, ◌+◌, ◌-◌, ◌==◌, ◌&&◌, ◌||◌, Bool, not, List, [], ◌∷◌, replicate}
 use Rattle.coap_message.specs.declared.kind.Kind.TheVariants.{Con}
 use Rattle.coap_message.specs.declared.options.Opt.{Opt}
@@ -7,7 +7,7 @@ use Rattle.coap_message.specs.Options.{option_of}
 use Rattle.coap_option.specs.declared.side.Side.{Side}
 use Rattle.coap_option.specs.Recognition.{is_recognised}
 
--- an option of this number, with a value of so many zero bytes
+-- an option with this number, whose value is this many zero bytes
 abbrev pub zeros : ℕ → ℕ → Opt
 zeros number length = record { number = number; value = replicate length 0 }
 
@@ -26,23 +26,24 @@ put options = message 0x03 options
 abbrev pub content : List Opt → Message
 content options = message 0x45 options
 
--- What a first option of a request may be, by number, and by the least and the greatest length of
--- its value (RFC 7252, 5.10; RFC 7641, 2). If-Match, Uri-Host, ETag, If-None-Match, Observe,
--- Uri-Port, Uri-Path, Content-Format, Max-Age, Uri-Query, Accept, Proxy-Uri, Proxy-Scheme, Size1.
+-- What the first option with a number may be in a request: its number, and the least and the
+-- greatest length of its value (RFC 7252, 5.10; RFC 7641, 2). If-Match, Uri-Host, ETag,
+-- If-None-Match, Observe, Uri-Port, Uri-Path, Content-Format, Max-Age, Uri-Query, Accept,
+-- Proxy-Uri, Proxy-Scheme, Size1.
 abbrev pub of_requests : List (ℕ × ℕ × ℕ)
 of_requests =
     (1, 0, 8) ∷ (3, 1, 255) ∷ (4, 1, 8) ∷ (5, 0, 0) ∷ (6, 0, 3) ∷ (7, 0, 2) ∷ (11, 0, 255)
     ∷ (12, 0, 2) ∷ (14, 0, 4) ∷ (15, 0, 255) ∷ (17, 0, 2) ∷ (35, 1, 1034)
     ∷ (39, 1, 255) ∷ (60, 0, 4) ∷ []
 
--- the same of a response: ETag, Observe, Location-Path, Content-Format, Max-Age, Location-Query,
+-- the same for a response: ETag, Observe, Location-Path, Content-Format, Max-Age, Location-Query,
 -- Size1
 abbrev pub of_responses : List (ℕ × ℕ × ℕ)
 of_responses =
     (4, 1, 8) ∷ (6, 0, 3) ∷ (8, 0, 255) ∷ (12, 0, 2) ∷ (14, 0, 4) ∷ (20, 0, 255) ∷ (60, 0, 4) ∷ []
 
--- on this side, a first option of this number is recognised at these two lengths, and not just
--- beyond them
+-- on this side, the first option with this number is recognised at these two lengths, and not just
+-- outside them
 abbrev pub has_range : Side → ℕ × ℕ × ℕ → Bool
 has_range side (number, least, greatest) =
     let is_at : ℕ → Bool = λ length. is_recognised side number length 0 in
@@ -51,7 +52,7 @@ has_range side (number, least, greatest) =
     && not (is_at (greatest + 1))
     && (least == 0 || not (is_at (least - 1)))
 
--- whether an option after so many of its number is recognised, with a value of no byte or of one
+-- whether an option after `before` with its number is recognised, with a value of no byte or of one
 abbrev pub is_known : Side → ℕ → ℕ → Bool
 is_known side before number =
     is_recognised side number 0 before || is_recognised side number 1 before
@@ -70,6 +71,6 @@ longer =
     option_of 4 (7 ∷ []) ∷ option_of 4 (8 ∷ 9 ∷ []) ∷ option_of 11 (0x74 ∷ [])
     ∷ option_of 15 (0x61 ∷ []) ∷ option_of 15 (0x62 ∷ []) ∷ option_of 17 (0x3C ∷ []) ∷ []
 
--- two options that aren't recognised, the second a NoCacheKey one
+-- two options that aren't recognised, the second of which is NoCacheKey
 abbrev pub unknown : List Opt
 unknown = option_of 65000 (0xAA ∷ 0x0B ∷ []) ∷ zeros 65532 0 ∷ []

@@ -1,4 +1,4 @@
--- Requests and routes of the examples.
+-- Requests and routes for the examples.
 use Rattle.std.specs.Prelude.{ℕ, List, [], ◌∷◌, codes, Some, None}
 use Rattle.coap_message.specs.declared.kind.Kind.TheVariants.{Non}
 use Rattle.coap_message.specs.declared.options.Opt.{Opt}
@@ -20,7 +20,7 @@ abbrev pub get : List Opt → Message
 get options =
     message_of (record { kind = Non; code = record { 0 = 1 }; id = 7 }) [] options []
 
--- an address as a target, with this path and query
+-- a target at an address, with this port, path and query
 abbrev pub at : ℕ → List (List ℕ) → List (List ℕ) → Target
 at port path query = record { host = None; at = loopback port; path = path; query = query }
 
@@ -42,7 +42,7 @@ with_maps maps =
       maps = maps;
     }
 
--- and of one without own names
+-- and those of a proxy without own names
 abbrev pub without_names : List Map → Routes
 without_names maps = record { names = []; hosts = []; maps = maps }
 
@@ -68,7 +68,7 @@ plain_url = record {
   fragment = None;
 }
 
--- the URI of a host, a port, a path and a query
+-- the URI with this host, port, path and query
 abbrev pub uri : HostPart → ℕ → List (List ℕ) → List (List ℕ) → UriParts
 uri host port path query = record { host = host; port = port; path = path; query = query }
 
@@ -80,7 +80,7 @@ named = Name (codes "h")
 abbrev pub numbered : HostPart
 numbered = Addr (V4 (192 ∷ 0 ∷ 2 ∷ 7 ∷ []))
 
--- the address of a host, at another port, with a query
+-- the address of a host as a target, with another port and a query
 abbrev pub at_known_address : Target
 at_known_address = record {
   host = None;
@@ -98,10 +98,10 @@ numbered_target = record {
   query = [];
 }
 
--- the own name
+-- the proxy's own name
 abbrev pub own : HostPart
 own = Name (codes "proxy.test")
 
--- a host of a configuration
+-- a host in a configuration
 abbrev pub known : List ℕ → KnownHost
 known name = record { name = name; ip = V4 (192 ∷ 0 ∷ 2 ∷ 7 ∷ []) }

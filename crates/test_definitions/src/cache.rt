@@ -1,4 +1,4 @@
-//! Keys, stored responses and stores, computed on the definitions of `coap_store`.
+//! Keys, stored responses and stores, computed with the definitions of `coap_store`.
 ghost use Rattle.std.specs.Prelude.{◌≡◌, ◌∷◌, ◌++◌, [], true, false, None, Some, codes, filter, map, replicate, count_by};
 ghost use Rattle.std.specs.List.{range_with_len};
 ghost use Rattle.coap_message.specs.Options.{option_of};
@@ -11,7 +11,7 @@ ghost use Rattle.coap_store.specs.Renewing.{is_validated, renewed, tag_of, with_
 ghost use Rattle.coap_store.specs.Showing.{shown, tells_age};
 ghost use Rattle.coap_store.specs.Sizes.{size_of};
 
-/// Which requests have one key: Accept takes part in it and Size1 doesn't (RFC 7252, 5.4.6 and
+/// Which requests have the same key: Accept is part of it, and Size1 isn't (RFC 7252, 5.4.6 and
 /// 5.6).
 pub fn keyed()
     ensures itself { same_key temp temp ≡ true }
@@ -23,7 +23,7 @@ pub fn keyed()
     ensures origin { same_key temp elsewhere.0 ≡ false }
 {}
 
-/// For how long responses are fresh, and how many seconds are left (RFC 7252, 5.6.1 and 5.10.5).
+/// How long responses are fresh, and how many seconds are left (RFC 7252, 5.6.1 and 5.10.5).
 pub fn aged()
     ensures at_once { left_of 0 (kept plain) ≡ 10 }
     ensures second_begun { left_of 1 (kept plain) ≡ 9 }
@@ -43,7 +43,7 @@ pub fn aged()
     ensures changed { is_usable 0 (marked (at (codes "temp" ∷ [])) (temp, kept plain)).1 ≡ false }
 {}
 
-/// How many bytes entries count.
+/// How many bytes entries count for.
 pub fn counted()
     ensures plain { size_of temp (kept plain) ≡ 73 }
     ensures tagged { size_of temp (kept tagged) ≡ 75 }
@@ -99,7 +99,7 @@ pub fn found()
         ≡ entry_key (accepting 1) }
 {}
 
-/// What a 2.03 makes of a stored response (RFC 7252, 5.9.1.3).
+/// How a 2.03 validates and renews a stored response (RFC 7252, 5.9.1.3).
 pub fn validated()
     ensures no_max_age { renewed tagged (response 2 3 (tag (0xAB ∷ []) ∷ format 50 ∷ []) [])
         ≡ tagged_again }
@@ -136,7 +136,7 @@ pub fn validated()
         ≡ false }
 {}
 
-/// What clients are shown (RFC 7252, 5.7.1, 5.10.5 and 5.10.6).
+/// What clients are sent (RFC 7252, 5.7.1, 5.10.5 and 5.10.6).
 pub fn told()
     ensures left { shown plain (Some 1) [] ≡ response 2 5 (max_age 1 ∷ []) (codes "21") }
     ensures nothing_left { shown plain (Some 0) []
@@ -158,8 +158,8 @@ pub fn told()
         ≡ format 50 ∷ option_of 14 (1 ∷ 44 ∷ []) ∷ option_of 60 (7 ∷ []) ∷ [] }
 {}
 
-/// Which codes, of all 256, are told with a Max-Age: 2.05, and those of the classes 4 and 5 (RFC
-/// 7252, 5.10.5). A 2.02 isn't.
+/// Which codes, of all 256, are sent with a Max-Age: 2.05, and those of classes 4 and 5 (RFC 7252,
+/// 5.10.5). A 2.02 isn't.
 pub fn told_with_an_age()
     ensures codes { filter (λ n. tells_age (record { 0 = n })) (range_with_len 0 256)
         ≡ 0x45 ∷ (range_with_len 0x80 32 ++ range_with_len 0xA0 32) }

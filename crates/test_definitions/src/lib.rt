@@ -1,5 +1,5 @@
-//! Examples, computed on the definitions of the parts: public functions that do nothing, whose
-//! contracts are the examples. No crate waits for them.
+//! Examples, computed with the definitions of the other crates: public functions that do nothing,
+//! whose contracts are the examples. No crate depends on them.
 #![tactic(auto)]
 
 pub mod cache;

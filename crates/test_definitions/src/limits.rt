@@ -1,4 +1,4 @@
-//! The ranges and the defaults of limits, computed on the definitions of `coap_limits`.
+//! The ranges and the defaults of limits, computed with the definitions of `coap_limits`.
 ghost use Rattle.std.specs.Prelude.{◌≡◌, None, Some};
 ghost use Rattle.coap_limits.specs.declared.limits.Limit.{Limit};
 ghost use Rattle.coap_limits.specs.Limits.{default_limits, first_fault, range_of};
@@ -17,7 +17,7 @@ pub fn ranges()
     ensures retry_s { range_of Limit.RetryS ≡ (0, 3600) }
 {}
 
-/// The limits of a proxy that is told nothing else.
+/// The limits of a proxy that isn't configured otherwise.
 pub fn defaults()
     ensures cache_bytes { default_limits.cache_bytes ≡ 262144 }
     ensures cache_entries { default_limits.cache_entries ≡ 1024 }
@@ -32,7 +32,7 @@ pub fn defaults()
     ensures within { first_fault default_limits ≡ None }
 {}
 
-/// A value above its range or below it is at fault; of several, the first one is told.
+/// A value above or below its range is at fault; of several, the first one is reported.
 pub fn faults()
     ensures greatest { first_fault (record default_limits { waiters = 16384 }) ≡ None }
     ensures too_great { first_fault (record default_limits { waiters = 16385 })

@@ -1,4 +1,4 @@
-//! Messages, computed on the definitions of `coap_message`.
+//! Messages, computed with the definitions of `coap_message`.
 ghost use Rattle.std.specs.Prelude.{◌≡◌, ◌-◌, ◌^◌, [], ◌∷◌, None, Ok, Some, filter, replicate};
 ghost use Rattle.std.specs.List.{range_with_len};
 ghost use Rattle.coap_message.specs.declared.error.DecodeError.TheVariants.{Short, Version};
@@ -11,7 +11,7 @@ ghost use Rattle.test_definitions.specs.Messages as of;
 
 use coap_message::Code;
 
-/// The named codes, each by its class and its detail (RFC 7252, 12.1).
+/// The named codes, each by its class and detail (RFC 7252, 12.1).
 pub fn named_codes()
     ensures empty { Code.EMPTY ≡ code_of 0 0 }
     ensures get { Code.GET ≡ code_of 0 1 }
@@ -43,7 +43,7 @@ pub fn requests_and_responses()
         ≡ range_with_len 64 128 }
 {}
 
-/// Numbers as option values, computed on the definitions (RFC 7252, 3.2).
+/// Numbers as option values, computed with the definitions (RFC 7252, 3.2).
 pub fn numbers()
     ensures no_bytes { uint_of [] ≡ 0 }
     ensures high_byte_first { uint_of (1 ∷ 44 ∷ []) ≡ 300 }
@@ -56,14 +56,15 @@ pub fn numbers()
     ensures greatest { uint_spelling (2 ^ 64 - 1) ≡ replicate 8 255 }
 {}
 
-/// The heads of datagrams, whether or not a message is spelled, computed on the definitions.
+/// The heads of datagrams, whether or not these are well-formed messages, computed with the
+/// definitions.
 pub fn heads()
     ensures malformed { head_at (0x70 ∷ 0x45 ∷ 1 ∷ 2 ∷ 0xFF ∷ []) ≡ Some (of.head Rst 0x45 258) }
     ensures version { head_at (0x30 ∷ 0x45 ∷ 1 ∷ 2 ∷ []) ≡ None }
     ensures short { head_at (0x70 ∷ 0x45 ∷ 1 ∷ []) ≡ None }
 {}
 
-/// Messages of the standard's own examples (RFC 7252, Appendix A), and Empty ones.
+/// The messages of the standard's own examples (RFC 7252, Appendix A), and Empty messages.
 pub fn examples_of_the_standard()
     ensures asking_is_read { read_message of.asking_bytes ≡ Ok (of.asking 0x7D34 []) }
     ensures asking_is_spelled { spelling (of.asking 0x7D34 []) ≡ of.asking_bytes }
@@ -85,7 +86,7 @@ pub fn examples_of_the_standard()
     ensures reset_is_spelled { spelling (of.empty Rst 0x7D34) ≡ 0x70 ∷ 0 ∷ 0x7D ∷ 0x34 ∷ [] }
 {}
 
-/// Further examples, computed on the definitions.
+/// Further examples, computed with the definitions.
 pub fn more_messages()
     ensures get_is_read { read_message of.get_bytes ≡ Ok of.get_message }
     ensures get_is_spelled { spelling of.get_message ≡ of.get_bytes }

@@ -1,4 +1,4 @@
-//! Options, computed on the definitions of `coap_option`.
+//! Options, computed with the definitions of `coap_option`.
 ghost use Rattle.std.specs.Prelude.{◌≡◌, ◌∷◌, [], false, true, map, filter};
 ghost use Rattle.std.specs.List.{list_all, range_with_len};
 ghost use Rattle.coap_message.specs.Codes.{code_of};
@@ -47,7 +47,7 @@ pub fn classed()
     ensures high_no_cache_key { is_no_cache_key 65532 ≡ true }
 {}
 
-/// Codes of class 0 are of requests, all others of responses.
+/// Codes of class 0 are those of requests, all others those of responses.
 pub fn sided()
     ensures empty { side_of (code_of 0 0) ≡ Side.Request }
     ensures last_of_requests { side_of (code_of 0 31) ≡ Side.Request }
@@ -55,8 +55,8 @@ pub fn sided()
     ensures content { side_of (code_of 2 5) ≡ Side.Response }
 {}
 
-/// Which options are recognised, with the ranges of their values' lengths, and which more than once
-/// (RFC 7252, 5.4.5 and 5.10; RFC 7641, 2).
+/// Which options are recognised, with which lengths of their values, and which of them more than
+/// once (RFC 7252, 5.4.5 and 5.10; RFC 7641, 2).
 pub fn recognised()
     ensures requests { list_all (has_range Side.Request) of_requests ≡ true }
     ensures responses { list_all (has_range Side.Response) of_responses ≡ true }
@@ -71,8 +71,8 @@ pub fn recognised()
     ensures often { filter (is_known Side.Request 9) (range_with_len 0 300) ≡ 1 ∷ 4 ∷ 11 ∷ 15 ∷ [] }
 {}
 
-/// What screening says of some messages: Block1 and Block2 refuse a message, and so does a second
-/// Uri-Host, while a second Accept passes. What isn't known at all goes by its number.
+/// How some messages are screened: Block1 and Block2 cause a message to be rejected, and so does a
+/// second Uri-Host, while a second Accept passes. An unknown option is judged by its number.
 pub fn screened()
     ensures block2_in_request { first_refused Side.Request (zeros BLOCK2 1 ∷ []) ≡ Some 23 }
     ensures block2_in_response { first_refused Side.Response (zeros BLOCK2 1 ∷ []) ≡ Some 23 }
@@ -84,8 +84,8 @@ pub fn screened()
     ensures elective_unsafe { first_refused Side.Request (zeros 2050 1 ∷ []) ≡ Some 2050 }
 {}
 
-/// Which options of some messages are sent on, are part of the key, or say how the message is
-/// cached.
+/// Which options of some messages are forwarded, are part of the key, or determine how the message
+/// is cached.
 pub fn selected()
     ensures accepts { sent_on (get (zeros 17 1 ∷ zeros 17 1 ∷ [])) ≡ zeros 17 1 ∷ zeros 17 1 ∷ [] }
     ensures used_up { sent_on
@@ -119,10 +119,10 @@ pub fn selected()
     ensures long_max_age { max_age_of (content (zeros 14 5 ∷ [])) ≡ 60 }
 {}
 
-/// Of some GETs, the options that are sent on, those that are part of the key, and the tags: one
-/// with an ETag, an empty Accept and an empty Size1; one with two ETags, a path, two parts of a
-/// query and an Accept; and one with two options that aren't recognised, the second a NoCacheKey
-/// one.
+/// For some GETs, the options that are forwarded, those that are part of the key, and the tags: one
+/// with an ETag, an empty Accept and an empty Size1; one with two ETags, a path, two query parts
+/// and an Accept; and one with two options that aren't recognised, the second of which is
+/// NoCacheKey.
 pub fn asked()
     ensures sent_of_tagged { sent_on (get tagged) ≡ zeros 17 0 ∷ zeros 60 0 ∷ [] }
     ensures key_of_tagged { key_of (get tagged) ≡ zeros 17 0 ∷ [] }

@@ -1,4 +1,4 @@
-//! Targets, texts and routes, computed on the definitions of `coap_target`.
+//! Targets, texts and routes, computed with the definitions of `coap_target`.
 ghost use Rattle.std.specs.Prelude.{◌≡◌, ◌∷◌, ◌++◌, [], None, Some, Ok, Err, codes, false, filter, replicate, true};
 ghost use Rattle.std.specs.List.{range_with_len};
 ghost use Rattle.url.specs.declared.host.Host.TheVariants.{Domain};
@@ -12,8 +12,8 @@ ghost use Rattle.coap_target.specs.Request.{by_uri, of_uri, request_target, reso
 ghost use Rattle.coap_target.specs.RouteTexts.{are_few, hosts_of, is_name, is_name_byte, origin_at, prefix_of, without_query};
 ghost use Rattle.coap_uri.specs.Uri.{are_short, is_short, name_or, path_parts, query_parts, uri_read};
 
-/// The targets of requests without proxy options: the longest prefix wins, then the earlier,
-/// whatever Uri-Host and Uri-Port say.
+/// The targets of requests without proxy options: the longest prefix wins, and then the earlier
+/// map, whatever Uri-Host and Uri-Port are.
 pub fn mapped()
     ensures rest { request_target (without_names (everything ∷ temperature ∷ []))
         (get (option_of 11 (codes "u") ∷ []))
@@ -68,7 +68,7 @@ pub fn proxied()
         ≡ Err TargetError.NotProxied }
 {}
 
-/// How texts are cut and decoded.
+/// How texts are split and decoded.
 pub fn cut()
     ensures root { prefix_of (codes "/") ≡ Some [] }
     ensures one { prefix_of (codes "/a") ≡ Some (codes "a" ∷ []) }
@@ -86,7 +86,7 @@ pub fn cut()
     ensures three { ipv4_of (codes "1.2.3") ≡ None }
 {}
 
-/// What is read of a URL, part by part: the port of one without a port, and what a URI may not have
+/// How a URL is read, part by part: the port of one without a port, and what a URI may not have
 /// (RFC 7252, 6.1 and 6.4).
 pub fn read()
     ensures plain { uri_read (Ok plain_url) ≡ Ok (uri named 5683 (codes "a" ∷ []) []) }
@@ -115,7 +115,7 @@ pub fn read()
         ≡ Err Scheme }
 {}
 
-/// How long hosts, segments and parts of a query may be (RFC 7252, 5.10).
+/// How long hosts, path segments and query parts may be (RFC 7252, 5.10).
 pub fn lengths()
     ensures longest { is_short (replicate 255 0x61) ≡ true }
     ensures too_long { is_short (replicate 256 0x61) ≡ false }
@@ -125,7 +125,7 @@ pub fn lengths()
     ensures all_short { are_short (uri named 5683 (replicate 255 0x61 ∷ []) ([] ∷ [])) ≡ true }
 {}
 
-/// Which texts of a configuration are names, prefixes and lists.
+/// Which texts of a configuration are names and prefixes, and how long its lists may be.
 pub fn configured()
     ensures name_bytes { filter is_name_byte (range_with_len 0 256)
         ≡ range_with_len 0x21 11 ++ range_with_len 0x2D 82 }
@@ -141,7 +141,7 @@ pub fn configured()
     ensures maps { are_few [] [] (replicate 65 ([], [])) ≡ false }
 {}
 
-/// What may stand between the brackets of an address, and what stands there.
+/// Which bytes may occur between the brackets of an address, and what is between them.
 pub fn bracketed()
     ensures bytes { filter is_address_byte (range_with_len 0 256)
         ≡ 0x2E ∷ (range_with_len 0x30 11 ++ (range_with_len 0x41 6 ++ range_with_len 0x61 6)) }
@@ -152,8 +152,8 @@ pub fn bracketed()
     ensures in_a_uri { bracketed_uri (codes "::1") ≡ codes "coap://[::1]" }
 {}
 
-/// The targets of requests with a Proxy-Uri (RFC 7252, 5.7.2 and 5.10.2): an own name stands for
-/// the proxy itself whatever the port, and why a URI has no target.
+/// The targets of requests with a Proxy-Uri (RFC 7252, 5.7.2 and 5.10.2): an own name means the
+/// proxy itself whatever the port; and why a URI has no target.
 pub fn proxied_by_uri()
     ensures own_port { resolved (with_maps (temperature ∷ [])) (uri own 5683 (codes "t" ∷ []) [])
         ≡ Ok (at 5690 (codes "temp" ∷ []) []) }
@@ -178,8 +178,8 @@ pub fn proxied_by_uri()
         ≡ Err TargetError.NotProxied }
 {}
 
-/// Which origins and hosts a configuration may have: no origin with a query, also an empty one, and
-/// no host that stands twice, in whatever case.
+/// Which origins and hosts a configuration may have: no origin with a query, not even an empty one,
+/// and no host that occurs twice, ignoring case.
 pub fn origins_and_hosts()
     ensures origin { origin_at [] (Ok (uri numbered 5690 (codes "temp" ∷ []) []))
         ≡ Some numbered_target }

@@ -1,4 +1,4 @@
--- Those that don't live any more end between the two places.
+-- The expired records end between the two positions.
 use Rattle.std.proofs.Common.{◌+◌, ◌-◌, ◌≤◌, length}
 use Rattle.coap_dedup.specs.Lists.{living}
 use Rattle.coap_dedup.proofs.records.count_dead.Given as goal

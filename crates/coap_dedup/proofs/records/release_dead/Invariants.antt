@@ -1,4 +1,4 @@
--- What lives stays, and the index has the numbers of what is left and of the new record.
+-- Live records stay, and the index has the numbers of the remaining records and of the new one.
 use Rattle.std.proofs.Common.{◌≡◌, [], ◌∷◌, ◌++◌, length}
 use Rattle.coap_dedup.specs.Indexing.{AreNumbered}
 use Rattle.coap_dedup.specs.Lists.{AreApart, AreInOrder, living}

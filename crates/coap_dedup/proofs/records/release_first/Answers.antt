@@ -9,10 +9,12 @@ use Rattle.coap_dedup.specs.Keys.{key_of, same_key}
 use Rattle.coap_dedup.proofs.Numbers.{first-goes, first-stays}
 use Rattle.coap_dedup.proofs.records.release_first.Goals as goal
 
+-- what has a true negation is false
 not-true : (b : Bool) → not b ≡ true → b ≡ false
 not-true true e = sym e
 not-true false e = refl
 
+-- and what has a false one is true
 not-false : (b : Bool) → not b ≡ false → b ≡ true
 not-false true e = refl
 not-false false e = sym e

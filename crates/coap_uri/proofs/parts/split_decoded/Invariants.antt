@@ -4,7 +4,7 @@ use Rattle.percent_encoding.specs.Percent.{percent_decode}
 use Rattle.coap_uri.specs.Uri.{decoded_parts, parts_left}
 use Rattle.coap_uri.proofs.parts.split_decoded.Given as goal
 
--- what is left to cut
+-- the length of what is left to cut, and one more if there is anything left
 abbrev pub left : Option (Bor (List ℕ)) → ℕ
 left None = 0
 left (Some text) = length text.now + 1

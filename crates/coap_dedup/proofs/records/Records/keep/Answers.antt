@@ -21,20 +21,20 @@ release_dead-requires-clause-numbered c =
 room : (c : Joined-try_push_back) → length (living_at c.args.now c.args.self.now) < c.args.self.now.limit
 room c = room-there c.args.now c.args.self.now (subst AreRecords c.self.view_is c.self.invariant.are) (sym c.is_full.ensures.exact ∙ c.if-is_full.false)
 
--- also for the record that was made
+-- including for the record that was made
 room_inside : (c : Joined-try_push_back) → length (living_at c.new-record.result.at (in_ring c.self.inside.ring c.self.inside.lifetime)) < c.self.inside.ring.capacity
 room_inside c =
     subst (λ (x : Record). length (living_at x.at (in_ring c.self.inside.ring c.self.inside.lifetime)) < c.self.inside.ring.capacity) (sym c.new-record.ensures)
     (subst (λ (t : Records). length (living_at c.args.now t) < t.limit) (sym c.self.view_is) (room c))
 
--- what is kept
+-- one more record is kept
 kept : (c : Joined-try_push_back) → in_ring c.try_push_back.new.self c.self.inside.lifetime ≡ with_kept (record { from = c.args.from; id = c.args.id; at = c.args.now; reply = c.args.reply }) c.args.self.now
 kept c =
     ring-kept c.try_push_back.result c.self.inside.ring c.release_dead.new.ring c.try_push_back.new.self c.self.inside.lifetime c.new-record.result c.release_dead.ensures.left c.try_push_back.ensures.variant c.try_push_back.ensures.ok (room_inside c)
     ∙ ap (λ (x : Record). with_kept x (in_ring c.self.inside.ring c.self.inside.lifetime)) c.new-record.ensures
     ∙ ap (with_kept (record { from = c.args.from; id = c.args.id; at = c.args.now; reply = c.args.reply })) c.self.view_is
 
--- and that it is within the limit, in order and apart
+-- and the records are within the limit, in order and of different messages
 are : (c : Joined-try_push_back) → AreRecords (in_ring c.try_push_back.new.self c.self.inside.lifetime)
 are c =
     subst AreRecords (sym (kept c))
