@@ -8,7 +8,7 @@ use Rattle.coap_lines.proofs.NextLines.{lines_of-feed}
 abbrev pub IsCutBetween : List ℕ → List ℕ → Type 0
 IsCutBetween done rest = ((more : List ℕ) → lines_of (done ++ more) ≡ lines_of done ++ lines_of more) ⊎ (rest ≡ [])
 
--- the lines of an input that is cut so
+-- the lines of an input that is cut between two lines
 pub lines_of-cut : (done rest : List ℕ) → IsCutBetween done rest → lines_of (done ++ rest) ≡ lines_of done ++ lines_of rest
 lines_of-cut done rest (inl apart) = apart rest
 lines_of-cut done rest (inr none) = rw none (ap lines_of (append-nil done) ∙ sym (append-nil (lines_of done)))
@@ -31,7 +31,7 @@ with_feed done rest rest' line apart clear split =
     whole : lines_of (done ++ (line ++ 10 ∷ [])) ≡ lines_of done ++ line ∷ []
     whole = ap lines_of (sym (append-nil (done ++ (line ++ 10 ∷ [])))) ∙ longer []
 
--- a line more is read
+-- one more line is read
 pub further : (done rest rest' line : List ℕ) → IsCutBetween done rest → IsLine rest rest' line → IsFurther done rest rest' line
 further done rest rest' line (inr none) (lines, short, begins) =
     let empty : [] ≡ line ∷ lines_of rest' = rw none at lines in

@@ -1,4 +1,4 @@
--- Texts that are cut where a byte first stands.
+-- Texts that are cut at the first occurrence of a byte.
 use Rattle.std.proofs.Common.{◌≡◌, ◌==◌, ℕ, true, false, List, [], ◌∷◌, ◌++◌, length, drop, Some, None, Option, option_map, refl, sym, ap, ◌∙◌, arith, ⊎_elim, cond, eq-eqb}
 use Rattle.std.specs.List.{All, join_with_byte, slice_split}
 use Rattle.std.specs.Option.{unwrap_or}
@@ -12,7 +12,7 @@ use Rattle.coap_lines.specs.Texts.{cut, has, with_front}
 cut-here : (byte b : ℕ) (text : List ℕ) → (b == byte) ≡ true → cut byte (b ∷ text) ≡ Some ([], text)
 cut-here byte b text hit = ap (λ t. cond t (Some ([], text)) (option_map (with_front b) (cut byte text))) hit
 
--- and one that begins with another
+-- a text that begins with another byte
 cut-later : (byte b : ℕ) (text : List ℕ) → (b == byte) ≡ false → cut byte (b ∷ text) ≡ option_map (with_front b) (cut byte text)
 cut-later byte b text miss = ap (λ t. cond t (Some ([], text)) (option_map (with_front b) (cut byte text))) miss
 
@@ -23,14 +23,14 @@ cut-without byte (b ∷ text) none =
     let parts = or_parts (b == byte) (has byte text) none in
     cut-later byte b text parts.0 ∙ ap (option_map (with_front b)) (cut-without byte text parts.1)
 
--- a text is cut where the byte first stands
+-- a text is cut at the first occurrence of the byte
 pub cut-front : (byte : ℕ) (front rest : List ℕ) → has byte front ≡ false → cut byte (front ++ byte ∷ rest) ≡ Some (front, rest)
 cut-front byte [] rest none = cut-here byte byte rest (eq-eqb byte byte refl)
 cut-front byte (b ∷ front) rest none =
     let parts = or_parts (b == byte) (has byte front) none in
     cut-later byte b (front ++ byte ∷ rest) parts.0 ∙ ap (option_map (with_front b)) (cut-front byte front rest parts.1)
 
--- two parts with the byte between them make the text
+-- the two parts, with the byte between them, make up the text
 pub cut-is : (byte : ℕ) (text front rest : List ℕ) → cut byte text ≡ Some (front, rest) → (text ≡ front ++ byte ∷ rest) × (has byte front ≡ false)
 cut-is byte [] front rest found = absurd (none-some (front, rest) found)
 cut-is byte (b ∷ text) front rest found =
@@ -53,14 +53,14 @@ cut-is byte (b ∷ text) front rest found =
         let after : r ≡ rest = ap (λ (o : Option (List ℕ × List ℕ)). (unwrap_or {T = List ℕ × List ℕ} o ([], [])).1) made in
         rw (← before, ← after) (ap (λ t. b ∷ t) split.0, rw miss split.1)
 
--- each byte of a text without the byte is another
+-- each byte of a text without the byte is a different one
 pub All-others : (byte : ℕ) (text : List ℕ) → has byte text ≡ false → All (λ b. (b == byte) ≡ false) text
 All-others byte [] none = All-nil (λ b. (b == byte) ≡ false)
 All-others byte (b ∷ text) none =
     let parts = or_parts (b == byte) (has byte text) none in
     All-cons (λ x. (x == byte) ≡ false) b text parts.0 (All-others byte text parts.1)
 
--- a text that isn't cut has no such byte
+-- a text that isn't cut doesn't contain the byte
 pub none-has : (byte : ℕ) (text : List ℕ) → cut byte text ≡ None → has byte text ≡ false
 none-has byte [] none = refl
 none-has byte (b ∷ text) none =
@@ -79,7 +79,7 @@ slice_split-cut byte text front rest found =
     let is = cut-is byte text front rest found in
     rw (is.0) (slice_split_at (λ b. b == byte) front byte rest (All-others byte front is.1) (eq-eqb byte byte refl))
 
--- and of one that isn't
+-- the part of a text that isn't cut
 slice_split-uncut : (byte : ℕ) (text : List ℕ) → cut byte text ≡ None → slice_split (λ b. b == byte) text ≡ text ∷ []
 slice_split-uncut byte text none = slice_split_none (λ b. b == byte) text (All-others byte text (none-has byte text none))
 
@@ -90,12 +90,12 @@ some-part byte text none =
     let zero : length (slice_split (λ b. b == byte) text) ≡ 0 = rw none refl in
     omega arith
 
--- texts with the same parts are the same
+-- texts with the same parts are equal
 same-parts : (byte : ℕ) (a b : List ℕ) → slice_split (λ x. x == byte) a ≡ slice_split (λ x. x == byte) b → a ≡ b
 same-parts byte a b same =
     sym (join_with_byte-slice_split byte a) ∙ ap (join_with_byte byte) same ∙ join_with_byte-slice_split byte b
 
--- a text is cut after its first part, where others follow
+-- a text is cut after its first part, if others follow
 pub cut-parts : (byte : ℕ) (text front rest : List ℕ) → slice_split (λ b. b == byte) text ≡ front ∷ slice_split (λ b. b == byte) rest → cut byte text ≡ Some (front, rest)
 cut-parts byte text front rest parts = go (cut byte text) refl
   where
@@ -109,7 +109,7 @@ cut-parts byte text front rest parts = go (cut byte text) refl
         let after : r ≡ rest = same-parts byte r rest (ap (drop 1) two) in
         rw (before, after) refl
 
--- and isn't where it is one part
+-- a text with one part isn't cut
 pub cut-part : (byte : ℕ) (text front : List ℕ) → slice_split (λ b. b == byte) text ≡ front ∷ [] → cut byte text ≡ None
 cut-part byte text front part = go (cut byte text) refl
   where

@@ -4,7 +4,7 @@ use Rattle.std.specs.Fmt.{digits}
 use Rattle.std.specs.List.{join_with_byte}
 use Rattle.coap_lines.specs.Endpoints.{groups_text}
 
--- a list of eight has its eight items
+-- a list of eight is the list of its eight items
 pub eight : (xs : List ℕ) → length xs ≡ 8 → xs ≡ get_or xs 0 0 ∷ get_or xs 1 0 ∷ get_or xs 2 0 ∷ get_or xs 3 0 ∷ get_or xs 4 0 ∷ get_or xs 5 0 ∷ get_or xs 6 0 ∷ get_or xs 7 0 ∷ []
 eight [] few = absurd (omega arith)
 eight (a ∷ []) few = absurd (omega arith)
@@ -26,7 +26,7 @@ eight_joined : (a b c d e f g h : List ℕ) → codes "[" ++ four a b c d ++ cod
 unfolding four
 eight_joined a b c d e f g h = simp append_assoc refl
 
--- the texts of the first four groups and of the others make the text of all
+-- the texts of the first four groups and of the last four make the text of all
 pub groups_text-joined : (segments front back : List ℕ) → length segments ≡ 8
     → front ≡ digits 16 false (get_or segments 0 0) ++ codes ":" ++ digits 16 false (get_or segments 1 0) ++ codes ":" ++ digits 16 false (get_or segments 2 0) ++ codes ":" ++ digits 16 false (get_or segments 3 0)
     → back ≡ digits 16 false (get_or segments 4 0) ++ codes ":" ++ digits 16 false (get_or segments 5 0) ++ codes ":" ++ digits 16 false (get_or segments 6 0) ++ codes ":" ++ digits 16 false (get_or segments 7 0)

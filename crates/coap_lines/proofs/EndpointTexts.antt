@@ -20,7 +20,7 @@ use Rattle.coap_lines.proofs.Cuts.{cut-front, cut-is}
 use Rattle.coap_lines.proofs.Groups.{has-groups, segments_read-is, segments_read-written}
 use Rattle.coap_lines.proofs.Numerals.{has-decimal, number_of-is, number_of-written}
 
--- what stands after a byte
+-- what follows a byte
 read_byte-is : (byte : ℕ) (text rest : List ℕ) → read_byte byte text ≡ Some rest → text ≡ byte ∷ rest
 read_byte-is byte [] rest found = absurd (none-some rest found)
 read_byte-is byte (b ∷ text) rest found = go (b == byte) refl found
@@ -32,7 +32,7 @@ read_byte-is byte (b ∷ text) rest found = go (b == byte) refl found
         let left : text ≡ rest = cc in
         rw (same, left) refl
 
--- a byte that is neither a digit nor a dot stands in no dotted text
+-- a dotted text contains no byte that is neither a digit nor a dot
 has-dotted : (byte : ℕ) → ((x : ℕ) → 46 ≤ x → x ≤ 57 → (x == byte) ≡ false) → (text octets : List ℕ) → IsDotted text octets → has byte text ≡ false
 has-dotted byte others text octets dotted =
     let dot = others 46 (lit≤ tt) (lit≤ tt) in
@@ -63,7 +63,7 @@ begins_v4 (b ∷ address) rest clear =
     let parts = or_parts (b == 91) (has 91 address) clear in
     ap (λ t. cond t (v6_endpoint (address ++ 58 ∷ rest)) (v4_endpoint (b ∷ address ++ 58 ∷ rest))) parts.0
 
--- an address and a port that are written are read
+-- an endpoint with an address and a port as they are written is read
 written : (text : List ℕ) (ip : Ip) (n : ℕ) (address port : List ℕ) → text ≡ address ++ 58 ∷ port → IsAddress address ip → IsNumber 65535 port n → endpoint_of text ≡ Some (endpoint_at ip n)
 written text (V4 octets) n address port split is number =
     let clear = has-dotted 91 (λ x low high. ne_eqb x 91 (λ same. omega arith)) address octets is in
@@ -72,11 +72,11 @@ written text (V6 octets) n address port split (inner, segments, spelled, groups,
     let moved : text ≡ 91 ∷ (inner ++ 93 ∷ 58 ∷ port) = split ∙ ap (λ a. a ++ 58 ∷ port) spelled ∙ ap (λ t. 91 ∷ t) (append_assoc inner (93 ∷ []) (58 ∷ port)) in
     rw (moved, value) (v6-written inner port segments n groups number)
 
--- an endpoint that is written is read
+-- an endpoint that a text encodes is read
 pub endpoint_of-written : (text : List ℕ) (endpoint : Endpoint) → IsEndpoint text endpoint → endpoint_of text ≡ Some endpoint
 endpoint_of-written text endpoint (address, port, split, is, number) = written text endpoint.ip endpoint.port address port split is number
 
--- what was read as the endpoint of an IPv4 address
+-- a text that was read as an endpoint with an IPv4 address encodes it
 v4-is : (text : List ℕ) (endpoint : Endpoint) → v4_endpoint text ≡ Some endpoint → IsEndpoint text endpoint
 unfolding v4_endpoint
 v4-is text endpoint found = go (cut 58 text) refl found
@@ -92,7 +92,7 @@ v4-is text endpoint found = go (cut 58 text) refl found
             let same : endpoint_at (V4 octets) n ≡ endpoint = ap (λ (o : Option Endpoint). unwrap_or {T = Endpoint} o endpoint) made in
             rw (← same) (address, port, (cut-is 58 text address port is).0, dotted-ipv4_of address octets ip, number_of-is 65535 n port number)
 
--- what was read as the endpoint of an IPv6 address, after its bracket
+-- the same with an IPv6 address, after its bracket
 v6-is : (text : List ℕ) (endpoint : Endpoint) → v6_endpoint text ≡ Some endpoint → IsEndpoint (91 ∷ text) endpoint
 unfolding v6_endpoint
 v6-is text endpoint found = go (cut 93 text) refl found
@@ -115,7 +115,7 @@ v6-is text endpoint found = go (cut 93 text) refl found
                 let whole : 91 ∷ text ≡ (91 ∷ inner ++ 93 ∷ []) ++ 58 ∷ port = ap (λ t. 91 ∷ t) (split ∙ ap (λ r. inner ++ 93 ∷ r) colon_next ∙ sym (append_assoc inner (93 ∷ []) (58 ∷ port))) in
                 rw (← same) (91 ∷ inner ++ 93 ∷ [], port, whole, (inner, segments, refl, segments_read-is inner segments ip, refl), number_of-is 65535 n port number)
 
--- what was read was written
+-- an endpoint that was read is the one that the text encodes
 pub endpoint_of-is : (text : List ℕ) (endpoint : Endpoint) → endpoint_of text ≡ Some endpoint → IsEndpoint text endpoint
 endpoint_of-is [] endpoint found = absurd (none-some endpoint found)
 endpoint_of-is (b ∷ text) endpoint found = go (b == 91) refl found
@@ -124,7 +124,7 @@ endpoint_of-is (b ∷ text) endpoint found = go (b == 91) refl found
     go true is made = let same = eqb-true b 91 is in rw same (v6-is text endpoint made)
     go false is made = v4-is (b ∷ text) endpoint made
 
--- no space stands in the text of an endpoint
+-- the text of an endpoint contains no space
 pub has-endpoint : (text : List ℕ) (ip : Ip) (n : ℕ) (address port : List ℕ) → text ≡ address ++ 58 ∷ port → IsAddress address ip → IsNumber 65535 port n → has 32 text ≡ false
 has-endpoint text (V4 octets) n address port split is number =
     let front = has-dotted 32 (λ x low high. ne_eqb x 32 (λ same. omega arith)) address octets is in

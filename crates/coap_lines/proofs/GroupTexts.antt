@@ -1,4 +1,4 @@
--- Groups of an IPv6 address as they are written: three digits and four.
+-- Groups of an IPv6 address as they are written: with three and with four digits.
 use Rattle.std.proofs.Common.{◌≡◌, ℕ, suc, ◌/◌, ◌%◌, ◌<◌, ◌≤◌, false, List, [], ◌∷◌, refl, ap, ◌∙◌, arith, eq-eqb}
 use Rattle.std.specs.Fmt.{digit_glyph, digits, digits_onto}
 use Rattle.std.proofs.lemmas.Bool.{ne_eqb}

@@ -23,7 +23,7 @@ use Rattle.coap_lines.specs.Numbers.{group_of}
 use Rattle.coap_lines.specs.Texts.{colon, has}
 use Rattle.coap_lines.proofs.Cuts.{All-others}
 
--- at most four hexadecimal digits
+-- whether a text is at most four hexadecimal digits
 abbrev pub are_few : List ℕ → Bool
 are_few text = leb (length text) 4 && list_all (λ b. is_digit b 16) text
 
@@ -31,19 +31,19 @@ are_few text = leb (length text) 4 && list_all (λ b. is_digit b 16) text
 digit-ascii : (b : ℕ) → is_digit b 16 ≡ true → b < 128
 digit-ascii b is = grind (arith, nat_tests)
 
--- the test in the words of the standard library
+-- the test implies the standard library's definition
 AllDigits-test : (text : List ℕ) → list_all (λ b. is_digit b 16) text ≡ true → AllDigits 16 text
 AllDigits-test [] all = tt
 AllDigits-test (b ∷ text) all =
     let parts = and_parts (is_digit b 16) (list_all (λ b. is_digit b 16) text) all in
     (ltb-true (digit_value b) 16 parts.0, AllDigits-test text parts.1)
 
--- another text is no group
+-- any other text is no group
 pub others-none : (text : List ℕ) → are_few text ≡ false → group_of text ≡ None
 unfolding group_of
 others-none text other = rw (other, and-false (ltb 0 (length text))) refl
 
--- digits are text
+-- digits are valid UTF-8
 pub digits-utf8 : (text : List ℕ) → are_few text ≡ true → ¬ (IsUtf8 text) → group_of text ≡ None
 digits-utf8 text few never =
     let parts = and_parts (leb (length text) 4) (list_all (λ b. is_digit b 16) text) few in
@@ -54,7 +54,7 @@ no_plus : (text : List ℕ) → AllDigits 16 text → get_or text 0 0 ≢ 43
 no_plus [] all is = omega arith
 no_plus (b ∷ text) all is = let small : digit_value 43 < 16 = rw is at all.0 in omega arith
 
--- what the standard library parsed is the group's number
+-- the number that the standard library parsed is the group's
 pub group-some : (text : List ℕ) (n : ℕ) → are_few text ≡ true → ParsesUnsigned {E = ℕ} 16 16 text (Ok n) → group_of text ≡ Some n
 unfolding group_of
 group-some text n few reads =
@@ -64,7 +64,7 @@ group-some text n few reads =
     let some : ltb 0 (length text) ≡ true = lt-ltb 0 (length text) read.0.0.0 in
     rw (some, few, read.1) refl
 
--- what it can't parse is empty
+-- a text of few digits that it can't parse is empty
 pub group-none : (text : List ℕ) → are_few text ≡ true → ParsesUnsigned {E = ℕ} 16 16 text (Err 0) → group_of text ≡ None
 unfolding group_of
 group-none [] few reads = refl
@@ -78,7 +78,7 @@ group-none (b ∷ text) few reads =
     let most : 16 ^ length (b ∷ text) ≤ 16 ^ 4 = pow-le-pow_right {n = 16} (omega arith) short in
     absurd (never ((omega arith, all), omega (arith, below, most)))
 
--- what comes after a group that is read, after those before it
+-- the groups after one that is read, appended to those before it
 pub step : (front : List ℕ) (parts : List (List ℕ)) (group : List ℕ) (n : ℕ) → group_of group ≡ Some n → option_map (λ more. front ++ more) (all_of (map group_of (group ∷ parts))) ≡ option_map (λ more. (front ++ n ∷ []) ++ more) (all_of (map group_of parts))
 step front parts group n reads = rw reads (go (all_of (map group_of parts)))
   where
@@ -86,11 +86,11 @@ step front parts group n reads = rw reads (go (all_of (map group_of parts)))
     go None = refl
     go (Some m) = ap Some (sym (append_assoc front (n ∷ []) m))
 
--- an unreadable group
+-- a group that can't be read
 pub unread : (front : List ℕ) (parts : List (List ℕ)) (group : List ℕ) → group_of group ≡ None → option_map (λ more. front ++ more) (all_of (map group_of (group ∷ parts))) ≡ None
 unread front parts group bad = rw bad refl
 
--- as many numbers as groups
+-- there are as many numbers as groups
 length-all_of : (groups : List (Option ℕ)) (numbers : List ℕ) → all_of groups ≡ Some numbers → length numbers ≡ length groups
 length-all_of [] numbers found = let same : [] ≡ numbers = cc in rw (← same) refl
 length-all_of (None ∷ groups) numbers found = absurd (none-some numbers found)
@@ -102,22 +102,22 @@ length-all_of (Some n ∷ groups) numbers found = go (all_of groups) refl found 
         let same : n ∷ more ≡ numbers = cc in
         rw (← same) (ap suc (further more is))
 
--- all eight
+-- eight groups that are read
 pub eight-some : (text segments : List ℕ) → all_of (map group_of (slice_split (λ b. b == colon) text)) ≡ Some segments → length segments ≡ 8 → segments_read text ≡ Some segments
 unfolding segments_read
 eight-some text segments all eight = rw (all, eq-eqb (length segments) 8 eight) refl
 
--- fewer or more
+-- fewer or more than eight groups
 pub other-none : (text segments : List ℕ) → all_of (map group_of (slice_split (λ b. b == colon) text)) ≡ Some segments → length segments ≢ 8 → segments_read text ≡ None
 unfolding segments_read
 other-none text segments all other = rw (all, ne_eqb (length segments) 8 other) refl
 
--- a group that is none
+-- one of the groups can't be read
 pub bad-none : (text : List ℕ) → all_of (map group_of (slice_split (λ b. b == colon) text)) ≡ None → segments_read text ≡ None
 unfolding segments_read
 bad-none text bad = rw bad refl
 
--- after eight groups another is one too many
+-- after eight groups, another is one too many
 pub more-none : (text rest front : List ℕ) → all_of (map group_of (slice_split (λ b. b == colon) text)) ≡ option_map (λ more. front ++ more) (all_of (map group_of (slice_split (λ b. b == colon) rest))) → length front ≡ 8 → segments_read text ≡ None
 more-none text rest front read eight = go (all_of (map group_of (slice_split (λ b. b == colon) rest))) refl
   where
@@ -130,7 +130,7 @@ more-none text rest front read eight = go (all_of (map group_of (slice_split (λ
         let whole = length-append front more in
         other-none text (front ++ more) (rw is at read) (λ all. omega arith)
 
--- what was read as a group is one
+-- a text that was read as a group is one
 group_of-is : (text : List ℕ) (n : ℕ) → group_of text ≡ Some n → IsGroup text n
 unfolding group_of
 group_of-is text n found = go (ltb 0 (length text) && are_few text) refl found
@@ -143,12 +143,12 @@ group_of-is text n found = go (ltb 0 (length text) && are_few text) refl found
         let value : digits_value 16 text ≡ n = cc in
         (((ltb-true 0 (length text) parts.0, AllDigits-test text few.1), value), leb-true (length text) 4 few.0)
 
--- the words of the standard library as a test
+-- the standard library's definition implies the test
 test-AllDigits : (text : List ℕ) → AllDigits 16 text → list_all (λ b. is_digit b 16) text ≡ true
 test-AllDigits [] all = refl
 test-AllDigits (b ∷ text) all = rw (lt-ltb (digit_value b) 16 all.0, test-AllDigits text all.1) refl
 
--- what is a group is read
+-- a text that is a group is read
 group_of-written : (text : List ℕ) (n : ℕ) → IsGroup text n → group_of text ≡ Some n
 unfolding group_of
 group_of-written text n group =
@@ -157,14 +157,14 @@ group_of-written text n group =
     let digits = test-AllDigits text group.0.0.1 in
     rw (some, few, digits, group.0.1) refl
 
--- a byte that is no digit stands in no group
+-- a group contains no byte that isn't a digit
 has-group : (byte : ℕ) → 16 ≤ digit_value byte → (text : List ℕ) → AllDigits 16 text → has byte text ≡ false
 has-group byte other [] all = refl
 has-group byte other (b ∷ text) all =
     let differs : b ≢ byte = λ same. let small : digit_value byte < 16 = rw same at all.0 in omega arith in
     rw (ne_eqb b byte differs, has-group byte other text all.1) refl
 
--- groups that are read, one by one
+-- groups that are read are groups
 groups-are : (groups : List (List ℕ)) (segments : List ℕ) → all_of (map group_of groups) ≡ Some segments → AllZip IsGroup groups segments
 groups-are [] segments found = let none : [] ≡ segments = cc in rw (← none) tt
 groups-are (group ∷ groups) segments found = go (group_of group) refl (all_of (map group_of groups)) refl found (λ more is. groups-are groups more is)
@@ -177,14 +177,14 @@ groups-are (group ∷ groups) segments found = go (group_of group) refl (all_of 
         let same : n ∷ more ≡ segments = cc in
         rw (← same) (group_of-is group n is, further more left)
 
--- and groups that are written
+-- groups are read
 groups-written : (groups : List (List ℕ)) (segments : List ℕ) → AllZip IsGroup groups segments → all_of (map group_of groups) ≡ Some segments
 groups-written [] [] all = refl
 groups-written [] (s ∷ segments) all = absurd all
 groups-written (group ∷ groups) [] all = absurd all
 groups-written (group ∷ groups) (s ∷ segments) all = rw (group_of-written group s all.0, groups-written groups segments all.1) refl
 
--- the text of groups has no byte that is neither a digit nor a colon
+-- the text of groups contains no byte that is neither a digit nor a colon
 pub has-groups : (byte : ℕ) → 16 ≤ digit_value byte → (58 == byte) ≡ false → (groups : List (List ℕ)) (segments : List ℕ) → AllZip IsGroup groups segments → has byte (join_with_byte 58 groups) ≡ false
 has-groups byte other apart [] segments all = refl
 has-groups byte other apart (group ∷ groups) [] all = absurd all
@@ -194,7 +194,7 @@ has-groups byte other apart (group ∷ next ∷ groups) (s ∷ segments) all =
     let rest = has-groups byte other apart (next ∷ groups) segments all.1 in
     rw (list_any-append, first, apart, rest) refl
 
--- groups joined by colons are split there again
+-- groups joined by colons are split into the same groups
 split-groups : (group : List ℕ) (groups : List (List ℕ)) (segments : List ℕ) → AllZip IsGroup (group ∷ groups) segments → slice_split (λ b. b == 58) (join_with_byte 58 (group ∷ groups)) ≡ group ∷ groups
 split-groups group groups [] all = absurd all
 split-groups group [] (s ∷ segments) all = slice_split_none (λ b. b == 58) group (All-others 58 group (has-group 58 (lit≤ tt) group all.0.0.0.1))
@@ -213,7 +213,7 @@ segments_read-written text segments (group ∷ groups, is, all, eight) =
     let split = split-groups group groups segments all in
     eight-some text segments (rw (is, split) (groups-written (group ∷ groups) segments all)) eight
 
--- what was read was eight groups
+-- a text that was read is eight groups
 pub segments_read-is : (text segments : List ℕ) → segments_read text ≡ Some segments → AreGroups text segments
 unfolding segments_read
 segments_read-is text segments found = go (all_of (map group_of (slice_split (λ b. b == colon) text))) refl found

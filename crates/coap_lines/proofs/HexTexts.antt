@@ -1,4 +1,4 @@
--- The bytes of a datagram as a text: what is read.
+-- The bytes of a datagram as a text, and what is read.
 use Rattle.std.proofs.Common.{◌≡◌, ◌==◌, ℕ, ◌+◌, ◌/◌, ◌%◌, ◌<◌, Bool, true, false, ◌&&◌, List, [], ◌∷◌, ◌++◌, length, take, get_or, slice_index, ◌∙◌, codes, Option, Some, None, Result, Ok, Err, refl, sym, ap, arith, cond, inl, inr, leb, le-leb, eq-eqb}
 use Rattle.std.specs.List.{list_all}
 use Rattle.std.specs.Option.{IsSome, unwrap_or}
@@ -13,7 +13,7 @@ use Rattle.hex.specs.Hex.{decode_of, encode_upper, encode_with, is_hex_digit, up
 use Rattle.hex.proofs.HexLemmas.{decode_of-digits, decode_of-ok}
 use Rattle.coap_lines.specs.Datagrams.{IsHex, bytes_read, decoded, is_hex}
 
--- the digits of bytes and of others after them
+-- the digits of bytes followed by others
 encode_with-append : (table xs ys : List ℕ) → encode_with table (xs ++ ys) ≡ encode_with table xs ++ encode_with table ys
 unfolding encode_with
 encode_with-append table [] ys = refl
@@ -29,28 +29,28 @@ encode-one : (b : ℕ) → encode_upper (b ∷ []) ≡ slice_index upper_digits 
 unfolding encode_with
 encode-one b = refl
 
--- the digits of a byte more
+-- the digits of one more byte
 pub encode-more : (bytes : List ℕ) (i : ℕ) → i < length bytes → encode_upper (take (i + 1) bytes) ≡ encode_upper (take i bytes) ++ (slice_index upper_digits (get_or bytes i 0 / 16) ∷ slice_index upper_digits (get_or bytes i 0 % 16) ∷ [])
 encode-more bytes i within =
     ap encode_upper (take_more bytes i 0 within) ∙ encode_with-append upper_digits (take i bytes) (get_or bytes i 0 ∷ [])
     ∙ ap (λ (l : List ℕ). encode_upper (take i bytes) ++ l) (encode-one (get_or bytes i 0))
 
--- a hyphen writes no bytes
+-- a hyphen encodes no bytes
 pub hyphen-read : (text : List ℕ) → bytes_eq text (codes "-") ≡ true → bytes_read text ≡ Some []
 unfolding bytes_read
 hyphen-read text hyphen = rw hyphen refl
 
--- another text that isn't digits writes none
+-- any other text that isn't an even number of digits can't be read
 pub bad-none : (text : List ℕ) → bytes_eq text (codes "-") ≡ false → is_hex text ≡ false → bytes_read text ≡ None
 unfolding bytes_read
 bad-none text other bad = rw (other, bad) refl
 
--- digits write what they decode to
+-- digits encode what they decode to
 pub digits-read : (text bytes : List ℕ) → bytes_eq text (codes "-") ≡ false → is_hex text ≡ true → decode_of text ≡ Ok bytes → bytes_read text ≡ Some bytes
 unfolding bytes_read
 digits-read text bytes other digits reads = rw (other, digits, reads) refl
 
--- so they write some
+-- so they encode some bytes
 pub digits-some : (text : List ℕ) → bytes_eq text (codes "-") ≡ false → is_hex text ≡ true → IsSome (bytes_read text)
 digits-some text other digits =
     let parts = and_parts (leb 2 (length text)) ((length text % 2 == 0) && list_all is_hex_digit text) digits in
@@ -58,12 +58,12 @@ digits-some text other digits =
     let reads = decode_of-digits text (eqb-true (length text % 2) 0 even.0) (AllPass-from_list_all is_hex_digit text even.1) in
     rw (digits-read text reads.0 other digits reads.1) refl
 
--- what was decoded
+-- a decoding that gave bytes succeeded
 decoded-is : (r : Result (List ℕ) FromHexError) (bytes : List ℕ) → decoded r ≡ Some bytes → r ≡ Ok bytes
 decoded-is (Ok some) bytes is = ap Ok (ap (λ (o : Option (List ℕ)). unwrap_or {T = List ℕ} o []) is)
 decoded-is (Err e) bytes is = absurd (none-some bytes is)
 
--- what was read was written
+-- the bytes that were read are those that the text encodes
 pub bytes_read-is : (text bytes : List ℕ) → bytes_read text ≡ Some bytes → IsHex text bytes
 unfolding bytes_read
 bytes_read-is text bytes found = go (bytes_eq text (codes "-")) refl (is_hex text) refl found
@@ -75,7 +75,7 @@ bytes_read-is text bytes found = go (bytes_eq text (codes "-")) refl (is_hex tex
         let parts = and_parts (leb 2 (length text)) ((length text % 2 == 0) && list_all is_hex_digit text) digits in
         inr (leb-true 2 (length text) parts.0, decoded-is (decode_of text) bytes is)
 
--- what is written is read
+-- the bytes that a text encodes are read
 pub bytes_read-written : (text bytes : List ℕ) → IsHex text bytes → bytes_read text ≡ Some bytes
 bytes_read-written text bytes (inl none) = rw (none.1) (hyphen-read text ((bytes_eq-Decides text (codes "-")).1 none.0))
 bytes_read-written text bytes (inr some) =

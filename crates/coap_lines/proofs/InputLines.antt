@@ -1,4 +1,4 @@
--- Lines of an input: they are its lines, and it has no others.
+-- The lines of an input: they are lines that it has, and it has no others.
 use Rattle.std.proofs.Common.{◌≡◌, ◌≢◌, ℕ, zero, suc, ◌+◌, ◌≤◌, false, List, [], ◌∷◌, ◌++◌, length, Option, Some, None, refl, sym, ap, ◌∙◌, inl, inr, arith, append_assoc, length-append}
 use Rattle.std.specs.List.{AllByRecursion}
 use Rattle.coap_lines.specs.Lines.{AreLines, ended, lines_of}
@@ -6,7 +6,7 @@ use Rattle.coap_lines.specs.Texts.{cut, has}
 use Rattle.coap_lines.proofs.Cuts.{cut-is, none-has}
 use Rattle.coap_lines.proofs.NextLines.{lines_of-feed, lines_of-last}
 
--- lines, each with its line feed, are the lines
+-- the lines of lines that are each followed by a line feed are those lines
 lines_of-ended : (lines : List (List ℕ)) → AllByRecursion (λ line. has 10 line ≡ false) lines → lines_of (ended lines) ≡ lines
 lines_of-ended [] all = refl
 lines_of-ended (line ∷ lines) all = rw append_assoc (lines_of-feed line (ended lines) all.0 ∙ ap (λ rest. line ∷ rest) (lines_of-ended lines all.1))
@@ -16,7 +16,7 @@ some : (text : List ℕ) → text ≢ [] → 1 ≤ length text
 some [] filled = absurd (filled refl)
 some (b ∷ text) filled = omega arith
 
--- so are those whose last one lacks it
+-- the same for lines of which the last lacks its line feed
 lines_of-front : (front : List (List ℕ)) (last : List ℕ) → last ≢ [] → AllByRecursion (λ line. has 10 line ≡ false) (front ++ last ∷ []) → lines_of (ended front ++ last) ≡ front ++ last ∷ []
 lines_of-front [] last filled all = lines_of-last last all.0 (some last filled)
 lines_of-front (line ∷ front) last filled all =
@@ -28,14 +28,14 @@ pub lines_of-only : (input : List ℕ) (lines : List (List ℕ)) → AreLines in
 lines_of-only input lines (all, inl whole) = rw whole (sym (lines_of-ended lines all))
 lines_of-only input lines (all, inr (front, last, split, filled, whole)) = rw (whole, split) (sym (lines_of-front front last filled (rw split at all)))
 
--- a line more in front
+-- one more line in front
 more_lines : (input line rest : List ℕ) (lines : List (List ℕ)) → input ≡ line ++ 10 ∷ rest → has 10 line ≡ false → AreLines rest lines → AreLines input (line ∷ lines)
 more_lines input line rest lines split clear (all, inl whole) =
     ((clear, all), inl (split ∙ ap (λ r. line ++ 10 ∷ r) whole ∙ sym (append_assoc line (10 ∷ []) (ended lines))))
 more_lines input line rest lines split clear (all, inr (front, last, parts, filled, whole)) =
     ((clear, all), inr (line ∷ front, last, ap (λ p. line ∷ p) parts, filled, split ∙ ap (λ r. line ++ 10 ∷ r) whole ∙ sym (append_assoc (line ++ 10 ∷ []) (ended front) last ∙ append_assoc line (10 ∷ []) (ended front ++ last))))
 
--- the lines of an input of at most so many bytes
+-- the lines of an input of at most `most` bytes are lines that it has
 lines_of-has : (most : ℕ) (input : List ℕ) → length input ≤ most → AreLines input (lines_of input)
 lines_of-has most [] short = (tt, inl refl)
 lines_of-has zero (b ∷ input) short = absurd (omega arith)

@@ -1,4 +1,4 @@
--- Steps through an input: what its lines ask for, by the next of them.
+-- Steps through an input: what its lines ask for, depending on the next one.
 use Rattle.std.proofs.Common.{◌≡◌, ℕ, ◌+◌, ◌^◌, ◌<◌, ◌≤◌, true, false, List, Some, None, refl, le-ltb, lt-ltb}
 use Rattle.coap_model.specs.Runs.{Turn}
 use Rattle.coap_lines.specs.declared.reading.input.Next.TheVariants.{End, Line, TooLong}
@@ -37,7 +37,7 @@ module _ (number last events : ℕ) (input left line : List ℕ) where
   unfolding script_from
   step-turn turn next within other is few = rw (next.0, next.1, le-ltb greatest number within, other, is, lt-ltb events (2 ^ 63) few) refl
 
-  -- an event after as many as there may be
+  -- an event after the most events that a proxy handles
   pub step-full : (turn : Turn) → IsNext input (Some left) line Line → number ≤ greatest → is_skipped line ≡ false → turn_of last line ≡ Some turn → 2 ^ 63 ≤ events → script_from number last events (lines_of input) ≡ bad_at number
   unfolding script_from
   step-full turn next within other is many = rw (next.0, next.1, le-ltb greatest number within, other, is, le-ltb events (2 ^ 63) many) refl

@@ -1,4 +1,4 @@
--- Pieces of an input: what reading them takes, and which line they are.
+-- Pieces of an input: what reading them takes, and which lines they are.
 use Rattle.std.proofs.Common.{◌≡◌, ◌==◌, ℕ, ◌+◌, ◌<◌, ◌≤◌, true, false, List, [], ◌∷◌, ◌++◌, length, take, drop, Option, Some, None, Result, Ok, Err, refl, sym, ap, ◌∙◌, arith, inl, inr, append_assoc, append-nil, length-append, take-append-drop, lt-ltb, min}
 use Rattle.std.specs.Io.{StartsWith}
 use Rattle.std.specs.Io.BufRead.{DropsConsumable}
@@ -25,7 +25,7 @@ before_feed bytes line rest found =
     let moved : take (length line + 1) (line ++ 10 ∷ rest) ≡ line ++ 10 ∷ [] = rw append_assoc at more in
     rw (is.0, front) (is.1, omega (arith, length-append line (10 ∷ rest)), moved)
 
--- what was shown and then dropped stood in front
+-- bytes that were shown and then dropped were at the front
 shown_gone : (xs ys : List ℕ) (new : Option (List ℕ)) (chunk : List ℕ) (n : ℕ) → StartsWith xs chunk → ys ≡ xs → new ≡ Some (drop n ys) → n ≤ length chunk → Consumes (Some xs) new (take n chunk)
 shown_gone xs ys new chunk n shown keeps dropped within =
     let rest = starts_with_rest xs chunk shown in
@@ -39,7 +39,7 @@ consumed (Some xs) None new limit chunk n shown keeps allowed drops within = abs
 consumed (Some xs) (Some ys) new None chunk n shown keeps allowed drops within = shown_gone xs ys new chunk n shown keeps (drops tt) within
 consumed (Some xs) (Some ys) new (Some m) chunk n shown keeps allowed drops within = shown_gone xs ys new chunk n shown keeps (drops (omega arith)) within
 
--- what was taken of a chunk follows the line so far
+-- the bytes that were taken from a chunk follow the line so far
 pub taken_part : (old mid kept new : Option (List ℕ)) (limit : Option ℕ) (line chunk part : List ℕ) (m n : ℕ) → part ≡ take m chunk → Consumes old mid line → IfSome mid (λ xs. StartsWith xs chunk) → Keeps mid kept → IfSome mid (λ _. IfSome limit (λ l. length chunk ≤ l)) → DropsConsumable kept new limit n → n ≤ length part → Consumes old new (line ++ take n part)
 taken_part old mid kept new limit line chunk part m n is before shown keeps allowed drops within =
     let count : length part ≡ min m (length chunk) = ap length is ∙ length-take m chunk in
@@ -48,14 +48,14 @@ taken_part old mid kept new limit line chunk part m n is before shown keeps allo
     let same : take n part ≡ take n chunk = ap (take n) is ∙ take-take n m chunk few in
     rw same (Consumes-trans old mid new line (take n chunk) before (consumed mid kept new limit chunk n shown keeps allowed drops whole))
 
--- with the line feed after it
+-- the same with the line feed after it
 pub taken_feed : (old mid kept new : Option (List ℕ)) (limit : Option ℕ) (line chunk part : List ℕ) (m n : ℕ) → part ≡ take m chunk → Consumes old mid line → IfSome mid (λ xs. StartsWith xs chunk) → Keeps mid kept → IfSome mid (λ _. IfSome limit (λ l. length chunk ≤ l)) → DropsConsumable kept new limit (n + 1) → n < length part → take (n + 1) part ≡ take n part ++ 10 ∷ [] → Consumes old new ((line ++ take n part) ++ 10 ∷ [])
 taken_feed old mid kept new limit line chunk part m n is before shown keeps allowed drops within feed =
     let within1 : n + 1 ≤ length part = omega arith in
     let read = rw feed at (taken_part old mid kept new limit line chunk part m (n + 1) is before shown keeps allowed drops within1) in
     rw append_assoc read
 
--- where nothing is shown, nothing is left
+-- if nothing is shown, nothing is left
 pub nothing_shown : (mid : Option (List ℕ)) (chunk : List ℕ) → IfSome mid (λ xs. length chunk ≡ 0 → xs ≡ []) → length chunk ≡ 0 → IfSome mid (λ xs. xs ≡ [])
 nothing_shown None chunk end empty = tt
 nothing_shown (Some xs) chunk end empty = end empty
@@ -67,7 +67,7 @@ known_end (Some xs) None new line taken empty keeps = absurd taken
 known_end (Some xs) (Some ys) None line taken empty keeps = absurd keeps
 known_end (Some xs) (Some ys) (Some zs) line taken empty keeps = keeps ∙ empty
 
--- where the reader failed, the line so far was taken, and no more
+-- if the reader failed, the line so far was taken, and no more
 pub begun : {A E : Type 0} (old mid new : Option (List ℕ)) (line : List ℕ) (result : Result A E) → has 10 line ≡ false → Consumes old mid line → Keeps mid new → OnErr result (IsBegun old new)
 begun old mid new line (Ok x) none taken keeps = tt
 begun None mid new line (Err e) none taken keeps = (line, none, tt)

@@ -13,11 +13,11 @@ use Rattle.std.proofs.lemmas.Str.Parse.{IsNumeralModel, digit_at, numerals_by_va
 use Rattle.coap_lines.specs.Numbers.{number_of}
 use Rattle.coap_lines.specs.Texts.{has}
 
--- the words of the standard library for digits and their number
+-- the standard library's definitions of digits and their value
 own : IsNumeralModel (AllDigits 10) (digits_value 10)
 own = numerals_by_value (AllDigits 10) tells_digits
 
--- a number that a text writes
+-- a text that gives a number is read
 number_of-some : (most n : ℕ) (text : List ℕ) → digits_value 10 text ≡ n → text ≡ decimal n → n ≤ most → number_of most text ≡ Some n
 unfolding number_of
 number_of-some most n text value spelled within =
@@ -25,7 +25,7 @@ number_of-some most n text value spelled within =
     let fits : leb n most ≡ true = le-leb n most within in
     rw (value, same, fits) refl
 
--- what was read
+-- a number that was read is the one that the text gives
 pub number_of-is : (most n : ℕ) (text : List ℕ) → number_of most text ≡ Some n → (text ≡ decimal n) × (n ≤ most)
 unfolding number_of
 number_of-is most n text found = go (bytes_eq text (decimal (digits_value 10 text)) && leb (digits_value 10 text) most) refl found
@@ -40,7 +40,7 @@ number_of-is most n text found = go (bytes_eq text (decimal (digits_value 10 tex
         let both : (text ≡ decimal (digits_value 10 text)) × (digits_value 10 text ≤ most) = (spelled, within) in
         rw same at both
 
--- a text that writes none
+-- a text that gives no number
 number_of-none : (most : ℕ) (text : List ℕ) → ((n : ℕ) → text ≡ decimal n → n ≤ most → ⊥) → number_of most text ≡ None
 number_of-none most text never = go (number_of most text) refl
   where
@@ -58,7 +58,7 @@ unfolding digits
 zero_first zero bound nought long = omega arith
 zero_first (suc m) bound nought long = let above = first_decimal (suc m) (omega arith) bound in omega arith
 
--- such a text writes no number
+-- such a text gives no number
 starts_odd : (n : ℕ) (text : List ℕ) → n < 2 ^ 64 → text ≡ decimal n → has_needless_start text ≡ true → ⊥
 starts_odd n text bound spelled odd =
     let numeral = (decimal_is_IsNumeral n bound).0 in
@@ -73,21 +73,21 @@ starts_odd n text bound spelled odd =
     zero_first n bound nought long)
     (cases_Bool (get_or text 0 0 == 43))
 
--- so none is read of it
+-- so no number is read from it
 pub odd-none : (most : ℕ) (text : List ℕ) → most < 2 ^ 64 → has_needless_start text ≡ true → number_of most text ≡ None
 odd-none most text bound odd = number_of-none most text (λ n spelled within. starts_odd n text (omega arith) spelled odd)
 
--- nor does a text that isn't one of Unicode
+-- a text that isn't valid UTF-8 gives no number
 pub unreadable-none : (most : ℕ) (text : List ℕ) → most < 2 ^ 64 → ¬ (IsUtf8 text) → number_of most text ≡ None
 unreadable-none most text bound bad = number_of-none most text (λ n spelled within. bad (rw spelled (IsUtf8-from_ascii (decimal n) (IsAscii-decimal n (omega arith)))))
 
--- where no text begins so, it has neither
+-- a text without such a start begins neither with a plus nor with a needless zero
 plain_start : (text : List ℕ) → has_needless_start text ≡ false → (get_or text 0 0 ≢ 43) × (get_or text 0 0 ≡ 48 → length text ≤ 1)
 plain_start text plain =
     let parts = or_parts (get_or text 0 0 == 43) ((get_or text 0 0 == 48) && ltb 1 (length text)) plain in
     (eqb-false (get_or text 0 0) 43 parts.0, λ nought. ltb-false 1 (length text) (rw (eq-eqb (get_or text 0 0) 48 nought) at parts.1))
 
--- what the standard library parsed as a number, without a plus and leading zeros, is the number's text
+-- a text without a plus and leading zeros that the standard library parsed is the number's text
 parsed : (n : ℕ) (text : List ℕ) → has_needless_start text ≡ false → ParsesUnsigned {E = ℕ} 64 10 text (Ok n) → (text ≡ decimal n) × (digits_value 10 text ≡ n)
 parsed n text plain reads =
     let start = plain_start text plain in
@@ -112,7 +112,7 @@ parsed-more most n text bound plain reads above = number_of-none most text (λ m
     let same : digits_value 10 (decimal m) ≡ n = rw spelled at is.1 in
     above (omega arith))
 
--- what it could not parse
+-- a text that it couldn't parse
 pub parsed-none : (most : ℕ) (text : List ℕ) → most < 2 ^ 64 → has_needless_start text ≡ false → ParsesUnsigned {E = ℕ} 64 10 text (Err 0) → number_of most text ≡ None
 parsed-none most text bound plain reads = number_of-none most text (λ m spelled within.
     let small : m < 2 ^ 64 = omega arith in
@@ -122,13 +122,13 @@ parsed-none most text bound plain reads = number_of-none most text (λ m spelled
     let never = parse_plain own 64 text answer reads start.0 in
     never (rw spelled (numeral.0.1, numeral.0.0, omega (arith, numeral.1))))
 
--- what a number's text is, is read
+-- a number's text is read
 pub number_of-written : (most n : ℕ) (text : List ℕ) → most < 2 ^ 64 → (text ≡ decimal n) × (n ≤ most) → number_of most text ≡ Some n
 number_of-written most n text bound written =
     let value : digits_value 10 (decimal n) ≡ n = (decimal_is_IsNumeral n (omega arith)).1 in
     number_of-some most n text (rw (written.0) value) written.0 written.1
 
--- the digits of a number are digits
+-- a decimal number contains no byte that isn't a digit
 pub has-decimal : (byte : ℕ) → ((x : ℕ) → 46 ≤ x → x ≤ 57 → (x == byte) ≡ false) → (n : ℕ) → n < 2 ^ 64 → has byte (decimal n) ≡ false
 has-decimal byte others = decimal_by_steps (λ n ds. has byte ds ≡ false)
     (λ n small. let other = others (48 + n) (omega arith) (omega arith) in rw other refl)

@@ -1,4 +1,4 @@
--- Endpoints and datagrams: what is written is read again.
+-- Endpoints and datagrams: what is written is read back.
 use Rattle.std.proofs.Common.{◌≡◌, ◌==◌, ℕ, zero, suc, ◌+◌, ◌*◌, ◌/◌, ◌%◌, ◌<◌, ◌≤◌, Bool, true, false, List, [], ◌∷◌, length, map, codes, Some, refl, ap, cond, inl, inr, arith, lit≤, append_assoc}
 use Rattle.std.specs.Fmt.{decimal, digit_glyph, digits, digits_onto}
 use Rattle.std.specs.List.{AllByRecursion, AllZip}
@@ -17,14 +17,14 @@ use Rattle.coap_lines.specs.Endpoints.{IsAddress, IsIp, address_text, endpoint_a
 use Rattle.coap_lines.proofs.HexTexts.{bytes_read-written}
 use Rattle.coap_lines.proofs.EndpointTexts.{endpoint_of-written}
 
--- what is written of bytes is read again
+-- bytes that are written are read back
 pub bytes_again : (bytes : List ℕ) → IsBytes bytes → bytes_read (hex_text bytes) ≡ Some bytes
 bytes_again [] are = bytes_read-written (codes "-") [] (inl (refl, refl))
 bytes_again (b ∷ bytes) are =
     let count = length-encode_with upper_digits (b ∷ bytes) in
     bytes_read-written (hex_text (b ∷ bytes)) (b ∷ bytes) (inr (omega arith, decode_of-encode_upper (b ∷ bytes) are))
 
--- a number below 16 times a bound has one digit more than one below the bound
+-- a number below 16 times a bound has at most one more digit than one below the bound
 digit_more : (turns few bound n : ℕ) (acc : List ℕ) → ((m : ℕ) (acc : List ℕ) → 0 < m → m < bound → length (digits_onto turns 16 false m acc) ≤ few + length acc) → n < 16 * bound → length (digits_onto (suc turns) 16 false n acc) ≤ suc few + length acc
 digit_more turns few bound n acc shorter below = go (n / 16 == 0) refl
   where
@@ -50,7 +50,7 @@ group_again n below =
     let numeral = digits_is_IsNumeral 16 false (lit≤ tt) (lit≤ tt) n (omega arith) in
     ((numeral.0, numeral.1), four_digits n below)
 
--- so are the numbers of an address
+-- so are the segments of an address
 groups_again : (half : ℕ) (octets : List ℕ) → length octets ≡ 2 * half → AllByRecursion (λ b. b < 256) octets → AllZip IsGroup (map (digits 16 false) (segments_of octets)) (segments_of octets) × (length (segments_of octets) ≡ half) × (octets ≡ octets_of (segments_of octets))
 groups_again zero [] even are = (tt, refl, refl)
 groups_again (suc half) [] even are = absurd (omega arith)
@@ -62,7 +62,7 @@ groups_again (suc half) (a ∷ b ∷ octets) even are =
     let low : (a * 256 + b) % 256 ≡ b = omega (arith, are.0, are.1.0) in
     ((group_again (a * 256 + b) (omega (arith, are.0, are.1.0)), rest.0), ap suc rest.1, rw (high, low) (ap (λ o. a ∷ b ∷ o) rest.2))
 
--- an address that is written
+-- an address as it is written
 address_again : (ip : Ip) → IsIp ip → IsAddress (address_text ip) ip
 address_again (V4 (a ∷ b ∷ c ∷ d ∷ [])) (four, are) =
     let dotted : IsDotted (ipv4_text (a ∷ b ∷ c ∷ d ∷ [])) (a ∷ b ∷ c ∷ d ∷ []) = record { a = a; b = b; c = c; d = d; fit = (are.0, are.1.0, are.1.1.0, are.1.1.1.0); value = refl; spelled = refl } in dotted
@@ -76,7 +76,7 @@ address_again (V6 octets) (sixteen, are) =
     let segments = segments_of octets in
     (_, segments, refl, (map (digits 16 false) segments, refl, groups.0, groups.1), groups.2)
 
--- what is written of an endpoint is read again
+-- an endpoint that is written is read back
 pub endpoint_again : (ip : Ip) (port : ℕ) → IsIp ip → port ≤ 65535 → endpoint_of (endpoint_text (endpoint_at ip port)) ≡ Some (endpoint_at ip port)
 endpoint_again ip port are within =
     endpoint_of-written (endpoint_text (endpoint_at ip port)) (endpoint_at ip port)

@@ -12,17 +12,17 @@ use Rattle.coap_lines.specs.Scripts.{Script, bad_at, script_from, with_event, wi
 use Rattle.coap_lines.specs.Turns.{IsEventText, greatest, turn_of}
 use Rattle.coap_lines.proofs.TurnTexts.{turn_of-is}
 
--- what is written as hexadecimal digits are bytes
+-- hexadecimal digits encode bytes
 IsBytes-hex : (text bytes : List ℕ) → IsHex text bytes → IsBytes bytes
 IsBytes-hex text bytes (inl none) = rw (none.1) (λ i. omega arith)
 IsBytes-hex text bytes (inr some) = (decode_of-ok text bytes some.1).3
 
--- so a datagram that a text says has bytes
+-- so a datagram that a text encodes has bytes
 pub IsEvent-said : (text : List ℕ) (event : Event) → IsEventText text event → IsEvent event
 IsEvent-said text tick is = tt
 IsEvent-said text (arrival from bytes) (source, hex, split, endpoint, digits) = IsBytes-hex hex bytes digits
 
--- a turn's moment is at most the greatest, its draw at most 1,000
+-- a turn's moment is at most the greatest, and its draw at most 1,000
 abbrev pub IsWithin : Turn → Type 0
 IsWithin turn = (turn.now ≤ greatest) × (turn.draw ≤ 1000)
 

@@ -21,7 +21,7 @@ use Rattle.coap_lines.proofs.HexTexts.{bytes_read-is, bytes_read-written}
 use Rattle.coap_lines.proofs.Numerals.{has-decimal, number_of-is, number_of-written}
 use Rattle.coap_lines.proofs.EndpointTexts.{endpoint_of-is, endpoint_of-written, has-endpoint}
 
--- no space stands in the text of a number
+-- the text of a number contains no space
 has-number : (most n : ℕ) (text : List ℕ) → most < 2 ^ 64 → IsNumber most text n → has 32 text ≡ false
 has-number most n text bound number =
     rw (number.0) (has-decimal 32 (λ x low high. ne_eqb x 32 (λ same. omega arith)) n (omega arith))
@@ -38,7 +38,7 @@ not_tick source hex clear = go (bytes_eq (source ++ 32 ∷ hex) (codes "tick")) 
         let joined : has 32 (source ++ 32 ∷ hex) ≡ false = rw same refl in
         absurd (false≢true (sym joined ∙ parted))
 
--- an event that a text says is read
+-- an event that a text encodes is read
 event_of-written : (text : List ℕ) (event : Event) → IsEventText text event → event_of text ≡ Some event
 unfolding event_of arrival_of
 event_of-written text tick is = rw (is) refl
@@ -46,7 +46,7 @@ event_of-written text (arrival from bytes) (source, hex, split, endpoint, digits
     let clear = has-endpoint source from.ip from.port endpoint.0 endpoint.1 endpoint.2 endpoint.3 endpoint.4 in
     rw (split, not_tick source hex clear, cut-front 32 source hex clear, endpoint_of-written source from endpoint, bytes_read-written hex bytes digits) refl
 
--- what was read was said
+-- an event that was read is the one that the text encodes
 pub event_of-is : (text : List ℕ) (event : Event) → event_of text ≡ Some event → IsEventText text event
 unfolding event_of arrival_of
 event_of-is text event found = go (bytes_eq text (codes "tick")) refl found
@@ -68,7 +68,7 @@ event_of-is text event found = go (bytes_eq text (codes "tick")) refl found
                 let same : arrival from bytes ≡ event = ap (λ (o : Option Event). unwrap_or {T = Event} o event) made in
                 rw (← same) (source, hex, (cut-is 32 text source hex is).0, endpoint_of-is source from endpoint, bytes_read-is hex bytes digits)
 
--- a turn that a line says is read
+-- a turn that a line encodes is read
 pub turn_of-written : (last : ℕ) (line : List ℕ) (turn : Turn) → IsTurnLine last line turn → turn_of last line ≡ Some turn
 unfolding turn_of
 turn_of-written last line turn (moment, draw, what, split, now, onward, number, event) =
@@ -77,7 +77,7 @@ turn_of-written last line turn (moment, draw, what, split, now, onward, number, 
     let second = cut-front 32 draw what (has-number 1000 turn.draw draw (lit< tt) number) in
     rw (moved, first, second, number_of-written greatest turn.now moment (lit< tt) now, number_of-written 1000 turn.draw draw (lit< tt) number, event_of-written what turn.event event, le-leb last turn.now onward) refl
 
--- a turn that was read was said
+-- a turn that was read is the one that the line encodes
 pub turn_of-is : (last : ℕ) (line : List ℕ) (turn : Turn) → turn_of last line ≡ Some turn → IsTurnLine last line turn
 unfolding turn_of
 turn_of-is last line turn found = go (cut 32 line) refl found

@@ -1,11 +1,11 @@
--- The bytes of a datagram as a text: hexadecimal digits, or a hyphen where there are none.
+-- The bytes of a datagram as a text: hexadecimal digits, or a hyphen if there are none.
 use Rattle.std.specs.Prelude.{◌≡◌, ℕ, ◌≤◌, ◌⊎◌, ◌==◌, ◌&&◌, ◌%◌, nat_le, Bool, List, [], ◌∷◌, length, codes, Option, Some, None, Result, Ok, Err, if◌then◌else◌}
 use Rattle.std.specs.List.{list_all}
 use Rattle.std.specs.Str.{bytes_eq}
 use Rattle.hex.specs.declared.error.FromHexError.{FromHexError}
 use Rattle.hex.specs.Hex.{decode_of, encode_upper, is_hex_digit}
 
--- a text writes the bytes: an even number of digits in either case, at least two, or a hyphen for
+-- a text encodes the bytes: an even number of digits in either case, at least two, or a hyphen for
 -- none
 abbrev pub IsHex : List ℕ → List ℕ → Type 0
 IsHex text bytes =
@@ -19,7 +19,7 @@ abbrev pub decoded : Result (List ℕ) FromHexError → Option (List ℕ)
 decoded (Ok bytes) = Some bytes
 decoded (Err e) = None
 
--- the bytes that a text writes
+-- the bytes that a text encodes
 unfoldable pub bytes_read : List ℕ → Option (List ℕ)
 bytes_read text =
     if bytes_eq text (codes "-") then Some []

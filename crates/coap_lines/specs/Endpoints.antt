@@ -20,15 +20,15 @@ abbrev pub AreGroups : List ℕ → List ℕ → Type 0
 AreGroups text segments = (groups : List (List ℕ)) × (text ≡ join_with_byte colon groups)
     × AllZip IsGroup groups segments × (length segments ≡ 8)
 
--- a text writes an address: four numbers of 0 to 255 without leading zeros, with dots between them,
--- or eight groups in brackets
+-- a text encodes an address: four numbers of 0 to 255 without leading zeros, with dots between
+-- them, or eight groups in brackets
 abbrev pub IsAddress : List ℕ → Ip → Type 0
 IsAddress text (V4 octets) = IsDotted text octets
 IsAddress text (V6 octets) = (inner segments : List ℕ)
     × (text ≡ left_bracket ∷ inner ++ right_bracket ∷ []) × AreGroups inner segments
     × (octets ≡ octets_of segments)
 
--- a text writes an endpoint: an address, a colon, and a port of 0 to 65,535 without leading zeros
+-- a text encodes an endpoint: an address, a colon, and a port of 0 to 65,535 without leading zeros
 abbrev pub IsEndpoint : List ℕ → Endpoint → Type 0
 IsEndpoint text endpoint = (address port : List ℕ) × (text ≡ address ++ colon ∷ port)
     × IsAddress address endpoint.ip × IsNumber 65535 port endpoint.port
@@ -44,7 +44,7 @@ v4_endpoint text = do
   port ← number_of 65535 parts.1
   Some (endpoint_at ip port)
 
--- the numbers, where there are eight
+-- the numbers, if there are eight
 abbrev pub if_eight : List ℕ → Option (List ℕ)
 if_eight segments = if length segments == 8 then Some segments else None
 
@@ -61,7 +61,7 @@ v6_endpoint text = do
   port ← number_of 65535 after
   Some (endpoint_at (V6 (octets_of segments)) port)
 
--- the endpoint that a text writes
+-- the endpoint that a text encodes
 abbrev pub endpoint_of : List ℕ → Option Endpoint
 endpoint_of [] = None
 endpoint_of (b ∷ text) = if b == left_bracket then v6_endpoint text else v4_endpoint (b ∷ text)

@@ -15,6 +15,6 @@ sixth = endpoint_at
     (V6 (0x20 ∷ 0x01 ∷ 0x0D ∷ 0xB8 ∷ 0 ∷ 0 ∷ 0 ∷ 0 ∷ 0 ∷ 0 ∷ 0 ∷ 0 ∷ 0xAB ∷ 0xCD ∷ 0 ∷ 0xEF ∷ []))
     0
 
--- a GET without a token, of the path `t`
+-- a GET for the path `t`, without a token
 abbrev pub get : List ℕ
 get = 0x50 ∷ 0x01 ∷ 0x00 ∷ 0x07 ∷ 0xB1 ∷ 0x74 ∷ []

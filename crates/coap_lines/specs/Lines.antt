@@ -12,17 +12,17 @@ use Rattle.coap_lines.specs.Texts.{has, line_feed, number_sign}
 use Rattle.coap_lines.specs.Endpoints.{endpoint_text}
 use Rattle.coap_lines.specs.Datagrams.{hex_text}
 
--- lines, each with its line feed
+-- lines, each followed by its line feed
 abbrev pub ended : List (List ℕ) → List ℕ
 ended lines = flat_map (λ line. line ++ line_feed ∷ []) lines
 
--- an input is these lines and one more, which isn't empty and lacks its line feed
+-- an input is these lines, of which the last isn't empty and lacks its line feed
 abbrev pub IsCutShort : List ℕ → List (List ℕ) → Type 0
 IsCutShort input lines = (front : List (List ℕ)) × (last : List ℕ)
     × (lines ≡ front ++ last ∷ []) × (last ≢ []) × (input ≡ ended front ++ last)
 
--- An input has these lines: no line feed stands in one, and each ends with one, but the last may
--- lack it, if it isn't empty.
+-- An input has these lines: none contains a line feed, and each is followed by one, except that the
+-- last may lack it if it isn't empty.
 abbrev pub AreLines : List ℕ → List (List ℕ) → Type 0
 AreLines input lines = AllByRecursion (λ line. has line_feed line ≡ false) lines
     × ((input ≡ ended lines) ⊎ IsCutShort input lines)
@@ -33,8 +33,8 @@ without_empty_end [] = []
 without_empty_end ([] ∷ []) = []
 without_empty_end (part ∷ parts) = part ∷ without_empty_end parts
 
--- the lines of an input: what stands between line feeds, and after the last of them, if that isn't
--- empty
+-- the lines of an input: what is between line feeds, and what follows the last of them, if that
+-- isn't empty
 abbrev pub lines_of : List ℕ → List (List ℕ)
 lines_of input = without_empty_end (slice_split (λ b. b == line_feed) input)
 
@@ -47,7 +47,7 @@ abbrev pub is_skipped : List ℕ → Bool
 is_skipped [] = true
 is_skipped (b ∷ line) = b == number_sign
 
--- an input begins with a line: its line feed comes after it, or nothing at all
+-- an input begins with a line, which is followed by its line feed, or by nothing at all
 abbrev pub BeginsWith : List ℕ → List ℕ → List ℕ → Type 0
 BeginsWith input line rest =
     ((has line_feed line ≡ false) × (input ≡ line ++ line_feed ∷ rest))
@@ -58,19 +58,19 @@ abbrev pub IsLine : List ℕ → List ℕ → List ℕ → Type 0
 IsLine input rest line = (lines_of input ≡ line ∷ lines_of rest)
     × (is_too_long line ≡ false) × BeginsWith input line rest
 
--- the first line of an input is too long, and no more was taken of it than is held
+-- the first line of an input is too long, and what was taken of it is what is held
 abbrev pub IsTooLong : List ℕ → List ℕ → List ℕ → Type 0
 IsTooLong input rest line = (long : List ℕ) × (more : List (List ℕ))
     × (lines_of input ≡ long ∷ more) × (is_too_long long ≡ true) × (input ≡ line ++ rest)
 
--- what comes next of an input, and what is left of it: a line, one that is too long, or nothing
+-- what comes next in an input, and what is left of it: a line, one that is too long, or nothing
 abbrev pub IsNext : List ℕ → Option (List ℕ) → List ℕ → Next → Type 0
 IsNext input None line next = ⊥
 IsNext input (Some rest) line Line = IsLine input rest line
 IsNext input (Some rest) line TooLong = IsTooLong input rest line
 IsNext input (Some rest) line End = lines_of input ≡ []
 
--- of what a reader has left, a part of the first line was taken, perhaps nothing, and not its line
+-- part of the first line of what a reader had left was taken, perhaps nothing, but not its line
 -- feed
 abbrev pub IsBegun : Option (List ℕ) → Option (List ℕ) → Type 0
 IsBegun old new = (part : List ℕ) × (has line_feed part ≡ false) × Consumes old new part

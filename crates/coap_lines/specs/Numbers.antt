@@ -6,11 +6,11 @@ use Rattle.std.specs.List.{list_all}
 use Rattle.std.specs.Str.{bytes_eq}
 use Rattle.std.specs.Str.Parse.{digits_value}
 
--- a text writes a number of at most so much in decimal digits, without leading zeros
+-- a text gives a number, at most `most`, in decimal digits, without leading zeros
 abbrev pub IsNumber : ℕ → List ℕ → ℕ → Type 0
 IsNumber most text n = (text ≡ decimal n) × (n ≤ most)
 
--- the number that a text writes so
+-- the number that a text gives in this form
 unfoldable pub number_of : ℕ → List ℕ → Option ℕ
 number_of most text =
     let n = digits_value 10 text in

@@ -18,14 +18,14 @@ bad_at number = record { turns = []; bad = Some number }
 abbrev pub with_turn : Turn → Script → Script
 with_turn turn script = record { turns = turn ∷ script.turns; bad = script.bad }
 
--- A line that is neither skipped nor too long asks for its event; `rest` is what the lines after it
--- ask for, by the moment of that event. A proxy does 2^63 events, and no more.
+-- A line that is neither skipped nor too long asks for its event; `rest` gives what the lines after
+-- it ask for, after the moment of that event. A proxy handles at most 2^63 events.
 abbrev pub with_event : ℕ → ℕ → Option Turn → (ℕ → Script) → Script
 with_event number events None rest = bad_at number
 with_event number events (Some turn) rest =
     if nat_lt events (2 ^ 63) then with_turn turn (rest turn.now) else bad_at number
 
--- what lines ask for from a number on, after a moment and so many events
+-- what lines, numbered from `number` on, ask for after the moment `last` and `events` events
 unfoldable pub script_from : ℕ → ℕ → ℕ → List (List ℕ) → Script
 script_from number last events [] = all_done
 script_from number last events (line ∷ lines) =
@@ -41,6 +41,6 @@ AsksFor number last events (line ∷ lines) turn = (is_skipped line ≡ false)
     × (script_from number last events (line ∷ lines)
     ≡ with_turn turn (script_from (number + 1) turn.now (events + 1) lines))
 
--- what an input asks of a new proxy, its lines numbered from 1
+-- what an input asks a new proxy to do, with its lines numbered from 1
 abbrev pub script_of : List ℕ → Script
 script_of input = script_from 1 0 0 (lines_of input)

@@ -13,25 +13,25 @@ use Rattle.coap_lines.specs.Numbers.{IsNumber, number_of}
 use Rattle.coap_lines.specs.Endpoints.{IsEndpoint, endpoint_of}
 use Rattle.coap_lines.specs.Datagrams.{IsHex, bytes_read}
 
--- the greatest moment, and the greatest number of a line
+-- the greatest moment, in milliseconds, and the greatest line number
 abbrev pub greatest : ℕ
 greatest = 2 ^ 62
 
--- a text says an event: a tick, or a datagram with its source
+-- a text encodes an event: a tick, or a datagram with its source
 abbrev pub IsEventText : List ℕ → Event → Type 0
 IsEventText text tick = text ≡ codes "tick"
 IsEventText text (arrival from bytes) = (source hex : List ℕ)
     × (text ≡ source ++ space ∷ hex) × IsEndpoint source from × IsHex hex bytes
 
--- A line says a turn after the last moment: a moment, a draw and an event, with one space between
--- two of them.
+-- A line encodes a turn after the moment `last`: a moment, a draw and an event, separated by single
+-- spaces.
 abbrev pub IsTurnLine : ℕ → List ℕ → Turn → Type 0
 IsTurnLine last line turn = (moment draw what : List ℕ)
     × (line ≡ moment ++ space ∷ draw ++ space ∷ what)
     × IsNumber greatest moment turn.now × (last ≤ turn.now)
     × IsNumber 1000 draw turn.draw × IsEventText what turn.event
 
--- the datagram that a text says
+-- the datagram that a text encodes
 unfoldable pub arrival_of : List ℕ → Option Event
 arrival_of text = do
   parts ← cut space text
@@ -39,18 +39,18 @@ arrival_of text = do
   bytes ← bytes_read parts.1
   Some (arrival from bytes)
 
--- the event that a text says
+-- the event that a text encodes
 unfoldable pub event_of : List ℕ → Option Event
 event_of text = if bytes_eq text (codes "tick") then Some tick else arrival_of text
 
 abbrev pub turn_at : ℕ → ℕ → Event → Turn
 turn_at now draw event = record { now = now; draw = draw; event = event }
 
--- a turn whose moment isn't below the last one
+-- the turn, if its moment isn't below `last`
 abbrev pub not_before : ℕ → Turn → Option Turn
 not_before last turn = if nat_le last turn.now then Some turn else None
 
--- the turn that a line says after the last moment
+-- the turn that a line encodes, after the moment `last`
 unfoldable pub turn_of : ℕ → List ℕ → Option Turn
 turn_of last line = do
   first ← cut space line

@@ -4,10 +4,10 @@ use thiserror::Error;
 /// Why a line was not read as an event.
 #[derive(Clone, Copy, Debug, PartialEq, Eq, Error)]
 pub enum LineError {
-    /// It says no event that may follow.
+    /// It isn't an event that may come next.
     #[error("bad event")]
     Bad,
-    /// It says one, and the allocator had no memory for its datagram.
+    /// It is one, but there was no memory for its datagram.
     #[error("out of memory")]
     OutOfMemory,
 }

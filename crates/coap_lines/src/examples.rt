@@ -20,7 +20,7 @@ pub fn events()
         ≡ Some (turn_at 4611686018427387904 0 tick) }
 {}
 
-/// Lines that are none.
+/// Lines that aren't events.
 pub fn bad_events()
     ensures too_late { turn_of 0 (codes "4611686018427387905 0 tick") ≡ None }
     ensures too_early { turn_of 8 (codes "7 0 tick") ≡ None }

@@ -13,7 +13,7 @@ ghost use Rattle.coap_lines.specs.Scripts.{all_done, bad_at, script_from, script
 ghost use Rattle.coap_lines.specs.Turns.{IsTurnLine, greatest, turn_of};
 ghost use Rattle.coap_lines.specs.declared.reading.input.Next.{Next};
 
-/// A number is read exactly where a text writes one.
+/// A text is read as a number exactly if it is the number's decimal form.
 pub fn numbers_are_read()
     ensures read { (most n : ℕ) (text : List ℕ) → most < 2 ^ 64 → IsNumber most text n
         → number_of most text ≡ Some n }
@@ -21,13 +21,13 @@ pub fn numbers_are_read()
         → IsNumber most text n }
 {}
 
-/// Bytes are read exactly where a text writes them.
+/// A text is read as bytes exactly if it encodes them.
 pub fn datagrams_are_read()
     ensures read { (text bytes : List ℕ) → IsHex text bytes → bytes_read text ≡ Some bytes }
     ensures only { (text bytes : List ℕ) → bytes_read text ≡ Some bytes → IsHex text bytes }
 {}
 
-/// An endpoint is read exactly where a text writes one.
+/// A text is read as an endpoint exactly if it encodes that endpoint.
 pub fn endpoints_are_read()
     ensures read { (text : List ℕ) (endpoint : Endpoint) → IsEndpoint text endpoint
         → endpoint_of text ≡ Some endpoint }
@@ -35,7 +35,7 @@ pub fn endpoints_are_read()
         → IsEndpoint text endpoint }
 {}
 
-/// A turn is read exactly where a line says one.
+/// A line is read as a turn exactly if it encodes that turn.
 pub fn turns_are_read()
     ensures read { (last : ℕ) (line : List ℕ) (turn : Turn) → IsTurnLine last line turn
         → turn_of last line ≡ Some turn }
@@ -43,7 +43,7 @@ pub fn turns_are_read()
         → IsTurnLine last line turn }
 {}
 
-/// The lines of an input are those that it has, and it has no others.
+/// `lines_of` gives the lines of an input, and an input has no other list of lines.
 pub fn inputs_have_one_list_of_lines()
     ensures has { (input : List ℕ) → AreLines input (lines_of input) }
     ensures only { (input : List ℕ) (lines : List (List ℕ)) → AreLines input lines
@@ -59,7 +59,7 @@ pub fn turns_follow_each_other()
         (script_of input).turns }
 {}
 
-/// What is written of a datagram and of an endpoint is read again.
+/// A datagram or an endpoint that was written is read back unchanged.
 pub fn written_is_read()
     ensures datagrams { (bytes : List ℕ) → IsBytes bytes
         → bytes_read (hex_text bytes) ≡ Some bytes }
@@ -67,7 +67,7 @@ pub fn written_is_read()
         → endpoint_of (endpoint_text (endpoint_at ip port)) ≡ Some (endpoint_at ip port) }
 {}
 
-/// What an input asks for from a line on, by what comes next of it.
+/// What an input asks for, starting at a line, depending on what comes next.
 pub fn an_input_is_done_line_by_line()
     ensures end { (number last events : ℕ) (input left line : List ℕ)
         → IsNext input (Some left) line Next.End

@@ -1,4 +1,4 @@
-//! Reading lines: those of a reader, and what they say.
+//! Reading lines from a reader, and parsing them.
 mod cutting;
 mod datagram;
 mod endpoint;

@@ -1,4 +1,4 @@
-//! Texts are added in room that was made before, so that adding them takes no memory.
+//! Texts are added to a buffer with enough capacity, so that adding them doesn't allocate.
 ghost use Rattle.std.specs.Prelude.{length};
 ghost use Rattle.coap_lines.specs.Room.{Adds, HasRoom};
 

@@ -1,4 +1,4 @@
-//! Writing lines: their text, into room that was made before, and bytes to a writer.
+//! Writing lines: their text into a buffer that was allocated before, and bytes to a writer.
 mod datagram;
 mod endpoint;
 pub(crate) mod line;

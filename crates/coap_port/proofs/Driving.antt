@@ -12,7 +12,7 @@ use Rattle.coap_port.specs.Driven.{taken_of, takes_some, DidTurn, DoesTurn, Give
 use Rattle.coap_port.specs.Stats.{no_stats, with_turn}
 use Rattle.coap_port.specs.declared.stats.Stats.{Stats}
 
--- the tables after a turn don't hang on the history before it
+-- the tables after a turn don't depend on the history before it
 given-apart : (r q : Run) (g : Given) → r.world ≡ q.world → (run_given r g).world ≡ (run_given q g).world
 given-apart r q g e = go g.lost
   where
@@ -20,19 +20,19 @@ given-apart r q g e = go g.lost
     go true = e
     go false = ap (λ (w : World). (step_taken w (taken_of g)).world) e
 
--- nor do those after many
+-- nor do those after several turns
 run-apart : (r q : Run) (givens : List Given) → r.world ≡ q.world → (run_by r givens).world ≡ (run_by q givens).world
 run-apart r q [] e = e
 run-apart r q (g ∷ before) e = given-apart (run_by r before) (run_by q before) g (run-apart r q before e)
 
 module _ {P : Type 0} (gives : P → ℕ → Turn → P → Type 0) (takes : P → Endpoint → List ℕ → Bool → P → Type 0) (clock failures : P → ℕ) where
-  -- where a loop is: what was done, whether a datagram came last, and the last moment
+  -- the state of a loop: what was done, whether a datagram came last, and the last moment
   pub record IsAt (first : ℕ) (w : World) (p : P) (v : World) (q : P) (s : Stats) (came : Bool) : Type 0 where
     pub driven : IsDriven gives takes first w p v q s
     pub told : came ≡ came_last driven.givens
     pub moment : clock q ≡ last_moment first driven.givens
 
-  -- nothing was done at first
+  -- at first nothing was done
   pub at-start : (w : World) (p : P) → IsAt (clock p) w p w p no_stats false
   at-start w p = record {
     driven = record {
@@ -90,7 +90,7 @@ module _ {P : Type 0} (gives : P → ℕ → Turn → P → Type 0) (takes : P �
         ∙ ap (λ (u : World). with_turn g.lost (is_some (sent_at u g)) g.went s) before
         ∙ ap (with_turn g.lost (is_some (sent_at (world_by w givens) g)) g.went) at.driven.counted
 
-    -- one turn more was done
+    -- one more turn was done
     pub one-more : IsAt first w p v' q' s' arrived
     one-more = record {
       driven = record {

@@ -1,4 +1,4 @@
--- What one turn does, by what its calls say.
+-- What one turn does, by the contracts of its calls.
 use Rattle.std.proofs.Common.{◌≡◌, ◌+◌, ◌≤◌, ℕ, Bool, true, false, List, ◌∷◌, Option, Some, None, option_map, is_some, refl, sym, ap, ◌∙◌, subst, arith}
 use Rattle.coap_core.specs.Steps.{CarriesOn, Does, entry_told, wants_memory}
 use Rattle.coap_message.specs.Datagram.{Datagram}
@@ -17,12 +17,12 @@ use Rattle.coap_port.specs.Given.{event_given}
 use Rattle.coap_port.specs.Stats.{with_turn}
 use Rattle.coap_port.specs.declared.stats.Stats.{Stats}
 
--- a datagram came where it has a source
+-- a datagram came exactly if there is a source
 pub arrival-is : (o : Option Endpoint) (bytes : List ℕ) → is_some o ≡ is_arrival (event_given o bytes)
 arrival-is None bytes = refl
 arrival-is (Some e) bytes = refl
 
--- what is mapped is there exactly where it was there before
+-- a mapped option holds something exactly if the option does
 is_some-map : {A B : Type 0} (f : A → B) (o : Option A) → is_some (option_map f o) ≡ is_some o
 is_some-map f None = refl
 is_some-map f (Some x) = refl
@@ -75,7 +75,7 @@ module _ {P : Type 0} (gives : P → ℕ → Turn → P → Type 0) (takes : P �
       clock-is : (step.world.last ≡ t.now) × (step.world.events ≡ v.events + 1)
       clock-is = clock_after v t.now t.draw (grown_of report.outcome) t.event bytes
 
-  -- a step found no memory
+  -- a step ran out of memory
   pub did-nothing : (v' : World) (s' : Stats) (event : Event) → event ≡ t.event → v' ≡ v → wants_memory (step_of v t.now t.draw true event) ≡ true
       → v.last ≤ t.now → failures m ≡ failures p → s' ≡ with_turn true false false s → DidTurn gives takes clock failures came v p s v' m s' arrived
   did-nothing v' s' event same nothing memory onward still counted = record {

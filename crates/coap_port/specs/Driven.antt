@@ -16,9 +16,9 @@ use Rattle.coap_port.specs.declared.error.DriveError.{DriveError}
 use Rattle.coap_port.specs.declared.error.DriveError.TheVariants.{Port, OutOfMemory}
 use Rattle.coap_port.specs.declared.stats.Stats.{Stats}
 
--- A turn that a port gave: the wait that it was asked with, whether its step found no memory, so
--- that nothing was done, or else whether there was some for one entry more of the store, and what
--- the port answered to what was sent, if anything was sent.
+-- A turn that a port gave: the wait that it was requested with; whether its step ran out of memory,
+-- so that nothing was done, or else whether there was memory for one more entry of the store; and
+-- whether the port took what was sent, if anything was sent.
 pub record Given : Type 0 where
   pub wait : ℕ
   pub turn : Turn
@@ -34,7 +34,7 @@ taken_of g = record { turn = g.turn; grown = g.grown }
 abbrev pub run_given : Run → Given → Run
 run_given r g = if g.lost then r else one_turn r (taken_of g)
 
--- the datagram that is sent, and where it goes
+-- the datagram that is sent, and its destination
 abbrev pub datagram_of : Step → Option (Endpoint × List ℕ)
 datagram_of s = option_map (λ to. (to, s.bytes)) s.report.send
 
@@ -47,9 +47,9 @@ abbrev pub is_arrival : Event → Bool
 is_arrival (arrival source bytes) = true
 is_arrival tick = false
 
--- Until the next thing is due: at least a millisecond and at most a second, and a second where
--- nothing is due. Not at all where a datagram came before and something is due already, so that
--- what is due gets its turn.
+-- Until the next item is due: at least a millisecond and at most a second, and a second if nothing
+-- is due. Not at all if a datagram came before and something is already due, so that what is due
+-- gets its turn.
 abbrev pub wait_for : Bool → ℕ → Option ℕ → ℕ
 wait_for came clock None = 1000
 wait_for came clock (Some due) =
@@ -76,25 +76,25 @@ abbrev pub last_moment : ℕ → List Given → ℕ
 last_moment first [] = first
 last_moment first (g ∷ before) = g.turn.now
 
--- each was asked with the wait that is due to it
+-- each was requested with the wait that `wait_for` gives
 abbrev pub AreAsked : World → ℕ → List Given → Type 0
 AreAsked w first [] = Unit {0}
 AreAsked w first (g ∷ before) =
     (g.wait ≡ wait_for (came_last before) (last_moment first before) (next_due (world_by w before)))
     × AreAsked w first before
 
--- a turn whose step may want memory
+-- whether the step of a turn may allocate
 abbrev pub takes_some : World → Turn → Bool
 takes_some w t = wants_memory (step_of w t.now t.draw true t.event)
 
--- only what takes memory is lost
+-- only a turn whose step may allocate is lost
 abbrev pub AreLostForMemory : World → List Given → Type 0
 AreLostForMemory w [] = Unit {0}
 AreLostForMemory w (g ∷ before) =
     (g.lost ≡ true → takes_some (world_by w before) g.turn ≡ true)
     × AreLostForMemory w before
 
--- what is counted of them
+-- the counts of these turns
 abbrev pub stats_of : World → List Given → Stats
 stats_of w [] = no_stats
 stats_of w (g ∷ before) =
@@ -102,7 +102,7 @@ stats_of w (g ∷ before) =
 
 -- ---- what a port gave and took
 
--- a datagram is handed over, if there is one, once
+-- a datagram is handed over once, if there is one
 abbrev pub HandsOver : {P : Type 0} → (P → Endpoint → List ℕ → Bool → P → Type 0) → P
     → Option (Endpoint × List ℕ) → Bool → P → Type 0
 HandsOver takes p None went q = q ≡ p
@@ -110,18 +110,18 @@ HandsOver takes p (Some d) went q = takes p d.0 d.1 went q
 
 module _ {P : Type 0} (gives : P → ℕ → Turn → P → Type 0)
     (takes : P → Endpoint → List ℕ → Bool → P → Type 0) where
-  -- a port gave a turn, and took what its step sent
+  -- a port gave a turn, and was handed what its step sent
   abbrev pub DoesTurn : World → P → Given → P → Type 0
   DoesTurn w p g q = (m : P) × gives p g.wait g.turn m × HandsOver takes m (sent_at w g) g.went q
 
-  -- it gave these turns, one after the other, and took what they sent, and nothing else
+  -- it gave these turns, one after the other, and was handed what they sent, and nothing else
   abbrev pub LeadsTo : World → P → List Given → P → Type 0
   LeadsTo w p [] q = q ≡ p
   LeadsTo w p (g ∷ before) q = (m : P) × LeadsTo w p before m × DoesTurn (world_by w before) m g q
 
-  -- A proxy was driven over a port from one moment on, which gave turns, here the newest first: it
-  -- did them and nothing else, so that it carries their history in front of any that it carried
-  -- before, and keeps its word of that.
+  -- A proxy was driven over a port, starting at the moment `first`, and the port gave turns, here
+  -- the newest first. The proxy did these turns and nothing else, so that it carries their history
+  -- in front of any that it carried before, and keeps its word about that.
   pub record IsDriven (first : ℕ) (w : World) (p : P) (v : World) (q : P) (s : Stats) : Type 0 where
     pub givens : List Given
     pub leads : LeadsTo w p givens q
@@ -135,9 +135,9 @@ module _ {P : Type 0} (gives : P → ℕ → Turn → P → Type 0)
     pub counted : s ≡ stats_of w givens
 
   -- How it ends.
-  --   Ok: after so many turns.
+  --   Ok: after this many turns.
   --   The port failed: at the turn after those that are counted.
-  --   Want of memory: before the first turn.
+  --   Out of memory: before the first turn.
   abbrev pub Ends : (P → ℕ) → (P → ℕ) → ℕ → World → P → World → P → Result Stats DriveError
       → Type 0
   Ends clock failures turns w p v q (Ok s) =
@@ -146,7 +146,7 @@ module _ {P : Type 0} (gives : P → ℕ → Turn → P → Type 0)
       ((m : P) × IsDriven (clock p) w p v m s) × (failures q ≡ failures p + 1)
   Ends clock failures turns w p v q (Err OutOfMemory) = (v ≡ w) × (q ≡ p)
 
-  -- One turn, after one that was a datagram or not.
+  -- One turn; `came` says whether the turn before was a datagram.
   pub record DidTurn (clock failures : P → ℕ) (came : Bool) (v : World) (p : P) (s : Stats)
       (v' : World) (q : P) (s' : Stats) (arrived : Bool) : Type 0 where
     pub given : Given

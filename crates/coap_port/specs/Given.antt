@@ -9,11 +9,12 @@ abbrev pub event_given : Option Endpoint → List ℕ → Event
 event_given None bytes = tick
 event_given (Some source) bytes = arrival source bytes
 
--- a turn, with the bytes that were put into the buffer
+-- the turn, with the bytes that were put into the buffer
 abbrev pub given_by : Turn → List ℕ → model.Turn
 given_by t bytes = record { now = t.now; draw = t.draw; event = event_given t.from bytes }
 
--- moments don't go back and are at most 2^62, and the last one is held; draws are at most 1,000
+-- moments never go back and are at most 2^62, and the port holds the last one; draws are at most
+-- 1,000
 pub record IsOnward (before after : ℕ) (t : Turn) : Type 0 where
   pub onward : before ≤ t.now
   pub moment : t.now ≤ 2 ^ 62

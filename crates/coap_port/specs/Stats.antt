@@ -1,16 +1,17 @@
--- What is counted.
+-- What is counted of the turns of a port.
 use Rattle.std.specs.Prelude.{◌≤◌, ℕ, ◌+◌, ◌&&◌, Bool, true, false, not}
 use Rattle.coap_port.specs.declared.stats.Stats.{Stats}
 
 abbrev pub no_stats : Stats
 no_stats = record { turns = 0; sent = 0; send_faults = 0; lost = 0 }
 
--- one more, if so
+-- one more, if this is true
 abbrev pub more : Bool → ℕ → ℕ
 more true n = n + 1
 more false n = n
 
--- one turn more: whether it was lost, whether a datagram was handed over, and whether it was taken
+-- the counts with one more turn: whether it was lost, whether a datagram was handed over, and
+-- whether that was taken
 abbrev pub with_turn : Bool → Bool → Bool → Stats → Stats
 with_turn lost sent went s = record {
   turns = s.turns + 1;
@@ -19,7 +20,7 @@ with_turn lost sent went s = record {
   lost = more lost s.lost;
 }
 
--- nothing is counted more often than turns
+-- no count is greater than the number of turns
 pub record AreWithin (s : Stats) : Type 0 where
   pub sent : s.sent ≤ s.turns
   pub send_faults : s.send_faults ≤ s.turns

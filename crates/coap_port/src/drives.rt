@@ -11,18 +11,18 @@ use coap_message::Datagram;
 use coap_store::Store;
 use std::alloc::Global;
 
-/// Drives a core over a port for so many turns: each that the port gives is done, and what is sent
-/// is handed to the port once. The port is asked to wait until the next thing is due, for a second
-/// at most. Its buffer has room for a byte more than the longest datagram, so that a longer one
-/// shows.
+/// Drives a core over a port for `turns` turns: the core handles each turn that the port gives, and
+/// what it sends is handed to the port once. The port is asked to wait until the next item is due,
+/// for at most a second. The input buffer has room for one byte more than the longest datagram, so
+/// that a longer one is noticed.
 ///
-/// A turn that finds no memory is counted as lost, and a datagram that the port doesn't take as a
-/// fault; neither ends the loop. What a tick was to do that was lost is due still, and so a later
-/// one does it. The port's last moment isn't before that of the core.
+/// A turn that runs out of memory is counted as lost, and a datagram that the port doesn't take as
+/// a fault; neither ends the loop. What a lost tick should have done is still due, so a later tick
+/// does it. The port's last moment must not be before that of the core.
 ///
 /// # Errors
-/// `Port` where the port gave no turn, with what was done before; `OutOfMemory` where there was no
-/// memory for the two buffers, and then nothing was done.
+/// `Port` if the port failed, with the counts of the turns before; `OutOfMemory` if there was no
+/// memory for the two buffers, in which case nothing was done.
 pub fn drive<P: Port, S: Store + Drop>(
     alloc: Global,
     core: &mut Core<S>,

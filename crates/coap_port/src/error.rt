@@ -2,18 +2,18 @@
 use crate::stats::Stats;
 use thiserror::Error;
 
-/// A port can't be used any more.
+/// The port can't be used any more.
 #[derive(Clone, Copy, Debug, PartialEq, Eq, Error)]
 #[error("the port failed")]
 pub struct PortFault;
 
-/// Why a core was driven for fewer turns than it was to be.
+/// Why a core was driven for fewer turns than requested.
 #[derive(Clone, Copy, Debug, PartialEq, Eq, Error)]
 pub enum DriveError {
-    /// The port failed at the turn after these.
+    /// The port failed at the turn after those counted here.
     #[error("the port failed")]
     Port { stats: Stats },
-    /// The allocator had no memory before the first turn.
+    /// Out of memory before the first turn.
     #[error("out of memory")]
     OutOfMemory,
 }

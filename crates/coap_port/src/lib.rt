@@ -1,4 +1,4 @@
-//! Ports: where datagrams come from and go to, and the loop that drives a core over one.
+//! Ports, which datagrams come from and go to, and the loop that drives a core over one.
 #![tactic(auto)]
 
 mod drives;

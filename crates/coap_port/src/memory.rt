@@ -11,13 +11,15 @@ use std::alloc::Global;
 use std::collections::VecDeque;
 use std::marker::Model;
 
-/// The last moment that a port may give: 2^62.
+/// The last moment that a port may give: 2^62 ms.
 const LAST_MOMENT: u64 = 1 << 62;
 
 /// A turn of a script: a moment, a draw, and a datagram with its source, or none for a tick.
 #[derive(Drop)]
 pub struct Scripted {
+    /// In milliseconds.
     pub now: u64,
+    /// A random number of milliseconds.
     pub draw: u16,
     pub datagram: Option<(Endpoint, Seq<u8>)>,
 }
@@ -30,9 +32,9 @@ pub struct Handed {
 }
 
 /// A port in memory, for tests. It gives the turns of its script, one for each call with a wait,
-/// and fails after the last; a call without a wait gets a tick at the last moment. A moment that
-/// goes back is the last one, and one beyond 2^62 is that; a draw above 1,000 is that. It keeps
-/// what it is handed, and can refuse one datagram.
+/// and fails after the last; a call without a wait gets a tick at the last moment. A moment before
+/// the last one is raised to it, one beyond 2^62 is lowered to 2^62, and a draw above 1,000 to
+/// 1,000. The port keeps what it is handed, and can refuse one datagram.
 #[derive(Drop)]
 pub struct MemoryPort {
     alloc: Global,
@@ -64,8 +66,8 @@ impl Model for MemoryPort {
 impl MemoryPort {
     ghost use Rattle.coap_port.specs.Memory.{new_port};
 
-    /// A port without a script. It refuses the datagram that comes after so many others, if that is
-    /// said.
+    /// A port with an empty script. With `Some(n)` it refuses the datagram that comes after `n`
+    /// others.
     pub fn new(alloc: Global, refused: Option<usize>) -> MemoryPort
         ensures { result ≡ new_port refused }
     {
@@ -80,6 +82,9 @@ impl MemoryPort {
     }
 
     /// Adds a turn at the end of its script.
+    ///
+    /// # Errors
+    /// Out of memory, in which case nothing changes.
     pub fn add(&mut self, turn: Scripted) -> Result<(), OutOfMemory>
         ensures ok { OnOk result (self.new
             ≡ record self.old { script = self.old.script ++ turn ∷ [] }) }
@@ -104,7 +109,8 @@ impl MemoryPort {
     }
 }
 
-/// The turn that a script says after a moment. Its datagram is put into a buffer, which is empty.
+/// The turn for an entry of a script, if `last` is the last moment. Its datagram is put into the
+/// buffer, which is empty.
 fn turn_of(scripted: Scripted, last: u64, into: &mut Datagram) -> Turn
     requires { into.old.bytes ≡ [] }
     ensures turn { given_by result into.new.bytes ≡ spec.turn_of into.old.room last scripted }
@@ -140,7 +146,7 @@ impl Port for MemoryPort {
     /// The next turn of the script, or a tick without a wait; see the trait.
     ///
     /// # Errors
-    /// No turn of the script is left. The failure is counted, and nothing else is changed.
+    /// No turn of the script is left. The failure is counted, and nothing else changes.
     fn next(&mut self, wait: u64, into: &mut Datagram) -> Result<Turn, PortFault>
         requires { self.old.failures < 2 ^ 63 }
         ensures gives { IfOk result (λ turn.

@@ -3,20 +3,22 @@ use crate::error::PortFault;
 use coap_endpoint::Endpoint;
 use coap_message::Datagram;
 
-/// What a port gives: a moment, a draw, and where the datagram came from that it put into the
-/// buffer; none for a tick.
+/// What a port gives: a moment, a draw, and the source of the datagram that it put into the buffer;
+/// no source for a tick.
 #[derive(Clone, Copy, Debug, PartialEq, Eq)]
 pub struct Turn {
+    /// In milliseconds.
     pub now: u64,
+    /// A random number of milliseconds.
     pub draw: u16,
     pub from: Option<Endpoint>,
 }
 
-/// Where datagrams come from and go to, and what tells the time.
+/// Where datagrams come from and go to, and a clock.
 ///
-/// An implementation says by `gives` and `takes` what its calls do, as far as it can be said: a
-/// port in memory exactly, a socket not at all. It holds its last moment (`clock`, 0 at first) and
-/// how often `next` failed (`failures`).
+/// An implementation states in `gives` and `takes` what its calls do, as far as that is known: a
+/// port in memory states it exactly, a socket can't. It holds its last moment (`clock`, in
+/// milliseconds, 0 at first) and how often `next` failed (`failures`).
 pub trait Port {
     ghost use Rattle.std.specs.Prelude.{◌≡◌, ◌≤◌, ◌<◌, ◌+◌, ◌^◌, ℕ, List, Bool, None, IfOk, IsOk, OnOk, OnErr};
     ghost use Rattle.coap_model.specs.Runs.{Turn};
@@ -27,23 +29,23 @@ pub trait Port {
 
     ghost failures: { Self → ℕ };
 
-    // into a buffer with so much room a turn is given by a port that was asked with this wait, and
-    // leaves it so
+    // a port that was asked to wait this many milliseconds gave this turn into a buffer with this
+    // much room, and was left in this state
     ghost gives: { ℕ → Self → ℕ → Turn → Self → Type 0 };
 
-    // bytes were handed to a port for an endpoint, which answered so and is left so
+    // the port was handed bytes for an endpoint, returned this, and was left in this state
     ghost takes: { Self → Endpoint → List ℕ → Bool → Self → Type 0 };
 
-    /// The last moment that it gave, in milliseconds, 0 at first.
+    /// The last moment that it gave, in milliseconds, or 0 before the first.
     fn last(&self) -> u64
         ensures { result ≡ clock self.now };
 
-    /// The next turn: a datagram if one comes within so many milliseconds, else a tick. With no
-    /// wait it is a tick, and nothing is read. The datagram is put in place of what the buffer
-    /// holds, cut to its room.
+    /// The next turn: a datagram if one comes within `wait` milliseconds, or else a tick. Without a
+    /// wait it is a tick, and nothing is read. The datagram replaces what the buffer holds, cut to
+    /// the buffer's room.
     ///
     /// # Errors
-    /// The port can't be used any more. This never comes without a wait.
+    /// The port can't be used any more. Never happens without a wait.
     fn next(&mut self, wait: u64, into: &mut Datagram) -> Result<Turn, PortFault>
         requires { failures self.old < 2 ^ 63 }
         ensures gives { IfOk result (λ turn.
@@ -55,7 +57,7 @@ pub trait Port {
         ensures works { OnOk result (failures self.new ≡ failures self.old) }
         ensures fails { OnErr result (failures self.new ≡ failures self.old + 1) };
 
-    /// Hands bytes over for an endpoint. Answers whether they were taken.
+    /// Hands over bytes for an endpoint. Returns whether they were taken.
     fn send(&mut self, to: Endpoint, bytes: &[u8]) -> bool
         ensures takes { takes self.old to bytes.now result self.new }
         ensures clock { clock self.new ≡ clock self.old }

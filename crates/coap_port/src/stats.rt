@@ -2,21 +2,21 @@
 ghost use Rattle.std.specs.Prelude.{◌≡◌};
 ghost use Rattle.coap_port.specs.Stats.{no_stats};
 
-/// What was done over a port.
+/// Counts of what was done over a port.
 #[derive(Clone, Copy, Debug, PartialEq, Eq)]
 pub struct Stats {
-    /// How many turns the port gave.
+    /// The number of turns that the port gave.
     pub turns: u64,
-    /// How many datagrams the port took.
+    /// The number of datagrams that the port took.
     pub sent: u64,
-    /// How many datagrams the port did not take.
+    /// The number of datagrams that the port didn't take.
     pub send_faults: u64,
-    /// How many turns found no memory, so that nothing was done.
+    /// The number of turns that ran out of memory, so that nothing was done.
     pub lost: u64,
 }
 
 impl Default for Stats {
-    /// Those of no turn.
+    /// The counts before the first turn: all zero.
     fn default() -> Stats
         ensures { result ≡ no_stats }
     {

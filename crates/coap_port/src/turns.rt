@@ -18,7 +18,8 @@ use coap_store::Store;
 /// The longest wait, in milliseconds.
 const LONGEST_WAIT: u64 = 1000;
 
-/// How long a port is asked to wait after a moment, until the next thing is due.
+/// How many milliseconds a port is asked to wait after the moment `last`, if the next item is due
+/// at the moment `due`.
 fn wait_for(came: bool, last: u64, due: Option<u64>) -> u64
     ensures { result ≡ spec.wait_for came last due }
 {
@@ -46,12 +47,12 @@ fn event_of(from: Option<Endpoint>, bytes: &[u8]) -> Event<'_>
     }
 }
 
-// Nothing is done: a proof learns here that the bytes of a datagram are below 256.
+// Does nothing: it lets a proof conclude that the bytes of a datagram are below 256.
 fn are_bytes(bytes: &[u8])
     ensures { IsBytes bytes.now }
 {}
 
-/// Hands a datagram over, if there is one. Answers whether it was taken.
+/// Hands over a datagram, if there is one. Returns whether it was taken.
 fn hand_over<P: Port>(port: &mut P, to: Option<Endpoint>, bytes: &[u8]) -> bool
     ensures takes { spec.HandsOver P.takes port.old (option_map (λ e. (e, bytes.now)) to) result
         port.new }
@@ -64,7 +65,7 @@ fn hand_over<P: Port>(port: &mut P, to: Option<Endpoint>, bytes: &[u8]) -> bool
     }
 }
 
-/// Counts a turn: whether it was lost, whether a datagram was handed over, and whether it was
+/// Counts a turn: whether it was lost, whether a datagram was handed over, and whether that was
 /// taken.
 fn count(stats: &mut Stats, lost: bool, sent: bool, went: bool)
     requires within { AreWithin stats.old }
@@ -84,11 +85,11 @@ fn count(stats: &mut Stats, lost: bool, sent: bool, went: bool)
     }
 }
 
-/// One turn: what the port gives is done, and what is sent is handed over. Answers whether a
-/// datagram came.
+/// Does one turn: the core handles what the port gives, and what it sends is handed over. Returns
+/// whether a datagram came.
 ///
 /// # Errors
-/// The port gave nothing. Nothing was done then.
+/// The port failed. The core and the counts don't change then.
 pub(crate) fn do_turn<P: Port, S: Store + Drop>(
     core: &mut Core<S>,
     port: &mut P,

@@ -19,7 +19,8 @@ use Rattle.coap_replay.specs.declared.error.ReplayError.TheVariants as errors
 use Rattle.coap_proxyd.specs.declared.fault.Fault.{Fault}
 use Rattle.coap_proxyd.specs.declared.fault.Fault.TheVariants.{Arguments, Usage, Address, ProxyOption, File, Config, MapOption, Socket, OutOfMemory, BadEvent, OutOfMemoryAt}
 
--- the exit status: 2 where the program was told what it can't do, 1 where it was kept from doing it
+-- the exit status: 2 if the program was given input that it can't use, 1 if something kept it from
+-- its work
 abbrev pub status_of : Fault → ℕ
 status_of Arguments = 2
 status_of (Usage status text) = status
@@ -33,7 +34,7 @@ status_of OutOfMemory = 1
 status_of (BadEvent line) = 2
 status_of (OutOfMemoryAt line) = 1
 
--- what is said of it
+-- the text of a fault
 abbrev pub fault_text : Fault → List ℕ
 fault_text Arguments = codes "coap-proxyd: arguments"
 fault_text (Usage status text) = string_bytes text
@@ -69,14 +70,14 @@ abbrev pub map_fault : MapOptionError → Fault
 map_fault map.NoEquals = MapOption
 map_fault map.OutOfMemory = OutOfMemory
 
--- of a replay that stopped
+-- the fault of a replay that stopped
 abbrev pub replay_fault : ReplayError → Fault
 replay_fault (errors.BadEvent line) = BadEvent line
 replay_fault (errors.OutOfMemory line) = OutOfMemoryAt line
 replay_fault errors.Read = File
 replay_fault errors.Write = File
 
--- of a loop over a port that stopped
+-- the fault of a loop over a port that stopped
 abbrev pub drive_fault : DriveError → Fault
 drive_fault (drive.Port stats) = Socket
 drive_fault drive.OutOfMemory = OutOfMemory

@@ -32,12 +32,12 @@ abbrev pub config_said : Option Text → Result Said Fault
 config_said None = Ok no_config
 config_said (Some file) = config_found (config_of file)
 
--- own names in place of its own
+-- own names that replace those of the configuration
 abbrev pub with_names : Said → Option (List Text) → Said
 with_names said None = said
 with_names said (Some names) = record said { names = names }
 
--- one map more, after its own
+-- one more map, after those of the configuration
 abbrev pub add_map : Said → Pair → Said
 add_map said m = record said { maps = said.maps ++ m ∷ [] }
 
@@ -74,8 +74,8 @@ planned wanted said routes = record {
   turns = wanted.settings.turns;
 }
 
--- The configuration is read first; the names of `-P` stand in place of its own, and the map of
--- `--map` after its maps.
+-- The configuration is read first; the names of `-P` replace its own, and the map of `--map` comes
+-- after its maps.
 abbrev pub plan_of : Seen → Option Text → Result Plan Fault
 plan_of wanted file =
     after (config_said file) (λ config.
@@ -83,7 +83,8 @@ plan_of wanted file =
     after (routes_said said) (λ routes.
     Ok (planned wanted said routes))))
 
--- what the core of a plan is made with, where it says no first message id and no salt
+-- what the core of a plan is made with, with this first message id and this salt if the plan has
+-- none
 abbrev pub setting_of : Plan → ℕ → ℕ → model.Setting
 setting_of plan first_id salt =
     let id = unwrap_or plan.first_id first_id in

@@ -1,4 +1,4 @@
--- What the program does by its plan, and how it ends.
+-- What the program does for its plan, and how it ends.
 use Rattle.std.specs.Prelude.{◌≡◌, ◌⊎◌, ℕ, min, Bool, List, [], Option, Result, Ok, Err}
 use Rattle.std.specs.Io.KnownBytes.{Appends}
 use Rattle.std.specs.Option.{unwrap_or}
@@ -15,7 +15,7 @@ use Rattle.coap_proxyd.specs.declared.planning.Plan.{Plan}
 use Rattle.coap_proxyd.specs.Faults.{drive_fault, replay_fault}
 use Rattle.coap_replay.specs.Replays.{IsReplayed}
 
--- how many turns a plan says: 2^63 - 1 where it says nothing, and no more than that
+-- the number of turns in a plan: 2^63 - 1 if it has none, and never more
 abbrev pub turns_of : Plan → ℕ
 turns_of plan = min (unwrap_or plan.turns 9223372036854775807) 9223372036854775807
 
@@ -26,8 +26,8 @@ abbrev pub ended_as : Result ℕ ReplayError → Result (Unit {0}) Fault
 ended_as (Ok count) = Ok tt
 ended_as (Err e) = Err (replay_fault e)
 
--- a replay by that proxy, of so many turns at most; or there was no memory for the proxy, and
--- nothing was written
+-- a replay by that proxy, of at most `turns` turns; or memory ran out before it, and nothing was
+-- written
 abbrev pub IsServed : ℕ → World → Option (List ℕ) → Option (List ℕ) → Option (List ℕ)
     → Result (Unit {0}) Fault → Type 0
 IsServed turns proxy input old new result = ((result ≡ Err OutOfMemory) × Appends old new [])
@@ -41,7 +41,7 @@ abbrev pub driven_as : Result Stats DriveError → Result (Unit {0}) Fault
 driven_as (Ok stats) = Ok tt
 driven_as (Err e) = Err (drive_fault e)
 
--- that proxy is driven over the port for so many turns; or there was no memory for the proxy, and
+-- that proxy is driven over the port for `turns` turns; or there was no memory for the proxy, and
 -- nothing was done
 abbrev pub IsServedOver : {P : Type 0} → (P → ℕ → Turn → P → Type 0)
     → (P → Endpoint → List ℕ → Bool → P → Type 0) → (P → ℕ) → (P → ℕ) → ℕ → World → P → P

@@ -17,7 +17,7 @@ use Rattle.coap_proxyd.specs.declared.words.Wanted.{Wanted}
 use Rattle.coap_proxyd.specs.declared.fault.Fault.{Fault}
 use Rattle.coap_proxyd.specs.declared.fault.Fault.TheVariants.{Address, OutOfMemory}
 
--- where to listen, own names in place of those of the configuration, and the other options
+-- where to listen, own names that replace those of the configuration, and the other options
 pub record Seen : Type 0 where
   pub local : Endpoint
   pub names : Option (List Text)
@@ -32,7 +32,7 @@ seen wanted = record {
 
 -- ---- where to listen
 
--- 0.0.0.0 and port 5683, where nothing else is said
+-- 0.0.0.0 and port 5683, unless others are given
 abbrev pub address_found : Option Ip → Result Ip Fault
 address_found None = Err Address
 address_found (Some ip) = Ok ip
@@ -68,7 +68,7 @@ abbrev pub wanted_of : Settings → Result Seen Fault
 wanted_of s = after (local_of s) (λ local. after (names_of s) (λ names.
     Ok (record { local = local; names = names; settings = s })))
 
--- words are refused, or they say settings, and these ask for it
+-- the words are refused, or they give settings, and the result is what these ask for
 abbrev pub Want : List Text → Result Wanted Fault → Type 0
 Want words result =
     ((e : WordsError) × ReadsWords words (Err e) × (result ≡ Err (words_fault e)))

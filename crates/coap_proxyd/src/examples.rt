@@ -10,7 +10,8 @@ ghost use Rattle.coap_proxyd.specs.declared.fault.Fault.TheVariants as faults;
 ghost use Rattle.coap_proxyd.specs.declared.planning.Plan.{Plan};
 ghost use Rattle.coap_words.specs.declared.config_error.ConfigError.TheVariants as config_errors;
 
-/// The exit status of each fault: 2 for what the program was told, 1 for what it met.
+/// The exit status of each fault: 2 if the program was given input that it can't use, 1 if
+/// something kept it from its work.
 pub fn statuses()
     ensures arguments { status_of faults.Arguments ≡ 2 }
     ensures address { status_of faults.Address ≡ 2 }
@@ -24,7 +25,7 @@ pub fn statuses()
     ensures memory_at { status_of (faults.OutOfMemoryAt 12) ≡ 1 }
 {}
 
-/// What is said of those faults that no worked run shows.
+/// The texts of those faults that no worked run shows.
 pub fn texts()
     ensures arguments { fault_text faults.Arguments ≡ codes "coap-proxyd: arguments" }
     ensures file { fault_text faults.File ≡ codes "coap-proxyd: file" }
@@ -33,8 +34,8 @@ pub fn texts()
     ensures memory_at { fault_text (faults.OutOfMemoryAt 12) ≡ codes "line 12: out of memory" }
 {}
 
-/// Where the program listens: at all addresses of IPv4 and the port of `coap`, where nothing else
-/// is said (RFC 7252, 6.1).
+/// Where the program listens: at all IPv4 addresses and the port of `coap`, unless it is told
+/// otherwise (RFC 7252, 6.1).
 pub fn listens()
     ensures nothing_said { local_of no_settings
         ≡ Ok (record { ip = V4 (0 ∷ 0 ∷ 0 ∷ 0 ∷ []); port = 5683 }) }
@@ -42,7 +43,7 @@ pub fn listens()
         ≡ Ok (record { ip = V4 (0 ∷ 0 ∷ 0 ∷ 0 ∷ []); port = 61616 }) }
 {}
 
-/// Own names that are given stand in place of those of the configuration, also where none is.
+/// Own names that are given replace those of the configuration, even if the list is empty.
 pub fn names()
     ensures given { with_names (named (codes "a" ∷ [])) (Some (codes "b" ∷ []))
         ≡ named (codes "b" ∷ []) }
@@ -50,7 +51,7 @@ pub fn names()
     ensures not_given { with_names (named (codes "a" ∷ [])) None ≡ named (codes "a" ∷ []) }
 {}
 
-/// How many turns are done: 2^63 - 1 where nothing is said, and no more than that.
+/// The number of turns that are done: 2^63 - 1 if none is given, and never more.
 pub fn turns()
     ensures nothing_said { (plan : Plan)
         → turns_of (record plan { turns = None }) ≡ 9223372036854775807 }

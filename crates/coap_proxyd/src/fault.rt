@@ -9,38 +9,38 @@ use coap_words::{ConfigError, MapOptionError, ProxyOptionError, WordsError};
 use std::error::Error;
 use std::fmt;
 
-/// Why the program stops before it is done. Faults before the run are told in this order, want of
-/// memory where it is met.
+/// Why the program stops before it is done. Faults before the run are reported in this order, and
+/// running out of memory where it happens.
 #[derive(Debug, Drop)]
 pub enum Fault {
-    /// The words after the program's name are no texts.
+    /// The words after the program's name aren't texts.
     Arguments,
-    /// `clap` refuses the words, or they ask for the help or the version; its text ends with a line
+    /// `clap` refuses the words, or they ask for the help or the version. The text ends with a line
     /// end.
     Usage { status: u8, text: String },
-    /// The value of `-A` is no address.
+    /// The value of `-A` isn't an address.
     Address,
     /// The value of `-P` is refused.
     ProxyOption,
-    /// A file or the input could not be read, or the output could not be written.
+    /// A file or the input couldn't be read, or the output couldn't be written.
     File,
     /// The configuration is refused.
     Config(ConfigError),
     /// The value of `--map` is refused.
     MapOption,
-    /// The socket could not be had, or can't be read any more.
+    /// The socket couldn't be opened, or can't be read any more.
     Socket,
-    /// The allocator had no memory before the run.
+    /// Out of memory before the run.
     OutOfMemory,
-    /// A line of a replay says no event that may follow, or is too long.
+    /// A line of a replay isn't an event that may come next, or it is too long.
     BadEvent { line: u64 },
-    /// The allocator had no memory for what a line of a replay asks for.
+    /// Out of memory for what a line of a replay asks for.
     OutOfMemoryAt { line: u64 },
 }
 
 impl Fault {
-    /// The exit status of the program: 2 where it was told what it can't do, 1 where it was kept
-    /// from doing it, and 0 where it was asked for the help or the version.
+    /// The exit status of the program: 2 if it was given input that it can't use, 1 if something
+    /// kept it from its work, and 0 if it was asked for the help or the version.
     pub fn status(&self) -> u8
         ensures exact { result ≡ spec.status_of self.now }
     {

@@ -1,5 +1,5 @@
-//! What the program is made of: what its words and its configuration make it do, over an input or
-//! over a port, and how it ends.
+//! The parts of the program: what its words and its configuration make it do, over an input or over
+//! a port, and how it ends.
 #![tactic(auto)]
 
 mod examples;

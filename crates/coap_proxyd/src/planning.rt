@@ -28,10 +28,11 @@ pub struct Plan {
     pub routes: Routes,
     /// Whether events come from standard input.
     pub replay: bool,
-    /// The first message id and the salt, where they are given.
+    /// The first message id, if it is given.
     pub first_id: Option<u16>,
+    /// The salt of tokens, if it is given.
     pub salt: Option<u64>,
-    /// How many turns to do, where that is given.
+    /// The number of turns to do, if it is given.
     pub turns: Option<u64>,
 }
 
@@ -64,7 +65,7 @@ pub fn read_plan(alloc: Global, wanted: Wanted, file: Option<&[u8]>) -> Result<P
     })
 }
 
-/// What a file says, or the configuration without one.
+/// The configuration in a file, or the default one if there is no file.
 fn config_of(alloc: Global, file: Option<&[u8]>) -> Result<Config, Fault>
     ensures { Says view.seen faults.OutOfMemory result
         (spec.config_said (option_map (λ bytes. bytes.now) file.entry)) }
@@ -87,7 +88,7 @@ fn default_config(alloc: Global) -> Config
     }
 }
 
-/// A configuration with these own names, if there are any, in place of its own.
+/// A configuration with its own names replaced by these, if they are given.
 fn with_names(config: Config, names: Option<Vec<String>>) -> Config
     ensures { view.seen result ≡ spec.with_names (view.seen config) (option_map bytes_of names) }
 {
@@ -97,7 +98,7 @@ fn with_names(config: Config, names: Option<Vec<String>>) -> Config
     }
 }
 
-/// A configuration with one map more, if there is one, after its own.
+/// A configuration with one more map after its own, if one is given.
 fn with_map(alloc: Global, config: Config, map: &Option<String>) -> Result<Config, Fault>
     ensures { Says view.seen faults.OutOfMemory result
         (spec.with_map (view.seen config) (option_map string_bytes map.now)) }
@@ -121,8 +122,8 @@ fn add_map(config: Config, map: (String, String)) -> Result<Config, Fault>
     }
 }
 
-/// The routes of a configuration. Those of its file were made before, and names that `-P` says are
-/// names; so it is the map option that is at fault where they say none.
+/// The routes of a configuration. Those of its file were checked before, and the names in `-P` are
+/// valid; so if the texts don't make up routes, the map option is at fault.
 fn routes_of(alloc: Global, config: &Config) -> Result<Routes, Fault>
     ensures { Says (λ routes. routes) faults.OutOfMemory result
         (spec.routes_said (view.seen config.now)) }
@@ -139,7 +140,7 @@ fn routes_of(alloc: Global, config: &Config) -> Result<Routes, Fault>
     }
 }
 
-/// The core of a plan, with a first message id and a salt where it says none.
+/// The core of a plan, with this first message id and this salt if the plan has none.
 pub(crate) fn core_of<S: Store + Drop>(
     alloc: Global,
     seed: S::Seed,

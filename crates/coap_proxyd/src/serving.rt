@@ -1,4 +1,4 @@
-//! What the program does by its plan: over an input, or over a port.
+//! What the program does for its plan: over an input, or over a port.
 ghost use Rattle.std.specs.Prelude.{◌≡◌, ◌<◌, ◌+◌, ◌^◌};
 ghost use Rattle.coap_model.specs.World.{new_world};
 ghost use Rattle.coap_proxyd.specs.Planning.{setting_of};
@@ -13,23 +13,23 @@ use coap_store::Store;
 use std::alloc::Global;
 use std::io::{BufReader, Read, Write};
 
-/// The most turns that are done: 2^63 - 1.
+/// The greatest number of turns that are done: 2^63 - 1.
 const MOST_TURNS: u64 = i64::MAX as u64;
 
-/// How many turns a plan says: as many as there may be, where it says nothing.
+/// The number of turns in a plan, at most the greatest, which is also the default.
 fn turns_of(plan: &Plan) -> u64
     ensures { result ≡ spec.turns_of plan.now }
 {
     plan.turns.unwrap_or(MOST_TURNS).min(MOST_TURNS)
 }
 
-/// Does the events of an input by a new core, whose store is made of this seed, for as many turns
-/// as the plan says, or else as many as there may be, and writes the datagrams that are sent.
-/// Message ids begin with 1 and the salt is 0, where the plan says nothing else.
+/// Replays the events of an input with a new core, whose store is made from this seed, for the
+/// number of turns in the plan, or else for the greatest number, and writes the datagrams that are
+/// sent. Message ids begin with 1 and the salt is 0, unless the plan has others.
 ///
 /// # Errors
-/// `OutOfMemory` where the core finds no memory, and nothing is written then. Else the fault of the
-/// replay.
+/// `OutOfMemory` if there was no memory for the core or for the buffer of the input, and nothing is
+/// written then; otherwise the fault of the replay.
 pub fn serve_events<R: Read + Drop, W: Write, S: Store + Drop>(
     alloc: Global,
     seed: S::Seed,
@@ -47,8 +47,8 @@ pub fn serve_events<R: Read + Drop, W: Write, S: Store + Drop>(
     serve_on(alloc, &mut core, input, output, turns)
 }
 
-/// Does the events of an input by this core, for so many turns at most, and writes the datagrams
-/// that are sent.
+/// Replays the events of an input with this core, for at most `turns` turns, and writes the
+/// datagrams that are sent.
 fn serve_on<R: Read + Drop, W: Write, S: Store + Drop>(
     alloc: Global,
     core: &mut Core<S>,
@@ -73,12 +73,12 @@ fn ended(replayed: Result<u64, ReplayError>) -> Result<(), Fault>
     Ok(())
 }
 
-/// Drives a new core over a port for as many turns as the plan says, or else as many as there may
-/// be. This first message id and this salt are those where the plan says none.
+/// Drives a new core over a port for the number of turns in the plan, or else for the greatest
+/// number. `first_id` and `salt` are used if the plan has none.
 ///
 /// # Errors
-/// `Socket` where the port failed; `OutOfMemory` where there was no memory for the core, or for the
-/// buffers of the loop, and then nothing was done.
+/// `Socket` if the port failed; `OutOfMemory` if there was no memory for the core, or for the
+/// buffers of the loop, in which case nothing was done.
 pub fn serve_port<P: Port, S: Store + Drop>(
     alloc: Global,
     seed: S::Seed,

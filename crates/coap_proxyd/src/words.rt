@@ -13,12 +13,12 @@ use std::alloc::Global;
 /// The port of `coap` (RFC 7252, 6.1).
 const PORT: u16 = 5683;
 
-/// What the words of the program ask for, of which `-A` and `-P` were read.
+/// What the words of the program ask for, with `-A` and `-P` already read.
 #[derive(Drop)]
 pub struct Wanted {
     /// Where to listen.
     pub local: Endpoint,
-    /// Own names, in place of those of the configuration.
+    /// Own names that replace those of the configuration.
     pub names: Option<Vec<String>>,
     /// The other options.
     pub settings: Settings,
@@ -60,7 +60,7 @@ fn local(alloc: Global, settings: &Settings) -> Result<Endpoint, Fault>
     Ok(Endpoint { ip, port })
 }
 
-/// Own names, where `-P` is given.
+/// Own names, if `-P` is given.
 fn own_names(alloc: Global, settings: &Settings) -> Result<Option<Vec<String>>, Fault>
     ensures { Says (option_map bytes_of) faults.OutOfMemory result (spec.names_of settings.now) }
 {

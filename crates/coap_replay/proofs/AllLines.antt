@@ -1,4 +1,4 @@
--- A replay of a whole input: no input says as many turns as a replay may do.
+-- A replay of a whole input: no input has as many turns as a replay may do.
 use Rattle.std.proofs.Common.{◌≡◌, inl, inr, ℕ, ◌+◌, ◌-◌, ◌^◌, ◌≤◌, ◌||◌, Bool, true, false, cond, ltb, List, [], ◌∷◌, length, Option, Some, None, Result, Ok, Err, refl, ap, arith}
 use Rattle.std.specs.Prelude.{IfSome}
 use Rattle.std.proofs.lemmas.Bool.{ltb-true}
@@ -11,7 +11,7 @@ use Rattle.coap_lines.specs.Turns.{greatest, turn_of}
 use Rattle.coap_replay.specs.declared.error.ReplayError.{ReplayError}
 use Rattle.coap_replay.specs.Replays.{IsReplayed, IsThrough, IsUpTo, IsWhollyReplayed, script_for, script_after}
 
--- lines say no more turns than a proxy does events
+-- lines have no more turns than a core handles events
 few-turns : (number last events : ℕ) (lines : List (List ℕ)) → length (script_from number last events lines).turns ≤ 9223372036854775808 - events
 unfolding script_from
 few-turns number last events [] = omega arith
@@ -34,12 +34,12 @@ few-turns number last events (line ∷ lines) =
     go false false None skips further = omega arith
     go false false (Some turn) skips further = said-turn turn (ltb events (2 ^ 63)) refl (further turn.now)
 
--- there are as many turns as were taken
+-- turning taken turns into turns keeps their number
 length-turns : (ts : List Taken) → length (turns_of ts) ≡ length ts
 length-turns [] = refl
 length-turns (t ∷ ts) = omega (arith, length-turns ts)
 
--- what was done before a line is less than the whole of 2^64 - 1 turns
+-- fewer than 2^64 - 1 turns were done before a line
 few-before : (w : World) (input : List ℕ) (before : List Taken) (line : ℕ) (left : List (List ℕ)) → IsUpTo w input before line left → length before ≤ 9223372036854775808
 few-before w input before line left up =
     let script = ap (λ (s : Script). length s.turns) up.asked in
@@ -53,10 +53,12 @@ all-done w i left turns (inr (many, inl (none, unread))) = absurd (omega (arith,
 all-done w i left turns (inr (many, inr (before, last, are, done, text, rest, line, split, is, after, up, asks))) =
     absurd (omega (arith, many, ap length are, length-append before (last ∷ []), few-before w i before _ _ up))
 
+-- the same for an input that may not be known
 of-known : (w : World) (input left : Option (List ℕ)) (turns : List Taken) → IfSome input (λ i. IsThrough w 18446744073709551615 i left turns) → IfSome input (λ i. script_for w i ≡ record { turns = turns_of turns; bad = None })
 of-known w None left turns through = tt
 of-known w (Some i) left turns through = all-done w i left turns through
 
+-- a replay of at most 2^64 - 1 turns is a replay of the whole input
 pub wholly : (w v : World) (input left old new : Option (List ℕ)) (result : Result ℕ ReplayError) → IsReplayed w v 18446744073709551615 input left old new result → IsWhollyReplayed w v input left old new result
 wholly w v input left old new (Ok n) is =
     record { turns = is.turns; done = is.done; ends = is.ends; whole = of-known w input left is.turns is.ends.3 }

@@ -18,11 +18,11 @@ use Rattle.coap_lines.proofs.LineByLine.{step-bad, step-end, step-full, step-lon
 use Rattle.coap_lines.proofs.TurnTexts.{turn_of-is}
 
 module _ (number last events : ℕ) (old left : Option (List ℕ)) (line : List ℕ) where
-  -- what comes next of an input that is known
+  -- what comes next in an input that is known
   abbrev Comes : Next → Type 0
   Comes n = IfSome old (λ input. IsNext input left line n)
 
-  -- what holds of each input and what is left of it
+  -- what holds for each input and what is left of it
   known : (n : Next) (P : List ℕ → Option (List ℕ) → Type 0) → Comes n → ((input rest : List ℕ) → IsNext input (Some rest) line n → P input (Some rest)) → IfSome old (λ input. P input left)
   known n P comes each = go old left comes
     where
@@ -47,11 +47,11 @@ module _ (number last events : ℕ) (old left : Option (List ℕ)) (line : List 
   pub asks-skip : Comes next.Line → number ≤ greatest → is_skipped line ≡ true → IfSome old (λ input. AsksNext number last events input left (Ok Skip))
   asks-skip comes within skipped = known next.Line (λ input l. AsksNext number last events input l (Ok Skip)) comes (λ input rest n. (line, n, step-skip number last events input rest line n within skipped))
 
-  -- a line that says no turn
+  -- a line without a turn
   pub asks-bad : Comes next.Line → number ≤ greatest → is_skipped line ≡ false → turn_of last line ≡ None → IfSome old (λ input. AsksNext number last events input left (Err (BadEvent number)))
   asks-bad comes within other none = known next.Line (λ input l. AsksNext number last events input l (Err (BadEvent number))) comes (λ input rest n. (refl, step-bad number last events input rest line n within other none))
 
-  -- a line after as many events as there may be
+  -- a line after as many events as a core handles
   pub asks-full : Comes next.Line → number ≤ greatest → is_skipped line ≡ false → 2 ^ 63 ≤ events → IfSome old (λ input. AsksNext number last events input left (Err (BadEvent number)))
   asks-full comes within other many = known next.Line (λ input l. AsksNext number last events input l (Err (BadEvent number))) comes (λ input rest n. (refl, by (turn_of last line) refl input rest n))
     where
@@ -59,15 +59,15 @@ module _ (number last events : ℕ) (old left : Option (List ℕ)) (line : List 
       by None is input rest n = step-bad number last events input rest line n within other is
       by (Some turn) is input rest n = step-full number last events input rest line turn n within other is many
 
-  -- what the first line asks for, if it says a turn
+  -- what the first line asks for, if it has a turn
   asks-for : (turn : Turn) (input rest : List ℕ) → IsNext input (Some rest) line next.Line → number ≤ greatest → is_skipped line ≡ false → turn_of last line ≡ Some turn → events < 2 ^ 63 → AsksFor number last events (line ∷ lines_of rest) turn
   asks-for turn input rest n within other is few = (other, sym (ap (script_from number last events) n.0) ∙ step-turn number last events input rest line turn n within other is few)
 
-  -- a line that says a turn
+  -- a line with a turn
   pub asks-turn : (turn : TurnRead) → Comes next.Line → number ≤ greatest → is_skipped line ≡ false → turn_of last line ≡ Some (turn_seen turn) → events < 2 ^ 63 → IfSome old (λ input. AsksNext number last events input left (Ok (Do turn)))
   asks-turn turn comes within other is few = known next.Line (λ input l. AsksNext number last events input l (Ok (Do turn))) comes (λ input rest n. (line, n, asks-for (turn_seen turn) input rest n within other is few))
 
-  -- a line that says a turn for which there is no memory
+  -- a line with a turn that runs out of memory
   pub asks-memory : Comes next.Line → number ≤ greatest → is_skipped line ≡ false → IsSome (turn_of last line) → IfSome (turn_of last line) (λ t. t.event ≡ tick → false ≡ true) → events < 2 ^ 63 → IfSome old (λ input. AsksNext number last events input left (Err (OutOfMemory number)))
   asks-memory comes within other some ticks few = known next.Line (λ input l. AsksNext number last events input l (Err (OutOfMemory number))) comes (λ input rest n. (refl, by (turn_of last line) refl some ticks input rest n))
     where
@@ -75,7 +75,7 @@ module _ (number last events : ℕ) (old left : Option (List ℕ)) (line : List 
       by None is some ticks input rest n = absurd (false≢true some)
       by (Some turn) is some ticks input rest n = (turn, (λ same. false≢true (ticks same)), subst (λ (ls : List (List ℕ)). AsksFor number last events ls turn) (sym n.0) (asks-for turn input rest n within other is few))
 
-  -- a line that was not read
+  -- a line that wasn't read
   pub asks-unread : IsBegun old left → IfSome old (λ input. AsksNext number last events input left (Err Read))
   asks-unread begun = go old begun
     where
@@ -83,7 +83,7 @@ module _ (number last events : ℕ) (old left : Option (List ℕ)) (line : List 
       go None b = tt
       go (Some input) b = b
 
--- a turn that a line says may be done
+-- the turn of a line may be done
 pub may-be-done : (last events : ℕ) (line : List ℕ) (turn : Turn) → turn_of last line ≡ Some turn → events < 2 ^ 63 → MayBeDone last events turn
 may-be-done last events line turn is few =
     let (moment, draw, what, split, now, onward, number, said) = turn_of-is last line turn is in

@@ -22,25 +22,25 @@ use Rattle.coap_replay.specs.declared.replays.Asked.{Asked}
 use Rattle.coap_replay.specs.declared.replays.Asked.TheVariants.{End, Skip, Do}
 use Rattle.coap_replay.specs.Replays.{AsksNext, DoesTurn, HasDone, IfDo, IsAtEvent, IsBroken, IsReadTo, IsReplayed, IsThrough, IsUpTo, MayBeDone, MayLack, line_sent, output_of, run_at, script_for, taken, with_turns, world_after}
 
--- ---- one turn more
+-- ---- one more turn
 
--- a run with one turn more
+-- a run with one more turn
 run-more : (r : Run) (ts : List Taken) (t : Taken) → run_of r (ts ++ t ∷ []) ≡ one_turn (run_of r ts) t
 run-more r [] t = refl
 run-more r (u ∷ ts) t = run-more (one_turn r u) ts t
 
--- the tables after a run don't hang on the history before it
+-- the tables after a run don't depend on the history before it
 run-apart : (r q : Run) (ts : List Taken) → r.world ≡ q.world → (run_of r ts).world ≡ (run_of q ts).world
 run-apart r q [] e = e
 run-apart r q (t ∷ ts) e = run-apart (one_turn r t) (one_turn q t) ts (ap (λ (w : World). (step_taken w t).world) e)
 
--- what is written with one turn more
+-- what is written with one more turn
 output-more : (r : Run) (ts : List Taken) (t : Taken) → output_of r.world (ts ++ t ∷ []) ≡ output_of r.world ts ++ line_sent (run_of r ts).world t
 output-more r [] t = append-nil (line_sent r.world t)
 output-more r (u ∷ ts) t =
     ap (λ (l : List ℕ). line_sent r.world u ++ l) (output-more (one_turn r u) ts t) ∙ sym (append_assoc (line_sent r.world u) (output_of (step_taken r.world u).world ts) (line_sent (run_of (one_turn r u) ts).world t))
 
--- one turn more that doesn't go back
+-- one more turn whose moment doesn't go back
 are-more : (r : Run) (ts : List Taken) (t : Taken) → AreTurns r.world.last (turns_of ts) → (run_of r ts).world.last ≤ t.turn.now → IsEvent t.turn.event → AreTurns r.world.last (turns_of (ts ++ t ∷ []))
 are-more r [] t are onward event = (onward, event, tt)
 are-more r (u ∷ ts) t are onward event =
@@ -48,7 +48,7 @@ are-more r (u ∷ ts) t are onward event =
     let rest = are-more (one_turn r u) ts t (subst (λ (n : ℕ). AreTurns n (turns_of ts)) (sym last) are.2) onward event in
     (are.0, are.1, subst (λ (n : ℕ). AreTurns n (turns_of (ts ++ t ∷ []))) last rest)
 
--- turns as they were asked for, with one more
+-- the turns as they were requested, with one more
 turns_of-more : (ts : List Taken) (t : Taken) → turns_of (ts ++ t ∷ []) ≡ turns_of ts ++ t.turn ∷ []
 turns_of-more [] t = refl
 turns_of-more (u ∷ ts) t = ap (λ (l : List Turn). u.turn ∷ l) (turns_of-more ts t)
@@ -57,7 +57,7 @@ turns_of-more (u ∷ ts) t = ap (λ (l : List Turn). u.turn ∷ l) (turns_of-mor
 done-nothing : (w : World) → HasDone w [] w
 done-nothing w = record { are = tt; world = refl; carries = λ history c. c; word = λ history c. keeps-word history w c }
 
--- one turn more was done
+-- one more turn was done
 done-more : (w v : World) (ts : List Taken) (t : Taken) → HasDone w ts v → MayBeDone v.last v.events t.turn → HasDone w (ts ++ t ∷ []) (step_taken v t).world
 done-more w v ts t d may =
     let onward : (world_after w ts).last ≤ t.turn.now = subst (λ (u : World). u.last ≤ t.turn.now) d.world may.onward in
@@ -73,15 +73,15 @@ done-more w v ts t d may =
     carries : AreTurns w.last (turns_of (ts ++ t ∷ [])) → (step_taken v t).world ≡ world_after w (ts ++ t ∷ []) → (history : List Entry) → Carries history w → Carries (run_of (run_at w history) (ts ++ t ∷ [])).history (step_taken v t).world
     carries are world history c = subst (λ (u : World). Carries (run_of (run_at w history) (ts ++ t ∷ [])).history u) (run-apart (run_at w history) (run_at w []) (ts ++ t ∷ []) refl ∙ sym world) (runs_carry (run_at w history) (ts ++ t ∷ []) c are)
 
--- ---- where a replay is
+-- ---- the state of a replay
 
--- what is left of an input stands after the lines that were read, and asks for what is still asked for
+-- the rest of an input follows the lines that were read, and asks for what is still to be done
 abbrev pub StillAsks : World → List ℕ → Option (List ℕ) → List Taken → ℕ → World → Type 0
 StillAsks w input None turns lines v = ⊥
 StillAsks w input (Some rest) turns lines v = (done : List ℕ) × (input ≡ done ++ rest) × IsCutBetween done rest
     × (length (lines_of done) ≡ lines) × (script_for w input ≡ with_turns turns (script_from (lines + 1) v.last v.events (lines_of rest)))
 
--- so many lines were read, so many turns done, and their lines written
+-- the state after this many lines were read and this many turns done, with their lines written
 pub record IsAt (w v : World) (input left old new : Option (List ℕ)) (lines count : ℕ) : Type 0 where
   pub turns : List Taken
   pub done : HasDone w turns v
@@ -89,21 +89,21 @@ pub record IsAt (w v : World) (input left old new : Option (List ℕ)) (lines co
   pub counted : count ≡ length turns
   pub asked : IfSome input (λ i. StillAsks w i left turns lines v)
 
--- nothing was written at first
+-- at first nothing was written
 nothing-written : (a : Option (List ℕ)) → Appends a a []
 nothing-written None = tt
 nothing-written (Some xs) = sym (append-nil xs)
 
--- all of an input is asked for at first
+-- at first everything in an input is still to be done
 at-first : (w : World) (input : Option (List ℕ)) → IfSome input (λ i. StillAsks w i input [] 0 w)
 at-first w None = tt
 at-first w (Some i) = ([], refl, inl (λ more. refl), refl, refl)
 
--- where a replay is at first
+-- the state of a replay at first
 pub at-start : (w : World) (input old : Option (List ℕ)) → IsAt w w input input old old 0 0
 at-start w input old = record { turns = []; done = done-nothing w; written = nothing-written old; counted = refl; asked = at-first w input }
 
--- memory is missing before the first line
+-- memory runs out before the first line
 pub ends-at-start : (w : World) (most : ℕ) (input old : Option (List ℕ)) → IsReplayed w w most input input old old (Err (OutOfMemory 1))
 ends-at-start w most input old = record { turns = []; done = done-nothing w; ends = (nothing-written old, inl (refl, refl, refl)) }
 
@@ -124,7 +124,7 @@ up-to-next w v i rest turns lines world (done, split, cut, len, script) = record
   asked = subst (λ (u : World). script_for w i ≡ with_turns turns (script_from (lines + 1) u.last u.events (lines_of rest))) world script;
 }
 
--- a line that was begun is the next one
+-- a line that was read in part is the next one
 broken : (w v : World) (i rest : List ℕ) (left' : Option (List ℕ)) (turns : List Taken) (lines : ℕ) → v ≡ world_after w turns → StillAsks w i (Some rest) turns lines v → IsBegun (Some rest) left' → IsBroken w i left' turns
 broken w v i rest None turns lines world s (part, clear, taken) = absurd taken
 broken w v i rest (Some rest') turns lines world (done, split, cut, len, script) (part, clear, taken) =
@@ -132,7 +132,7 @@ broken w v i rest (Some rest') turns lines world (done, split, cut, len, script)
     let same : IsUpTo w i turns (length (lines_of done) + 1) (lines_of (part ++ rest')) = rw len (subst (λ (r : List ℕ). IsUpTo w i turns (lines + 1) (lines_of r)) taken up) in
     (done, part, split ∙ ap (λ (r : List ℕ). done ++ r) taken ∙ sym (append_assoc done part rest'), clear, same)
 
--- what is still asked for after a line more, by what the script is then
+-- what is still to be done after one more line, by the script after it
 line-more : (w v v' : World) (i rest rest' line : List ℕ) (turns turns' : List Taken) (lines : ℕ) → StillAsks w i (Some rest) turns lines v → IsLine rest rest' line
     → (script_for w i ≡ with_turns turns (script_from (lines + 1) v.last v.events (lines_of rest)) → script_for w i ≡ with_turns turns' (script_from (lines + 1 + 1) v'.last v'.events (lines_of rest')))
     → StillAsks w i (Some rest') turns' (lines + 1) v'
@@ -146,11 +146,11 @@ line-more w v v' i rest rest' line turns turns' lines (done, split, cut, len, sc
     )
 
 module _ (w v : World) (input left left' old new : Option (List ℕ)) (lines count most : ℕ) (at : IsAt w v input left old new lines count) (more : count < most) where
-  -- fewer turns were done than may be
+  -- fewer turns were done than allowed
   fewer : length at.turns < most
   fewer = omega (arith, at.counted, more)
 
-  -- what holds of an input that is known
+  -- what holds for an input that is known
   of-known : (P : List ℕ → Type 0) (Q : List ℕ → Type 0) → IfSome left Q → ((i rest : List ℕ) → StillAsks w i (Some rest) at.turns lines v → Q rest → P i) → IfSome input P
   of-known P Q q each = go input left at.asked q
     where
@@ -163,12 +163,12 @@ module _ (w v : World) (input left left' old new : Option (List ℕ)) (lines cou
   up-to : (i rest : List ℕ) → StillAsks w i (Some rest) at.turns lines v → IsUpTo w i at.turns (lines + 1) (lines_of rest)
   up-to i rest s = up-to-next w v i rest at.turns lines at.done.world s
 
-  -- a line asks for a turn, and its number is the next
+  -- a line asks for a turn, and its number is the next one
   at-event : (i rest : List ℕ) (line : ℕ) (turn : Turn) → StillAsks w i (Some rest) at.turns lines v → line ≡ lines + 1 → AsksFor (lines + 1) v.last v.events (lines_of rest) turn → MayLack v turn → IsAtEvent w i at.turns line
   at-event i rest line turn s is asks lacks =
       rw is (lines_of rest, turn, up-to i rest s, subst (λ (u : World). AsksFor (lines + 1) u.last u.events (lines_of rest) turn) at.done.world asks, subst (λ (u : World). MayLack u turn) at.done.world lacks)
 
-  -- no line was begun
+  -- nothing was read of a line
   pub ends-unread : IsReplayed w v most input left old new (Err Read)
   ends-unread = record { turns = at.turns; done = at.done; ends = (fewer, at.written, go input left at.asked) }
     where
@@ -186,7 +186,7 @@ module _ (w v : World) (input left left' old new : Option (List ℕ)) (lines cou
         ends = (at.counted, omega (arith, more), at.written, of-known (λ i. IsThrough w most i left' at.turns) (λ rest. AsksNext (lines + 1) v.last v.events rest left' (Ok End)) asks (λ i rest s a. inl (fewer, s.4 ∙ rw (a, append-nil (turns_of at.turns)) refl)));
       }
 
-  -- a line can't be done, or not be read
+  -- a line can't be done, or can't be read
   pub ends-refused : (e : ReplayError) → IfSome left (λ rest. AsksNext (lines + 1) v.last v.events rest left' (Err e)) → IfDo (MayBeDone v.last v.events) (Err e) → IsReplayed w v most input left' old new (Err e)
   ends-refused (BadEvent line) asks may =
       record {
@@ -231,18 +231,18 @@ module _ (w v : World) (input left left' old new : Option (List ℕ)) (lines cou
       abbrev turns : List Taken
       turns = at.turns ++ t ∷ []
 
-      -- one more is done
+      -- one more turn is done
       done : HasDone w turns (step_taken v t).world
       done = done-more w v at.turns t at.done may
 
-      -- so many are done then, and no more than may be
+      -- the number of turns done then, which is at most the number allowed
       count-then : count + 1 ≡ length turns
       count-then = omega (arith, at.counted, length-append at.turns (t ∷ []))
 
       no-more : length turns ≤ most
       no-more = omega (arith, count-then, more)
 
-      -- its line is that of the tables before it
+      -- its line is the one for the tables before it
       line : line_sent (world_after w at.turns) t ≡ line_sent v t
       line = rw (← at.done.world) refl
 
@@ -250,7 +250,7 @@ module _ (w v : World) (input left left' old new : Option (List ℕ)) (lines cou
       output : output_of w turns ≡ output_of w at.turns ++ line_sent v t
       output = output-more (run_at w []) at.turns t ∙ rw (← at.done.world) refl
 
-      -- what is still asked for then
+      -- what is still to be done then
       asked : IfSome input (λ i. StillAsks w i left' turns (lines + 1) (step_taken v t).world)
       asked = go input left at.asked left' asks
         where
@@ -307,7 +307,7 @@ module _ (w v : World) (input left left' old new : Option (List ℕ)) (lines cou
                     (subst (λ (u : World). AsksFor (lines + 1) u.last u.events (lines_of rest) (turn_seen turn)) at.done.world for),
               )
 
-      -- the event was done and its line written, and no further one is to be done
+      -- the event was done and its line written, and no further turn is allowed
       pub ends-enough : (v' : World) (new' : Option (List ℕ)) → v' ≡ (step_taken v t).world → Appends new new' (line_sent v t) → count + 1 ≡ most → IsReplayed w v' most input left' old new' (Ok (count + 1))
       ends-enough v' new' is wrote enough =
           rw is (record {
@@ -325,7 +325,7 @@ module _ (w v : World) (input left left' old new : Option (List ℕ)) (lines cou
           through None r = tt
           through (Some i) r = inr (sym count-then ∙ enough, r)
 
-    -- or it failed
+    -- the turn failed
     pub ends-turn : (v' : World) (new' : Option (List ℕ)) (e : ReplayError) → DoesTurn v v' (turn_seen turn) new new' (lines + 1) (Err e) → IsReplayed w v' most input left' old new' (Err e)
     ends-turn v' new' (BadEvent line) does = absurd does
     ends-turn v' new' Read does = absurd does
@@ -352,7 +352,7 @@ module _ (w v : World) (input left left' old new : Option (List ℕ)) (lines cou
         go (Some i) None s = absurd s
         go (Some i) (Some rest) s = (lines + 1 + 1, lines_of rest, up-to-next w (step_taken v (t grown)).world i rest (turns grown) (lines + 1) (done grown).world s)
 
--- ---- what a line asks for, by the clock that was read
+-- ---- what a line asks for, by the core's clock and count of events
 
 -- what the next line asks for
 pub by-clock : (number : ℕ) (v : World) (left left' : Option (List ℕ)) (r : Result Asked ReplayError) (last events : ℕ) → last ≡ v.last → events ≡ v.events → IfSome left (λ rest. AsksNext number last events rest left' r) → IfSome left (λ rest. AsksNext number v.last v.events rest left' r)
@@ -366,10 +366,10 @@ may-by-clock v r last events p q may =
     subst (λ (e : ℕ). IfDo (MayBeDone v.last e) r) q
     (subst (λ (l : ℕ). IfDo (MayBeDone l events) r) p may)
 
--- what is asked for, by what was answered
+-- what is asked for, by the value returned
 pub as-asked : (number last events : ℕ) (left left' : Option (List ℕ)) (a b : Asked) → a ≡ b → IfSome left (λ rest. AsksNext number last events rest left' (Ok a)) → IfSome left (λ rest. AsksNext number last events rest left' (Ok b))
 as-asked number last events left left' a b e asks = subst (λ (x : Asked). IfSome left (λ rest. AsksNext number last events rest left' (Ok x))) e asks
 
--- what may be done, by what was answered
+-- what may be done, by the value returned
 pub as-may : (last events : ℕ) (a b : Asked) → a ≡ b → IfDo (MayBeDone last events) (Ok a) → IfDo (MayBeDone last events) (Ok b)
 as-may last events a b e may = subst (λ (x : Asked). IfDo (MayBeDone last events) (Ok x)) e may

@@ -1,4 +1,5 @@
--- What a replay does: the turns that were done, what they left, and what was written for them.
+-- What a replay does: the turns that were done, the tables after them, and what was written for
+-- them.
 use Rattle.std.specs.Prelude.{◌≡◌, ◌≢◌, ◌⊎◌, ℕ, ◌+◌, ◌≤◌, ◌<◌, ◌^◌, ◌-◌, false, true, List, [], ◌∷◌, ◌++◌, length, Option, Some, None, Result, Ok, Err, IfOk, IfSome, Bool}
 use Rattle.std.specs.Io.KnownBytes.{Appends}
 use Rattle.coap_endpoint.specs.declared.endpoint.Endpoint.{Endpoint}
@@ -30,7 +31,7 @@ line_for now (Some to) bytes = line_of now to bytes
 abbrev pub line_sent : World → Taken → List ℕ
 line_sent w t = line_for t.turn.now (step_taken w t).report.send (step_taken w t).bytes
 
--- the lines of the turns of a proxy
+-- the lines that a proxy sends in these turns
 abbrev pub output_of : World → List Taken → List ℕ
 output_of w [] = []
 output_of w (t ∷ turns) = line_sent w t ++ output_of (step_taken w t).world turns
@@ -44,8 +45,8 @@ run_at w history = record { world = w; history = history }
 abbrev pub world_after : World → List Taken → World
 world_after w turns = (run_of (run_at w []) turns).world
 
--- A proxy did these turns, whose moments don't go back, and nothing else. It carries the history of
--- them in front of any that it carried before, and keeps its word of that.
+-- A proxy did these turns, whose moments never go back, and nothing else. It carries their history
+-- in front of any that it carried before, and keeps its word about that.
 pub record HasDone (w : World) (turns : List Taken) (v : World) : Type 0 where
   pub are : AreTurns w.last (turns_of turns)
   pub world : v ≡ world_after w turns
@@ -56,21 +57,21 @@ pub record HasDone (w : World) (turns : List Taken) (v : World) : Type 0 where
 
 -- ---- what was asked for
 
--- what an input asks of a proxy
+-- what an input asks a proxy to do
 abbrev pub script_for : World → List ℕ → Script
 script_for w input = script_from 1 w.last w.events (lines_of input)
 
--- turns, and what is asked for after them
+-- turns, and what the rest of the input asks for
 abbrev pub with_turns : List Taken → Script → Script
 with_turns turns script = record { turns = turns_of turns ++ script.turns; bad = script.bad }
 
--- what lines ask for, from a number on, of a proxy that did these turns
+-- what lines, numbered from `line` on, ask of a proxy that did these turns
 abbrev pub script_after : World → List Taken → ℕ → List (List ℕ) → Script
 script_after w turns line left =
     script_from line (world_after w turns).last (world_after w turns).events left
 
--- These turns are those of the lines of an input before the one of this number, and these lines are
--- left: that one, if there is one, and those after it.
+-- These turns are those of the lines of an input before the line with this number, and `left` are
+-- the remaining lines: that one, if there is one, and those after it.
 pub record IsUpTo (w : World) (input : List ℕ) (turns : List Taken) (line : ℕ)
     (left : List (List ℕ)) : Type 0 where
   pub front : List (List ℕ)
@@ -78,44 +79,44 @@ pub record IsUpTo (w : World) (input : List ℕ) (turns : List Taken) (line : �
   pub number : line ≡ length front + 1
   pub asked : script_for w input ≡ with_turns turns (script_after w turns line left)
 
--- a turn whose step may want memory
+-- whether the step of a turn may allocate
 abbrev pub takes_some : World → Turn → Bool
 takes_some w t = wants_memory (step_of w t.now t.draw true t.event)
 
--- Memory may lack for a turn: for the bytes of its datagram, or for its step. So at a tick it lacks
--- only where a client is given its answer in a Confirmable message.
+-- A turn may run out of memory: for the bytes of its datagram, or in its step. So a tick only does
+-- when it sends a client its answer in a Confirmable message.
 abbrev pub MayLack : World → Turn → Type 0
 MayLack w t = (t.event ≢ tick) ⊎ (takes_some w t ≡ true)
 
--- the line of this number exists, and says an event that may follow these turns, for which memory
--- may lack
+-- the line with this number exists, and its event may follow these turns and may run out of memory
 abbrev pub IsAtEvent : World → List ℕ → List Taken → ℕ → Type 0
 IsAtEvent w input turns line = (left : List (List ℕ)) × (turn : Turn)
     × IsUpTo w input turns line left
     × AsksFor line (world_after w turns).last (world_after w turns).events left turn
     × MayLack (world_after w turns) turn
 
--- nothing was read and done yet, and the line is the first
+-- nothing has been read or done yet, and the line is the first
 abbrev pub IsAtStart : Option (List ℕ) → Option (List ℕ) → List Taken → ℕ → Type 0
 IsAtStart input left turns line = (left ≡ input) × (turns ≡ []) × (line ≡ 1)
 
--- Of the line after these turns a part was taken, perhaps nothing, and not its line feed: `rest` is
--- what the reader has left, `done` are the lines before it.
+-- Part of the line after these turns was read, perhaps nothing, but not its line feed: `rest` is
+-- what the reader has left, `done` are the lines before that line.
 abbrev pub IsBroken : World → List ℕ → Option (List ℕ) → List Taken → Type 0
 IsBroken w input None turns = ⊥
 IsBroken w input (Some rest) turns = (done part : List ℕ)
     × (input ≡ done ++ part ++ rest) × (has line_feed part ≡ false)
     × IsUpTo w input turns (length (lines_of done) + 1) (lines_of (part ++ rest))
 
--- what is written is all lines of these turns but the last, and a beginning of that, not the whole
+-- what was written is the lines of all these turns except for the last one, and a proper prefix of
+-- the last one's
 abbrev pub IsWrittenInPart : World → Option (List ℕ) → Option (List ℕ) → List Taken → Type 0
 IsWrittenInPart w old new turns = (before : List Taken) × (turn : Taken) × (front back : List ℕ)
     × (turns ≡ before ++ turn ∷ []) × (line_sent (world_after w before) turn ≡ front ++ back)
     × (back ≢ []) × Appends old new (output_of w before ++ front)
 
--- Of an input nothing was read after the line of the last of these turns, and nothing at all
--- without turns. `done` are the lines before that one, with which `text` begins, and `rest` is what
--- the reader has left.
+-- Nothing of an input was read after the line of the last of these turns, or nothing at all if
+-- there are no turns. `done` are the lines before that line, `text` begins with that line, and
+-- `rest` is what the reader has left.
 abbrev pub IsReadTo : World → List ℕ → Option (List ℕ) → List Taken → Type 0
 IsReadTo w input left turns = ((turns ≡ []) × (left ≡ Some input))
     ⊎ ((before : List Taken) × (last : Taken) × (turns ≡ before ++ last ∷ [])
@@ -124,25 +125,26 @@ IsReadTo w input left turns = ((turns ≡ []) × (left ≡ Some input))
     × AsksFor (length (lines_of done) + 1) (world_after w before).last (world_after w before).events
     (lines_of text) last.turn)
 
--- The lines of an input say fewer turns than so many, and these are all of them; or these are so
--- many, and nothing was read after the last.
+-- The lines of an input have fewer than `most` turns, and these are all of them; or these are
+-- `most` turns, and nothing was read after the last one.
 abbrev pub IsThrough : World → ℕ → List ℕ → Option (List ℕ) → List Taken → Type 0
 IsThrough w most input left turns = ((length turns < most)
     × (script_for w input ≡ record { turns = turns_of turns; bad = None }))
     ⊎ ((length turns ≡ most) × IsReadTo w input left turns)
 
--- How a replay of at most so many turns ends, that did these turns. `input` is what the reader had
--- left at first, and `left` what it has left now, where that is known; `old` and `new` are what was
+-- How a replay of at most `most` turns ends, which did these turns. `input` is what the reader had
+-- left at first, and `left` what it has left now, if that is known; `old` and `new` are what was
 -- written before and after.
---   Ok: all lines were done, or as many turns as may be, and their lines written.
---   A bad line: the lines before it were done, and their lines written.
---   Want of memory at a line: the lines before it were done, and their lines written. Its event was
---   not done, and is one for which memory may lack; or nothing was read at all, and the number is 1.
---   `Read`: some lines were done, perhaps none, and their lines written. The next one was not read
---   whole, but for its line feed. That the reader failed isn't said.
---   `Write`: some lines were done, at least one, and their lines written but for an end of the
---   last, which has at least one byte. That the writer failed isn't said.
--- A line that is bad, that finds no memory or that can't be read comes before so many turns are
+--   Ok: all lines were done, or as many turns as allowed, and their lines were written.
+--   A bad line: the lines before it were done, and their lines were written.
+--   Out of memory at a line: the lines before it were done, and their lines were written. Its event
+--   was not done, and is one that may run out of memory; or nothing was read at all, and the number
+--   is 1.
+--   `Read`: some lines were done, perhaps none, and their lines were written. At most the bytes of
+--   the next one before its line feed were read. It isn't stated that the reader failed.
+--   `Write`: some lines were done, at least one, and their lines were written, except for a suffix
+--   of the last one, of at least one byte. It isn't stated that the writer failed.
+-- A line that is bad, that runs out of memory or that can't be read comes before `most` turns are
 -- done.
 abbrev pub Ends : World → ℕ → Option (List ℕ) → Option (List ℕ) → Option (List ℕ)
     → Option (List ℕ) → List Taken → Result ℕ ReplayError → Type 0
@@ -166,9 +168,9 @@ pub record IsReplayed (w v : World) (most : ℕ) (input left old new : Option (L
   pub done : HasDone w turns v
   pub ends : Ends w most input left old new turns result
 
--- A replay of a whole input, whatever it says. Where it ends well, all lines were done: the turns are
--- all that they say, and none of them is bad. Else it ends as one of some turns does, of which there
--- may be so many that no input says them.
+-- A replay of a whole input, whatever it holds. If it succeeds, all lines were done: the turns are
+-- those of all the lines, and no line is bad. Otherwise it ends like a replay of at most 2^64 - 1
+-- turns, more than any input has.
 pub record IsWhollyReplayed (w v : World) (input left old new : Option (List ℕ))
     (result : Result ℕ ReplayError) : Type 0 where
   pub turns : List Taken
@@ -177,7 +179,7 @@ pub record IsWhollyReplayed (w v : World) (input left old new : Option (List ℕ
   pub whole : IfOk result (λ n. IfSome input
       (λ i. script_for w i ≡ record { turns = turns_of turns; bad = None }))
 
--- ---- a line of it
+-- ---- a line of an input
 
 -- what the next line asks for, and what is left
 abbrev pub AsksNext : ℕ → ℕ → ℕ → List ℕ → Option (List ℕ) → Result Asked ReplayError → Type 0
@@ -198,7 +200,7 @@ AsksNext number last events input (Some rest) (Err (OutOfMemory line)) = (line �
 AsksNext number last events input left (Err Read) = IsBegun (Some input) left
 AsksNext number last events input left (Err Write) = ⊥
 
--- what may be done after a moment and so many events
+-- what may be done after the moment `last` and `events` events
 pub record MayBeDone (last events : ℕ) (t : Turn) : Type 0 where
   pub onward : last ≤ t.now
   pub moment : t.now ≤ greatest
@@ -215,12 +217,12 @@ IfDo P (Err (OutOfMemory line)) = Unit {0}
 IfDo P (Err Read) = Unit {0}
 IfDo P (Err Write) = ⊥
 
--- a turn, and whether there was memory for one entry more of the store
+-- a turn, and whether there was memory for one more entry of the store
 abbrev pub taken : Turn → Bool → Taken
 taken t grown = record { turn = t; grown = grown }
 
--- A turn was done, and its line written. Or memory was missing that its step may want, and nothing
--- was done or written; or the writer failed at its line.
+-- A turn was done, and its line was written; or its step, which may allocate, ran out of memory,
+-- and nothing was done or written; or the writer failed at its line.
 abbrev pub DoesTurn : World → World → Turn → Option (List ℕ) → Option (List ℕ) → ℕ
     → Result (Unit {0}) ReplayError → Type 0
 DoesTurn w v t old new number (Ok u) = (grown : Bool)

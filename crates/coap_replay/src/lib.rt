@@ -1,4 +1,4 @@
-//! Replays: the events of an input are done, and what is sent is written.
+//! Replays: a core handles the events of an input, and what it sends is written.
 #![tactic(auto)]
 
 mod error;

@@ -1,4 +1,5 @@
-//! Replays: the events of an input are done one after the other, and what is sent is written.
+//! Replays: a core handles the events of an input one after the other, and what it sends is
+//! written.
 ghost use Rattle.std.specs.Prelude.{◌≡◌, ◌≤◌, IfSome, length, vec_capacity};
 ghost use Rattle.coap_core.specs.Events.{seen};
 ghost use Rattle.coap_replay.specs.Replays.{AsksNext, DoesTurn, IfDo, IsReplayed, MayBeDone, line_for};
@@ -16,25 +17,25 @@ use coap_store::Store;
 use std::alloc::Global;
 use std::io::{BufRead, Write};
 
-/// The greatest number of a line: 2^62.
+/// The greatest line number: 2^62.
 const LAST_LINE: u64 = 1 << 62;
 
-/// The most events that a core does: 2^63.
+/// The most events that a core handles: 2^63.
 const MOST_EVENTS: u64 = 1 << 63;
 
-/// What comes next of an input.
+/// What comes next in an input.
 #[derive(Drop)]
 pub(crate) enum Asked {
     /// No line is left.
     End,
     /// A line that is skipped.
     Skip,
-    /// A line that says this turn.
+    /// A line with this turn.
     Do(Turn),
 }
 
-/// Reads the line of this number, and the turn that it says after the moment `last` and so many
-/// events.
+/// Reads the line numbered `number`, and its turn, which follows the moment `last`, in
+/// milliseconds, and `events` events.
 fn next_asked<R: BufRead>(
     alloc: Global,
     reader: &mut R,
@@ -71,7 +72,7 @@ fn next_asked<R: BufRead>(
     }
 }
 
-/// An event as a core takes it, with its bytes lent.
+/// An event as a core takes it, with its bytes borrowed.
 fn event_of(event: &OwnedEvent) -> Event<'_>
     ensures { seen result ≡ event_seen event.now }
 {
@@ -84,8 +85,8 @@ fn event_of(event: &OwnedEvent) -> Event<'_>
     }
 }
 
-/// Puts the line of the datagram that was sent in place of what a buffer holds, if one was sent.
-/// There is room for it.
+/// Overwrites a buffer with the line of the datagram that was sent, or empties it if none was sent.
+/// There is enough room.
 fn line_for(text: &mut Vec<u8>, now: u64, report: Report, out: &Datagram)
     requires { longest_line (length out.now.bytes) ≤ vec_capacity text.old }
     ensures line { text.new.items ≡ line_for now report.send out.now.bytes }
@@ -97,8 +98,8 @@ fn line_for(text: &mut Vec<u8>, now: u64, report: Report, out: &Datagram)
     }
 }
 
-/// Does a turn, and writes the line of what it sends, for which there is room. Where memory is
-/// missing, nothing was done.
+/// Does a turn, and writes the line of what it sends, for which there is room. If it runs out of
+/// memory, nothing was done.
 fn do_turn<W: Write, S: Store + Drop>(
     writer: &mut W,
     core: &mut Core<S>,
@@ -126,17 +127,18 @@ fn do_turn<W: Write, S: Store + Drop>(
     Ok(())
 }
 
-/// Does the events of an input, as `replay` does, but `turns` of them at most, and answers how many
-/// were done. After so many it ends, and reads nothing after the line of the last: a bad line there
-/// isn't seen.
+/// Does the same as `replay`, but for at most `turns` events, and returns how many were done. Once
+/// that many are done it ends, and reads nothing after the line of the last one: a bad line after
+/// it goes unnoticed.
 ///
-/// Room for a line that is read and for one that is written is made before the first event.
+/// The buffers for a line that is read and for one that is written are allocated before the first
+/// event.
 ///
 /// # Errors
-/// The number of the first bad line; of the line whose event found no memory, or 1 where there was
-/// none before the first line; `Read` and `Write` where the reader or the writer failed. What the
-/// lines before say was done, and their lines were written; the event of the line was not done, but
-/// for `Write`.
+/// `BadEvent` with the number of the first bad line; `OutOfMemory` with the number of the line
+/// whose event ran out of memory, or 1 if memory ran out before the first line; `Read` or `Write`
+/// if the reader or the writer failed. The events of the lines before were done, and what they sent
+/// was written; the event of the line itself wasn't done, except for `Write`.
 pub fn replay_turns<R: BufRead, W: Write, S: Store + Drop>(
     alloc: Global,
     reader: &mut R,

@@ -8,21 +8,21 @@ use coap_store::Store;
 use std::alloc::Global;
 use std::io::{BufRead, Write};
 
-/// Does the events of an input, one after the other, and writes the lines of what is sent: those
-/// that the core sends at each event, and nothing else. Answers how many events were done: those of
-/// all lines.
+/// Feeds the events of an input to the core, one after the other, and writes the lines of what it
+/// sends, and nothing else. Returns how many events were done: those of all lines.
 ///
-/// Room for a line that is read and for one that is written is made before the first event.
+/// The buffers for a line that is read and for one that is written are allocated before the first
+/// event.
 ///
 /// # Errors
 /// 1. `BadEvent`: the number of the first bad line.
-/// 2. `OutOfMemory`: the number of the line whose event found no memory, or 1 where there was none
+/// 2. `OutOfMemory`: the number of the line whose event ran out of memory, or 1 if memory ran out
 ///    before the first line.
 /// 3. `Read`: the reader failed, or was interrupted.
 /// 4. `Write`: the writer failed.
 ///
-/// What the lines before say was done, and their lines were written; the event of the line was not
-/// done, but for `Write`.
+/// The events of the lines before were done, and what they sent was written; the event of the line
+/// itself wasn't done, except for `Write`.
 pub fn replay<R: BufRead, W: Write, S: Store + Drop>(
     alloc: Global,
     reader: &mut R,
@@ -32,6 +32,6 @@ pub fn replay<R: BufRead, W: Write, S: Store + Drop>(
     ensures replayed { IsWhollyReplayed core.old core.new (R.remaining reader.old)
         (R.remaining reader.new) (W.contents writer.old) (W.contents writer.new) result }
 {
-    // An input never says so many turns: a core does 2^63 events.
+    // No input has this many turns: a core handles 2^63 events.
     replay_turns(alloc, reader, writer, core, u64::MAX)
 }

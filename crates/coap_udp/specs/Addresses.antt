@@ -1,4 +1,4 @@
--- Endpoints and the addresses of sockets.
+-- Endpoints and socket addresses.
 use Rattle.std.specs.Prelude.{◌≡◌, ℕ, Bool, true, false, List, ◌∷◌}
 use Rattle.std.specs.declared.net.ip_addr.IpAddr.{IpAddr}
 use Rattle.std.specs.declared.net.ip_addr.IpAddr.TheVariants as ip
@@ -6,8 +6,8 @@ use Rattle.std.specs.Net.Addr.{IsIpv4Mapped, ipv4_octets, ipv6_octets, ipv6_segm
 use Rattle.coap_endpoint.specs.declared.endpoint.Ip.{Ip}
 use Rattle.coap_endpoint.specs.declared.endpoint.Ip.TheVariants.{V4, V6}
 
--- An IPv4 address is itself; so is an IPv6 address, but for those of ::ffff:0:0/96, whose last four
--- octets are an IPv4 address.
+-- An IPv4 address is kept as it is, and so is an IPv6 address, except for those in ::ffff:0:0/96,
+-- whose last four octets are an IPv4 address.
 abbrev pub IsEndpoint : IpAddr → Ip → Type 0
 IsEndpoint (ip.V4 a) (V4 octets) = octets ≡ ipv4_octets a
 IsEndpoint (ip.V4 a) (V6 octets) = ⊥
@@ -18,7 +18,7 @@ IsEndpoint (ip.V6 a) (V6 octets) = ¬ (IsIpv4Mapped (ipv6_segments a)) × (octet
 abbrev pub mapped : List ℕ → List ℕ
 mapped octets = 0 ∷ 0 ∷ 0 ∷ 0 ∷ 0 ∷ 0xFFFF ∷ segments_of octets
 
--- an IPv4 address for a socket of IPv6, or else of IPv4
+-- an IPv4 address for an IPv6 socket (`true`) or for an IPv4 socket
 abbrev pub IsByFamily : Bool → List ℕ → IpAddr → Type 0
 IsByFamily true octets (ip.V4 a) = ⊥
 IsByFamily true octets (ip.V6 a) = ipv6_segments a ≡ mapped octets

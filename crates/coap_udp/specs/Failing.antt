@@ -1,10 +1,10 @@
--- Which errors a socket gets over.
+-- Which errors of a socket are transient.
 use Rattle.std.specs.Prelude.{Bool, true, false}
 use Rattle.std.specs.declared.io.ErrorKind.{ErrorKind}
 use Rattle.std.specs.declared.io.ErrorKind.TheVariants.{WouldBlock, TimedOut, Interrupted, ConnectionRefused, ConnectionReset, ConnectionAborted, HostUnreachable, NetworkUnreachable, NetworkDown, OutOfMemory}
 
--- A read that failed so says nothing of the next one: nothing came in time, it was interrupted, an
--- earlier datagram met no listener or no way, or the system lacked memory.
+-- A read that failed with this error says nothing about the next one: nothing came in time, it was
+-- interrupted, an earlier datagram found no listener or no route, or the system ran out of memory.
 abbrev pub passes : ErrorKind → Bool
 passes WouldBlock = true
 passes TimedOut = true

@@ -1,7 +1,7 @@
--- How long a socket is asked to wait.
+-- How long a socket is asked to wait, in milliseconds.
 use Rattle.std.specs.Prelude.{ℕ, ◌*◌, ◌≤◌, ◌<◌}
 
--- a whole number of milliseconds above none, no longer than is asked, and longer than half of it
+-- at least one millisecond, no longer than requested, and longer than half of it
 pub record IsWithin (wait timeout : ℕ) : Type 0 where
   pub some : 0 < timeout
   pub within : timeout ≤ wait

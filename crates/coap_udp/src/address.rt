@@ -1,4 +1,4 @@
-//! Endpoints as the addresses of a socket.
+//! Endpoints as socket addresses.
 ghost use Rattle.std.specs.Prelude.{◌≡◌};
 ghost use Rattle.std.specs.Net.Addr.{ipv4_octets};
 ghost use Rattle.std.specs.Net.Socket.{socket_ip, socket_port};
@@ -7,8 +7,8 @@ ghost use Rattle.coap_udp.specs.Addresses.{IsAddress, IsByFamily, IsEndpoint};
 use coap_endpoint::{Endpoint, Ip};
 use std::net::{IpAddr, Ipv4Addr, Ipv6Addr, SocketAddr};
 
-/// The endpoint of a socket's address. An IPv4 address in the form that an IPv6 socket gives it,
-/// `::ffff:a.b.c.d`, is that of IPv4 (RFC 4291, 2.5.5.2).
+/// The endpoint of a socket address. An IPv4-mapped IPv6 address, `::ffff:a.b.c.d`, which is how an
+/// IPv6 socket shows an IPv4 address, gives an IPv4 endpoint (RFC 4291, 2.5.5.2).
 pub(crate) fn endpoint_of(address: SocketAddr) -> Endpoint
     ensures ip { IsEndpoint (socket_ip address) result.ip }
     ensures port { result.port ≡ socket_port address }
@@ -26,7 +26,7 @@ pub(crate) fn endpoint_of(address: SocketAddr) -> Endpoint
     }
 }
 
-/// The address of an endpoint for a socket, which is one of IPv6 or one of IPv4.
+/// The socket address of an endpoint, for an IPv6 or an IPv4 socket.
 pub(crate) fn address_of(endpoint: Endpoint, is_ipv6: bool) -> SocketAddr
     ensures ip { IsAddress is_ipv6 endpoint.ip (socket_ip result) }
     ensures port { socket_port result ≡ endpoint.port }
@@ -38,7 +38,7 @@ pub(crate) fn address_of(endpoint: Endpoint, is_ipv6: bool) -> SocketAddr
     SocketAddr::new(ip, endpoint.port)
 }
 
-/// An IPv4 address as it stands, or for an IPv6 socket in its form there.
+/// An IPv4 address unchanged, or mapped to an IPv6 address for an IPv6 socket.
 fn by_family(ip: Ipv4Addr, is_ipv6: bool) -> IpAddr
     ensures { IsByFamily is_ipv6 (ipv4_octets ip) result }
 {

@@ -1,11 +1,12 @@
-//! Which errors a socket gets over.
+//! Which errors of a socket are transient.
 ghost use Rattle.std.specs.Prelude.{◌≡◌};
 ghost use Rattle.coap_udp.specs.Failing as spec;
 
 use std::io::ErrorKind;
 
-/// Whether a read that failed so says nothing of the next one: nothing came in time, it was
-/// interrupted, an earlier datagram met no listener or no way, or the system lacked memory.
+/// Whether a read that failed with this error says nothing about the next one: nothing came in
+/// time, it was interrupted, an earlier datagram found no listener or no route, or the system ran
+/// out of memory.
 pub(crate) fn passes(kind: ErrorKind) -> bool
     ensures { result ≡ spec.passes kind }
 {

@@ -17,21 +17,20 @@ use std::net::{Net, UdpSocket};
 use std::random::RandomSource;
 use std::time::{Clock, Instant};
 
-/// The last moment that a port may give: 2^62.
+/// The last moment that a port may give: 2^62 ms.
 const LAST_MOMENT: u64 = 1 << 62;
 
-/// The greatest draw.
+/// The greatest draw, in milliseconds.
 const LAST_DRAW: u32 = 1000;
 
 /// A port over one UDP socket.
 ///
-/// Its moments are milliseconds since it was made; where the clock can't be read, the last one. Its
-/// draws come from a generator that the system's random source seeds. What the socket receives and
-/// what becomes of what it is handed, no contract says.
+/// Its moments are the milliseconds since it was created, or the last moment if the clock can't be
+/// read. Its draws come from a generator that is seeded from the system's random source. The
+/// contracts don't say what the socket receives, nor what becomes of what is sent.
 ///
-/// A read takes one call of the system, and so does a send; a change of how long a read waits takes
-/// another. On a socket of IPv6 an address of IPv4 goes by its form there, `::ffff:a.b.c.d`, and
-/// comes back out of it.
+/// A read takes one system call, and so does a send; changing how long a read waits takes another.
+/// An IPv6 socket uses IPv4-mapped addresses, `::ffff:a.b.c.d`, for IPv4 endpoints.
 #[derive(Drop)]
 pub struct UdpPort<'a, R> {
     rt: &'a R,
@@ -62,7 +61,7 @@ impl<'a, R> Model for UdpPort<'a, R> {
     ghost invariant = { λ p. p.last ≤ 2 ^ 62 };
 }
 
-/// A generator that the system seeds.
+/// A generator that is seeded by the system.
 fn generator(source: &impl RandomSource) -> io::Result<Pcg32> {
     let mut seed = [0; 8];
     source.fill_bytes(&mut seed)?;
@@ -70,12 +69,12 @@ fn generator(source: &impl RandomSource) -> io::Result<Pcg32> {
 }
 
 impl<'a, R: Net + Clock + RandomSource> UdpPort<'a, R> {
-    /// A port at a local address, which reads datagrams of up to so many bytes; of a longer one it
-    /// reads so many bytes and one more.
+    /// A port at a local address, which reads datagrams of up to `longest` bytes; of a longer
+    /// datagram it reads `longest + 1` bytes.
     ///
     /// # Errors
-    /// The system has no such address or port for it, or no random bytes, or the allocator has no
-    /// memory for the buffer.
+    /// The address or its port isn't available, the system has no random bytes, the clock can't be
+    /// read, or there is no memory for the buffer.
     pub fn bind(
         rt: &'a R,
         alloc: Global,
@@ -102,7 +101,7 @@ impl<'a, R: Net + Clock + RandomSource> UdpPort<'a, R> {
 }
 
 impl<'a, R: Clock> UdpPort<'a, R> {
-    /// The moment that it is now, which is the last one from here on.
+    /// The current moment, in milliseconds, which becomes the last one.
     fn moment(&mut self) -> u64
         ensures onward { self.old.last ≤ result }
         ensures moment { result ≤ 2 ^ 62 }
@@ -118,7 +117,7 @@ impl<'a, R: Clock> UdpPort<'a, R> {
         self.last
     }
 
-    /// A draw.
+    /// A draw, in milliseconds.
     fn draw(&mut self) -> u16
         ensures draw { result ≤ 1000 }
         ensures same { self.new ≡ self.old }
@@ -126,8 +125,8 @@ impl<'a, R: Clock> UdpPort<'a, R> {
         (self.generator.next_u32() % (LAST_DRAW + 1)) as u16
     }
 
-    /// Reads a datagram, if one comes within so many milliseconds. Puts it into an empty buffer,
-    /// and answers where it came from.
+    /// Reads a datagram, if one comes within `wait` milliseconds, into an empty buffer. Returns its
+    /// source.
     fn read(&mut self, wait: u64, into: &mut Datagram) -> io::Result<Endpoint>
         requires { 0 < wait }
         ensures same { self.new ≡ self.old }
@@ -139,7 +138,7 @@ impl<'a, R: Clock> UdpPort<'a, R> {
         Ok(endpoint_of(from))
     }
 
-    /// A turn with what was read.
+    /// A turn with the source of what was read, or a tick.
     fn turn(&mut self, from: Option<Endpoint>) -> Turn
         ensures onward { self.old.last ≤ result.now }
         ensures moment { result.now ≤ 2 ^ 62 }

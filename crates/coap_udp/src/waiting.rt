@@ -16,7 +16,7 @@ pub(crate) struct Waiting {
 }
 
 impl Waiting {
-    /// That of a new socket, whose reads wait without a timeout.
+    /// The state of a new socket, whose reads wait without a timeout.
     pub(crate) fn new() -> Waiting
         ensures waits { result.waits ≡ true }
         ensures untimed { result.timeout ≡ 0 }
@@ -27,8 +27,8 @@ impl Waiting {
         }
     }
 
-    /// Makes reads wait for so many milliseconds at most, at least one. Where they do so already,
-    /// no call of the system is made.
+    /// Makes reads wait for at most `wait` milliseconds, which is at least one. Makes no system
+    /// call if they already do.
     ///
     /// A timeout of one millisecond takes eight on common kernels, so such a read doesn't wait.
     pub(crate) fn set(&mut self, socket: &UdpSocket, wait: u64) -> io::Result<()>
@@ -50,8 +50,8 @@ impl Waiting {
     }
 }
 
-/// The greatest power of two within a wait: the moment at which the next thing is due comes nearer
-/// with each datagram, and so the timeout stays the same for most.
+/// The greatest power of two that is at most `wait`. The moment at which the next item is due comes
+/// nearer with each datagram, and rounding keeps the timeout the same for most of them.
 fn cut(wait: u64) -> u64
     requires { 0 < wait }
     ensures { IsWithin wait result }

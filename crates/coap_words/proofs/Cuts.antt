@@ -1,4 +1,4 @@
--- Texts that are cut at a character.
+-- Texts that are split at a character.
 use Rattle.std.proofs.Common.{◌≡◌, ◌==◌, ◌<◌, ℕ, true, false, [], ◌∷◌, length, Option, Some, None, Bor, MatchOption, option_map, refl, sym, ap, arith, ⊎_elim, ltb}
 use Rattle.std.specs.List.{after_first, before_first, position_or_len}
 use Rattle.std.proofs.lemmas.Bool.{cases_Bool, le-ltb, lt-ltb, ltb-true}
@@ -8,14 +8,15 @@ use Rattle.coap_uri.proofs.Cutting.{slice_split-whole}
 use Rattle.coap_words.specs.ProxyOption.{comma, parts}
 use Rattle.coap_words.specs.Texts.{Text, cut_at}
 
--- two texts that are lent
+-- two borrowed texts
 abbrev pub Lent : Type 0
 Lent = Bor Text × Bor Text
 
+-- their bytes
 abbrev pub both : Lent → Text × Text
 both lent = (lent.0.now, lent.1.now)
 
--- what `split_once` says is where the text is cut
+-- `split_once` splits the text where the definition does
 pub cut-is : (c : ℕ) (text : Text) (r : Option Lent)
     → MatchOption r (position_or_len (λ b. b == c) text ≡ length text)
     (λ x. (position_or_len (λ b. b == c) text < length text) × (x.0.now ≡ before_first (λ b. b == c) text) × (x.1.now ≡ after_first (λ b. b == c) text))
@@ -27,7 +28,7 @@ cut-is c text (Some x) is =
     let yes : ltb (position_or_len (λ b. b == c) text) (length text) ≡ true = lt-ltb _ _ is.0 in
     rw (yes, is.1, is.2) refl
 
--- the parts of a text that is cut
+-- the parts of a text that is split
 pub parts-cut : (text name after : Text) → Some (name, after) ≡ cut_at comma text → parts text ≡ name ∷ parts after
 parts-cut text name after is =
     ⊎_elim
@@ -47,7 +48,7 @@ parts-cut text name after is =
     back None = []
     back (Some parts) = parts.1
 
--- and of one without comma
+-- the part of a text without a comma
 pub parts-whole : (text : Text) → None ≡ cut_at comma text → parts text ≡ text ∷ []
 parts-whole text is =
     ⊎_elim

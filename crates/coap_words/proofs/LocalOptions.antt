@@ -4,17 +4,17 @@ use Rattle.clap.specs.declared.builder.Arg.{Arg}
 use Rattle.clap.specs.Walk.{is_empty}
 use Rattle.clap.specs.Words.{rule_of}
 
--- the last of tests that all pass
+-- if two tests pass, the second passes
 last_passes : (x y : Bool) → (x && y) ≡ true → y ≡ true
 last_passes true y h = h
 last_passes false y h = absurd cc
 
--- a test whose opposite passes fails
+-- a test whose negation passes fails
 passes_not : (x : Bool) → not x ≡ true → x ≡ false
 passes_not false h = refl
 passes_not true h = absurd cc
 
--- of ten tests that all pass, the last the opposite of one, that one fails
+-- if ten tests pass of which the last is a negation, the negated test fails
 tenth : (a b c d e f g h i j : Bool) → (a && (b && (c && (d && (e && (f && (g && (h && (i && not j))))))))) ≡ true → j ≡ false
 tenth a b c d e f g h i j all =
     passes_not j
@@ -28,7 +28,7 @@ tenth a b c d e f g h i j all =
     (last_passes b (c && (d && (e && (f && (g && (h && (i && not j)))))))
     (last_passes a (b && (c && (d && (e && (f && (g && (h && (i && not j)))))))) all)))))))))
 
--- a simple option isn't one of subcommands too
+-- a simple option isn't one for subcommands too
 pub simple-local : (a : Arg) → (rule_of a).is_simple ≡ true → a.global ≡ false
 simple-local a simple =
     tenth

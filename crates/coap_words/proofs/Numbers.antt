@@ -1,4 +1,4 @@
--- Numbers that options say.
+-- Numbers in options.
 use Rattle.std.proofs.Common.{◌≡◌, ◌≤◌, ◌&&◌, ℕ, true, false, List, Option, Some, None, Result, Ok, Err, arith, refl, ⊎_elim, leb}
 use Rattle.std.specs.Prelude.{IfSome}
 use Rattle.std.specs.Str.Parse.{IsNumeral, ParsesUnsigned, digits_value, without_leading_plus}
@@ -13,7 +13,7 @@ use Rattle.clap.specs.Words.{Row}
 abbrev all : ℕ
 all = 18446744073709551615
 
--- what is read of a text is the number that it says
+-- the number read from a text is the one that the text gives
 reads-text : {E : Type 0} (G : Text → Result ℕ E → Type 0) (t : Text) (r : Option ℕ)
     → ((u : Text) (x : Result ℕ E) → G u x → ParsesUnsigned 64 10 u x) → ReadsOne G t r → SaysNumber 0 all t r
 reads-text G t (Some n) only read =
@@ -23,14 +23,14 @@ reads-text G t None only read =
     let never = only t (Err read.0) read.1 in
     λ said. never (said.0, omega (arith, said.2))
 
--- what is read of an option is the number that its text says
+-- the number read from an option is the one that its text gives
 pub reads-option : {E : Type 0} (G : Text → Result ℕ E → Type 0) (o found : Option Text) (r : Option ℕ) → found ≡ o
     → ((u : Text) (x : Result ℕ E) → G u x → ParsesUnsigned 64 10 u x) → (found ≡ None → r ≡ None)
     → ((t : Text) → found ≡ Some t → ReadsOne G t r) → IsNumberOf 0 all o r
 reads-option G None found r is only none some = none is
 reads-option G (Some t) found r is only none some = reads-text G t r only (some t is)
 
--- what a text says within a range is the number that it says, where that is in the range
+-- the number that a text gives within a range is the one that it gives, if that is in the range
 narrowed-text : (least most : ℕ) (t : Text) (n : Option ℕ) → most ≤ all → SaysNumber 0 all t n → SaysNumber least most t (narrowed least most n)
 narrowed-text least most t None small said = λ p. said (p.0, omega arith, omega (arith, p.2))
 narrowed-text least most t (Some n) small said =
@@ -53,12 +53,12 @@ narrowed-text least most t (Some n) small said =
         let bad : true ≡ false = rw (low, high) at fails in
         absurd cc
 
--- a number that an option says, where it is in a range
+-- a number that an option gives, if it is in a range
 pub narrowed-option : (least most : ℕ) (o : Option Text) (n : Option ℕ) → most ≤ all → IsNumberOf 0 all o n → IsNumberOf least most o (narrowed least most n)
 narrowed-option least most None n small is = rw is refl
 narrowed-option least most (Some t) n small is = narrowed-text least most t n small is
 
--- a number that an option says is in its range
+-- a number that an option gives is in its range
 pub in-range : (least most : ℕ) (o : Option Text) (n : Option ℕ) → IsNumberOf least most o n → IfSome n (λ x. (least ≤ x) × (x ≤ most))
 in-range least most None None is = tt
 in-range least most None (Some n) is = absurd cc
@@ -70,11 +70,11 @@ upper : (least most : ℕ) (n : Option ℕ) → IfSome n (λ x. (least ≤ x) ×
 upper least most None is = tt
 upper least most (Some n) is = is.1
 
--- and not above its end
+-- a number that an option gives isn't above the end of its range
 pub not-above : (least most : ℕ) (o : Option Text) (n : Option ℕ) → IsNumberOf least most o n → IfSome n (λ x. x ≤ most)
 not-above least most o n is = upper least most n (in-range least most o n is)
 
--- so settings are in their ranges
+-- so all settings are in their ranges
 pub settings-in-range : (rows : List Row) (s : Settings) → AreSettings rows s → AreInRange s
 settings-in-range rows s are = record {
   port = in-range 1 65535 _ s.port are.port;

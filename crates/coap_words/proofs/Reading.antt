@@ -2,7 +2,7 @@
 use Rattle.std.proofs.Common.{◌≡◌, List, [], ◌∷◌, ◌++◌, Result, Ok, Err, refl, sym, ap, append_assoc}
 use Rattle.coap_words.specs.Tree.{and_rest, with_front}
 
--- what is read after two fronts is read after both
+-- what is read after two fronts is read after both together
 pub with_front-more : {A E : Type 0} (front : List A) (x : A) (rest : Result (List A) E) → with_front front (and_rest (Ok x) rest) ≡ with_front (front ++ x ∷ []) rest
 with_front-more front x (Ok xs) = ap Ok (sym (append_assoc front (x ∷ []) xs))
 with_front-more front x (Err e) = refl

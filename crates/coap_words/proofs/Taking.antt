@@ -1,4 +1,4 @@
--- Words that are taken or refused.
+-- Words that are accepted or refused.
 use Rattle.std.proofs.Common.{◌≡◌, ◌∙◌, ◌⊎◌, true, List, [], Result, Ok, Err, refl, sym, ap, subst, inl, inr, ⊎_elim}
 use Rattle.std.specs.Prelude.{IfOk, IfErr}
 use Rattle.clap.specs.Words.{App, HasMatchesOf, IsAmong, Row, Text, fault_of, found_of, is_simple, is_simple_and_free, matches_of, rows_of}
@@ -11,15 +11,15 @@ use Rattle.coap_words.specs.declared.settings.Settings.{Settings}
 use Rattle.coap_words.specs.declared.settings.WordsError.{WordsError}
 use Rattle.coap_words.specs.declared.settings.WordsError.TheVariants.{OutOfMemory}
 
--- the options are simple, so that `clap` says what it finds of them
+-- the options are simple, so that `clap` specifies what it finds for them
 table-simple : is_simple option_table ≡ true
 table-simple = refl
 
--- and none has a rule on another, so that it says what it refuses
+-- none of them has a rule on another, so that `clap` also specifies what it refuses
 table-free : is_simple_and_free option_table ≡ true
 table-free = refl
 
--- settings that are made of what was found
+-- settings that are made from what was found
 pub taken : (app : App) (words : List Text) (m : ArgMatches) (r : Result Settings WordsError) → app ≡ option_table
     → HasMatchesOf app words m → (is_simple_and_free app ≡ true → fault_of app words ≡ [])
     → IfOk r (AreSettings (rows_of (found_of m))) → IfErr r (λ e. e ≡ OutOfMemory) → ReadsWords words r
@@ -31,7 +31,7 @@ taken app words m (Ok s) is found faults ok err =
     (none, subst (λ (found : List Row). AreSettings found s) rows ok)
 taken app words m (Err e) is found faults ok err = inl err
 
--- a refusal for what was refused
+-- an error for what was refused
 pub refused : (app : App) (words : List Text) (k : ErrorKind) (e : WordsError) → app ≡ option_table
     → (is_simple_and_free app ≡ true → (k ≡ kind.OutOfMemory) ⊎ IsAmong k (fault_of app words))
     → (k ≡ kind.OutOfMemory → e ≡ OutOfMemory) → ((e ≡ OutOfMemory) ⊎ IsRefusal k e) → RefusesFor (fault_of option_table words) e

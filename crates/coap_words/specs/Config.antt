@@ -1,4 +1,4 @@
--- What a configuration says, or the first fault in it.
+-- What a configuration holds, or the first fault in it.
 use Rattle.std.specs.Prelude.{ℕ, pos, Bool, false, not, ◌==◌, ◌||◌, List, [], ◌∷◌, ◌++◌, map, codes, bytes_eq, Option, Some, None, ok_or, Result, Ok, Err, if◌then◌else◌}
 use Rattle.std.specs.List.{list_any}
 use Rattle.std.specs.Str.{is_utf8}
@@ -17,7 +17,7 @@ use Rattle.coap_words.specs.declared.config_error.ConfigError.TheVariants.{Synta
 use Rattle.coap_words.specs.declared.tables.Place.{Place}
 use Rattle.coap_words.specs.declared.tables.Place.TheVariants as place
 
--- what a configuration says; names, hosts and maps as the texts of which routes are made
+-- what a configuration holds, with names, hosts and maps as the texts that routes are made of
 pub record Said : Type 0 where
   pub limits : Limits
   pub names : List Text
@@ -39,7 +39,7 @@ limit_key Datagram = codes "datagram"
 limit_key ExchangeMs = codes "exchange_ms"
 limit_key RetryS = codes "retry_s"
 
--- the limits of what is held, and those of what is sent
+-- the limits on what is held, and those on what is sent
 abbrev pub holding : List Limit
 holding = CacheBytes ∷ CacheEntries ∷ ConRecords ∷ NonRecords ∷ Exchanges ∷ Waiters ∷ []
 
@@ -61,7 +61,7 @@ is_known place.Top key = is_among top_keys key
 is_known place.Limits key = is_limit key
 is_known place.Map key = is_among (codes "prefix" ∷ codes "origin" ∷ []) key
 
--- the name of a key, with a dot after the name of its table
+-- the name of a key, after the name of its table and a dot
 abbrev pub within : Text → Text → Text
 within outer key = outer ++ codes "." ++ key
 
@@ -70,7 +70,7 @@ name_in place.Top key = key
 name_in place.Limits key = within (codes "limits") key
 name_in place.Map key = within (codes "map") key
 
--- the first key that isn't known, if any, is a fault
+-- the first key that isn't known, if there is one, is a fault
 abbrev pub unless_unknown : Place → Option Text → Result (Unit {0}) ConfigError
 unless_unknown place None = Ok tt
 unless_unknown place (Some key) = Err (Key (name_in place key))
@@ -86,7 +86,7 @@ abbrev pub is_one : Data → Bool
 is_one (integer (pos n)) = n == 1
 is_one _ = false
 
--- `version` must stand, and be 1
+-- `version` must be present, and be 1
 abbrev pub version_checked : Option Data → Result (Unit {0}) ConfigError
 version_checked None = Err (Key (codes "version"))
 version_checked (Some d) = if is_one d then Ok tt else Err (Value (codes "version"))
@@ -103,7 +103,7 @@ abbrev pub name_said : Data → Result Text ConfigError
 name_said (string text) = Ok (lower text)
 name_said _ = Err (Value (codes "names"))
 
--- a list of texts, in lower case; none where it is left out
+-- a list of texts, in lower case; empty if it is left out
 abbrev pub names_said : Option Data → Result (List Text) ConfigError
 names_said None = Ok []
 names_said (Some (array items)) = each_item name_said items
@@ -111,13 +111,13 @@ names_said (Some _) = Err (Value (codes "names"))
 
 -- ---- limits
 
--- the number that a value says for a limit; what is no number from 0 up says one that no limit may
--- be
+-- the number that a value gives for a limit, or one that no limit may be if the value isn't an
+-- integer from 0 up
 abbrev pub number_said : Data → ℕ
 number_said (integer (pos n)) = n
 number_said _ = 0xFFFFFFFFFFFFFFFF
 
--- the value of a limit; the default where it is left out
+-- the value of a limit, or the default if it is left out
 abbrev pub limit_or : ℕ → Option Data → ℕ
 limit_or default None = default
 limit_or default (Some d) = number_said d
@@ -140,7 +140,7 @@ limits_in members = record {
   retry_s = limit_in members RetryS;
 }
 
--- the first that is out of its range, in the order of the limits, is a fault
+-- the first limit that is out of its range, in the order of the limits, is a fault
 abbrev pub unless_out : Limits → Option Limit → Result Limits ConfigError
 unless_out limits None = Ok limits
 unless_out limits (Some limit) = Err (Value (name_in place.Limits (limit_key limit)))
@@ -156,7 +156,7 @@ limits_said (Some _) = Err (Value (codes "limits"))
 
 -- ---- hosts
 
--- a name in lower case, and its address as it stands
+-- a name in lower case, and its address unchanged
 abbrev pub host_said : Text → Data → Result Pair ConfigError
 host_said name (string address) = Ok (lower name, address)
 host_said name _ = Err (Value (within (codes "hosts") name))
@@ -168,7 +168,7 @@ hosts_said (Some _) = Err (Value (codes "hosts"))
 
 -- ---- maps
 
--- both keys must stand
+-- both keys must be present
 abbrev pub pair_said : Members → Result Pair ConfigError
 pair_said members =
     after (text_said (codes "prefix") (get_member (codes "prefix") members)) (λ prefix.
@@ -186,8 +186,8 @@ maps_said (Some _) = Err (Value (codes "map"))
 
 -- ---- all of it
 
--- Faults of the tree are told in this order: the version, keys that aren't known, names, limits,
--- hosts, maps.
+-- Faults of the tree are reported in this order: the version, keys that aren't known, names,
+-- limits, hosts, maps.
 unfoldable pub table_said : Members → Result Said ConfigError
 table_said members =
     after (version_checked (get_member (codes "version") members)) (λ _.
@@ -198,7 +198,7 @@ table_said members =
     after (maps_said (get_member (codes "map") members)) (λ maps.
     Ok (record { limits = limits; names = names; hosts = hosts; maps = maps })))))))
 
--- then the texts must say routes
+-- then the texts must make up routes
 abbrev pub if_routes : Said → Result RouteLists RouteError → Result Said ConfigError
 if_routes said (Ok routes) = Ok said
 if_routes said (Err e) = Err (Routes e)
@@ -206,7 +206,7 @@ if_routes said (Err e) = Err (Routes e)
 abbrev pub routes_checked : Said → Result Said ConfigError
 routes_checked said = if_routes said (routes_of said.names said.hosts said.maps)
 
--- what isn't UTF-8, or no TOML, has a fault before all these
+-- a text that isn't UTF-8, or isn't TOML, has a fault that comes before all these
 abbrev pub document_of : Text → Result Members ConfigError
 document_of text = if is_utf8 text then ok_or (parse_document text) Syntax else Err Syntax
 

@@ -1,4 +1,4 @@
--- A configuration and its faults, as they are seen.
+-- A configuration and its faults, as contracts see them.
 use Rattle.std.specs.Prelude.{List, map, codes, ◌++◌, Vec, String}
 use Rattle.coap_target.specs.RouteTexts.{Pair, pair_of}
 use Rattle.coap_words.specs.Config.{Said}
@@ -19,7 +19,7 @@ seen config = record {
   maps = pairs_of config.maps;
 }
 
--- how a fault is told
+-- the text that is printed for a fault
 abbrev pub fault_text : ConfigError → Text
 fault_text Syntax = codes "syntax"
 fault_text (Key name) = codes "key " ++ name

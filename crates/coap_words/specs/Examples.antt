@@ -11,7 +11,7 @@ use Rattle.coap_words.specs.declared.config_error.ConfigError.{ConfigError}
 abbrev pub Entry : Type 0
 Entry = Text × Data
 
--- a table with these members, which stand in byte order of their keys
+-- a table with these members, which are in byte order of their keys
 abbrev pub table_of : List Entry → Members
 table_of [] = no_members
 table_of (e ∷ entries) = member e.0 e.1 (table_of entries)
@@ -28,15 +28,15 @@ number n = integer (pos n)
 abbrev pub version_1 : Entry
 version_1 = (codes "version", number 1)
 
--- what a tree says with version 1 after all other keys
+-- what a tree gives with version 1 after all other keys
 abbrev pub said_with : List Entry → Result Said ConfigError
 said_with entries = table_said (table_of (entries ++ version_1 ∷ []))
 
--- and with these limits
+-- the same with these limits
 abbrev pub said_limits : List Entry → Result Said ConfigError
 said_limits entries = said_with ((codes "limits", tree entries) ∷ [])
 
--- and with these maps
+-- the same with these maps
 abbrev pub said_maps : List Data → Result Said ConfigError
 said_maps maps = said_with ((codes "map", list maps) ∷ [])
 

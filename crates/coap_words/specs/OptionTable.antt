@@ -14,7 +14,7 @@ by_letter id letter =
 abbrev pub by_name : Text → Rule
 by_name name = record (new_rule name) { long = Some name; action = Some Set; value_names = 1 }
 
--- its value must be one that a parser takes
+-- its value must be one that a parser accepts
 abbrev pub parsed_by : ValueParser → Rule → Rule
 parsed_by parser rule = record rule { parser = Some parser }
 
@@ -56,7 +56,7 @@ program =
     on_top (λ s. record s { no_binary_name = true; has_version = true })
     (new_app (codes "coap-proxyd"))
 
--- three options more
+-- three more options
 abbrev pub with_three : App → Rule → Rule → Rule → App
 with_three app a b c = with_rule (with_rule (with_rule app a) b) c
 

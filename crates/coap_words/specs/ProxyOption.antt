@@ -12,7 +12,7 @@ use Rattle.coap_words.specs.declared.proxy_option.ProxyOption.{ProxyOption}
 abbrev pub comma : ℕ
 comma = 0x2C
 
--- what the option says: the next proxy, and the own names
+-- what the option holds: the next proxy, and the own names
 pub record Said : Type 0 where
   pub next : Option Endpoint
   pub names : List Text
@@ -35,16 +35,16 @@ name_of text = if is_name text then Some (lower text) else None
 abbrev pub names_of : List Text → Option (List Text)
 names_of texts = all_of (map name_of texts)
 
--- 64 at most
+-- at most 64 names
 abbrev pub few : List Text → Option (List Text)
 few names = if nat_le (length names) 64 then Some names else None
 
--- without a next proxy
+-- the option with these names, and without a next proxy
 abbrev pub with_names : Option (List Text) → Result Said ProxyOptionError
 with_names None = Err BadName
 with_names (Some names) = Ok (record { next = None; names = names })
 
--- what stands before the first comma would be a next proxy; after it stand the names
+-- what comes before the first comma would be a next proxy; the names come after it
 abbrev pub after_comma : Text → Text → Result Said ProxyOptionError
 after_comma [] names = with_names (option_and_then few (names_of (parts names)))
 after_comma (b ∷ next) names = Err NextProxy

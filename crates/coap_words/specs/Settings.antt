@@ -1,4 +1,4 @@
--- What the words of the command line say, by what `clap` finds in them.
+-- What the words of the command line mean, by what `clap` finds in them.
 use Rattle.std.specs.Prelude.{◌≡◌, ◌⊎◌, ◌≤◌, ◌&&◌, nat_le, if◌then◌else◌, ℕ, Bool, false, List, [], codes, bytes_eq, Option, Some, None, IfSome, option_map, Result, MatchResult, string_bytes}
 use Rattle.std.specs.Option.{SomeIff, option_map_or}
 use Rattle.std.specs.Str.Parse.{IsNumeral, digits_value, without_leading_plus}
@@ -10,7 +10,8 @@ use Rattle.coap_words.specs.declared.settings.Settings.{Settings}
 use Rattle.coap_words.specs.declared.settings.WordsError.{WordsError}
 use Rattle.coap_words.specs.declared.settings.WordsError.TheVariants.{Usage, OutOfMemory}
 
--- a number from `least` to `most` that a text says in decimal digits, after a plus or none
+-- the number from `least` to `most` that a text gives in decimal digits, perhaps after a plus, if
+-- it gives one
 abbrev pub SaysNumber : ℕ → ℕ → Text → Option ℕ → Type 0
 SaysNumber least most text number =
     let digits = without_leading_plus text in
@@ -18,12 +19,12 @@ SaysNumber least most text number =
     (IsNumeral 10 digits × (least ≤ digits_value 10 digits) × (digits_value 10 digits ≤ most))
     (digits_value 10 digits)
 
--- the number that an option's text says; none without a text
+-- the number that an option's text gives; none without a text
 abbrev pub IsNumberOf : ℕ → ℕ → Option Text → Option ℕ → Type 0
 IsNumberOf least most None number = number ≡ None
 IsNumberOf least most (Some text) number = SaysNumber least most text number
 
--- a number, where it is in a range
+-- a number, if it is in a range
 abbrev pub narrowed : ℕ → ℕ → Option ℕ → Option ℕ
 narrowed least most None = None
 narrowed least most (Some n) = if nat_le least n && nat_le n most then Some n else None
@@ -32,7 +33,7 @@ narrowed least most (Some n) = if nat_le least n && nat_le n most then Some n el
 abbrev pub is_given : Text → List Row → Bool
 is_given id rows = option_map_or (λ text. bytes_eq text (codes "true")) (first_of id rows) false
 
--- each setting is what its option says
+-- each setting is what its option gives
 pub record AreSettings (rows : List Row) (s : Settings) : Type 0 where
   pub address : option_map string_bytes s.address ≡ first_of (codes "address") rows
   pub port : IsNumberOf 1 65535 (one_of (codes "port") rows) s.port
@@ -50,7 +51,7 @@ pub record AreInRange (s : Settings) : Type 0 where
   pub salt : IfSome s.salt (λ n. n ≤ greatest)
   pub turns : IfSome s.turns (λ n. (1 ≤ n) × (n ≤ greatest))
 
--- help and the version end the program with 0, a refusal with 2
+-- the help and the version end the program with 0, a refusal with 2
 abbrev pub status_of : ErrorKind → ℕ
 status_of kind.DisplayHelp = 0
 status_of kind.DisplayVersion = 0
@@ -65,8 +66,9 @@ IsRefusal k OutOfMemory = ⊥
 abbrev pub RefusesFor : Kinds → WordsError → Type 0
 RefusesFor kinds e = (e ≡ OutOfMemory) ⊎ ((k : ErrorKind) × IsAmong k kinds × IsRefusal k e)
 
--- The words are taken where `clap` finds no fault in them by the option table, and then say what it
--- finds. Else they are refused for a fault that it finds.
+-- The words are accepted only if `clap` finds no fault in them by the option table, and then the
+-- settings are what it finds. Otherwise they are refused for a fault that it finds, or memory ran
+-- out.
 abbrev pub ReadsWords : List Text → Result Settings WordsError → Type 0
 ReadsWords words result =
     MatchResult result

@@ -1,13 +1,13 @@
--- Texts that are cut at a character, and texts in lower case.
+-- Texts that are split at a character, and texts in lower case.
 use Rattle.std.specs.Prelude.{ℕ, ◌==◌, nat_lt, List, length, map, Option, Some, None, if◌then◌else◌}
 use Rattle.std.specs.Char.{to_ascii_lowercase}
 use Rattle.std.specs.List.{after_first, before_first, position_or_len}
 
--- a text's bytes, and two of them
+-- the bytes of a text
 abbrev pub Text : Type 0
 Text = List ℕ
 
--- what stands before the first such character, and what stands after it, where there is one
+-- what comes before the first such character, and what comes after it, if there is one
 abbrev pub cut_at : ℕ → Text → Option (Text × Text)
 cut_at c text =
     if nat_lt (position_or_len (λ b. b == c) text) (length text)

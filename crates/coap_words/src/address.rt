@@ -8,8 +8,11 @@ use coap_endpoint::Ip;
 use coap_target::{UriError, read_ip};
 use std::alloc::Global;
 
-/// The address that a text is: IPv4 in dotted-decimal form, each number written in one way, or
-/// IPv6, in brackets (RFC 3986, 3.2.2) or without. Any other text is `Bad`; `Scheme` never comes.
+/// The address that a text is: IPv4 in dotted-decimal form, with each number in its unique form, or
+/// IPv6, in brackets (RFC 3986, 3.2.2) or without.
+///
+/// # Errors
+/// `Bad` for any other text, or out of memory; never `Scheme`.
 pub fn read_local_address(alloc: Global, text: &str) -> Result<Ip, UriError>
     ensures { Answers errors.OutOfMemory result (ok_or (local_address_of text.now) errors.Bad) }
 {

@@ -17,11 +17,11 @@ use coap_target::{RouteError, Routes};
 use std::alloc::Global;
 use toml::{Table, Value};
 
-/// What a configuration says. Names, hosts and maps are the texts of which `Routes::new` makes
-/// routes.
+/// The contents of a configuration. Names, hosts and maps are the texts that `Routes::new` makes
+/// routes of.
 #[derive(Drop)]
 pub struct Config {
-    /// The limits; each that is left out has its default.
+    /// The limits, each with its default if it is left out.
     pub limits: Limits,
     /// The own names, in lower case, in order.
     pub names: Vec<String>,
@@ -31,19 +31,19 @@ pub struct Config {
     pub maps: Vec<(String, String)>,
 }
 
-/// What a configuration says, whose bytes are TOML:
+/// Reads a configuration, whose bytes are TOML:
 ///
-/// - `version`, which must stand and be 1;
+/// - `version`, which must be present and be 1;
 /// - `names`, a list of texts;
-/// - `limits`, a table with a number for each limit that isn't to have its default;
+/// - `limits`, a table with a number for each limit that differs from its default;
 /// - `hosts`, a table with an address for each name;
 /// - `map`, a list of tables with a `prefix` and an `origin`.
 ///
 /// # Errors
-/// The first fault, in this order: no TOML; the version; keys that aren't known, in byte order;
-/// `names`; in `limits` keys that aren't known, then the limits in the order of `Limit`; `hosts`;
-/// `map`, in each table a key that isn't known, then the prefix, then the origin; no routes. Want
-/// of memory is answered where it is met.
+/// The first fault, in this order: not UTF-8 or not TOML; the version; unknown keys, in byte order;
+/// `names`; in `limits` unknown keys, then the limits in the order of `Limit`; `hosts`; `map`, in
+/// each table an unknown key, then the prefix, then the origin; no routes. Running out of memory is
+/// reported where it happens.
 pub fn read_config(alloc: Global, text: &[u8]) -> Result<Config, ConfigError>
     ensures { Says seen errors.OutOfMemory result (spec.config_of text.now) }
 {
@@ -53,7 +53,7 @@ pub fn read_config(alloc: Global, text: &[u8]) -> Result<Config, ConfigError>
     Ok(config)
 }
 
-/// The tree of a TOML text.
+/// Parses a TOML text.
 fn read_document(alloc: Global, text: &[u8]) -> Result<Table, ConfigError>
     ensures { Says table_view errors.OutOfMemory result (spec.document_of text.now) }
 {
@@ -70,7 +70,7 @@ fn read_document(alloc: Global, text: &[u8]) -> Result<Table, ConfigError>
     }
 }
 
-/// What a tree says.
+/// Reads a tree.
 #[tactic(auto, unfolding(crate::specs::Config::table_said))]
 fn read_table(alloc: Global, table: &Table) -> Result<Config, ConfigError>
     ensures { Says seen errors.OutOfMemory result (spec.table_said (table_view table.now)) }
@@ -89,7 +89,7 @@ fn read_table(alloc: Global, table: &Table) -> Result<Config, ConfigError>
     })
 }
 
-/// Whether the version stands, and is 1.
+/// Checks that the version is present, and is 1.
 fn check_version(alloc: Global, said: Option<&Value>) -> Result<(), ConfigError>
     ensures { Answers errors.OutOfMemory result
         (spec.version_checked (option_map (λ value. view value.now) said.entry)) }
@@ -116,7 +116,7 @@ fn is_one(value: &Value) -> bool
     }
 }
 
-/// Whether the texts say routes.
+/// Checks that the texts make up routes.
 fn check_routes(alloc: Global, config: &Config) -> Result<(), ConfigError>
     ensures { Says (λ _. seen config.now) errors.OutOfMemory result
         (spec.routes_checked (seen config.now)) }

@@ -10,7 +10,7 @@ use std::error::Error;
 use std::fmt;
 use std::marker::Model;
 
-/// The name of a key, with a dot after the name of its table. A contract sees its bytes.
+/// The name of a key, after the name of its table and a dot. A contract sees its bytes.
 #[derive(Debug, Drop)]
 pub struct KeyName {
     text: String,
@@ -25,7 +25,7 @@ impl Model for KeyName {
 }
 
 impl KeyName {
-    /// A key of the whole file.
+    /// The name of a key at the top of the file.
     pub(crate) fn new(alloc: Global, key: &str) -> Result<KeyName, OutOfMemory>
         ensures { IfOk result (λ name. name ≡ key.now) }
     {
@@ -34,7 +34,7 @@ impl KeyName {
         })
     }
 
-    /// A key of a table.
+    /// The name of a key of a table.
     pub(crate) fn within(alloc: Global, table: &str, key: &str) -> Result<KeyName, OutOfMemory>
         ensures { IfOk result (λ name. name ≡ table.now ++ codes "." ++ key.now) }
     {
@@ -51,19 +51,19 @@ impl KeyName {
     }
 }
 
-/// Why a text is no configuration: the first fault, in this order, and among those of one kind the
-/// first in the order of `read_config`. Running out of memory may be answered in place of a later fault.
+/// Why a text isn't a configuration: the first fault, in the order of `read_config`. `OutOfMemory`
+/// may be returned in place of a later fault.
 #[derive(Debug, Drop)]
 pub enum ConfigError {
-    /// It isn't UTF-8, or no TOML.
+    /// It isn't UTF-8, or isn't TOML.
     Syntax,
-    /// A key isn't known, or `version` is missing.
+    /// A key is unknown, or `version` is missing.
     Key { name: KeyName },
-    /// A value is of the wrong kind or out of its range, or a map lacks it.
+    /// A value has the wrong type or is out of range, or a map lacks it.
     Value { name: KeyName },
-    /// Its texts say no routes.
+    /// Its texts don't make up routes.
     Routes(RouteError),
-    /// The allocator had no memory for it.
+    /// Out of memory.
     OutOfMemory,
 }
 

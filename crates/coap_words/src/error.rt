@@ -7,20 +7,20 @@ use coap_message::OutOfMemory;
 use std::alloc::{AllocError, AllocFailed};
 use thiserror::Error;
 
-/// Why the value of `-P` was refused: the first that applies, in this order. Running out of memory may be
-/// answered in place of `BadName`.
+/// Why the value of `-P` was refused: the first that applies, in this order. `OutOfMemory` may be
+/// returned in place of `BadName`.
 #[derive(Clone, Copy, Debug, PartialEq, Eq, Error)]
 pub enum ProxyOptionError {
     /// There is no comma.
     #[error("no comma")]
     NoComma,
-    /// Something stands before the first comma: there is no next proxy yet.
+    /// There is text before the first comma: a next proxy isn't supported yet.
     #[error("a next proxy")]
     NextProxy,
-    /// Of the texts between commas one is no name, or they are more than 64.
+    /// One of the texts between the commas isn't a name, or there are more than 64.
     #[error("no names")]
     BadName,
-    /// The allocator had no memory for the names.
+    /// Out of memory for the names.
     #[error("out of memory")]
     OutOfMemory,
 }
@@ -47,7 +47,7 @@ pub enum MapOptionError {
     /// There is no `=`.
     #[error("no equals sign")]
     NoEquals,
-    /// The allocator had no memory for its parts.
+    /// Out of memory for its parts.
     #[error("out of memory")]
     OutOfMemory,
 }

@@ -97,7 +97,7 @@ pub fn words()
         ≡ kind.ValueValidation ∷ [] }
 {}
 
-/// Words that are refused, or ask for a text.
+/// Words that are refused, or ask for the help or the version.
 pub fn refused_words()
     ensures twice { fault_of option_table (codes "-p" ∷ codes "1" ∷ codes "-p" ∷ codes "2" ∷ [])
         ≡ kind.ArgumentConflict ∷ [] }
@@ -113,7 +113,7 @@ pub fn refused_words()
     ensures others_end_badly { status_of kind.UnknownArgument ≡ 2 }
 {}
 
-/// What configurations say, as trees.
+/// Configurations, as trees.
 pub fn configurations()
     ensures version { said_with [] ≡ Ok nothing }
     ensures toml { parse_document (codes "version = 1") ≡ Some (table_of (version_1 ∷ [])) }
@@ -216,7 +216,7 @@ pub fn faults()
         ≡ Err (config_errors.Routes route_errors.Unreadable) }
 {}
 
-/// Which of two faults is told.
+/// Which of two faults is reported.
 pub fn first_faults()
     ensures version { table_said (table_of
         ((codes "ants", number 1) ∷ (codes "version", number 2) ∷ []))

@@ -1,4 +1,5 @@
-//! What the people who run the proxy write: the words of its command line, and its configuration.
+//! What the people who run the proxy write: the words of its command line, and its configuration
+//! file.
 #![tactic(auto)]
 
 mod address;

@@ -22,7 +22,7 @@ pub fn limit_key(limit: Limit) -> &'static str
     }
 }
 
-/// Whether a key is that of a limit of what is held.
+/// Whether a key is that of a limit on what is held.
 fn is_holding(key: &str) -> bool
     ensures { result ≡ is_among (map limit_key holding) key.now }
 {
@@ -34,7 +34,7 @@ fn is_holding(key: &str) -> bool
         || key == "waiters"
 }
 
-/// Whether a key is that of a limit of what is sent.
+/// Whether a key is that of a limit on what is sent.
 fn is_sending(key: &str) -> bool
     ensures { result ≡ is_among (map limit_key sending) key.now }
 {

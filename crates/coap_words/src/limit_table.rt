@@ -1,4 +1,4 @@
-//! The limits that a configuration says.
+//! The limits in a configuration.
 ghost use Rattle.std.specs.Prelude.{◌≡◌, option_map};
 ghost use Rattle.toml.specs.Data.{get_member};
 ghost use Rattle.toml.specs.View.{table_view, view};
@@ -13,8 +13,8 @@ use coap_limits::{Limit, LimitValues, Limits};
 use std::alloc::Global;
 use toml::{Table, Value};
 
-/// The number that a value says for a limit. What is no number from 0 up says one that no limit may
-/// be.
+/// The number that a value gives for a limit, or one that no limit may be if the value isn't an
+/// integer from 0 up.
 fn number(value: &Value) -> u64
     ensures { result ≡ spec.number_said (view value.now) }
 {
@@ -24,7 +24,7 @@ fn number(value: &Value) -> u64
     }
 }
 
-/// The value of a limit; the default where it is left out.
+/// The value of a limit, or the default if it is left out.
 fn value(table: &Table, limit: Limit) -> u64
     ensures { result ≡ spec.limit_in (table_view table.now) limit }
 {
@@ -34,7 +34,7 @@ fn value(table: &Table, limit: Limit) -> u64
     }
 }
 
-/// The value of each limit, within its range or not.
+/// The value of each limit, whether within its range or not.
 fn values(table: &Table) -> LimitValues
     ensures { result ≡ spec.limits_in (table_view table.now) }
 {
@@ -52,7 +52,7 @@ fn values(table: &Table) -> LimitValues
     }
 }
 
-/// Limits of these values.
+/// Checks the values of limits.
 fn check_limits(alloc: Global, values: LimitValues) -> Result<Limits, ConfigError>
     ensures { Answers errors.OutOfMemory result (spec.limits_checked values) }
 {
@@ -62,7 +62,7 @@ fn check_limits(alloc: Global, values: LimitValues) -> Result<Limits, ConfigErro
     }
 }
 
-/// The limits that the table `limits` says.
+/// The limits in the table `limits`.
 pub(crate) fn read_limits(alloc: Global, said: Option<&Value>) -> Result<Limits, ConfigError>
     ensures { Answers errors.OutOfMemory result
         (spec.limits_said (option_map (λ value. view value.now) said.entry)) }

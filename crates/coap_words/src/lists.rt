@@ -1,4 +1,4 @@
-//! The names, hosts and maps that a configuration says.
+//! The names, hosts and maps in a configuration.
 ghost use Rattle.std.specs.Prelude.{◌≡◌, option_map, string_bytes};
 ghost use Rattle.toml.specs.Data.{get_member};
 ghost use Rattle.toml.specs.View.{array_view, table_view, view};
@@ -38,7 +38,7 @@ fn names_in(alloc: Global, values: &Array) -> Result<Vec<String>, ConfigError>
     Ok(names)
 }
 
-/// The own names that `names` says.
+/// The own names in `names`.
 pub(crate) fn read_names(alloc: Global, said: Option<&Value>) -> Result<Vec<String>, ConfigError>
     ensures { Says bytes_of errors.OutOfMemory result
         (spec.names_said (option_map (λ value. view value.now) said.entry)) }
@@ -77,7 +77,7 @@ fn hosts_in(alloc: Global, table: &Table) -> Result<Vec<(String, String)>, Confi
     Ok(hosts)
 }
 
-/// The hosts that the table `hosts` says.
+/// The hosts in the table `hosts`.
 pub(crate) fn read_hosts(
     alloc: Global,
     said: Option<&Value>,
@@ -133,7 +133,7 @@ fn maps_in(alloc: Global, values: &Array) -> Result<Vec<(String, String)>, Confi
     Ok(maps)
 }
 
-/// The maps that the tables `map` say.
+/// The maps in the tables `map`.
 pub(crate) fn read_maps(
     alloc: Global,
     said: Option<&Value>,

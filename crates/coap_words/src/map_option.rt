@@ -8,8 +8,11 @@ use crate::error::MapOptionError;
 use crate::texts::cut;
 use std::alloc::Global;
 
-/// The prefix and the origin of a map, as `Routes::new` takes them: what stands before the first
-/// `=`, and all that stands after it. Neither is read here.
+/// The prefix and the origin of a map, as `Routes::new` takes them: what comes before the first
+/// `=`, and all that comes after it. Neither is parsed here.
+///
+/// # Errors
+/// `NoEquals` if the text has no `=`, or out of memory.
 pub fn parse_map_option(alloc: Global, text: &str) -> Result<(String, String), MapOptionError>
     ensures { Says pair_of errors.OutOfMemory result (map_option_of text.now) }
 {

@@ -1,4 +1,4 @@
-//! The options of the program, with what the help says of them.
+//! The options of the program, with their help texts.
 ghost use Rattle.std.specs.Prelude.{◌≡◌, true, IfOk};
 ghost use Rattle.clap.specs.Words.{app_of, rule_of, with_rule};
 ghost use Rattle.coap_words.specs.OptionTable as spec;
@@ -6,7 +6,7 @@ ghost use Rattle.coap_words.specs.OptionTable as spec;
 use clap::{Arg, ArgAction, Command, value_parser};
 use std::alloc::{AllocError, Global};
 
-/// The version that `--version` tells.
+/// The version that `--version` prints.
 const VERSION: &str = "0.1.0";
 
 /// The line under the options.
@@ -103,7 +103,7 @@ fn salt<'a>(alloc: Global) -> Arg<'a>
     by_name(alloc, "salt", "N", help).value_parser(value_parser!(u64).range(0..=i64::MAX))
 }
 
-/// `--turns`: how many turns to do.
+/// `--turns`: the number of turns to do.
 fn turns<'a>(alloc: Global) -> Arg<'a>
     ensures { rule_of result ≡ spec.turns_rule }
 {
@@ -122,7 +122,7 @@ fn program<'a>(alloc: Global) -> Command<'a>
         .after_help(EXAMPLE)
 }
 
-/// A command with one option more.
+/// A command with one more option.
 fn with<'a>(command: Command<'a>, option: Arg<'a>) -> Result<Command<'a>, AllocError>
     requires { (rule_of option).is_simple ≡ true }
     ensures { IfOk result (λ more.
@@ -131,7 +131,7 @@ fn with<'a>(command: Command<'a>, option: Arg<'a>) -> Result<Command<'a>, AllocE
     command.arg(option)
 }
 
-/// A command with where it listens, and its own names.
+/// A command with the options for where it listens, and its own names.
 fn with_endpoint<'a>(alloc: Global, command: Command<'a>) -> Result<Command<'a>, AllocError>
     ensures { IfOk result (λ more. app_of more
         ≡ spec.with_three (app_of command.entry) spec.address_rule spec.port_rule spec.names_rule) }
@@ -142,7 +142,7 @@ fn with_endpoint<'a>(alloc: Global, command: Command<'a>) -> Result<Command<'a>,
     )
 }
 
-/// A command with where its routes and its events come from.
+/// A command with the options for where its routes and its events come from.
 fn with_sources<'a>(alloc: Global, command: Command<'a>) -> Result<Command<'a>, AllocError>
     ensures { IfOk result (λ more. app_of more
         ≡ spec.with_three (app_of command.entry) spec.config_rule spec.map_rule spec.replay_rule) }
@@ -153,7 +153,7 @@ fn with_sources<'a>(alloc: Global, command: Command<'a>) -> Result<Command<'a>, 
     )
 }
 
-/// A command with how it begins and ends.
+/// A command with the options for how it begins and ends.
 fn with_numbers<'a>(alloc: Global, command: Command<'a>) -> Result<Command<'a>, AllocError>
     ensures { IfOk result (λ more. app_of more
         ≡ spec.with_three (app_of command.entry) spec.id_rule spec.salt_rule spec.turns_rule) }

@@ -15,18 +15,22 @@ use std::alloc::Global;
 /// The most own names.
 const MOST_NAMES: usize = 64;
 
-/// What `-P` says.
+/// The contents of `-P`.
 #[derive(Drop)]
 pub struct ProxyOption {
-    /// The proxy that requests are sent to. None so far.
+    /// The proxy that requests are sent to. Always `None` so far.
     pub next: Option<Endpoint>,
     /// The own names of the proxy, in lower case.
     pub names: Vec<String>,
 }
 
-/// The own names that the value of `-P` says, in lower case: the texts after the first comma,
-/// between commas. Each is a name of 1 to 255 visible ASCII characters other than a comma, and
-/// there are 64 at most.
+/// The own names in the value of `-P`, in lower case: the texts after the first comma, between
+/// commas. Each is a name of 1 to 255 visible ASCII characters other than a comma, and there are at
+/// most 64.
+///
+/// # Errors
+/// The first variant of `ProxyOptionError` that applies, in their order; `OutOfMemory` may be
+/// returned in place of `BadName`.
 #[tactic(auto, unfolding(crate::specs::ProxyOption::proxy_option_of))]
 pub fn parse_proxy_option(alloc: Global, text: &str) -> Result<ProxyOption, ProxyOptionError>
     ensures { Says seen errors.OutOfMemory result (proxy_option_of text.now) }
@@ -59,7 +63,7 @@ fn read_names(alloc: Global, text: &str) -> Result<Vec<String>, ProxyOptionError
     Ok(names)
 }
 
-/// What stands before the first comma, and what stands after it, if there is one.
+/// What comes before the first comma, and what comes after it, if there is one.
 fn first_part(text: &str) -> (&str, Option<&str>)
     ensures parts { parts text.now
         ≡ result.0.now ∷ parts_left comma (option_copied result.1) }

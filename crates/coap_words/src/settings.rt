@@ -1,11 +1,11 @@
-//! What the words of the command line say.
+//! The settings on the command line.
 ghost use Rattle.std.specs.Prelude.{◌≡◌};
 ghost use Rattle.coap_words.specs.declared.settings.WordsError.TheVariants as errors;
 
 use std::alloc::AllocError;
 use thiserror::Error;
 
-/// What each option says, where it is given.
+/// The value of each option that is given.
 pub struct Settings {
     /// `-A`: the local address, as a text (`read_local_address`).
     pub address: Option<String>,
@@ -17,13 +17,13 @@ pub struct Settings {
     pub config: Option<String>,
     /// `--map`: one more map, as a text (`parse_map_option`).
     pub map: Option<String>,
-    /// `--replay`: events come from standard input.
+    /// `--replay`: whether events come from standard input.
     pub replay: bool,
     /// `--id`: the first message id.
     pub first_id: Option<u16>,
     /// `--salt`: the salt of tokens, below 2^63.
     pub salt: Option<u64>,
-    /// `--turns`: how many turns to do, from 1 and below 2^63.
+    /// `--turns`: the number of turns to do, at least 1 and below 2^63.
     pub turns: Option<u64>,
 }
 
@@ -46,16 +46,16 @@ impl Drop for Settings {
 /// Why words were not read as settings.
 #[derive(Debug, Drop, Error)]
 pub enum WordsError {
-    /// They are refused, or ask for the help or the version.
+    /// They are refused, or they ask for the help or the version.
     #[error("{text}")]
     Usage {
-        /// The exit status of the program: 0 for the help and the version, else 2.
+        /// The exit status of the program: 0 for the help and the version, 2 otherwise.
         status: u8,
-        /// What to tell: with status 0 on standard output, else on standard error. It ends with a
-        /// line end.
+        /// What to print: on standard output with status 0, otherwise on standard error. It ends
+        /// with a line end.
         text: String,
     },
-    /// The allocator had no memory for them.
+    /// Out of memory.
     #[error("out of memory")]
     OutOfMemory,
 }

@@ -1,8 +1,8 @@
-//! Texts that are cut at a character.
+//! Splitting a text at a character.
 ghost use Rattle.std.specs.Prelude.{◌≡◌, ◌<◌, option_map};
 ghost use Rattle.coap_words.specs.Texts.{cut_at};
 
-/// What stands before the first such character, and what stands after it, if there is one.
+/// What comes before the first such character, and what comes after it, if there is one.
 pub(crate) fn cut(text: &str, at: char) -> Option<(&str, &str)>
     requires { at < 128 }
     ensures { option_map (λ parts. (parts.0.now, parts.1.now)) result ≡ cut_at at text.now }

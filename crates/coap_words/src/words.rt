@@ -10,10 +10,10 @@ use clap::error::ErrorKind;
 use clap::{ArgMatches, Error};
 use std::alloc::{AllocError, Global};
 
-/// The settings that the words after the program's name say.
+/// The settings in the words after the program's name.
 ///
 /// # Errors
-/// `Usage` where `clap` refuses them, and for the help and the version.
+/// `Usage` if `clap` refuses them, and for the help and the version; or out of memory.
 pub fn read_words(alloc: Global, words: &[String]) -> Result<Settings, WordsError>
     ensures exact { spec.ReadsWords (map string_bytes words.now) result }
     ensures in_range { IfOk result spec.AreInRange }
@@ -72,14 +72,14 @@ fn is_given(matches: &ArgMatches<'_>, id: &str) -> bool
     }
 }
 
-/// The number of an option, of 64 bits.
+/// The 64-bit number of an option.
 fn any_number(matches: &ArgMatches<'_>, id: &str) -> Option<u64>
     ensures { spec.IsNumberOf 0 u64.MAX (one_of id.now (rows_of (found_of matches.now))) result }
 {
     matches.get_one::<u64>(id)
 }
 
-/// A number, where it is from `least` to `most`.
+/// A number, if it is from `least` to `most`.
 fn narrow(number: Option<u64>, least: u64, most: u64) -> Option<u64>
     ensures { result ≡ spec.narrowed least most number }
 {
@@ -96,7 +96,7 @@ fn number(matches: &ArgMatches<'_>, id: &str, least: u64, most: u64) -> Option<u
     narrow(any_number(matches, id), least, most)
 }
 
-/// A number of sixteen bits.
+/// A number as a 16-bit one.
 fn short(number: Option<u64>) -> Option<u16>
     requires { IfSome number (λ n. n ≤ 65535) }
     ensures { result ≡ number }
@@ -107,14 +107,14 @@ fn short(number: Option<u64>) -> Option<u16>
     }
 }
 
-/// The number of an option, of sixteen bits.
+/// The 16-bit number of an option, at least `least`.
 fn short_number(matches: &ArgMatches<'_>, id: &str, least: u16) -> Option<u16>
     ensures { spec.IsNumberOf least 65535 (one_of id.now (rows_of (found_of matches.now))) result }
 {
     short(number(matches, id, u64::from(least), 65535))
 }
 
-/// The exit status that goes with a refusal.
+/// The exit status for a refusal.
 fn status(kind: ErrorKind) -> u8
     ensures { result ≡ spec.status_of kind }
 {
@@ -124,7 +124,7 @@ fn status(kind: ErrorKind) -> u8
     }
 }
 
-/// A refusal of `clap`.
+/// The error for a refusal by `clap`.
 fn refusal(alloc: Global, error: &Error) -> WordsError
     ensures memory { kind_of error.now ≡ ErrorKind.OutOfMemory → result ≡ errors.OutOfMemory }
     ensures other { (result ≡ errors.OutOfMemory) ⊎ spec.IsRefusal (kind_of error.now) result }

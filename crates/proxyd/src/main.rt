@@ -21,7 +21,7 @@ fn words(rt: &HostRuntime) -> Result<Vec<String>, Fault> {
         .map_err(|_| Fault::OutOfMemory)
 }
 
-/// The fault of an error of the system: running out of memory, or else this one.
+/// The fault for a system error: `OutOfMemory` if memory ran out, otherwise `other`.
 fn fault_of(error: &io::Error, other: Fault) -> Fault {
     if error.kind() == ErrorKind::OutOfMemory {
         Fault::OutOfMemory
@@ -48,7 +48,7 @@ fn plan(rt: &HostRuntime) -> Result<Plan, Fault> {
     read_plan(rt.alloc(), wanted, file.as_deref())
 }
 
-/// Random bytes, of which the first message id and the salt are made.
+/// A random first message id and a random salt.
 fn draw(rt: &HostRuntime) -> Result<(u16, u64), Fault> {
     let (mut id, mut salt) = ([0; 2], [0; 8]);
     match rt
@@ -60,10 +60,10 @@ fn draw(rt: &HostRuntime) -> Result<(u16, u64), Fault> {
     }
 }
 
-/// What the cache of the program is: a recency map, whose hashes strangers can't foresee.
+/// The program's cache: a recency map, whose hashes outsiders can't predict.
 type Cache = LruStore<RandomState>;
 
-/// What it is made of: random bytes of the system, which are read like a file.
+/// The seed of the cache: random bytes from the system, which are read like a file.
 fn seed(rt: &HostRuntime) -> Result<RandomState, Fault> {
     RandomState::new(rt).map_err(|error| fault_of(&error, Fault::File))
 }
@@ -80,7 +80,7 @@ fn serve_socket(rt: &HostRuntime, plan: Plan) -> Result<(), Fault> {
     }
 }
 
-/// Does what its words and its configuration say.
+/// Does what the words and the configuration ask for.
 fn run(rt: &HostRuntime) -> Result<(), Fault> {
     let plan = plan(rt)?;
     if plan.replay {
@@ -95,7 +95,7 @@ fn run(rt: &HostRuntime) -> Result<(), Fault> {
     serve_socket(rt, plan)
 }
 
-/// Tells a fault on standard error, and the help and the version on standard output.
+/// Prints a fault on standard error, and the help and the version on standard output.
 fn tell(rt: &HostRuntime, fault: &Fault) -> io::Result<()> {
     match fault {
         Fault::Usage { status: 0, text } => print!(rt; "{text}"),
@@ -104,7 +104,7 @@ fn tell(rt: &HostRuntime, fault: &Fault) -> io::Result<()> {
     }
 }
 
-/// Tells a fault, and answers the exit status. Help or a version that can't be written is a fault
+/// Prints a fault, and returns the exit status. Help or a version that can't be written is a fault
 /// too.
 fn ended(rt: &HostRuntime, fault: &Fault) -> u8 {
     let told = tell(rt, fault);

@@ -14,7 +14,7 @@ tick_given lost = record {
   went = true;
 }
 
--- how many turns, of which how many sent what was taken, sent what was not, and were lost
+-- the counts for this many turns, datagrams that were taken, datagrams that weren't, and lost turns
 abbrev pub counts : ℕ → ℕ → ℕ → ℕ → Stats
 counts turns sent send_faults lost =
     record { turns = turns; sent = sent; send_faults = send_faults; lost = lost }

@@ -7,8 +7,8 @@ ghost use Rattle.coap_port.specs.Driven.{stats_of, wait_for};
 ghost use Rattle.coap_port.specs.Stats.{no_stats, with_turn};
 ghost use Rattle.test_ports.specs.Computed.{counts, tick_given};
 
-/// The wait after a datagram (`true`) or after none: a second at most, and a millisecond at least,
-/// but none where a datagram came and something is due already.
+/// The wait after a datagram (`true`) or after none: at most a second, and at least a millisecond,
+/// except that there is none if a datagram came and something is already due.
 pub fn waits()
     ensures nothing_due { wait_for false 5 None ≡ 1000 }
     ensures nothing_due_after_a_datagram { wait_for true 5 None ≡ 1000 }
@@ -22,7 +22,7 @@ pub fn waits()
     ensures due_in_a_minute { wait_for false 10 (Some 60010) ≡ 1000 }
 {}
 
-/// What is counted of one turn, and of several.
+/// What is counted for one turn, and for several.
 pub fn counted()
     ensures lost { with_turn true false false no_stats ≡ counts 1 0 0 1 }
     ensures taken { with_turn false true true no_stats ≡ counts 1 1 0 0 }

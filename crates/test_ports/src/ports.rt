@@ -17,7 +17,8 @@ const ANSWER: [u8; 18] = [
     0x68, 0x45, 0x00, 0x01, 0, 0, 0, 0, 0, 0, 0, 0x01, 0xD1, 0x01, 0x0A, 0xFF, 0x32, 0x31,
 ];
 
-/// What the origin is sent for the one, what the client is given for the other, and both.
+/// What the origin server is sent for the request, what the client is sent for the answer, and
+/// both.
 const SENT_ON: &str = "5690 480100010000000000000001B474656D70\n";
 
 const DELIVERED: &str = "40001 50450002D1010AFF3231\n";
@@ -27,7 +28,7 @@ const BOTH: &str = "\
 40001 50450002D1010AFF3231
 ";
 
-/// A datagram from this host, at a moment.
+/// A datagram from this host, at the moment `now`, in milliseconds.
 fn arrival(alloc: Global, now: u64, port: u16, bytes: &[u8]) -> Result<Scripted, OutOfMemory> {
     let ip = Ip::V4([127, 0, 0, 1]);
     Ok(Scripted {
@@ -37,8 +38,8 @@ fn arrival(alloc: Global, now: u64, port: u16, bytes: &[u8]) -> Result<Scripted,
     })
 }
 
-/// A port that gives the first so many of a request and its answer, and nothing more; it refuses
-/// the datagram that comes after so many others, if that is said.
+/// A port that gives the first `given` of a request and its answer, and nothing more; with
+/// `Some(n)` it refuses the datagram that comes after `n` others.
 fn port(alloc: Global, given: usize, refused: Option<usize>) -> Result<MemoryPort, OutOfMemory>
     ensures { IfOk result (λ port. port.failures ≡ 0) }
 {
@@ -52,7 +53,8 @@ fn port(alloc: Global, given: usize, refused: Option<usize>) -> Result<MemoryPor
     Ok(port)
 }
 
-/// What was done in so many turns, where the port took so many datagrams, and didn't take others.
+/// The counts after `turns` turns in which the port took `sent` datagrams and didn't take
+/// `send_faults`.
 fn stats(turns: u64, sent: u64, send_faults: u64) -> Stats {
     Stats {
         turns,
@@ -62,7 +64,7 @@ fn stats(turns: u64, sent: u64, send_faults: u64) -> Stats {
     }
 }
 
-/// The port failed when this was done.
+/// The port failed after this was done.
 fn failed(stats: Stats) -> Result<Stats, DriveError> {
     Err(DriveError::Port { stats })
 }
@@ -73,7 +75,7 @@ fn core_of(alloc: Global, limits: Limits) -> Result<Core<ListStore>, OutOfMemory
     Core::new(alloc, (), limits, routes, 1, 0)
 }
 
-/// Drives a core for so many turns.
+/// Drives a core for `turns` turns.
 fn drive_on(
     rt: &impl Abort,
     alloc: Global,
@@ -86,7 +88,7 @@ fn drive_on(
     drive(alloc, core, port, turns)
 }
 
-/// Drives a new core of the default limits for so many turns.
+/// Drives a new core with the default limits for `turns` turns.
 fn drive_anew(
     rt: &impl Abort,
     alloc: Global,
@@ -97,7 +99,7 @@ fn drive_anew(
     Ok(drive_on(rt, alloc, &mut core, port, turns))
 }
 
-/// What was handed over, a line each.
+/// What was handed over, one line for each datagram.
 fn shown(alloc: Global, handed: &[Handed]) -> Result<String, AllocError> {
     let mut out = String::new(alloc);
     for datagram in handed {
@@ -110,8 +112,8 @@ fn shown(alloc: Global, handed: &[Handed]) -> Result<String, AllocError> {
     Ok(out)
 }
 
-/// Drives a core over a port that gives so many datagrams and refuses one or none, and checks what
-/// was done in so many turns, and what was handed over.
+/// Drives a core for `turns` turns over a port that gives `given` datagrams and refuses one or
+/// none, and checks the result and what was handed over.
 fn check_driven(
     rt: &impl Abort,
     alloc: Global,
@@ -156,7 +158,7 @@ fn port_that_repeats(alloc: Global) -> Result<MemoryPort, OutOfMemory> {
     Ok(port)
 }
 
-/// Such a port, made again where there was no memory for it.
+/// Such a port, made again if memory ran out.
 fn insist_on_port(alloc: Global) -> Result<MemoryPort, OutOfMemory> {
     match port_that_repeats(alloc) {
         Ok(port) => Ok(port),
@@ -164,7 +166,7 @@ fn insist_on_port(alloc: Global) -> Result<MemoryPort, OutOfMemory> {
     }
 }
 
-/// A core of the default limits, made again where there was no memory for it.
+/// A core with the default limits, made again if memory ran out.
 fn insist_on_core(alloc: Global) -> Result<Core<ListStore>, Fail> {
     let limits = Limits::new(LimitValues::default())?;
     match core_of(alloc, limits) {
@@ -173,7 +175,8 @@ fn insist_on_core(alloc: Global) -> Result<Core<ListStore>, Fail> {
     }
 }
 
-/// Drives a core for six turns, and again where there was no memory to begin: then nothing was done.
+/// Drives a core for six turns, and again if memory ran out before the first, when nothing was
+/// done.
 fn insist_on_driving(
     rt: &impl Abort,
     alloc: Global,
@@ -186,7 +189,7 @@ fn insist_on_driving(
     }
 }
 
-/// What was handed over, written again where there was no memory for the text.
+/// What was handed over, written again if memory ran out for the text.
 fn insist_on_shown(alloc: Global, handed: &[Handed]) -> Result<String, AllocError> {
     match shown(alloc, handed) {
         Ok(text) => Ok(text),
@@ -194,9 +197,9 @@ fn insist_on_shown(alloc: Global, handed: &[Handed]) -> Result<String, AllocErro
     }
 }
 
-// A turn whose step finds no memory is lost and counted, and the loop goes on: the request comes
-// again, and so does its answer. It passes with ample memory, when none is lost, and also where any
-// one request for memory is refused.
+// A turn whose step runs out of memory is lost and counted, and the loop goes on: the request comes
+// again, and so does its answer. The test passes with ample memory, when no turn is lost, and also
+// if any one allocation fails.
 #[test]
 fn what_comes_again_makes_up_for_a_lost_turn(rt: HostRuntime) -> Result<(), Fail> {
     let alloc = rt.alloc();

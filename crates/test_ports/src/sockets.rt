@@ -47,7 +47,7 @@ fn datagrams_come_and_go_over_a_socket(rt: HostRuntime) -> Result<(), Fail> {
     assert_eq!(rt; &bytes[..count], b"abc".as_slice());
     peer.send_to(b"defghij", from)?;
     let mut into = Datagram::new(rt.alloc(), 8)?;
-    // without a wait nothing is read; then it is the longest datagram and a byte more
+    // without a wait nothing is read; then the longest length is read, and one more byte
     check(&rt, &mut port, &mut into, 0, (None, ""))?;
     check(&rt, &mut port, &mut into, 1000, (Some(to), "defgh"))?;
     check(&rt, &mut port, &mut into, 1, (None, ""))?;

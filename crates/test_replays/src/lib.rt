@@ -1,5 +1,5 @@
-//! Tests of what no worked run can show: what a core tells of itself, readers and writers that fail,
-//! calls that the program has no use for, and stores that are called by hand.
+//! Tests of what no worked run can show: what a core reports about itself, readers and writers that
+//! fail, calls that the program doesn't make, and stores that are called directly.
 #![tactic(auto)]
 
 #[cfg(test)]

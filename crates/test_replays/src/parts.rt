@@ -1,6 +1,6 @@
-//! What takes memory and isn't called in the worked runs, with ample memory: a message of its own,
-//! what is copied of the options of a request, the bytes of a number, a response that is renewed,
-//! and what a client is shown of it.
+//! Functions that allocate and aren't called in the worked runs, with ample memory: owned messages,
+//! the options copied from a request, the bytes of a number, a renewed response, and what a client
+//! is sent for it.
 use coap_cache::{RenewError, Stored, renewed, shown};
 use coap_message::{
     Code, Datagram, DecodeError, Kind, Message, MessageRef, OutOfMemory, Pieces, decode,
@@ -24,7 +24,7 @@ fn written(alloc: Global, message: &Message) -> Result<Datagram, Fail> {
     Ok(out)
 }
 
-/// Whether a number is written in these bytes.
+/// Whether a number is encoded as these bytes.
 fn is_written(alloc: Global, number: u64, bytes: &[u8]) -> Result<bool, OutOfMemory> {
     Ok(uint_bytes(alloc, number)?.as_slice() == bytes)
 }
@@ -72,7 +72,7 @@ fn a_message_is_read_where_it_lies(rt: HostRuntime) -> Result<(), Fail> {
     Ok(())
 }
 
-/// Checks why bytes are no message.
+/// Checks why bytes aren't a message.
 fn check_refused(rt: &impl Abort, alloc: Global, bytes: &[u8], expected: DecodeError) {
     match decode(alloc, bytes) {
         Ok(_) => assert!(rt; false),
@@ -89,10 +89,10 @@ fn malformed_bytes_are_no_message(rt: HostRuntime) -> Result<(), Fail> {
     let nine = b"\x59\x01\x00\x07\0\0\0\0\0\0\0\0\0";
     check_refused(&rt, alloc, nine, DecodeError::Format);
     check_refused(&rt, alloc, b"\x50\x01\x00\x07\xF0", DecodeError::Format);
-    // a value that breaks off, and a marker without a payload
+    // a value that is cut short, and a marker without a payload
     check_refused(&rt, alloc, b"\x50\x01\x00\x07\xB5t", DecodeError::Format);
     check_refused(&rt, alloc, b"\x50\x01\x00\x07\xFF", DecodeError::Format);
-    // the numbers above 65,535 are none
+    // there are no option numbers above 65,535
     check_refused(
         &rt,
         alloc,
@@ -106,16 +106,16 @@ fn malformed_bytes_are_no_message(rt: HostRuntime) -> Result<(), Fail> {
     Ok(())
 }
 
-/// A 2.05 of a resource that says 21, with its tag, fresh for ten seconds.
+/// A 2.05 with the payload 21 and an ETag, fresh for ten seconds.
 const STORED: &[u8] = b"\x68\x45\x00\x01\x00\x00\x00\x00\x00\x00\x00\x01\x41\xAB\xA1\x0A\xFF21";
 
-/// A 2.03 of that tag, with a Content-Format and without a Max-Age.
+/// A 2.03 with that ETag and a Content-Format, without a Max-Age.
 const VALID: &[u8] = b"\x68\x43\x00\x03\x00\x00\x00\x00\x00\x00\x00\x02\x41\xAB\x81\x32";
 
-/// The same of another tag.
+/// The same with another ETag.
 const OTHER: &[u8] = b"\x68\x43\x00\x03\x00\x00\x00\x00\x00\x00\x00\x02\x41\xAC\x81\x32";
 
-/// The response as it came.
+/// The stored response, as it came.
 fn stored(alloc: Global) -> Result<Stored, Fail> {
     Ok(Stored {
         response: decode(alloc, STORED)?,
@@ -135,13 +135,13 @@ fn a_stored_response_is_renewed_by_its_tag_alone(rt: HostRuntime) -> Result<(), 
         Err(error) => assert_eq!(rt; error, RenewError::WrongTag),
     }
     let message = renewed(alloc, &stored, &decode(alloc, VALID)?)?;
-    // fresh for a minute, as the 2.03 says nothing else
+    // fresh for a minute, as the 2.03 has no Max-Age
     let bytes = b"\x68\x45\x00\x01\x00\x00\x00\x00\x00\x00\x00\x01\x41\xAB\x81\x32\x21\x3C\xFF21";
     assert_eq!(rt; written(alloc, &message)?.bytes(), bytes.as_slice());
     Ok(())
 }
 
-/// Checks what a client with these tags is shown of the stored response.
+/// Checks what a client that holds these tags is sent for the stored response.
 fn check_shown(
     rt: &impl Abort,
     alloc: Global,

@@ -1,5 +1,5 @@
-//! Replays of an input that comes in pieces, of readers and writers that fail or are interrupted,
-//! and on a core that goes on.
+//! Replays of an input that comes in pieces, with readers and writers that fail or are interrupted,
+//! and on a core that was used before.
 use coap_cache::ListStore;
 use coap_core::{Core, LimitValues, Limits};
 use coap_message::OutOfMemory;
@@ -11,7 +11,7 @@ use std::io::{BufRead, ErrorKind, Read, Write};
 use std::process::Abort;
 use std::test::*;
 
-/// The first worked run: a request, a tick that sends it on, the response, and a tick that delivers
+/// The first worked run: a request, a tick that forwards it, the response, and a tick that delivers
 /// it.
 const FIRST_RUN: &str = "\
 0 0 127.0.0.1:40001 50010007B174
@@ -20,7 +20,7 @@ const FIRST_RUN: &str = "\
 0 0 tick
 ";
 
-/// What is sent on in the first run, and what is delivered.
+/// What is forwarded in the first run, and what is delivered.
 const SENT_ON: &str = "0 127.0.0.1:5690 480100010000000000000001B474656D70\n";
 
 const DELIVERED: &str = "0 127.0.0.1:40001 50450002D1010AFF3231\n";
@@ -30,14 +30,14 @@ fn first_lines(alloc: Global) -> Result<String, AllocError> {
     format!(in alloc; "{SENT_ON}{DELIVERED}")
 }
 
-/// A core of the default limits with the fixed route.
+/// A core with the default limits and the fixed route.
 fn usual_core(alloc: Global) -> Result<Core<ListStore>, Fail> {
     let limits = Limits::new(LimitValues::default())?;
     let routes = Routes::fixed(alloc)?;
     Ok(Core::new(alloc, (), limits, routes, 1, 0)?)
 }
 
-// ---- a core that goes on
+// ---- a core that was used before
 
 /// Replays a text on a core, and checks the result and what was written.
 fn check_on(
@@ -77,7 +77,8 @@ fn a_replay_goes_on_where_the_last_one_ended(rt: HostRuntime) -> Result<(), Fail
 
 // ---- readers
 
-/// A text that is lent in pieces of so many bytes. After it comes the end, or an error of this kind.
+/// A reader of a text in pieces of `piece` bytes. After the text comes the end, or an error of the
+/// kind `fails`.
 #[derive(Drop)]
 struct Pieces<'a> {
     rest: &'a [u8],
@@ -113,8 +114,8 @@ impl<'a> BufRead for Pieces<'a> {
     }
 }
 
-/// Replays what a reader lends on a new core, and answers the result and how many events the core
-/// did.
+/// Replays what a reader gives on a new core, and returns the result and the number of events that
+/// the core handled.
 fn replay_anew(
     alloc: Global,
     reader: &mut impl BufRead,
@@ -125,7 +126,8 @@ fn replay_anew(
     Ok((result, core.events()))
 }
 
-/// Replays so many bytes of the first run, lent in pieces, after which the reader ends or fails.
+/// Replays the first `given` bytes of the first run, read in pieces, after which the reader ends or
+/// fails.
 fn check_reader(
     rt: &impl Abort,
     alloc: Global,
@@ -144,7 +146,7 @@ fn check_reader(
     Ok(())
 }
 
-/// More bytes than any line has.
+/// More bytes than the first run has.
 const WHOLE: usize = 16_384;
 
 #[test]
@@ -160,7 +162,7 @@ fn an_input_may_come_in_pieces_and_break_off(rt: HostRuntime) -> Result<(), Fail
             _ => both.as_str(),
         };
         for piece in [1, 7, WHOLE] {
-            // an interruption isn't passed over
+            // an interrupted read isn't retried
             for kind in [ErrorKind::BrokenPipe, ErrorKind::Interrupted] {
                 let expected = (Err(ReplayError::Read), done, written);
                 check_reader(&rt, alloc, (given, piece, Some(kind)), expected)?;
@@ -176,14 +178,14 @@ fn an_input_may_come_in_pieces_and_break_off(rt: HostRuntime) -> Result<(), Fail
 
 // ---- writers
 
-/// What a writer does that is full.
+/// What a writer does when it is full.
 #[derive(Clone, Copy, Drop)]
 enum WhenFull {
     Fails,
     TakesNothing,
 }
 
-/// A writer that takes so many bytes in all, one at a time, and is interrupted before each.
+/// A writer that takes `room` bytes in total, one at a time, and is interrupted before each.
 #[derive(Drop)]
 struct Small {
     held: Vec<u8>,
@@ -216,8 +218,8 @@ impl Write for Small {
     }
 }
 
-/// Replays the first run into a writer with so much room, and checks the result, how many events
-/// the core did, and that the writer holds these bytes.
+/// Replays the first run into a writer with room for `room` bytes, and checks the result, the
+/// number of events that the core handled, and the bytes that the writer holds.
 fn check_writer(
     rt: &impl Abort,
     alloc: Global,

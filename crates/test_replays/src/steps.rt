@@ -1,4 +1,5 @@
-//! A core that is called by hand: what it answers, what it sends, and what it tells of itself.
+//! A core that is called directly: what it returns, what it sends, and what it reports about
+//! itself.
 use coap_cache::ListStore;
 use coap_core::{Core, Counts, Event, LimitValues, Limits, Outcome, Report, Storing};
 use coap_message::{Datagram, OutOfMemory};
@@ -7,7 +8,7 @@ use std::alloc::Global;
 use std::process::Abort;
 use std::test::*;
 
-/// What a core tells of itself.
+/// What a core reports about itself, with moments in milliseconds.
 #[derive(Clone, Copy, Debug, PartialEq, Eq)]
 struct Seen {
     next_due: Option<u64>,
@@ -17,7 +18,7 @@ struct Seen {
     datagram: usize,
 }
 
-/// A core under way, and the datagram that it writes to.
+/// A running core, and the datagram that it writes to.
 #[derive(Drop)]
 struct Run {
     core: Core<ListStore>,
@@ -25,7 +26,7 @@ struct Run {
 }
 
 impl Run {
-    /// A core of the default limits with the fixed route.
+    /// A core with these limits and the fixed route.
     fn new(alloc: Global, limits: Limits) -> Result<Run, OutOfMemory> {
         let routes = Routes::fixed(alloc)?;
         let core = Core::new(alloc, (), limits, routes, 1, 0)?;
@@ -46,7 +47,7 @@ impl Run {
         self.out.bytes()
     }
 
-    /// What the core tells of itself.
+    /// What the core reports about itself.
     fn seen(&self) -> Seen {
         Seen {
             next_due: self.core.next_due(),
@@ -58,8 +59,8 @@ impl Run {
     }
 }
 
-/// What a core tells after so many events, of which the first brought the one request: it is
-/// remembered, and as many exchanges are under way as clients wait.
+/// What a core reports after `events` events, of which the first brought the only request: that is
+/// remembered, and `under_way` exchanges are in progress, with as many clients waiting.
 fn told(events: u64, last: u64, next_due: Option<u64>, under_way: u64) -> Seen {
     Seen {
         next_due,
@@ -77,7 +78,7 @@ fn told(events: u64, last: u64, next_due: Option<u64>, under_way: u64) -> Seen {
     }
 }
 
-/// One step, taken again where there was no memory for it: then nothing has happened.
+/// One step, repeated if memory ran out, in which case nothing had happened.
 fn insist(
     run: &mut Run,
     rt: &impl Abort,
@@ -95,9 +96,9 @@ fn insist(
     }
 }
 
-/// A core, made again where there was no memory for it.
+/// A core, made again if memory ran out.
 fn insist_on_new(alloc: Global) -> Result<Run, Fail> {
-    // Nothing is stored, so that memory can run out for the whole event alone.
+    // Nothing is stored, so that memory can only run out for the whole event.
     let limits = Limits::new(LimitValues {
         cache_bytes: 0,
         ..LimitValues::default()
@@ -108,8 +109,8 @@ fn insist_on_new(alloc: Global) -> Result<Run, Fail> {
     }
 }
 
-/// A step, taken again where there was no memory for it: what it answers, what it sends, and what
-/// the core tells after it.
+/// Checks a step, repeated if memory ran out: its outcome, what it sends, and what the core reports
+/// after it.
 fn check_step(
     rt: &impl Abort,
     run: &mut Run,
@@ -133,7 +134,7 @@ fn arrival(port: u16, bytes: &[u8]) -> Event<'_> {
     Event::Datagram { from, bytes }
 }
 
-/// The first answer, in bytes, so that only the core takes memory.
+/// Checks the first answer, in bytes, so that only the core allocates.
 fn check_first_answer(rt: &impl Abort, run: &mut Run) -> Result<(), OutOfMemory> {
     let request = arrival(40001, b"\x50\x01\x00\x07\xB1t");
     let expected = (Outcome::Opened, b"".as_slice(), told(1, 10, Some(10), 1));
@@ -161,7 +162,7 @@ fn check_first_answer(rt: &impl Abort, run: &mut Run) -> Result<(), OutOfMemory>
     check_step(rt, run, 40, Event::Tick, expected)
 }
 
-// It passes with ample memory, and also where any one request for memory is refused.
+// The test passes with ample memory, and also if any one allocation fails.
 #[test]
 fn steps_can_be_taken_again(rt: HostRuntime) -> Result<(), Fail> {
     let mut run = insist_on_new(rt.alloc())?;
@@ -169,7 +170,7 @@ fn steps_can_be_taken_again(rt: HostRuntime) -> Result<(), Fail> {
     Ok(check_first_answer(&rt, &mut run)?)
 }
 
-/// The first answer, which stays in the cache.
+/// Gets the first answer, which stays in the cache.
 fn store_first_answer(rt: &impl Abort, run: &mut Run) -> Result<(), OutOfMemory> {
     run.step(rt, 0, arrival(40001, b"\x50\x01\x00\x07\xB1t"))?;
     run.step(rt, 0, Event::Tick)?;
@@ -182,8 +183,9 @@ fn store_first_answer(rt: &impl Abort, run: &mut Run) -> Result<(), OutOfMemory>
     Ok(())
 }
 
-// The first answer takes the ids 1 and 2, and each hit one more. After 32,768 there is none left in
-// the first 247 seconds, but an acknowledgement needs none; then ids go on.
+// The first answer takes the message ids 1 and 2, and each hit takes one more. After 32,768 none is
+// left in the first 247 seconds, though an acknowledgement needs none; after that ids are available
+// again.
 #[test]
 fn ids_run_out_and_come_again(rt: HostRuntime) -> Result<(), Fail> {
     let limits = Limits::new(LimitValues {

@@ -1,4 +1,4 @@
-//! Both stores, called by hand: what they keep within their limits, and what they answer.
+//! Both stores, called directly: what they keep within their limits, and what they return.
 use coap_cache::{CacheKey, ListStore, LruStore, Put, Store, Stored, bytes_of};
 use coap_message::{Code, Kind, Message, OptionList, OutOfMemory, Pieces, Seq, Token};
 use coap_option::numbers;
@@ -8,7 +8,7 @@ use std::hash::RandomState;
 use std::process::Abort;
 use std::test::*;
 
-/// A resource of one origin, with a path of one segment.
+/// A resource on one origin server, with a path of one segment.
 fn target(alloc: Global, segment: &[u8]) -> Result<Target, OutOfMemory> {
     let at = Endpoint {
         ip: Ip::V4([127, 0, 0, 1]),
@@ -24,7 +24,7 @@ fn target(alloc: Global, segment: &[u8]) -> Result<Target, OutOfMemory> {
     })
 }
 
-/// A key of that resource, with an Accept or without one.
+/// A cache key for that resource, with or without an Accept.
 fn key(alloc: Global, segment: &[u8], accept: &[u8]) -> Result<CacheKey, OutOfMemory> {
     let mut options = OptionList::new(alloc);
     if let [format] = accept {
@@ -59,7 +59,7 @@ fn stored(alloc: Global, bytes: usize) -> Result<Stored, OutOfMemory> {
     })
 }
 
-/// Puts an entry of a path of one segment, which counts this many bytes, and checks the answer.
+/// Puts an entry for a path of one segment, which counts as `bytes` bytes, and checks the result.
 fn put<S: Store>(
     rt: &impl Abort,
     alloc: Global,
@@ -74,7 +74,7 @@ fn put<S: Store>(
     Ok(())
 }
 
-/// Checks which of the entries of X, Y and Z there are, and how many bytes they count.
+/// Checks which of the entries for X, Y and Z are present, and how many bytes they count as.
 fn check_entries<S: Store>(
     rt: &impl Abort,
     alloc: Global,
@@ -92,8 +92,8 @@ fn check_entries<S: Store>(
     Ok(())
 }
 
-/// Entries of 80, 90 and 100 bytes, the first used last, where there is room for 300; then another
-/// of the last key.
+/// Puts entries of 100, 90 and 80 bytes, in this order, where there is room for 300 bytes, and then
+/// another for the first key.
 fn check_budget<S: Store>(
     rt: &impl Abort,
     alloc: Global,
@@ -109,7 +109,7 @@ fn check_budget<S: Store>(
     check_entries(rt, alloc, store, (expected.1, expected.2))
 }
 
-/// The same over an empty store of either kind.
+/// The same on an empty store of each kind.
 fn check_budgets(
     rt: &impl Abort,
     alloc: Global,
@@ -128,12 +128,12 @@ fn a_new_response_takes_the_room_of_those_used_least(rt: HostRuntime) -> Result<
     let (alloc, hasher) = (rt.alloc(), RandomState::new(&rt)?);
     check_budgets(&rt, alloc, hasher, 230, (Put::Kept, b"Z", 230))?;
     check_budgets(&rt, alloc, hasher, 200, (Put::Kept, b"XZ", 280))?;
-    // what alone counts too much takes what was stored for its key with it
+    // an entry that is too large by itself removes what was stored for its key
     check_budgets(&rt, alloc, hasher, 301, (Put::TooLarge, b"XY", 170))?;
     Ok(())
 }
 
-/// Three responses of one resource, where there is room for two.
+/// Three responses for one resource, where there is room for two.
 fn check_marks<S: Store>(rt: &impl Abort, alloc: Global, store: &mut S) -> Result<(), OutOfMemory> {
     for format in [0x28, 0x29, 0x2A] {
         let kept = store.put(key(alloc, b"X", &[format])?, stored(alloc, 1)?);

@@ -5,10 +5,10 @@ use std::alloc::{AllocError, Global};
 use std::rt::Files;
 use std::{fs, io};
 
-/// What the names of these files end in.
+/// The suffix of the names of these files.
 const ENDING: &str = ".events";
 
-/// The file of the run of this name.
+/// The file of the run with this name.
 pub(crate) fn file_of(alloc: Global, name: &str) -> Result<String, AllocError>
     ensures { IfOk result (λ file. string_bytes file ≡ name.now ++ codes ".events") }
 {
@@ -17,7 +17,7 @@ pub(crate) fn file_of(alloc: Global, name: &str) -> Result<String, AllocError>
     Ok(file)
 }
 
-/// The name of the run in a file of this name, if it is a run's.
+/// The name of the run in a file with this name, if it is a run's.
 fn run_in(file: &str) -> Option<&str>
     ensures { IfSome result (λ name. file.now ≡ name.now ++ codes ".events") }
 {

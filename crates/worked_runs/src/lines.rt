@@ -1,26 +1,26 @@
-//! What the lines of a run say of it that are comments with a mark.
+//! What a run's comment lines with a mark say about it.
 ghost use Rattle.std.specs.Prelude.{◌≡◌, IfSome, drop, length};
 
 use std::alloc::{AllocError, Global};
 
-/// A line of the program's words, parted by spaces: `# words: WORD ..`.
+/// The mark of a line with the program's words, separated by spaces: `# words: WORD ..`.
 const WORDS: &[u8] = b"# words:";
-/// A line of a configuration: `# config: LINE`.
+/// The mark of a line of a configuration: `# config: LINE`.
 const CONFIG: &[u8] = b"# config: ";
 
-/// What stands after a mark of a line, if it has the mark.
+/// What follows the mark at the front of a line, if the line has the mark.
 fn after<'a>(line: &'a [u8], mark: &[u8]) -> Option<&'a [u8]>
     ensures { IfSome result (λ text. text.now ≡ drop (length mark.now) line.now) }
 {
     line.strip_prefix(mark)
 }
 
-/// The words that a line names, if it names some.
+/// The words that a line gives, if it gives some.
 pub(crate) fn words_of(line: &[u8]) -> Option<&[u8]> {
     after(line, WORDS)
 }
 
-/// The words of a text, which are parted by spaces. One that isn't UTF-8 is left out.
+/// The words of a text, which are separated by spaces. A word that isn't UTF-8 is left out.
 pub(crate) fn words_in(alloc: Global, text: &[u8]) -> Result<Vec<String>, AllocError> {
     let mut words = Vec::new(alloc);
     for word in text.split(|byte| *byte == b' ') {

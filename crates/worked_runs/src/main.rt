@@ -1,10 +1,10 @@
-//! The worked runs. Each file `NAME.events` of the current folder is one: comments that say what it
-//! shows and name the program's words, with the lines of a configuration or none, then events. They
-//! are replayed in order of name, over both stores, which are to write the same. What is written
-//! stands after a line with the run's name; where the program would stop before it is done, a line
-//! says with which status and text.
+//! The worked runs. Each file `NAME.events` in the current folder is one: comments that say what it
+//! shows and give the program's words, with the lines of a configuration or none, then events. They
+//! are replayed in order of name, over both stores, which must write the same. What is written
+//! follows a line with the run's name; if the program would stop before it is done, a line gives
+//! the status and the text.
 //!
-//! The runs stand in `data`, and what all of them must write in `stdout`. To add one, add its file
+//! The runs are in `data`, and what all of them must write is in `stdout`. To add one, add its file
 //! and its lines, and compare: `cd data && ../out/worked_runs | diff - ../stdout`.
 #![tactic(auto)]
 
@@ -17,7 +17,7 @@ use std::hash::RandomState;
 use std::io::Write;
 use std::{fs, io};
 
-/// What is written at a run, over a store that is made of this seed.
+/// What is written for a run, over a store that is made from this seed.
 fn written<S: Store + Drop>(
     rt: &HostRuntime,
     seed: S::Seed,
@@ -32,7 +32,7 @@ where
     Ok(text)
 }
 
-/// Plays the run of this name, whose file stands in the current folder, over a list and over a
+/// Plays the run with this name, whose file is in the current folder, over a list and over a
 /// recency map. What is written over the latter is written too, if it differs.
 fn play(rt: &HostRuntime, name: &str) -> io::Result<()> {
     let file = files::file_of(rt.alloc(), name)?;

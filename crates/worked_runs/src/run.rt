@@ -1,4 +1,4 @@
-//! One run: what the program makes of it.
+//! One run: what the program does with it.
 
 use crate::lines::{config_of, words_in, words_of};
 use coap_cache::Store;
@@ -7,8 +7,8 @@ use std::alloc::Global;
 use std::io;
 use std::io::{ErrorKind, Write};
 
-/// What the program makes of these words, of a configuration, if there is one, and of events, over
-/// a store that is made of this seed.
+/// Runs the program with these words, a configuration, if there is one, and events, over a store
+/// that is made from this seed.
 fn serve_words<W: Write, S: Store + Drop>(
     alloc: Global,
     seed: S::Seed,
@@ -25,7 +25,7 @@ where
     serve_events::<_, _, S>(alloc, seed, plan, events, output)
 }
 
-/// What the program makes of the words and the configuration of a run, and of its events.
+/// Runs the program with the words, the configuration and the events of a run.
 fn serve_run<W: Write, S: Store + Drop>(
     alloc: Global,
     seed: S::Seed,
@@ -43,17 +43,17 @@ where
     Ok(serve_words::<_, S>(alloc, seed, &words, config.as_deref(), events, output))
 }
 
-/// Writes with which status and text the program would stop.
+/// Writes the status and the text with which the program would stop.
 fn write_fault<W: Write>(output: &mut W, fault: Fault) -> io::Result<()> {
     let status = fault.status();
     writeln!(output, "status {status}: {fault}")
 }
 
-/// Writes a line with the name of a run, what the program writes at its words and events over a
-/// store that is made of this seed, and the fault with which it stops, if there is one.
+/// Writes a line with the name of a run, what the program writes for its words and events over a
+/// store that is made from this seed, and the fault with which it stops, if there is one.
 ///
 /// # Errors
-/// `InvalidData` where no line of the run begins with `# words:`.
+/// `InvalidData` if no line of the run begins with `# words:`.
 pub(crate) fn play<W: Write, S: Store + Drop>(
     alloc: Global,
     seed: S::Seed,

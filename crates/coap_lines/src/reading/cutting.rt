@@ -1,10 +1,10 @@
-//! Texts that are cut at a byte.
+//! Splitting a text at a byte.
 ghost use Rattle.std.specs.Prelude.{◌≡◌};
 ghost use Rattle.coap_lines.specs.Texts.{cut, parts_seen};
 
 use coap_uri::first_part;
 
-/// What stands before the first such byte and what stands after it, if there is one.
+/// What comes before the first such byte and what comes after it, if there is one.
 pub(crate) fn cut(text: &[u8], byte: u8) -> Option<(&[u8], &[u8])>
     ensures { parts_seen result ≡ cut byte text.now }
 {

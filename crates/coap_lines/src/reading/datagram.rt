@@ -1,4 +1,4 @@
-//! The bytes of a datagram as a text: hexadecimal digits, or a hyphen where there are none.
+//! The bytes of a datagram as a text: hexadecimal digits, or a hyphen if there are none.
 ghost use Rattle.std.specs.Prelude.{◌≡◌};
 ghost use Rattle.std.specs.List.{list_all};
 ghost use Rattle.hex.specs.Hex.{is_hex_digit};
@@ -30,7 +30,7 @@ fn is_hex(text: &[u8]) -> bool
     text.len() >= 2 && text.len() % 2 == 0 && are_hex_digits(text)
 }
 
-/// The bytes that a text writes: an even number of hexadecimal digits, at least two, or a hyphen
+/// The bytes that a text encodes: an even number of hexadecimal digits, at least two, or a hyphen
 /// for none.
 pub(crate) fn read_bytes(alloc: Global, text: &[u8]) -> Result<Seq<u8>, LineError>
     ensures { Finds (λ bytes. bytes) (bytes_read text.now) result }

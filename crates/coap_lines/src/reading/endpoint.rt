@@ -10,7 +10,7 @@ use coap_endpoint::{Endpoint, Ip};
 use coap_uri::{first_part, read_ipv4};
 use std::net::Ipv6Addr;
 
-/// A port of 0 to 65,535.
+/// Parses a port, 0 to 65,535.
 fn read_port(text: &[u8]) -> Option<u16>
     ensures { result ≡ number_of 65535 text.now }
 {
@@ -54,7 +54,7 @@ fn read_v4(text: &[u8]) -> Option<Endpoint>
     Some(Endpoint { ip, port })
 }
 
-/// What stands after a colon.
+/// What follows a leading colon.
 fn after_colon(text: &[u8]) -> Option<&[u8]>
     ensures { option_map (λ rest. rest.now) result ≡ read_byte 58 text.now }
 {
@@ -79,7 +79,7 @@ fn read_v6(text: &[u8]) -> Option<Endpoint>
     })
 }
 
-/// The endpoint that a text writes.
+/// The endpoint that a text encodes.
 pub(crate) fn read_endpoint(text: &[u8]) -> Option<Endpoint>
     ensures { result ≡ endpoint_of text.now }
 {

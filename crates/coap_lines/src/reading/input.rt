@@ -10,10 +10,10 @@ use crate::room::put;
 use std::io;
 use std::io::{BufRead, ErrorKind};
 
-/// The most bytes of a line, without its line feed.
+/// The greatest length of a line in bytes, without its line feed.
 pub const LONGEST: usize = 16_384;
 
-/// What comes next of an input.
+/// What comes next in an input.
 #[derive(Clone, Copy, PartialEq, Eq)]
 pub enum Next {
     /// A line.
@@ -35,7 +35,7 @@ enum Piece {
     Last,
 }
 
-/// How many of these bytes are of the line, and whether its line feed comes after them.
+/// How many of these bytes belong to the line, and whether its line feed follows.
 fn line_part(bytes: &[u8]) -> (usize, bool)
     ensures within { result.0 ≤ length bytes.now }
     ensures none { has 10 (take result.0 bytes.now) ≡ false }
@@ -50,7 +50,7 @@ fn line_part(bytes: &[u8]) -> (usize, bool)
     }
 }
 
-/// Reads up to the line feed, which it takes and doesn't keep, to one byte more than a line may
+/// Reads up to the line feed, which is consumed but not kept, up to one byte more than a line may
 /// have, or to the end.
 fn read_piece<R: BufRead>(reader: &mut R, line: &mut Vec<u8>) -> io::Result<Piece>
     requires { 16385 ≤ vec_capacity line.old }
@@ -85,16 +85,16 @@ fn read_piece<R: BufRead>(reader: &mut R, line: &mut Vec<u8>) -> io::Result<Piec
         }
         reader.consume(used);
     }
-    // Not reached: each turn takes a byte, and 16,385 end it.
+    // Not reached: each iteration takes a byte, and 16,385 bytes end the loop.
     Err(io::Error::from(ErrorKind::Other))
 }
 
 /// Reads the next line of an input, without its line feed, which the last line may lack. The buffer
-/// has room for 16,385 bytes, and never holds more, so that this takes no memory.
+/// has room for 16,385 bytes, and never holds more, so that this doesn't allocate.
 ///
 /// # Errors
-/// What the reader answers, an interrupted read too. A part of the line may have been taken then,
-/// never its line feed; it is lost.
+/// Those of the reader, an interrupted read included. Part of the line may have been taken then,
+/// but never its line feed; that part is lost.
 pub fn next_line<R: BufRead>(reader: &mut R, line: &mut Vec<u8>) -> io::Result<Next>
     requires { 16385 ≤ vec_capacity line.old }
     ensures within { vec_len line.new ≤ 16385 }

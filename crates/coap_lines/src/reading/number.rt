@@ -15,7 +15,7 @@ fn has_needless_start(text: &[u8]) -> bool
     }
 }
 
-/// The number of at most `most` that a text writes in decimal digits, without leading zeros.
+/// The number, at most `most`, that a text gives in decimal digits, without leading zeros.
 pub(crate) fn read_number(text: &[u8], most: u64) -> Option<u64>
     ensures read { result ≡ number_of most text.now }
     ensures within { IfSome result (λ number. number ≤ most) }

@@ -1,4 +1,4 @@
-//! Turns: an event with its moment and its draw, and the lines that say one.
+//! Turns: an event with its moment and its draw, and the lines that encode one.
 ghost use Rattle.std.specs.Prelude.{◌≡◌, IfSome, IsOk};
 ghost use Rattle.coap_model.specs.Events.Event.{tick};
 ghost use Rattle.coap_lines.specs.Answers.{Finds};
@@ -16,13 +16,13 @@ use std::alloc::Global;
 /// The greatest moment, in milliseconds: 2^62.
 const LATEST: u64 = 1 << 62;
 
-/// The greatest draw.
+/// The greatest draw, in milliseconds.
 const GREATEST_DRAW: u64 = 1_000;
 
 /// An event with the bytes of its datagram.
 #[derive(Drop)]
 pub enum OwnedEvent {
-    /// A datagram comes from an endpoint.
+    /// A datagram came from an endpoint.
     Datagram { from: Endpoint, bytes: Seq<u8> },
     /// Time has passed.
     Tick,
@@ -31,14 +31,14 @@ pub enum OwnedEvent {
 /// An event with its moment and its draw.
 #[derive(Drop)]
 pub struct Turn {
-    /// Milliseconds, at most 2^62.
+    /// In milliseconds, at most 2^62.
     pub now: u64,
-    /// At most 1,000.
+    /// In milliseconds, at most 1,000.
     pub draw: u16,
     pub event: OwnedEvent,
 }
 
-/// The datagram that a text says, with its source.
+/// The datagram that a text encodes, with its source.
 #[tactic(auto, unfolding(crate::specs::Turns::arrival_of))]
 fn read_arrival(alloc: Global, text: &[u8]) -> Result<OwnedEvent, LineError>
     ensures { Finds event_seen (arrival_of text.now) result }
@@ -53,7 +53,7 @@ fn read_arrival(alloc: Global, text: &[u8]) -> Result<OwnedEvent, LineError>
     Ok(OwnedEvent::Datagram { from, bytes })
 }
 
-/// The event that a text says.
+/// The event that a text encodes.
 #[tactic(auto, unfolding(crate::specs::Turns::event_of))]
 fn read_event(alloc: Global, text: &[u8]) -> Result<OwnedEvent, LineError>
     ensures read { Finds event_seen (event_of text.now) result }
@@ -65,13 +65,13 @@ fn read_event(alloc: Global, text: &[u8]) -> Result<OwnedEvent, LineError>
     read_arrival(alloc, text)
 }
 
-/// The turn that a line says after the moment `last`: `MOMENT DRAW FROM HEX` or `MOMENT DRAW tick`,
-/// its fields parted by one space, without a line end. The moment is in milliseconds, at least
-/// `last` and at most 2^62, the draw at most 1,000.
+/// The turn that a line encodes, after the moment `last`. The line is `MOMENT DRAW FROM HEX` or
+/// `MOMENT DRAW tick`, its fields separated by one space, without a line end. The moment is in
+/// milliseconds, at least `last` and at most 2^62; the draw is in milliseconds, at most 1,000.
 ///
 /// # Errors
-/// `Bad` where the line says none, and only there. `OutOfMemory` where it says one whose datagram
-/// found no memory; a tick takes none.
+/// `Bad` exactly if the line encodes no such turn. `OutOfMemory` if it encodes one, but there was
+/// no memory for its datagram; a tick doesn't allocate.
 #[tactic(auto, using(crate::proofs::Ticking::turn_ticks), unfolding(crate::specs::Turns::turn_of))]
 pub fn read_turn(alloc: Global, line: &[u8], last: u64) -> Result<Turn, LineError>
     ensures read { Finds turn_seen (turn_of last line.now) result }

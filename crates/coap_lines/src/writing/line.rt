@@ -11,7 +11,10 @@ use coap_endpoint::Endpoint;
 use coap_message::OutOfMemory;
 use std::alloc::Global;
 
-/// An empty buffer with room for the line of a datagram of so many bytes.
+/// An empty buffer with room for the line of a datagram of `datagram` bytes.
+///
+/// # Errors
+/// Out of memory.
 pub fn line_buffer(alloc: Global, datagram: usize) -> Result<Vec<u8>, OutOfMemory>
     ensures empty { IfOk result (λ buffer. buffer.items ≡ []) }
     ensures room { IfOk result (λ buffer. longest_line datagram ≤ vec_capacity buffer) }
@@ -25,7 +28,7 @@ pub fn line_buffer(alloc: Global, datagram: usize) -> Result<Vec<u8>, OutOfMemor
 /// feed, TO with groups in lower case without leading zeros, HEX in upper case, or `-` for no
 /// bytes.
 ///
-/// The buffer has room for it, as one of `line_buffer`, so that this takes no memory.
+/// The buffer has room for it, as one from `line_buffer` has, so that this doesn't allocate.
 #[tactic(auto, unfolding(crate::specs::Lines::line_of))]
 pub fn put_line(out: &mut Vec<u8>, now: u64, to: Endpoint, bytes: &[u8])
     requires { HasRoom out.old (longest_line (length bytes.now)) }

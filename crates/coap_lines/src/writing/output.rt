@@ -1,4 +1,4 @@
-//! Writing lines out.
+//! Writing lines to a writer.
 ghost use Rattle.std.specs.Prelude.{◌≡◌, ◌≢◌, ◌++◌, ℕ, List, [], IfErr, OnErr, OnOk};
 ghost use Rattle.std.specs.Io.KnownBytes.{Appends};
 ghost use Rattle.std.specs.IoError.{error_kind};
@@ -9,8 +9,8 @@ use std::io::{ErrorKind, Write};
 /// Writes all bytes.
 ///
 /// # Errors
-/// What the writer answers, or `WriteZero` where it takes nothing. A front of the bytes was written
-/// then, and not all of them. An interrupted write is tried again, and never answered.
+/// That of the writer, or `WriteZero` if it takes nothing. A proper prefix of the bytes was written
+/// then. An interrupted write is retried, and never returned as an error.
 pub fn write_bytes<W: Write>(writer: &mut W, bytes: &[u8]) -> io::Result<()>
     ensures all { OnOk result (Appends (W.contents writer.old) (W.contents writer.new) bytes.now) }
     ensures retried { IfErr result (λ e. error_kind e ≢ ErrorKind.Interrupted) }
@@ -36,6 +36,6 @@ pub fn write_bytes<W: Write>(writer: &mut W, bytes: &[u8]) -> io::Result<()>
     if rest.is_empty() {
         return Ok(());
     }
-    // 2^64 - 1 turns, most of them interrupted.
+    // 2^64 - 1 iterations, most of them interrupted.
     Err(io::Error::from(ErrorKind::Other))
 }

@@ -6,12 +6,12 @@ use Rattle.coap_model.specs.World.{World}
 use Rattle.coap_proxyd.specs.Serving.{IsServed, ended_as}
 use Rattle.coap_proxyd.proofs.serving.serve_on.Goals as goal
 
--- a buffer that holds nothing leaves what is known of a reader
+-- a buffer that holds nothing doesn't change what is known of a reader
 none-prepended : (known : Option (List ℕ)) → prepend_known [] known ≡ known
 none-prepended None = refl
 none-prepended (Some bytes) = refl
 
--- a replay of what a new buffer over a reader gives is one of what the reader gives
+-- a replay of what a new buffer over a reader gives is a replay of what the reader gives
 served : (turns : ℕ) (proxy after : World) (input left old new : Option (List ℕ)) (replayed : Result ℕ ReplayError) → IsReplayed proxy after turns (prepend_known [] input) left old new replayed
     → IsServed turns proxy input old new (ended_as replayed)
 served turns proxy after input left old new replayed is =

@@ -9,7 +9,7 @@ use Rattle.coap_proxyd.specs.Planning.{setting_of}
 use Rattle.coap_proxyd.specs.Serving.{IsServedOver, driven_as}
 use Rattle.coap_proxyd.proofs.serving.serve_port.Goals as goal
 
--- what a core was driven to is what the program does, where the core is the new one
+-- driving a core is what the program does, if the core is the new one
 driven : {P : Type 0} (gives : ℕ → P → ℕ → Turn → P → Type 0) (takes : P → Endpoint → List ℕ → Bool → P → Type 0) (clock failures : P → ℕ) (turns asked : ℕ) (proxy core after : World) (p q : P) (r : Result Stats DriveError)
     → core ≡ proxy → turns ≡ asked → Ends (gives (core.setting.limits.datagram + 1)) takes clock failures turns core p after q r
     → IsServedOver (gives (proxy.setting.limits.datagram + 1)) takes clock failures asked proxy p q (driven_as r)

@@ -64,7 +64,7 @@ returns g c = record { replayed = ends-unread _ _ _ _ (g.R.Read.remaining c.loop
 pub returns-then-turns-eq0 : goal.returns-then-turns-eq0
 returns-then-turns-eq0 g c = record { replayed = rw c.if-turns-eq0.true (ends-none _ _ _) }
 
--- memory is missing before the first line
+-- memory runs out before the first line
 pub returns-in_default : goal.returns-in_default
 returns-in_default g c = record { replayed = ends-at-start _ _ _ _ }
 

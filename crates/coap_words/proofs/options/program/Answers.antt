@@ -3,9 +3,11 @@ use Rattle.clap.specs.Simple.{App, app_of_fields, on_top}
 use Rattle.clap.specs.Words.{app_of}
 use Rattle.coap_words.proofs.options.program.Goals as goal
 
+-- a command whose words don't begin with its name
 abbrev nameless : App → App
 nameless = on_top (λ s. record s { no_binary_name = true })
 
+-- a command with a version
 abbrev versioned : App → App
 versioned = on_top (λ s. record s { has_version = true })
 

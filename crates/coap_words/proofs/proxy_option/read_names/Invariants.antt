@@ -5,7 +5,7 @@ use Rattle.coap_uri.specs.Uri.{parts_left}
 use Rattle.coap_words.specs.ProxyOption.{bytes_of, comma, names_of, parts}
 use Rattle.coap_words.proofs.proxy_option.read_names.Given as goal
 
--- what is left to cut
+-- a measure of what is left to split
 abbrev pub left : Option (Bor (List ℕ)) → ℕ
 left None = 0
 left (Some text) = length text.now + 1
