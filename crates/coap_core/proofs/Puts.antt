@@ -80,7 +80,7 @@ answered_in v now number a = later (record v { exchanges = changed_at number (an
 
 module _ (w v : World) (now : ℕ) (a : Arrived) where
   abbrev made : Entry
-  made = entry_made w now a.exchange a.answer
+  made = entry_made w now a.exchange.1 a.answer
 
   abbrev left : Storing → Step
   left storing = takes_up (Answered storing) a.source a.message (answered_in v now a.exchange.0 a.answer)
@@ -98,7 +98,7 @@ module _ (w v : World) (now : ℕ) (a : Arrived) where
   put-is NotStored k = absurd k
 
   -- the same of an answer that may be one that isn't stored
-  pub kept-is : (storing : Storing) → IsKept w (if_storable w now a.exchange a.answer) storing v → answers_with w now (grown_of (Answered storing)) a ≡ left storing
+  pub kept-is : (storing : Storing) → IsKept w (if_storable w now a.exchange.1 a.answer) storing v → answers_with w now (grown_of (Answered storing)) a ≡ left storing
   kept-is storing k = go (may_store a.exchange.1 a.answer) k
     where
       go : (b : Bool) → IsKept w (cond b (Some made) None) storing v → cond b (stores w now (grown_of (Answered storing)) a) (answers_so w now a NotStored w.store) ≡ left storing
@@ -148,13 +148,13 @@ module _ (w v : World) (now : ℕ) (source : Endpoint) (m : Message) (x : Number
       }
 
   -- a response that isn't confirmable
-  other-is : is_con m.kind ≡ false → IsKept u (if_storable w now x a) storing v → answers w now (grown_of (Answered storing)) source m x ≡ step_left
+  other-is : is_con m.kind ≡ false → IsKept u (if_storable w now x.1 a) storing v → answers w now (grown_of (Answered storing)) source m x ≡ step_left
   other-is other k = kept-is u v now arrived storing k ∙ rw other refl
 
   -- a confirmable one, which is remembered
-  con-is : is_con m.kind ≡ true → IsKept (with_record now source m (spelling (acknowledgement m.id)) u) (if_storable w now x a) storing v → remembers now source m (answers w now (grown_of (Answered storing)) source m x) ≡ step_left
+  con-is : is_con m.kind ≡ true → IsKept (with_record now source m (spelling (acknowledgement m.id)) u) (if_storable w now x.1 a) storing v → remembers now source m (answers w now (grown_of (Answered storing)) source m x) ≡ step_left
   con-is con k =
-      let parts = kept-before u v now source m (spelling (acknowledgement m.id)) (if_storable w now x a) storing k in
+      let parts = kept-before u v now source m (spelling (acknowledgement m.id)) (if_storable w now x.1 a) storing k in
       let is = kept-is u (record u { store = v.store }) now arrived storing parts.0 in
       ap (remembers now source m) is ∙ said parts.1
     where
@@ -165,10 +165,10 @@ module _ (w v : World) (now : ℕ) (source : Endpoint) (m : Message) (x : Number
           rw con (λ i. record { report = record { send = Some source; outcome = Answered storing }; bytes = spelling (acknowledgement m.id); world = turned i })
 
   -- either
-  pub answering-is : IsKept (taken_up now source m u) (if_storable w now x a) storing v → answering w now (grown_of (Answered storing)) source m x ≡ step_left
+  pub answering-is : IsKept (taken_up now source m u) (if_storable w now x.1 a) storing v → answering w now (grown_of (Answered storing)) source m x ≡ step_left
   answering-is k = go (is_con m.kind) refl k
     where
-      go : (b : Bool) → is_con m.kind ≡ b → IsKept (cond b (with_record now source m (spelling (acknowledgement m.id)) u) u) (if_storable w now x a) storing v
+      go : (b : Bool) → is_con m.kind ≡ b → IsKept (cond b (with_record now source m (spelling (acknowledgement m.id)) u) u) (if_storable w now x.1 a) storing v
           → cond b (remembers now source m (answers w now (grown_of (Answered storing)) source m x)) (answers w now (grown_of (Answered storing)) source m x) ≡ step_left
       go true e f = con-is e f
       go false e f = other-is e f
@@ -206,20 +206,20 @@ module _ (w v : World) (now number : ℕ) (source : Endpoint) (m : Message) (cha
 -- what is done for the exchange of a number
 pub answer-does : (w v : World) (now number : ℕ) (source : Endpoint) (m : Message) (entry : Option Entry) (changed : List Target) (storing : Storing) (report : Report) (old new : Datagram) (after : World) (a : Answer)
     → Some a ≡ option_map (answer_for w now m) (item_at number w.exchanges)
-    → IfSome (item_at number w.exchanges) (λ x. entry ≡ if_storable w now (number, x) a)
+    → IfSome (item_at number w.exchanges) (λ x. entry ≡ if_storable w now x a)
     → IfSome (item_at number w.exchanges) (λ x. changed ≡ changed_by x.key.target m)
     → IsKept (with_changed changed (taken_up now source m w)) entry storing v
     → report ≡ record { send = taken_up_to source m; outcome = Answered storing } → new ≡ holding old (taken_up_bytes m) → after ≡ answered_in v now number a
     → IfSome (answering_at w now (grown_of report.outcome) source m number) (λ step. Does step report old new after)
 answer-does w v now number source m entry changed storing report old new after a is made marked kept told said left = go (item_at number w.exchanges) is made marked
   where
-    go : (o : Option Exchange) → Some a ≡ option_map (answer_for w now m) o → IfSome o (λ x. entry ≡ if_storable w now (number, x) a) → IfSome o (λ x. changed ≡ changed_by x.key.target m)
+    go : (o : Option Exchange) → Some a ≡ option_map (answer_for w now m) o → IfSome o (λ x. entry ≡ if_storable w now x a) → IfSome o (λ x. changed ≡ changed_by x.key.target m)
         → IfSome (option_map (λ x. answering w now (grown_of report.outcome) source m (number, x)) o) (λ step. Does step report old new after)
     go None i e t = tt
     go (Some x) i e t =
         let same : a ≡ answer_for w now m x = same_Some a (answer_for w now m x) i in
         let beside = subst (λ (u : World). IsKept u entry storing v) (changes-taken changed now source m w) kept in
-        let k : IsKept (taken_up now source m (with_changed (changed_by x.key.target m) w)) (if_storable w now (number, x) (answer_for w now m x)) storing v = rw (t, e, same) at beside in
+        let k : IsKept (taken_up now source m (with_changed (changed_by x.key.target m) w)) (if_storable w now x (answer_for w now m x)) storing v = rw (t, e, same) at beside in
         let step = answering-is w v now source m (number, x) storing k in
         rw (told, step) (refl, said, left ∙ ap (answered_in v now number) same)
 
@@ -267,12 +267,12 @@ module _ (w : World) (now : ℕ) (grown : Bool) (a : Arrived) where
   with-takes : wants_memory (answers_with w now grown a) ≡ true
   with-takes = storable (may_store a.exchange.1 a.answer) refl
     where
-      short : (b : Bool) → nat_le (entry_size (entry_made w now a.exchange a.answer)) w.setting.limits.cache_bytes ≡ b → wants_memory (stores w now grown a) ≡ true
+      short : (b : Bool) → nat_le (entry_size (entry_made w now a.exchange.1 a.answer)) w.setting.limits.cache_bytes ≡ b → wants_memory (stores w now grown a) ≡ true
       short true e = rw e (kept-takes grown (of_key entry_key a.exchange.1.key w.store))
       short false e = rw e (so-takes TooLarge (others entry_key a.exchange.1.key w.store))
 
       storable : (b : Bool) → may_store a.exchange.1 a.answer ≡ b → wants_memory (answers_with w now grown a) ≡ true
-      storable true e = rw e (short (nat_le (entry_size (entry_made w now a.exchange a.answer)) w.setting.limits.cache_bytes) refl)
+      storable true e = rw e (short (nat_le (entry_size (entry_made w now a.exchange.1 a.answer)) w.setting.limits.cache_bytes) refl)
       storable false e = rw e (so-takes NotStored w.store)
 
 -- an answer takes memory

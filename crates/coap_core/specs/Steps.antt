@@ -24,6 +24,7 @@ use Rattle.coap_option.specs.Selection.{tags_of}
 use Rattle.coap_store.specs.declared.key.CacheKey.{CacheKey}
 use Rattle.coap_store.specs.declared.stored.Stored.{Stored}
 use Rattle.coap_store.specs.Entries.{stored_for}
+use Rattle.coap_core.specs.declared.arrival.Arrival.{Arrival}
 use Rattle.coap_core.specs.declared.request_target.CacheQuery.{CacheQuery}
 use Rattle.coap_model.specs.Events.{Event}
 use Rattle.coap_model.specs.History.{Entry, grown_of, is_con_datagram}
@@ -34,7 +35,7 @@ use Rattle.coap_model.specs.Word.{KeepsItsWord}
 use Rattle.coap_endpoint.specs.declared.endpoint.Endpoint.{Endpoint}
 use Rattle.coap_dedup.specs.Lists.{AreUpTo}
 use Rattle.coap_dedup.specs.Records.{AreRecords}
-use Rattle.coap_model.specs.World.{World, Step, later, silent, records_of, reserved, known_of, repeats, next_id, has_room_to_join}
+use Rattle.coap_model.specs.World.{World, Step, later, silent, records_of, reserved, known_of, repeats, next_id, can_reply, has_room_to_join}
 use Rattle.coap_model.specs.Requests.{joins, turns_away}
 use Rattle.coap_core.specs.declared.requests.Verdict.{Verdict}
 use Rattle.coap_core.specs.declared.requests.Verdict.TheVariants.{RefusedWith, MayAsk}
@@ -109,6 +110,19 @@ pub record CanGoOn (w : World) : Type 0 where
 pub record CanRemember (now : ℕ) (source : Endpoint) (m : Message) (w : World) : Type 0 where
   pub unknown : known_of w now source m ≡ None
   pub until : AreUpTo now (records_of m.kind w).items
+
+-- A step may be taken at this moment, in milliseconds: the tables can go on, and time doesn't go
+-- back.
+pub record CanStep (now : ℕ) (w : World) : Type 0 where
+  pub can : CanGoOn w
+  pub onward : w.last ≤ now
+  pub moment : now ≤ 2 ^ 62
+
+-- a reply may be sent to this request at once: it is new, and there is a message id for the reply
+pub record CanReplyTo (request : Arrival) (w : World) : Type 0 where
+  pub ready : CanStep request.now w
+  pub new : CanRemember request.now request.from request.message.now w
+  pub ids : can_reply w request.now request.message.now.kind ≡ true
 
 -- what a duplicate gets, if the message is one
 abbrev pub repetition_of : World → ℕ → Endpoint → Message → Option Step

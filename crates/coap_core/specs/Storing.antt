@@ -25,8 +25,8 @@ AreStoreLimits limits of_store =
     of_store ≡ record { bytes = limits.cache_bytes; entries = limits.cache_entries }
 
 -- what is to be stored for the answer of an exchange, if it may be
-abbrev pub if_storable : World → ℕ → Numbered Exchange → Answer → Option Entry
-if_storable w now x a = if may_store x.1 a then Some (entry_made w now x a) else None
+abbrev pub if_storable : World → ℕ → Exchange → Answer → Option Entry
+if_storable w now x a = if may_store x a then Some (entry_made w now x a) else None
 
 -- the targets that a response changes
 abbrev pub targets_with : Target → Option Target → List Target

@@ -8,7 +8,7 @@ ghost use Rattle.coap_forward.specs.Messages.{acknowledgement, reply_kind, reply
 ghost use Rattle.coap_model.specs.World.{next_id, records_of, has_record_room, can_reply, drops, known_of, with_record};
 ghost use Rattle.coap_model.specs.Requests.{replied};
 ghost use Rattle.coap_core.specs.Arrivals.{of_arrival};
-ghost use Rattle.coap_core.specs.Steps.{CanGoOn, CanRemember, Does, IsSaid, repetition_of};
+ghost use Rattle.coap_core.specs.Steps.{CanGoOn, CanRemember, CanReplyTo, CanStep, Does, IsSaid, repetition_of};
 ghost use Rattle.coap_core.specs.Storing.{taken_up_bytes, taken_up_to};
 
 use crate::arrival::Arrival;
@@ -128,8 +128,7 @@ impl<S: Store + Drop> World<S> {
     /// Whether a reply can be sent at once to a request of this type. An acknowledgement needs no
     /// new id.
     pub(crate) fn can_reply(&self, now: u64, kind: Kind) -> bool
-        requires can { CanGoOn self.now }
-        requires onward { self.now.last ≤ now }
+        requires ready { CanStep now self.now }
         ensures { result ≡ can_reply self.now now kind }
     {
         kind == Kind::Con || self.has_ids(1, now)
@@ -195,10 +194,7 @@ impl<S: Store + Drop> World<S> {
         outcome: Outcome,
         out: &Datagram,
     ) -> Result<Report, OutOfMemory>
-        requires can { CanGoOn self.old }
-        requires new { CanRemember arrival.now arrival.from arrival.message.now self.old }
-        requires onward { self.old.last ≤ arrival.now }
-        requires ids { can_reply self.old arrival.now arrival.message.now.kind ≡ true }
+        requires reply { CanReplyTo arrival self.old }
         ensures report { IfOk result (λ report.
             report ≡ record { send = Some arrival.entry.from; outcome = outcome }) }
         ensures done { OnOk result

@@ -16,7 +16,7 @@ ghost use Rattle.coap_model.specs.Requests.{lacks_id, refuses, overloads, opens,
 ghost use Rattle.coap_model.specs.World.{can_reply, later, remembers, takes_up};
 ghost use Rattle.coap_core.specs.Arrivals.{of_arrival};
 ghost use Rattle.coap_core.specs.Forms.{seen};
-ghost use Rattle.coap_core.specs.Steps.{Does, IsDone, CanGoOn, CanRemember, IsAsked, held_for, joinable_step, verdict_seen, wants_memory};
+ghost use Rattle.coap_core.specs.Steps.{Does, IsDone, CanGoOn, CanRemember, CanReplyTo, CanStep, IsAsked, held_for, joinable_step, verdict_seen, wants_memory};
 ghost use Rattle.coap_core.specs.Storing.{taken_up_bytes};
 ghost use Rattle.coap_core.specs.declared.requests.Verdict.TheVariants as verdicts;
 
@@ -67,9 +67,7 @@ impl<S: Store + Drop> World<S> {
         arrival: Arrival<'_, '_>,
         out: &mut Datagram,
     ) -> Result<Report, OutOfMemory>
-        requires can { CanGoOn self.old }
-        requires onward { self.old.last ≤ arrival.now }
-        requires moment { arrival.now ≤ 2 ^ 62 }
+        requires ready { CanStep arrival.now self.old }
         requires room { self.old.setting.limits.datagram ≤ out.old.room }
         requires fits { length (of_arrival (on_request self.old) arrival).bytes ≤ out.old.room }
         ensures done { IsDone
@@ -94,9 +92,7 @@ impl<S: Store + Drop> World<S> {
         arrival: Arrival<'_, '_>,
         out: &mut Datagram,
     ) -> Result<Report, OutOfMemory>
-        requires can { CanGoOn self.old }
-        requires onward { self.old.last ≤ arrival.now }
-        requires moment { arrival.now ≤ 2 ^ 62 }
+        requires ready { CanStep arrival.now self.old }
         requires new { CanRemember arrival.now arrival.from arrival.message.now self.old }
         requires room { self.old.setting.limits.datagram ≤ out.old.room }
         requires fits { length (of_arrival (on_new self.old) arrival).bytes ≤ out.old.room }
@@ -121,11 +117,7 @@ impl<S: Store + Drop> World<S> {
         asked: &mut CacheQuery,
         out: &mut Datagram,
     ) -> Result<Report, OutOfMemory>
-        requires can { CanGoOn self.old }
-        requires onward { self.old.last ≤ arrival.now }
-        requires moment { arrival.now ≤ 2 ^ 62 }
-        requires new { CanRemember arrival.now arrival.from arrival.message.now self.old }
-        requires ids { can_reply self.old arrival.now arrival.message.now.kind ≡ true }
+        requires reply { CanReplyTo arrival self.old }
         requires room { self.old.setting.limits.datagram ≤ out.old.room }
         requires fits { length (of_arrival (on_new self.old) arrival).bytes ≤ out.old.room }
         ensures { IsDone
@@ -178,11 +170,7 @@ impl<S: Store + Drop> World<S> {
         asked: &CacheQuery,
         out: &mut Datagram,
     ) -> Result<Report, OutOfMemory>
-        requires can { CanGoOn self.old }
-        requires onward { self.old.last ≤ arrival.now }
-        requires moment { arrival.now ≤ 2 ^ 62 }
-        requires new { CanRemember arrival.now arrival.from arrival.message.now self.old }
-        requires ids { can_reply self.old arrival.now arrival.message.now.kind ≡ true }
+        requires reply { CanReplyTo arrival self.old }
         requires asked { IsAsked self.old arrival.message.now asked.now }
         requires room { self.old.setting.limits.datagram ≤ out.old.room }
         requires fits { length (of_arrival (on_key self.old) arrival asked.now.key).bytes
@@ -237,11 +225,7 @@ impl<S: Store + Drop> World<S> {
         asked: &CacheQuery,
         out: &mut Datagram,
     ) -> Result<Report, OutOfMemory>
-        requires can { CanGoOn self.old }
-        requires onward { self.old.last ≤ arrival.now }
-        requires moment { arrival.now ≤ 2 ^ 62 }
-        requires new { CanRemember arrival.now arrival.from arrival.message.now self.old }
-        requires ids { can_reply self.old arrival.now arrival.message.now.kind ≡ true }
+        requires reply { CanReplyTo arrival self.old }
         requires asked { IsAsked self.old arrival.message.now asked.now }
         requires room { self.old.setting.limits.datagram ≤ out.old.room }
         requires fits { length
@@ -268,10 +252,7 @@ impl<S: Store + Drop> World<S> {
         asked: &CacheQuery,
         out: &mut Datagram,
     ) -> Result<Report, OutOfMemory>
-        requires can { CanGoOn self.old }
-        requires onward { self.old.last ≤ arrival.now }
-        requires new { CanRemember arrival.now arrival.from arrival.message.now self.old }
-        requires ids { can_reply self.old arrival.now arrival.message.now.kind ≡ true }
+        requires reply { CanReplyTo arrival self.old }
         requires tags { asked.now.tags ≡ tags_of arrival.message.now }
         requires fits { length (of_arrival (joinable_step self.old) arrival exchange).bytes
             ≤ out.old.room }
@@ -296,11 +277,7 @@ impl<S: Store + Drop> World<S> {
         asked: &CacheQuery,
         out: &mut Datagram,
     ) -> Result<Report, OutOfMemory>
-        requires can { CanGoOn self.old }
-        requires onward { self.old.last ≤ arrival.now }
-        requires moment { arrival.now ≤ 2 ^ 62 }
-        requires new { CanRemember arrival.now arrival.from arrival.message.now self.old }
-        requires ids { can_reply self.old arrival.now arrival.message.now.kind ≡ true }
+        requires reply { CanReplyTo arrival self.old }
         requires asked { IsAsked self.old arrival.message.now asked.now }
         requires room { self.old.setting.limits.datagram ≤ out.old.room }
         requires fits { length
@@ -454,10 +431,7 @@ impl<S: Store + Drop> World<S> {
         code: Code,
         out: &mut Datagram,
     ) -> Result<Report, OutOfMemory>
-        requires can { CanGoOn self.old }
-        requires onward { self.old.last ≤ arrival.now }
-        requires new { CanRemember arrival.now arrival.from arrival.message.now self.old }
-        requires ids { can_reply self.old arrival.now arrival.message.now.kind ≡ true }
+        requires reply { CanReplyTo arrival self.old }
         requires fits { length (of_arrival (refuses self.old) arrival code).bytes ≤ out.old.room }
         ensures { IsDone
             (of_arrival remembers arrival.entry (of_arrival (refuses self.old) arrival.entry code))
@@ -475,10 +449,7 @@ impl<S: Store + Drop> World<S> {
         arrival: Arrival<'_, '_>,
         out: &mut Datagram,
     ) -> Result<Report, OutOfMemory>
-        requires can { CanGoOn self.old }
-        requires onward { self.old.last ≤ arrival.now }
-        requires new { CanRemember arrival.now arrival.from arrival.message.now self.old }
-        requires ids { can_reply self.old arrival.now arrival.message.now.kind ≡ true }
+        requires reply { CanReplyTo arrival self.old }
         requires fits { length (of_arrival (overloads self.old) arrival).bytes ≤ out.old.room }
         ensures { IsDone
             (of_arrival remembers arrival.entry (of_arrival (overloads self.old) arrival.entry))
@@ -541,9 +512,7 @@ impl<S: Store + Drop> World<S> {
         copy: Option<Stored>,
         out: &mut Datagram,
     ) -> Result<Report, OutOfMemory>
-        requires can { CanGoOn self.old }
-        requires moment { arrival.now ≤ 2 ^ 62 }
-        requires new { CanRemember arrival.now arrival.from arrival.message.now self.old }
+        requires reply { CanReplyTo arrival self.old }
         requires tags { tags ≡ tags_of arrival.message.now }
         requires copy { copy
             ≡ copy_of self.old.setting.limits.datagram key.target arrival.message.now
@@ -594,8 +563,7 @@ impl<S: Store + Drop> World<S> {
         tags: Pieces,
         out: &mut Datagram,
     ) -> Result<Report, OutOfMemory>
-        requires can { CanGoOn self.old }
-        requires new { CanRemember arrival.now arrival.from arrival.message.now self.old }
+        requires reply { CanReplyTo arrival self.old }
         requires tags { tags ≡ tags_of arrival.message.now }
         requires fits { length (of_arrival (joins self.old) arrival exchange).bytes
             ≤ out.old.room }

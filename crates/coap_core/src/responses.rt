@@ -11,7 +11,7 @@ ghost use Rattle.coap_exchange.specs.Table.{item_at};
 ghost use Rattle.coap_model.specs.History.{grown_of};
 ghost use Rattle.coap_core.specs.Arrivals.{of_arrival, of_grown};
 ghost use Rattle.coap_core.specs.Storing.{IsKept, answering_at, awaited_step, confirmable_step, separate_step, if_storable, targets_in, taken_up, taken_up_bytes, taken_up_to};
-ghost use Rattle.coap_core.specs.Steps.{Does, IsDoneBy, CanGoOn, CanRemember, IsOpenAt, wants_memory};
+ghost use Rattle.coap_core.specs.Steps.{Does, IsDoneBy, CanGoOn, CanRemember, CanStep, IsOpenAt, wants_memory};
 
 use crate::arrival::Arrival;
 use crate::copies::copy_of_message;
@@ -117,8 +117,7 @@ impl<S: Store + Drop> World<S> {
         arrival: Arrival<'_, '_>,
         out: &mut Datagram,
     ) -> Result<Report, OutOfMemory>
-        requires can { CanGoOn self.old }
-        requires onward { self.old.last ≤ arrival.now }
+        requires ready { CanStep arrival.now self.old }
         requires room { self.old.setting.limits.datagram ≤ out.old.room }
         requires fits { length (of_grown (on_response self.old) arrival true).bytes
             ≤ out.old.room }
@@ -159,8 +158,7 @@ impl<S: Store + Drop> World<S> {
         arrival: Arrival<'_, '_>,
         out: &mut Datagram,
     ) -> Result<Report, OutOfMemory>
-        requires can { CanGoOn self.old }
-        requires onward { self.old.last ≤ arrival.now }
+        requires ready { CanStep arrival.now self.old }
         requires con { is_con arrival.message.now.kind ≡ true }
         requires room { self.old.setting.limits.datagram ≤ out.old.room }
         requires fits { length
@@ -242,11 +240,12 @@ impl<S: Store + Drop> World<S> {
         ensures kept { out.new.room ≡ out.old.room }
     {
         self.is_wide();
-        let Some(answer) = self.answer_made(arrival.now, number, arrival.message)? else {
+        let Some(exchange) = self.exchanges.get(number) else {
             return Ok(self.ignore(arrival.now, out));
         };
-        let entry = self.entry_made(arrival.now, number, &answer)?;
-        let changed = self.changed_by(number, arrival.message)?;
+        let answer = self.answer_made(arrival.now, exchange, arrival.message)?;
+        let entry = self.entry_made(arrival.now, exchange, &answer)?;
+        let changed = changed_by(self.alloc, &exchange.key.target, arrival.message)?;
         let send = self.take_up(arrival, out)?;
         self.change_all(&changed);
         let storing = self.keep(entry);
@@ -290,58 +289,31 @@ impl<S: Store + Drop> World<S> {
         let _values = self.limits.values();
     }
 
-    /// The answer that a response makes for the exchange numbered `number`.
+    /// The answer that a response makes for an exchange.
     fn answer_made(
         &self,
         now: u64,
-        number: u64,
+        exchange: &Exchange,
         response: &MessageRef<'_>,
-    ) -> Result<Option<Answer>, OutOfMemory>
+    ) -> Result<Answer, OutOfMemory>
         ensures { IfOk result (λ answer.
-            answer
-            ≡ option_map (answer_for self.now now response.now)
-            (item_at number self.now.exchanges)) }
+            answer ≡ answer_for self.now now response.now exchange.now) }
     {
-        let Some(exchange) = self.exchanges.get(number) else {
-            return Ok(None);
-        };
         let most = self.limits.values().datagram as usize;
         let (to_get, copy) = (exchange.is_get, exchange.copy.as_ref());
-        let answer = answer_of(self.alloc, most, to_get, copy, now, response)?;
-        Ok(Some(answer))
+        answer_of(self.alloc, most, to_get, copy, now, response)
     }
 
-    /// What a response to the request of the exchange numbered `number` changes.
-    fn changed_by(
-        &self,
-        number: u64,
-        response: &MessageRef<'_>,
-    ) -> Result<Option<Changed>, OutOfMemory>
-        ensures { IfOk result (λ changed.
-            IfSome (item_at number self.now.exchanges) (λ x.
-            targets_in changed ≡ changed_by x.key.target response.now)) }
-    {
-        match self.exchanges.get(number) {
-            Some(exchange) => changed_by(self.alloc, &exchange.key.target, response),
-            None => Ok(None),
-        }
-    }
-
-    /// The entry to be stored for the answer of the exchange numbered `number`, if it may be
-    /// stored.
+    /// The entry to be stored for the answer of an exchange, if it may be stored.
     fn entry_made(
         &self,
         now: u64,
-        number: u64,
+        exchange: &Exchange,
         answer: &Answer,
     ) -> Result<Option<(CacheKey, Stored)>, OutOfMemory>
         ensures { IfOk result (λ entry.
-            IfSome (item_at number self.now.exchanges) (λ x.
-            entry ≡ if_storable self.now now (number, x) answer.now)) }
+            entry ≡ if_storable self.now now exchange.now answer.now) }
     {
-        let Some(exchange) = self.exchanges.get(number) else {
-            return Ok(None);
-        };
         if !may_store(exchange, answer) {
             return Ok(None);
         }

@@ -9,7 +9,7 @@ ghost use Rattle.coap_model.specs.Step.{message_in, on_message, on_datagram, ste
 ghost use Rattle.coap_model.specs.Ticks.{item_due, on_tick};
 ghost use Rattle.coap_core.specs.Arrivals.{of_grown};
 ghost use Rattle.coap_core.specs.Events.{IsUnread, seen};
-ghost use Rattle.coap_core.specs.Steps.{Does, IsDoneBy, CanGoOn, GivesConfirmable, wants_memory};
+ghost use Rattle.coap_core.specs.Steps.{Does, IsDoneBy, CanGoOn, CanStep, GivesConfirmable, wants_memory};
 
 use crate::arrival::Arrival;
 use crate::event::Event;
@@ -31,9 +31,7 @@ impl<S: Store + Drop> World<S> {
         due: Option<DueItem>,
         out: &mut Datagram,
     ) -> Result<Report, OutOfMemory>
-        requires can { CanGoOn self.old }
-        requires onward { self.old.last ≤ now }
-        requires moment { now ≤ 2 ^ 62 }
+        requires ready { CanStep now self.old }
         requires draw { draw ≤ 1000 }
         requires due { due ≡ item_due self.old }
         requires room { self.old.setting.limits.datagram ≤ out.old.room }
@@ -67,9 +65,7 @@ impl<S: Store + Drop> World<S> {
         bytes: &[u8],
         out: &mut Datagram,
     ) -> Result<Report, OutOfMemory>
-        requires can { CanGoOn self.old }
-        requires onward { self.old.last ≤ now }
-        requires moment { now ≤ 2 ^ 62 }
+        requires ready { CanStep now self.old }
         requires room { self.old.setting.limits.datagram ≤ out.old.room }
         requires fits { length (on_datagram self.old now true source bytes.now).bytes
             ≤ out.old.room }
@@ -111,9 +107,7 @@ impl<S: Store + Drop> World<S> {
         arrival: Arrival<'_, '_>,
         out: &mut Datagram,
     ) -> Result<Report, OutOfMemory>
-        requires can { CanGoOn self.old }
-        requires onward { self.old.last ≤ arrival.now }
-        requires moment { arrival.now ≤ 2 ^ 62 }
+        requires ready { CanStep arrival.now self.old }
         requires room { self.old.setting.limits.datagram ≤ out.old.room }
         requires fits { length (of_grown (on_message self.old) arrival true).bytes
             ≤ out.old.room }

@@ -8,7 +8,7 @@ ghost use Rattle.coap_forward.specs.Messages.{is_con};
 ghost use Rattle.coap_model.specs.Ticks.{abandons, item_due, moment_of, gives_up, idles, on_exchange, on_waiter, on_tick, without_idle};
 ghost use Rattle.coap_exchange.specs.Waiters as waiters;
 ghost use Rattle.coap_exchange.specs.Waiters.{is_waiting};
-ghost use Rattle.coap_core.specs.Steps.{Does, IsDone, CanGoOn, GivesConfirmable, IsClientDueAt, IsDueAt, answer_at, delivery_at, firing_at, form_at, sending_at, told_in, unheard_at};
+ghost use Rattle.coap_core.specs.Steps.{Does, IsDone, CanGoOn, CanStep, GivesConfirmable, IsClientDueAt, IsDueAt, answer_at, delivery_at, firing_at, form_at, sending_at, told_in, unheard_at};
 
 use crate::world::{World, silent};
 use coap_exchange::{Exchange, ExchangeState, Fire, Sending, Timer, WaiterState};
@@ -42,9 +42,7 @@ impl<S: Store + Drop> World<S> {
         due: Option<DueItem>,
         out: &mut Datagram,
     ) -> Result<Report, OutOfMemory>
-        requires can { CanGoOn self.old }
-        requires onward { self.old.last ≤ now }
-        requires moment { now ≤ 2 ^ 62 }
+        requires ready { CanStep now self.old }
         requires draw { draw ≤ 1000 }
         requires due { due ≡ item_due self.old }
         requires fits { length (on_tick self.old now draw).bytes ≤ out.old.room }
@@ -103,9 +101,7 @@ impl<S: Store + Drop> World<S> {
     /// Handles the exchange numbered `number`, which is due: it times out at its deadline, and
     /// before that its request is sent, or sent again.
     fn on_exchange(&mut self, now: u64, draw: u16, number: u64, out: &mut Datagram) -> Report
-        requires can { CanGoOn self.old }
-        requires onward { self.old.last ≤ now }
-        requires moment { now ≤ 2 ^ 62 }
+        requires ready { CanStep now self.old }
         requires draw { draw ≤ 1000 }
         requires due { IsDueAt self.old now number }
         requires fits { length
@@ -138,9 +134,7 @@ impl<S: Store + Drop> World<S> {
     /// Sends the request of the exchange numbered `number` to its origin, with a new message id. It
     /// is to be sent again until it is acknowledged or answered (RFC 7252, 4.2).
     fn send(&mut self, now: u64, draw: u16, number: u64, out: &mut Datagram) -> Report
-        requires can { CanGoOn self.old }
-        requires onward { self.old.last ≤ now }
-        requires moment { now ≤ 2 ^ 62 }
+        requires ready { CanStep now self.old }
         requires draw { draw ≤ 1000 }
         requires queued { IfSome (item_at number self.old.exchanges) (λ x. is_queued x ≡ true) }
         requires fits { length (sending_at self.old now draw number).bytes ≤ out.old.room }
@@ -164,8 +158,7 @@ impl<S: Store + Drop> World<S> {
     /// Handles the end of the current timeout of the exchange numbered `number`: its request is
     /// retransmitted, with the same bytes, or abandoned (RFC 7252, 4.2).
     fn on_fire(&mut self, now: u64, number: u64, out: &mut Datagram) -> Report
-        requires can { CanGoOn self.old }
-        requires moment { now ≤ 2 ^ 62 }
+        requires ready { CanStep now self.old }
         requires due { IfSome (item_at number self.old.exchanges) (IsDue now) }
         requires fits { length (firing_at self.old now number).bytes ≤ out.old.room }
         ensures { Does (firing_at self.old now number) result out.old out.new self.new }
@@ -223,9 +216,7 @@ impl<S: Store + Drop> World<S> {
         number: u64,
         out: &mut Datagram,
     ) -> Result<Report, OutOfMemory>
-        requires can { CanGoOn self.old }
-        requires onward { self.old.last ≤ now }
-        requires moment { now ≤ 2 ^ 62 }
+        requires ready { CanStep now self.old }
         requires draw { draw ≤ 1000 }
         requires due { IsClientDueAt self.old now number }
         requires fits { length
@@ -259,9 +250,7 @@ impl<S: Store + Drop> World<S> {
         exchange: u64,
         out: &mut Datagram,
     ) -> Result<Report, OutOfMemory>
-        requires can { CanGoOn self.old }
-        requires onward { self.old.last ≤ now }
-        requires moment { now ≤ 2 ^ 62 }
+        requires ready { CanStep now self.old }
         requires draw { draw ≤ 1000 }
         requires waits { IfSome (item_at number self.old.waiters) (λ v.
             v.state ≡ Waiting exchange) }
@@ -341,8 +330,7 @@ impl<S: Store + Drop> World<S> {
     /// Handles the end of the current timeout of a client that was sent its answer: the answer is
     /// retransmitted, with the same bytes, or abandoned (RFC 7252, 4.2).
     fn on_unheard(&mut self, now: u64, number: u64, out: &mut Datagram) -> Report
-        requires can { CanGoOn self.old }
-        requires moment { now ≤ 2 ^ 62 }
+        requires ready { CanStep now self.old }
         requires due { IfSome (item_at number self.old.waiters) (waiters.IsDue now) }
         requires fits { length (unheard_at self.old now number).bytes ≤ out.old.room }
         ensures { Does (unheard_at self.old now number) result out.old out.new self.new }

@@ -7,7 +7,7 @@ ghost use Rattle.coap_exchange.specs.Table.{empty_table};
 ghost use Rattle.coap_limits.specs.Limits.{AreLimits};
 ghost use Rattle.coap_model.specs.Setting.{setting_of};
 ghost use Rattle.coap_model.specs.World.{next_id, later, reserved, has_ids, has_waiter_room, has_room_to_join, has_room_to_open, new_world, counts};
-ghost use Rattle.coap_core.specs.Steps.{CanGoOn};
+ghost use Rattle.coap_core.specs.Steps.{CanGoOn, CanStep};
 
 use crate::request_target::CacheQuery;
 use coap_dedup::{EXCHANGE_LIFETIME, NON_LIFETIME, Records};
@@ -180,8 +180,7 @@ impl<S: Store + Drop> World<S> {
 
     /// Whether `count` message ids are free at this moment.
     pub(crate) fn has_ids(&self, count: u64, now: u64) -> bool
-        requires can { CanGoOn self.now }
-        requires onward { self.now.last ≤ now }
+        requires ready { CanStep now self.now }
         requires few { count < 3 }
         ensures { result ≡ has_ids count self.now now }
     {
@@ -197,8 +196,7 @@ impl<S: Store + Drop> World<S> {
 
     /// Whether one more client may wait for an exchange that is in progress.
     pub(crate) fn has_room_to_join(&self, now: u64) -> bool
-        requires can { CanGoOn self.now }
-        requires onward { self.now.last ≤ now }
+        requires ready { CanStep now self.now }
         ensures { result ≡ has_room_to_join self.now now }
     {
         self.has_waiter_room() && self.has_ids(1, now)
@@ -206,8 +204,7 @@ impl<S: Store + Drop> World<S> {
 
     /// Whether there is room for an exchange and its client.
     pub(crate) fn has_room_to_open(&self, now: u64) -> bool
-        requires can { CanGoOn self.now }
-        requires onward { self.now.last ≤ now }
+        requires ready { CanStep now self.now }
         ensures { result ≡ has_room_to_open self.now now }
     {
         (self.exchanges.len() as u64) < self.limits.values().exchanges

@@ -141,9 +141,9 @@ pub data IsFull (w : World) (now : ℕ) (key : CacheKey) (m : Message) : Type 0 
 
 -- what the store does with an answer, and the store after that
 pub data IsStoring (w : World) (now : ℕ) (grown : Bool) (x : Numbered Exchange) (a : Answer) : Storing → List Entry → Type 0 where
-  kept : may_store x.1 a ≡ true → entry_size (entry_made w now x a) ≤ w.setting.limits.cache_bytes → IsStoring w now grown x a Kept (put entry_key entry_size w.setting.limits.cache_bytes w.setting.limits.cache_entries (entry_made w now x a) w.store)
-  too_large : may_store x.1 a ≡ true → w.setting.limits.cache_bytes < entry_size (entry_made w now x a) → IsStoring w now grown x a TooLarge (others entry_key x.1.key w.store)
-  no_memory : may_store x.1 a ≡ true → entry_size (entry_made w now x a) ≤ w.setting.limits.cache_bytes → of_key entry_key x.1.key w.store ≡ None → grown ≡ false → IsStoring w now grown x a NoMemory w.store
+  kept : may_store x.1 a ≡ true → entry_size (entry_made w now x.1 a) ≤ w.setting.limits.cache_bytes → IsStoring w now grown x a Kept (put entry_key entry_size w.setting.limits.cache_bytes w.setting.limits.cache_entries (entry_made w now x.1 a) w.store)
+  too_large : may_store x.1 a ≡ true → w.setting.limits.cache_bytes < entry_size (entry_made w now x.1 a) → IsStoring w now grown x a TooLarge (others entry_key x.1.key w.store)
+  no_memory : may_store x.1 a ≡ true → entry_size (entry_made w now x.1 a) ≤ w.setting.limits.cache_bytes → of_key entry_key x.1.key w.store ≡ None → grown ≡ false → IsStoring w now grown x a NoMemory w.store
   not_stored : may_store x.1 a ≡ false → IsStoring w now grown x a NotStored w.store
 
 -- the tables after the changes of a message that answers an exchange
@@ -453,7 +453,7 @@ rule_storing : (w v : World) (now draw : ℕ) (grown : Bool) (event : Event) (f 
 rule_storing w v now draw grown event f a case = storable (may_store a.exchange.1 a.answer) refl
   where
     size : ℕ
-    size = entry_size (entry_made v now a.exchange a.answer)
+    size = entry_size (entry_made v now a.exchange.1 a.answer)
 
     fitting : may_store a.exchange.1 a.answer ≡ true → size ≤ v.setting.limits.cache_bytes → (o : Option Entry) → of_key entry_key a.exchange.1.key v.store ≡ o → (g : Bool) → grown ≡ g → Rule w now draw grown event (f (keeps_if v now g a o))
     fitting can small None new true g = case Kept _ (kept can small)

@@ -62,7 +62,7 @@ answers-told : (w : World) (now : ℕ) (source : Endpoint) (m : Message) (x : Nu
 answers-told w now source m x =
     let a : Arrived = record { source = source; message = m; exchange = x; answer = answer_for w now m x.1 } in
     let changed = with_changed (changed_by x.1.key.target m) w in
-    let small = nat_le (entry_size (entry_made changed now x a.answer)) changed.setting.limits.cache_bytes in
+    let small = nat_le (entry_size (entry_made changed now x.1 a.answer)) changed.setting.limits.cache_bytes in
     either (may_store x.1 a.answer) (λ grown. if small then keeps_if changed now grown a (of_key entry_key x.1.key changed.store) else answers_so changed now a TooLarge (others entry_key x.1.key changed.store)) (λ grown. answers_so changed now a NotStored changed.store)
     (either small (λ grown. keeps_if changed now grown a (of_key entry_key x.1.key changed.store)) (λ grown. answers_so changed now a TooLarge (others entry_key x.1.key changed.store)) (kept-told changed now a (of_key entry_key x.1.key changed.store)) (λ grown. refl))
     (λ grown. refl)

@@ -53,12 +53,12 @@ asked_of None = 0
 asked_of (Some s) = s.asked
 
 -- the entry that is stored for the answer of an exchange
-abbrev pub entry_made : World → ℕ → Numbered Exchange → Answer → Entry
+abbrev pub entry_made : World → ℕ → Exchange → Answer → Entry
 entry_made w now x a = (
-  x.1.key,
+  x.key,
   record {
     response = a.message;
-    asked = asked_of x.1.sending;
+    asked = asked_of x.sending;
     got_no = w.events;
     got = now;
     marked = false;
@@ -79,7 +79,7 @@ abbrev pub keeps : World → ℕ → Arrived → Step
 keeps w now a =
     answers_so w now a Kept (put entry_key entry_size
     w.setting.limits.cache_bytes w.setting.limits.cache_entries
-    (entry_made w now a.exchange a.answer) w.store)
+    (entry_made w now a.exchange.1 a.answer) w.store)
 
 -- only a key without an entry needs memory
 abbrev pub keeps_if : World → ℕ → Bool → Arrived → Option Entry → Step
@@ -91,7 +91,7 @@ keeps_if w now grown a (Some entry) = keeps w now a
 -- replace
 abbrev pub stores : World → ℕ → Bool → Arrived → Step
 stores w now grown a =
-    if nat_le (entry_size (entry_made w now a.exchange a.answer)) w.setting.limits.cache_bytes
+    if nat_le (entry_size (entry_made w now a.exchange.1 a.answer)) w.setting.limits.cache_bytes
     then keeps_if w now grown a (of_key entry_key a.exchange.1.key w.store)
     else answers_so w now a TooLarge (others entry_key a.exchange.1.key w.store)
 

@@ -8,8 +8,10 @@ use Rattle.coap_core.proofs.proxy.Core.step.Given.{Over}
 use Rattle.coap_core.proofs.proxy.Core.step.Goals.{After-step-done}
 use Rattle.coap_core.proofs.proxy.Core.step.Goals as goal
 
-pub step-done-requires-clause-can : goal.step-done-requires-clause-can
-step-done-requires-clause-can g c = can_go_on c.self.invariant.1.0 c.self.inside.world c.self.invariant.1.1 (rw (← c.self.view_is) at c.requires.events)
+pub step-done-requires-clause-ready : goal.step-done-requires-clause-ready
+step-done-requires-clause-ready g c =
+    let can = can_go_on c.self.invariant.1.0 c.self.inside.world c.self.invariant.1.1 (rw (← c.self.view_is) at c.requires.events) in
+    record { can = can; onward = rw (← c.self.view_is) at c.requires.onward; moment = c.requires.moment }
 
 pub step-done-requires-clause-fits : goal.step-done-requires-clause-fits
 step-done-requires-clause-fits g c =

@@ -18,7 +18,7 @@ take_id-requires g c =
     let found : item_at c.args.number c.args.self.now.waiters ≡ Some v = rw (← c.self.view_is) (sym c.in-Some.ensures.exact) in
     let state : v.state ≡ Waiting c.args.exchange = rw found at c.requires.waits in
     let waits : is_waiting v ≡ true = rw state refl in
-    subst (λ (w : World). 0 < left_of c.args.now w.ids) (sym c.in_ok-tell.ensures.ok) (id-for-waiting c.args.self.now c.args.now c.args.number v c.requires.can c.requires.onward found waits)
+    subst (λ (w : World). 0 < left_of c.args.now w.ids) (sym c.in_ok-tell.ensures.ok) (id-for-waiting c.args.self.now c.args.now c.args.number v c.requires.ready.can c.requires.ready.onward found waits)
 
 pub returns-in_err-tell-clause-memory : goal.returns-in_err-tell-clause-memory
 returns-in_err-tell-clause-memory g c =

@@ -24,7 +24,7 @@ waiter g c =
 pub on_exchange-requires-clause-due : goal.on_exchange-requires-clause-due
 on_exchange-requires-clause-due g c =
     let k = (goal.at.on_exchange-requires-clause-due g c).In-Some-OfExchange in
-    due-at c.args.self.now c.args.now c.in-Some-OfExchange.at c.in-Some-OfExchange.number c.requires.can.exchanges (exchange g k) c.if-at-now.true
+    due-at c.args.self.now c.args.now c.in-Some-OfExchange.at c.in-Some-OfExchange.number c.requires.ready.can.exchanges (exchange g k) c.if-at-now.true
 
 pub on_exchange-requires-clause-fits : goal.on_exchange-requires-clause-fits
 on_exchange-requires-clause-fits g c =
@@ -55,7 +55,7 @@ step g c due = sym (of-waiter c.args.self.now c.args.now c.args.draw c.in-Some-O
 pub on_waiter-requires-clause-due : goal.on_waiter-requires-clause-due
 on_waiter-requires-clause-due g c =
     let k = (goal.at.on_waiter-requires-clause-due g c).In-Some-OfWaiter in
-    client-due-at c.args.self.now c.args.now c.in-Some-OfWaiter.at c.in-Some-OfWaiter.number c.requires.can.waiters (waiter g k) c.if-at-now-2.true
+    client-due-at c.args.self.now c.args.now c.in-Some-OfWaiter.at c.in-Some-OfWaiter.number c.requires.ready.can.waiters (waiter g k) c.if-at-now-2.true
 
 pub returns-in-Some-OfWaiter-clause-done : goal.returns-in-Some-OfWaiter-clause-done
 returns-in-Some-OfWaiter-clause-done g c =

@@ -8,22 +8,22 @@ use Rattle.coap_core.proofs.Asking.{does-as, fits-as, too-long, turned-away, ope
 use Rattle.coap_core.proofs.world.World.on_wanted.Goals as goal
 
 pub put_request-requires-clause-method : goal.put_request-requires-clause-method
-put_request-requires-clause-method g c = (askable c.args.self.now.setting.routes c.args.arrival.message.now c.requires.can.routes c.args.asked.now.key c.requires.asked.key).method
+put_request-requires-clause-method g c = (askable c.args.self.now.setting.routes c.args.arrival.message.now c.requires.reply.ready.can.routes c.args.asked.now.key c.requires.asked.key).method
 
 pub put_request-requires-clause-screened : goal.put_request-requires-clause-screened
-put_request-requires-clause-screened g c = (askable c.args.self.now.setting.routes c.args.arrival.message.now c.requires.can.routes c.args.asked.now.key c.requires.asked.key).screened
+put_request-requires-clause-screened g c = (askable c.args.self.now.setting.routes c.args.arrival.message.now c.requires.reply.ready.can.routes c.args.asked.now.key c.requires.asked.key).screened
 
 pub put_request-requires-clause-target : goal.put_request-requires-clause-target
-put_request-requires-clause-target g c = (askable c.args.self.now.setting.routes c.args.arrival.message.now c.requires.can.routes c.args.asked.now.key c.requires.asked.key).sound
+put_request-requires-clause-target g c = (askable c.args.self.now.setting.routes c.args.arrival.message.now c.requires.reply.ready.can.routes c.args.asked.now.key c.requires.asked.key).sound
 
 pub put_validating-requires-clause-method : goal.put_validating-requires-clause-method
-put_validating-requires-clause-method g c = (askable c.args.self.now.setting.routes c.args.arrival.message.now c.requires.can.routes c.args.asked.now.key c.requires.asked.key).method
+put_validating-requires-clause-method g c = (askable c.args.self.now.setting.routes c.args.arrival.message.now c.requires.reply.ready.can.routes c.args.asked.now.key c.requires.asked.key).method
 
 pub put_validating-requires-clause-screened : goal.put_validating-requires-clause-screened
-put_validating-requires-clause-screened g c = (askable c.args.self.now.setting.routes c.args.arrival.message.now c.requires.can.routes c.args.asked.now.key c.requires.asked.key).screened
+put_validating-requires-clause-screened g c = (askable c.args.self.now.setting.routes c.args.arrival.message.now c.requires.reply.ready.can.routes c.args.asked.now.key c.requires.asked.key).screened
 
 pub put_validating-requires-clause-target : goal.put_validating-requires-clause-target
-put_validating-requires-clause-target g c = (askable c.args.self.now.setting.routes c.args.arrival.message.now c.requires.can.routes c.args.asked.now.key c.requires.asked.key).sound
+put_validating-requires-clause-target g c = (askable c.args.self.now.setting.routes c.args.arrival.message.now c.requires.reply.ready.can.routes c.args.asked.now.key c.requires.asked.key).sound
 
 pub refuse-requires-clause-fits : goal.refuse-requires-clause-fits
 refuse-requires-clause-fits g c =
@@ -31,7 +31,7 @@ refuse-requires-clause-fits g c =
     let m = c.args.arrival.message.now in
     let refused : Step = refuses w c.args.arrival.now c.args.arrival.from m REQUEST_ENTITY_TOO_LARGE in
     let missed : Step = on_wanted w c.args.arrival.now c.args.arrival.from m c.args.asked.now.key (held_for w m c.args.asked.now.key) in
-    let long : missed ≡ refused = too-long w c.args.arrival.now c.args.arrival.from m c.args.asked.now.key (held_for w m c.args.asked.now.key) c.requires.ids (sym c.put_request.ensures.exact ∙ c.if-is_err.ensures.negation) in
+    let long : missed ≡ refused = too-long w c.args.arrival.now c.args.arrival.from m c.args.asked.now.key (held_for w m c.args.asked.now.key) c.requires.reply.ids (sym c.put_request.ensures.exact ∙ c.if-is_err.ensures.negation) in
     fits-as refused missed c.args.out.now.room c.put_request.new.out.room long c.put_request.ensures.kept c.requires.fits
 
 pub returns-then-is_err : goal.returns-then-is_err
@@ -40,7 +40,7 @@ returns-then-is_err g c =
     let m = c.args.arrival.message.now in
     let refused : Step = refuses w c.args.arrival.now c.args.arrival.from m REQUEST_ENTITY_TOO_LARGE in
     let missed : Step = on_wanted w c.args.arrival.now c.args.arrival.from m c.args.asked.now.key (held_for w m c.args.asked.now.key) in
-    let long : missed ≡ refused = too-long w c.args.arrival.now c.args.arrival.from m c.args.asked.now.key (held_for w m c.args.asked.now.key) c.requires.ids (sym c.put_request.ensures.exact ∙ c.if-is_err.ensures.negation) in
+    let long : missed ≡ refused = too-long w c.args.arrival.now c.args.arrival.from m c.args.asked.now.key (held_for w m c.args.asked.now.key) c.requires.reply.ids (sym c.put_request.ensures.exact ∙ c.if-is_err.ensures.negation) in
     record {
       exact = does-as (remembers c.args.arrival.now c.args.arrival.from m refused) (remembers c.args.arrival.now c.args.arrival.from m missed) c.refuse.result c.args.out.now c.put_request.new.out c.refuse.new.out c.refuse.new.self (ap (remembers c.args.arrival.now c.args.arrival.from m) long) c.put_request.ensures.kept c.refuse.ensures.exact;
       err = search rules;
@@ -54,7 +54,7 @@ overload-requires-clause-fits g c =
     let busy : Step = overloads w c.args.arrival.now c.args.arrival.from m in
     let missed : Step = on_wanted w c.args.arrival.now c.args.arrival.from m c.args.asked.now.key (held_for w m c.args.asked.now.key) in
     let closed : has_room_to_open w c.args.arrival.now ≡ false = sym c.if-not-has_room_to_open.ensures in
-    let away : missed ≡ busy = turned-away w c.args.arrival.now c.args.arrival.from m c.args.asked.now.key (held_for w m c.args.asked.now.key) c.requires.ids (sym c.put_request.ensures.exact ∙ c.if-is_err.ensures.negation) closed in
+    let away : missed ≡ busy = turned-away w c.args.arrival.now c.args.arrival.from m c.args.asked.now.key (held_for w m c.args.asked.now.key) c.requires.reply.ids (sym c.put_request.ensures.exact ∙ c.if-is_err.ensures.negation) closed in
     fits-as busy missed c.args.out.now.room c.put_request.new.out.room away c.put_request.ensures.kept c.requires.fits
 
 pub returns-then-not-has_room_to_open : goal.returns-then-not-has_room_to_open
@@ -64,7 +64,7 @@ returns-then-not-has_room_to_open g c =
     let busy : Step = overloads w c.args.arrival.now c.args.arrival.from m in
     let missed : Step = on_wanted w c.args.arrival.now c.args.arrival.from m c.args.asked.now.key (held_for w m c.args.asked.now.key) in
     let closed : has_room_to_open w c.args.arrival.now ≡ false = sym c.if-not-has_room_to_open.ensures in
-    let away : missed ≡ busy = turned-away w c.args.arrival.now c.args.arrival.from m c.args.asked.now.key (held_for w m c.args.asked.now.key) c.requires.ids (sym c.put_request.ensures.exact ∙ c.if-is_err.ensures.negation) closed in
+    let away : missed ≡ busy = turned-away w c.args.arrival.now c.args.arrival.from m c.args.asked.now.key (held_for w m c.args.asked.now.key) c.requires.reply.ids (sym c.put_request.ensures.exact ∙ c.if-is_err.ensures.negation) closed in
     record {
       exact = does-as (remembers c.args.arrival.now c.args.arrival.from m busy) (remembers c.args.arrival.now c.args.arrival.from m missed) c.overload.result c.args.out.now c.put_request.new.out c.overload.new.out c.overload.new.self (ap (remembers c.args.arrival.now c.args.arrival.from m) away) c.put_request.ensures.kept c.overload.ensures.exact;
       err = search rules;

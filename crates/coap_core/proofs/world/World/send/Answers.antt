@@ -16,7 +16,7 @@ take_id-id-requires g c =
     let x = c.in-Some.exchange.now in
     let found : item_at c.args.number c.args.self.now.exchanges ≡ Some x = rw (← c.self.view_is) (sym c.in-Some.ensures.exact) in
     let queued : is_queued x ≡ true = rw found at c.requires.queued in
-    id-for-queued c.args.self.now c.args.now c.args.number x c.requires.can c.requires.onward found queued
+    id-for-queued c.args.self.now c.args.now c.args.number x c.requires.ready.can c.requires.ready.onward found queued
 
 pub put_form-requires : goal.put_form-requires
 put_form-requires g c =
