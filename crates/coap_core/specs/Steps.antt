@@ -91,7 +91,7 @@ KeepsWordOn before e after =
     (history : List Entry) → Carries history before → KeepsItsWord (e ∷ history) after
 
 -- What a step needs of the tables before it: the origins of the routes are targets, the tables are
--- in order of number, there are numbers left to count with, every reserved message id is still
+-- in order of number, there are numbers left to count with, every reserved Message ID is still
 -- free, and the records are in order, none later than the last moment.
 pub record CanGoOn (w : World) : Type 0 where
   pub routes : AreRoutes w.setting.routes
@@ -118,7 +118,7 @@ pub record CanStep (now : ℕ) (w : World) : Type 0 where
   pub onward : w.last ≤ now
   pub moment : now ≤ 2 ^ 62
 
--- a reply may be sent to this request at once: it is new, and there is a message id for the reply
+-- a reply may be sent to this request at once: it is new, and there is a Message ID for the reply
 pub record CanReplyTo (request : Arrival) (w : World) : Type 0 where
   pub ready : CanStep request.now w
   pub new : CanRemember request.now request.from request.message.now w

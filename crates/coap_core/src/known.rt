@@ -134,7 +134,7 @@ impl<S: Store + Drop> World<S> {
         kind == Kind::Con || self.has_ids(1, now)
     }
 
-    /// The message id of a reply that is sent at once.
+    /// The Message ID of a reply that is sent at once.
     pub(crate) fn reply_id(&self, request: &MessageRef<'_>) -> u16
         ensures { result ≡ reply_id request.now (next_id self.now) }
     {

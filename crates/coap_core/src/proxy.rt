@@ -67,7 +67,7 @@ impl<S: Store> Model for Core<S> {
 impl<S: Store + Drop> Core<S> {
     /// A core that has done nothing yet. Room for exchanges, clients and records is allocated here.
     ///
-    /// `first_id` is the first message id that it gives (RFC 7252, 4.4). `salt` makes its tokens
+    /// `first_id` is the first Message ID that it gives (RFC 7252, 4.4). `salt` makes its tokens
     /// differ from those of earlier runs (RFC 7252, 5.3.1).
     ///
     /// # Errors

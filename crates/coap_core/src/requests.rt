@@ -461,7 +461,7 @@ impl<S: Store + Drop> World<S> {
         self.reply(arrival, Outcome::Overloaded, out)
     }
 
-    /// Drops a request because no message id is free for a reply.
+    /// Drops a request because no Message ID is free for a reply.
     fn lack_id(
         &mut self,
         arrival: Arrival<'_, '_>,

@@ -42,7 +42,7 @@ fn was_sent_with(id: u16, sending: &Option<Sending>) -> bool
     }
 }
 
-/// Whether a response has the right message id: in an acknowledgement that of the request, in a
+/// Whether a response has the right Message ID: in an acknowledgement that of the request, in a
 /// message of its own any.
 fn has_id(response: &MessageRef<'_>, sending: &Option<Sending>) -> bool
     ensures { result ≡ has_id response.now sending.now }
@@ -205,7 +205,7 @@ impl<S: Store + Drop> World<S> {
     }
 
     /// The number of the exchange that awaits this response from this endpoint: it is matched by
-    /// endpoint and token, and in an acknowledgement also by message id.
+    /// endpoint and token, and in an acknowledgement also by Message ID.
     fn awaiting(&self, source: Endpoint, response: &MessageRef<'_>) -> Option<u64>
         requires { CanGoOn self.now }
         ensures exact { result ≡ option_map (λ x. x.0) (awaiting self.now source response.now) }

@@ -131,7 +131,7 @@ impl<S: Store + Drop> World<S> {
         now.saturating_sub(exchange.admitted) >= self.limits.values().exchange_ms
     }
 
-    /// Sends the request of the exchange numbered `number` to its origin, with a new message id. It
+    /// Sends the request of the exchange numbered `number` to its origin, with a new Message ID. It
     /// is to be sent again until it is acknowledged or answered (RFC 7252, 4.2).
     fn send(&mut self, now: u64, draw: u16, number: u64, out: &mut Datagram) -> Report
         requires ready { CanStep now self.old }
@@ -240,7 +240,7 @@ impl<S: Store + Drop> World<S> {
     }
 
     /// Sends the client numbered `number`, which is waiting for this exchange, its answer, with a
-    /// new message id, in a message of the type of its request. If no other client waits for the
+    /// new Message ID, in a message of the type of its request. If no other client waits for the
     /// exchange, it is closed.
     fn deliver(
         &mut self,

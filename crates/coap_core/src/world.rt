@@ -34,7 +34,7 @@ pub(crate) struct World<S: Store> {
     pub(crate) con_records: Records,
     pub(crate) non_records: Records,
     pub(crate) ids: Ids,
-    /// The first message id given, or to be given.
+    /// The first Message ID given, or to be given.
     pub(crate) first_id: u16,
     pub(crate) last: u64,
     pub(crate) events: u64,
@@ -150,14 +150,14 @@ impl<S: Store + Drop> World<S> {
         self.events += 1;
     }
 
-    /// The message id that is given next.
+    /// The Message ID that is given next.
     pub(crate) fn next_id(&self) -> u16
         ensures { result ≡ next_id self.now }
     {
         self.ids.following
     }
 
-    /// Gives the next message id (RFC 7252, 4.4).
+    /// Gives the next Message ID (RFC 7252, 4.4).
     pub(crate) fn take_id(&mut self, now: u64) -> u16
         requires { 0 < left_of now self.old.ids }
         ensures id { result ≡ next_id self.old }
@@ -169,7 +169,7 @@ impl<S: Store + Drop> World<S> {
         }
     }
 
-    /// The number of message ids reserved for requests that are still to be sent, and for clients
+    /// The number of Message IDs reserved for requests that are still to be sent, and for clients
     /// that are still to be served.
     fn reserved(&self) -> u64
         requires { CanGoOn self.now }
@@ -178,7 +178,7 @@ impl<S: Store + Drop> World<S> {
         self.waiters.waiting() as u64 + self.exchanges.queued() as u64
     }
 
-    /// Whether `count` message ids are free at this moment.
+    /// Whether `count` Message IDs are free at this moment.
     pub(crate) fn has_ids(&self, count: u64, now: u64) -> bool
         requires ready { CanStep now self.now }
         requires few { count < 3 }

@@ -1,4 +1,4 @@
--- Waiters that were sent their response are found by its message id.
+-- Waiters that were sent their response are found by its Message ID.
 use Rattle.std.proofs.Common.{◌≡◌, ℕ, ◌≤◌, ◌-◌, ◌&&◌, Bool, true, false, eqb, List, refl, sym}
 use Rattle.std.proofs.lemmas.Bool.{eqb-true, eq-eqb}
 use Rattle.std.specs.Prelude.{nat_lt}

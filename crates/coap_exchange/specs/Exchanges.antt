@@ -120,7 +120,7 @@ answer_in number exchanges = answer_of (item_at number exchanges)
 
 -- ---- changes
 
--- its request is sent, and carries its message id from then on
+-- its request is sent, and carries its Message ID from then on
 abbrev pub sent : Sending → Exchange → Exchange
 sent sending x =
     record x { form = with_id sending.id x.form; sending = Some sending; state = Sent }

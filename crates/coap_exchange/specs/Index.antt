@@ -45,7 +45,7 @@ abbrev pub id_in : Option Sending → Option ℕ
 id_in None = None
 id_in (Some s) = Some s.id
 
--- the message id with which it was sent
+-- the Message ID with which it was sent
 abbrev pub id_of : Exchange → Option ℕ
 id_of x = id_in x.sending
 

@@ -20,7 +20,7 @@ abbrev pub end_in : WaiterState → Option ℕ
 end_in (Waiting exchange) = None
 end_in (Delivering bytes id timer) = Some timer.due
 
--- the message id of the response
+-- the Message ID of the response
 abbrev pub id_of : Waiter → Option ℕ
 id_of w = id_in w.state
 

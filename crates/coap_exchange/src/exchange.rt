@@ -10,7 +10,7 @@ use coap_endpoint::{Endpoint, Target};
 use coap_message::{Seq, set_id};
 use coap_store::{Answer, CacheKey, Stored};
 
-/// How long a message id isn't reused after it was given, in milliseconds (EXCHANGE_LIFETIME; RFC
+/// How long a Message ID isn't reused after it was given, in milliseconds (EXCHANGE_LIFETIME; RFC
 /// 7252, 4.8.2).
 pub(crate) const LIFETIME: u64 = 247_000;
 
@@ -19,7 +19,7 @@ pub(crate) const LIFETIME: u64 = 247_000;
 pub struct Sending {
     /// The number of the event in which the request was first sent.
     pub asked: u64,
-    /// The message id of the request.
+    /// The Message ID of the request.
     pub id: u16,
     pub timer: Timer,
 }
@@ -62,7 +62,7 @@ pub struct Exchange {
     pub key: CacheKey,
     /// Whether the method is GET.
     pub is_get: bool,
-    /// The encoded request that is forwarded. Its message id is 0 until it is sent.
+    /// The encoded request that is forwarded. Its Message ID is 0 until it is sent.
     pub form: Seq<u8>,
     /// The stored response that the request asks to validate, if it does (RFC 7252, 5.6.2).
     pub copy: Option<Stored>,
@@ -205,7 +205,7 @@ impl Exchange {
         self.is_get && !self.tainted && self.answer().is_none() && self.key == *key
     }
 
-    /// Whether its request was sent to the endpoint `at` with message id `id`, less than 247,000
+    /// Whether its request was sent to the endpoint `at` with Message ID `id`, less than 247,000
     /// milliseconds before `now` (RFC 7252, 4.4).
     pub fn was_sent_as(&self, at: Endpoint, id: u16, now: u64) -> bool
         ensures exact { result ≡ was_sent_as at id now self.now }

@@ -163,7 +163,7 @@ impl Exchanges {
         first_sought(&self.table, &self.index.keys, digest_of_key(key), &sought)
     }
 
-    /// The number of the exchange whose request was sent to the endpoint `at` with message id `id`,
+    /// The number of the exchange whose request was sent to the endpoint `at` with Message ID `id`,
     /// less than 247,000 milliseconds before `now` (RFC 7252, 4.4). If there are several, the
     /// first.
     pub fn sent_as(&self, at: Endpoint, id: u16, now: u64) -> Option<u64>
@@ -291,7 +291,7 @@ impl Exchanges {
     }
 
     /// Marks the request of the exchange numbered `number`, which was waiting for its turn, as
-    /// sent, and writes the message id of the sending into its encoded form. The timer's timeout is
+    /// sent, and writes the Message ID of the sending into its encoded form. The timer's timeout is
     /// at most 3,000 milliseconds, like that of a new timer.
     pub fn send(&mut self, number: u64, sending: Sending)
         requires queued { IfSome (item_at number self.old.items) (λ x. is_queued x ≡ true) }

@@ -2,7 +2,7 @@
 ghost use Rattle.std.specs.Prelude.{◌≡◌};
 ghost use Rattle.coap_exchange.specs.Ids.{called, left_of, new_ids, next_of};
 
-/// The message ids that a proxy gives out: they count up from the first, and wrap from 65,535 to 0.
+/// The Message IDs that a proxy gives out: they count up from the first, and wrap from 65,535 to 0.
 ///
 /// Time is divided into windows of 247,000 milliseconds (EXCHANGE_LIFETIME; RFC 7252, 4.8.2), and
 /// at most 32,768 ids are given in each. So an id is only reused after at least that time has

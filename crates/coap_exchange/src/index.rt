@@ -18,7 +18,7 @@ use std::alloc::Global;
 /// Numbers of exchanges, by what they are looked up by. Room for all of them is allocated up front.
 #[derive(Drop)]
 pub(crate) struct Index {
-    /// By the message id that they were sent with.
+    /// By the Message ID that they were sent with.
     pub(crate) ids: Buckets,
     /// By the moment when their answer came.
     pub(crate) dones: Roll,
@@ -50,7 +50,7 @@ pub(crate) struct Owners {
 /// Which exchange is looked for.
 #[derive(Drop)]
 pub(crate) enum Sought<'a> {
-    /// One whose request was sent to this endpoint with this message id, less than 247,000
+    /// One whose request was sent to this endpoint with this Message ID, less than 247,000
     /// milliseconds before this moment.
     SentAs(Endpoint, u16, u64),
     /// One whose answer a GET with this key may share.

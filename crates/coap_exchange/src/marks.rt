@@ -15,7 +15,7 @@ use std::alloc::Global;
 pub(crate) struct WaiterIndex {
     /// Those that wait, by the exchange that they wait for.
     pub(crate) awaited: Buckets,
-    /// Those that were sent their response, by its message id.
+    /// Those that were sent their response, by its Message ID.
     pub(crate) ids: Buckets,
     /// The same, by the end of the current timeout.
     pub(crate) ends: Roll,
@@ -26,7 +26,7 @@ pub(crate) struct WaiterIndex {
 pub(crate) struct Marks {
     /// The exchange that it waits for.
     pub(crate) awaited: Option<u64>,
-    /// The message id of the response that was sent to it.
+    /// The Message ID of the response that was sent to it.
     pub(crate) id: Option<u64>,
     /// When the current timeout ends, in milliseconds.
     pub(crate) end: Option<u64>,

@@ -25,7 +25,7 @@ pub enum WaiterState {
     Delivering {
         /// The encoded response.
         bytes: Seq<u8>,
-        /// The message id of the response.
+        /// The Message ID of the response.
         id: u16,
         timer: Timer,
     },
@@ -100,7 +100,7 @@ impl Waiter {
         }
     }
 
-    /// Whether the response was sent to the endpoint `at` with message id `id`, less than 247,000
+    /// Whether the response was sent to the endpoint `at` with Message ID `id`, less than 247,000
     /// milliseconds before `now` (RFC 7252, 4.4).
     pub fn was_sent_as(&self, at: Endpoint, id: u16, now: u64) -> bool
         ensures exact { result ≡ was_sent_as at id now self.now }

@@ -121,7 +121,7 @@ impl Waiters {
         self.table.get(number)
     }
 
-    /// The number of the waiter whose response was sent to the endpoint `at` with message id `id`,
+    /// The number of the waiter whose response was sent to the endpoint `at` with Message ID `id`,
     /// less than 247,000 milliseconds before `now` (RFC 7252, 4.4). If there are several, the
     /// first.
     pub fn sent_as(&self, at: Endpoint, id: u16, now: u64) -> Option<u64>
@@ -271,7 +271,7 @@ impl Waiters {
     }
 
     /// Marks the waiter numbered `number`, which was waiting for an exchange, as being sent its
-    /// response: `bytes`, with message id `id`. Its token and tags are dropped. The timer's timeout
+    /// response: `bytes`, with Message ID `id`. Its token and tags are dropped. The timer's timeout
     /// is at most 3,000 milliseconds, like that of a new timer.
     pub fn deliver(&mut self, number: u64, bytes: Seq<u8>, id: u16, timer: Timer)
         requires waiting { IfSome (item_at number self.old.items) (λ w. is_waiting w ≡ true) }

@@ -211,7 +211,7 @@ fn payload_sent<'a>(request: &MessageRef<'a>) -> &'a [u8]
     }
 }
 
-/// Writes the request to forward for one that passed the screening, with message id 0, if it is at
+/// Writes the request to forward for one that passed the screening, with Message ID 0, if it is at
 /// most `room` bytes: Uri-Host, a Uri-Path for each segment and a Uri-Query for each part (RFC
 /// 7252, 5.10.1), with the other options in their places. `tag` is the tag of the stored response
 /// that the origin may validate, sent as an ETag before all others (RFC 7252, 5.6.2 and 5.10.6.2).

@@ -116,7 +116,7 @@ head_spelling head token = header_spelling head (length token) ++ token
 unfoldable pub spelling : Message → List ℕ
 spelling m = header m ++ (m.token ++ (options_spelling 0 m.options ++ payload_spelling m.payload))
 
--- an encoded message with its message id replaced
+-- an encoded message with its Message ID replaced
 unfoldable pub with_id : ℕ → List ℕ → List ℕ
 with_id id [] = []
 with_id id (a ∷ []) = a ∷ []

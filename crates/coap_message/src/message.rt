@@ -104,7 +104,7 @@ impl<'a> MessageRef<'a> {
         self.code
     }
 
-    /// The message id.
+    /// The Message ID.
     pub fn id(&self) -> u16
         ensures { result ≡ self.now.id }
     {

@@ -185,7 +185,7 @@ pub fn encode_into(message: &Message, out: &mut Datagram, room: usize) -> Result
     Ok(())
 }
 
-/// Replaces the message id in an encoded message: two bytes, the high one first (RFC 7252, 3). A
+/// Replaces the Message ID in an encoded message: two bytes, the high one first (RFC 7252, 3). A
 /// message of fewer than four bytes is left unchanged. Doesn't allocate.
 #[tactic(auto, unfolding(crate::specs::Spelling::with_id))]
 pub fn set_id(form: &mut Seq<u8>, id: u16)

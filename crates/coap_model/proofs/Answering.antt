@@ -52,7 +52,7 @@ use Rattle.coap_model.proofs.Stores.{store-otherwise}
 
 -- ---- one request
 
--- message ids aren't reused too soon
+-- Message IDs aren't reused too soon
 pub differ : (w : World) (history : List Deed) → Bears history w → IdsDiffer history
 differ w history c = ids-differ w.setting.first_id history c.ids.are_ids c.ids.windows c.clock.in_order
 

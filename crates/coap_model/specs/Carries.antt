@@ -50,7 +50,7 @@ pub record Numbers (history : List Deed) (w : World) : Type 0 where
   pub opened : w.opened ≡ opened_in history
   pub admitted : w.admitted ≡ admitted_in history
 
--- The table of message ids has the next one, and how many were given out in the window of a moment;
+-- The table of Message IDs has the next one, and how many were given out in the window of a moment;
 -- at most half of all ids are given out in one window.
 pub record Ids (history : List Deed) (w : World) : Type 0 where
   pub following : w.ids.following ≡ (w.setting.first_id + ids_in history) % 65536
@@ -193,7 +193,7 @@ IsState setting history x (Done a) = IsDone setting history x a
 abbrev pub copy_for : ℕ → Target → Message → Option Message → Option Message
 copy_for most t m kept = if is_some (tag_for most t m kept) then kept else None
 
--- the message id in the form: 0 until it is sent
+-- the Message ID in the form: 0 until it is sent
 abbrev pub form_id : Option Sending → ℕ
 form_id None = 0
 form_id (Some s) = s.id

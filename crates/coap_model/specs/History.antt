@@ -124,7 +124,7 @@ abbrev pub comes_con : Event → Bool
 comes_con (arrival source bytes) = is_con_datagram bytes
 comes_con tick = false
 
--- How many new message ids an outcome takes: forwarded requests and replies take one, except for
+-- How many new Message IDs an outcome takes: forwarded requests and replies take one, except for
 -- immediate replies to Confirmable messages, which are piggybacked on the acknowledgement, with its
 -- id (RFC 7252, 4.4 and 5.2.1).
 abbrev pub ids_given : Bool → Outcome → ℕ

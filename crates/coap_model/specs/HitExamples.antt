@@ -1,6 +1,6 @@
 -- Runs in which clients are answered from the cache, computed on the definitions: what is kept
 -- within which limits of bytes and entries, how it ages, which requests it answers, and that an
--- answer from the cache takes a message id. The bytes are encoded per RFC 7252 (3, 3.1, 5.10).
+-- answer from the cache takes a Message ID. The bytes are encoded per RFC 7252 (3, 3.1, 5.10).
 use Rattle.std.specs.Prelude.{ℕ, List, [], ◌∷◌, ◌++◌, replicate}
 use Rattle.coap_model.specs.declared.report.Outcome.TheVariants.{Hit, Opened, NoId, Answered, SentRequest, Delivered}
 use Rattle.coap_model.specs.declared.report.Storing.TheVariants.{Kept, TooLarge}

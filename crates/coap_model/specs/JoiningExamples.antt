@@ -24,7 +24,7 @@ two_waiters = proxy_of (record default_limits { exchanges = 1; waiters = 2 })
 abbrev pub asks : ℕ → ℕ → Turn
 asks now n = from now (client n) (0x51 ∷ 1 ∷ 0 ∷ 7 ∷ n ∷ 0xB1 ∷ 0x74 ∷ [])
 
--- it is sent a response with a code, its token, a message id, and what follows
+-- it is sent a response with a code, its token, a Message ID, and what follows
 abbrev pub is_given : ℕ → ℕ → ℕ → List ℕ → Sent
 is_given n code id more = to Delivered (client n) (0x51 ∷ code ∷ 0 ∷ id ∷ n ∷ more)
 

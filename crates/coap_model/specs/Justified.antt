@@ -80,7 +80,7 @@ pub record IsNew
 
 -- ---- requests
 
--- there is a message id for an immediate reply, if it needs one
+-- there is a Message ID for an immediate reply, if it needs one
 abbrev pub HasIdFor : Message → ℕ → List Deed → Type 0
 HasIdFor request now past = request.kind ≡ Non → HasIds 1 now past
 
@@ -218,7 +218,7 @@ pub record IsOverload (setting : Setting) (past : List Deed) (d : Deed) : Type 0
   pub tells :
       Tells client (at_once request (busy_reply setting.limits.retry_s id request.token)) d.entry
 
--- nothing is sent: a reply is due, but no message id is free for it
+-- nothing is sent: a reply is due, but no Message ID is free for it
 pub record IsLack (setting : Setting) (past : List Deed) (d : Deed) : Type 0 where
   pub act : d.act ≡ no_item
   pub client : Endpoint
@@ -660,7 +660,7 @@ IsKeptIfGrown outcome = (outcome ≡ Answered Kept) ⊎ (outcome ≡ Answered No
 -- What is owed to duplicates and by the cache. A duplicate of a remembered message gets what is
 -- remembered, and if there is no room to remember a request or an answer, nothing is sent. A new
 -- GET whose key has a usable entry in the cache of the preceding deeds is answered from it, if
--- there is a message id for the reply. An answer that was obtained is stored, unless memory runs
+-- there is a Message ID for the reply. An answer that was obtained is stored, unless memory runs
 -- out, if it is no larger than the limit, and is too large otherwise; any other answer isn't
 -- stored.
 pub record IsOwed (setting : Setting) (past : List Deed) (d : Deed) : Type 0 where
@@ -714,7 +714,7 @@ AllOwed setting (d ∷ past) = IsOwed setting past d × AllOwed setting past
 -- ---- one answer
 
 -- A deed may follow: it isn't earlier than the last one, the deeds before it justify it, and if it
--- gives out a message id, this is the next one.
+-- gives out a Message ID, this is the next one.
 pub record MayFollow (setting : Setting) (past : List Deed) (d : Deed) : Type 0 where
   pub not_before : last_of past ≤ d.entry.now
   pub justified : JustifiedBy d.entry.report.outcome setting past d

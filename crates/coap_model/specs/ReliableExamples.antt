@@ -1,5 +1,5 @@
 -- Reliability towards origin servers, computed on the definitions: when a request is retransmitted
--- and when it is given up, how many are sent to one endpoint at once, and message ids by windows of
+-- and when it is given up, how many are sent to one endpoint at once, and Message IDs by windows of
 -- 247 seconds (RFC 7252, 4.2, 4.4, 4.7 and 4.8). The bytes are encoded per RFC 7252 (3, 3.1, 5.10).
 use Rattle.std.specs.Prelude.{ℕ, List, [], ◌∷◌, ◌++◌, codes, map, true}
 use Rattle.coap_message.specs.declared.code.TheConstants.Code.{NOT_FOUND}
@@ -226,7 +226,7 @@ two_origins_sent =
     ∷ to SentRequest origin (asked_part 4 2 0x78)
     ∷ to Delivered (client 1) (0x50 ∷ 0x44 ∷ 0 ∷ 5 ∷ []) ∷ []
 
--- ---- message ids
+-- ---- Message IDs
 
 -- If all ids of the first 247 seconds are given out, a request that needs one gets no reply until
 -- the 247 seconds have passed; then ids continue from there.

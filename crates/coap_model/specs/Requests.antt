@@ -33,7 +33,7 @@ replied w now m = record (later w now) {
   ids = if is_con m.kind then w.ids else called now w.ids;
 }
 
--- no message id is free for a reply: nothing is sent
+-- no Message ID is free for a reply: nothing is sent
 abbrev pub lacks_id : World → ℕ → Step
 lacks_id w now = silent NoId (later w now)
 
@@ -116,7 +116,7 @@ abbrev pub turns_away : World → ℕ → Endpoint → Message → Step
 turns_away w now client m =
     if can_reply w now m.kind then overloads w now client m else lacks_id w now
 
--- the client is refused, if a message id is free for the reply
+-- the client is refused, if a Message ID is free for the reply
 abbrev pub turns_down : World → ℕ → Endpoint → Message → Code → Step
 turns_down w now client m code =
     if can_reply w now m.kind then refuses w now client m code else lacks_id w now

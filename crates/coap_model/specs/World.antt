@@ -37,7 +37,7 @@ pub record World : Type 0 where
   -- how many exchanges were ever opened, and how many clients were ever admitted
   pub opened : ℕ
   pub admitted : ℕ
-  -- the next message id, and how many were given out recently
+  -- the next Message ID, and how many were given out recently
   pub ids : Ids
   -- the last moment, and the number of events
   pub last : ℕ
@@ -146,7 +146,7 @@ repeats w now source (Some bytes) =
 abbrev pub drops : World → ℕ → Step
 drops w now = silent NoRecordRoom (later w now)
 
--- ---- message ids
+-- ---- Message IDs
 
 -- the id that is given out next (RFC 7252, 4.4)
 abbrev pub next_id : World → ℕ

@@ -80,7 +80,7 @@ pub fn examples_of_keeping()
 
 /// Runs in which clients are answered from the cache, computed on the definitions: how an answer
 /// ages, what is kept and within which limits, which requests it answers, and that it takes a
-/// message id.
+/// Message ID.
 pub fn examples_of_hits()
     ensures at_once { play proxy (aged 0) ≡ aged_sent (seconds 10) }
     ensures in_the_first_second { play proxy (aged 1) ≡ aged_sent (seconds 9) }

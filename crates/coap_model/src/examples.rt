@@ -198,7 +198,7 @@ pub fn options()
 
 /// Duplicates and Confirmable requests, computed: how long a request of each type is remembered,
 /// what is sent again, which requests are the same, when there is no room to remember one, what is
-/// held and counted, and that an acknowledgement needs no message id.
+/// held and counted, and that an acknowledgement needs no Message ID.
 pub fn duplicates()
     ensures non_again { play proxy (twice_until 144999 (get_u 7))
         ≡ refused_with (not_found 0 1) (nothing Again) }
@@ -254,7 +254,7 @@ pub fn duplicates()
 {}
 
 /// Reliability towards origin servers, computed: when a request is retransmitted and when it is
-/// given up, how many are sent to one endpoint at once, message ids by windows of 247 seconds, and
+/// given up, how many are sent to one endpoint at once, Message IDs by windows of 247 seconds, and
 /// what the history says about them.
 pub fn reliability()
     ensures silent_origin { play proxy silent_origin ≡ silence_sent }

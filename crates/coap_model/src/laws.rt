@@ -142,7 +142,7 @@ pub fn new_proxies_carry_nothing()
         → Carries [] (new_world setting) }
 {}
 
-/// No step changes the limits, the routes, the first message id or the salt, if datagrams consist
+/// No step changes the limits, the routes, the first Message ID or the salt, if datagrams consist
 /// of bytes.
 pub fn settings_stay()
     ensures stays { (w : World) (now draw : ℕ) (grown : Bool) (event : Event)
@@ -187,7 +187,7 @@ pub fn counts_are_of_the_history()
 {}
 
 /// A proxy that carries a history keeps this promise about it: each entry is justified by the
-/// entries before it, each waiter is served at most once, message ids count up and none is reused
+/// entries before it, each waiter is served at most once, Message IDs count up and none is reused
 /// within 247 seconds, each message is sent by its schedule, at most `nstart` requests to one
 /// endpoint are outstanding, and exchanges, waiters, records, the store and the bytes held are
 /// within their limits.
@@ -214,7 +214,7 @@ pub fn the_word_is_kept()
 {}
 
 /// What is promised, place by place: each deed is justified by those before it, isn't earlier than
-/// they are, and gives out the next message id, if any, which no other gave out within 247 seconds;
+/// they are, and gives out the next Message ID, if any, which no other gave out within 247 seconds;
 /// each message is sent by its schedule, and at most `nstart` requests to one endpoint are
 /// outstanding; the history consists of the entries of these deeds; and what the proxy counts and
 /// holds is within its limits.

@@ -34,9 +34,9 @@ pub enum Outcome {
     Joined,
     /// An exchange was opened, and the client waits for it.
     Opened,
-    /// There was no room for an exchange or a client, or too few message ids were free: 5.03.
+    /// There was no room for an exchange or a client, or too few Message IDs were free: 5.03.
     Overloaded,
-    /// No message id was free for the reply.
+    /// No Message ID was free for the reply.
     NoId,
     /// An exchange got its answer.
     Answered { storing: Storing },

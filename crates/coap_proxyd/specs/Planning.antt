@@ -83,7 +83,7 @@ plan_of wanted file =
     after (routes_said said) (λ routes.
     Ok (planned wanted said routes))))
 
--- what the core of a plan is made with, with this first message id and this salt if the plan has
+-- what the core of a plan is made with, with this first Message ID and this salt if the plan has
 -- none
 abbrev pub setting_of : Plan → ℕ → ℕ → model.Setting
 setting_of plan first_id salt =

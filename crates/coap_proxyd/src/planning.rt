@@ -28,7 +28,7 @@ pub struct Plan {
     pub routes: Routes,
     /// Whether events come from standard input.
     pub replay: bool,
-    /// The first message id, if it is given.
+    /// The first Message ID, if it is given.
     pub first_id: Option<u16>,
     /// The salt of tokens, if it is given.
     pub salt: Option<u64>,
@@ -140,7 +140,7 @@ fn routes_of(alloc: Global, config: &Config) -> Result<Routes, Fault>
     }
 }
 
-/// The core of a plan, with this first message id and this salt if the plan has none.
+/// The core of a plan, with this first Message ID and this salt if the plan has none.
 pub(crate) fn core_of<S: Store + Drop>(
     alloc: Global,
     seed: S::Seed,

@@ -52,6 +52,6 @@ abbrev pub shown : Message → Option ℕ → List (List ℕ) → Message
 shown m None tags = m
 shown m (Some left) tags = if tells_age m.code then told m left tags else m
 
--- as a message of its own, with this type, message id and token
+-- as a message of its own, with this type, Message ID and token
 abbrev pub addressed : Kind → ℕ → List ℕ → Message → Message
 addressed kind id token m = record m { kind = kind; id = id; token = token }

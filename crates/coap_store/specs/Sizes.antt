@@ -29,7 +29,7 @@ key_size key =
     host_size key.target.host + values_size key.target.path + values_size key.target.query
     + options_size key.options
 
--- the entry: its key, and the options and the payload of its response. The token and the message id
+-- the entry: its key, and the options and the payload of its response. The token and the Message ID
 -- aren't counted.
 abbrev pub size_of : CacheKey → Stored → ℕ
 size_of key stored =

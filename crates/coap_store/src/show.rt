@@ -17,7 +17,7 @@ use coap_message::{
 };
 use coap_option::numbers;
 
-/// Writes what a client is sent for a response, with this kind, message id and token. Doesn't
+/// Writes what a client is sent for a response, with this kind, Message ID and token. Doesn't
 /// allocate.
 ///
 /// `left` is the number of seconds left of an origin's answer to a GET. If it is given, a 2.05 or a

@@ -12,7 +12,7 @@ use coap_message::{Code, Message, OptionList, OutOfMemory, Pieces, Seq, without_
 use coap_option::numbers;
 use std::alloc::Global;
 
-/// What a client is sent for a response, as `show_into` writes it, except for kind, message id and
+/// What a client is sent for a response, as `show_into` writes it, except for kind, Message ID and
 /// token, which are those of the response.
 ///
 /// `left` is the number of seconds left of an origin's answer to a GET. If it is given, a 2.05 or a

@@ -8,7 +8,7 @@ use coap_message::{OptionList, Pieces};
 
 /// How many bytes an entry counts for: 64, plus its values, each with one more byte (the host, if
 /// it has one, the segments of the path, the parts of the query, the options of the key and those
-/// of the response), plus the payload, without a further byte. The token and the message id aren't
+/// of the response), plus the payload, without a further byte. The token and the Message ID aren't
 /// counted. Doesn't allocate.
 ///
 /// The count saturates at `u64::MAX`, so it is exact below that.

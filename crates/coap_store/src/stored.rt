@@ -7,7 +7,7 @@ use coap_option::max_age;
 
 /// A response in the store.
 pub struct Stored {
-    /// The response. Its kind, message id and token are ignored.
+    /// The response. Its kind, Message ID and token are ignored.
     pub response: Message,
     /// The number of the event in which its request was first sent.
     pub asked: u64,

@@ -87,7 +87,7 @@ fn replay<'a>(alloc: Global) -> Arg<'a>
         .help("Takes events from standard input in place of a socket [default: a socket]")
 }
 
-/// `--id`: the first message id.
+/// `--id`: the first Message ID.
 fn first_id<'a>(alloc: Global) -> Arg<'a>
     ensures { rule_of result ≡ spec.id_rule }
 {

@@ -19,7 +19,7 @@ pub struct Settings {
     pub map: Option<String>,
     /// `--replay`: whether events come from standard input.
     pub replay: bool,
-    /// `--id`: the first message id.
+    /// `--id`: the first Message ID.
     pub first_id: Option<u16>,
     /// `--salt`: the salt of tokens, below 2^63.
     pub salt: Option<u64>,

@@ -48,7 +48,7 @@ fn plan(rt: &HostRuntime) -> Result<Plan, Fault> {
     read_plan(rt.alloc(), wanted, file.as_deref())
 }
 
-/// A random first message id and a random salt.
+/// A random first Message ID and a random salt.
 fn draw(rt: &HostRuntime) -> Result<(u16, u64), Fault> {
     let (mut id, mut salt) = ([0; 2], [0; 8]);
     match rt

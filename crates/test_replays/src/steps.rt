@@ -183,7 +183,7 @@ fn store_first_answer(rt: &impl Abort, run: &mut Run) -> Result<(), OutOfMemory>
     Ok(())
 }
 
-// The first answer takes the message ids 1 and 2, and each hit takes one more. After 32,768 none is
+// The first answer takes the Message IDs 1 and 2, and each hit takes one more. After 32,768 none is
 // left in the first 247 seconds, though an acknowledgement needs none; after that ids are available
 // again.
 #[test]
