@@ -9,9 +9,9 @@ use coap_words::{ConfigError, MapOptionError, ProxyOptionError, WordsError};
 use std::error::Error;
 use std::fmt;
 
-/// Why the program stops before it is done. Faults of the arguments, of the configuration and of the
-/// socket are reported in this order; a hasher that can't be seeded is `File`, and running out of
-/// memory is reported where it happens.
+/// Why the program stops before it is done. Faults of the arguments, of the configuration and of
+/// the socket are reported in this order; a hasher that can't be seeded is `File`, and running out
+/// of memory is reported where it happens.
 #[derive(Debug, Drop)]
 pub enum Fault {
     /// The words after the program's name aren't texts.
