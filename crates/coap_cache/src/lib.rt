@@ -2,6 +2,17 @@
 //! of the store, how a stored response is renewed by its origin server, and what clients are sent.
 //!
 //! It consists of `coap_store`, `coap_store_list`, `coap_store_lru` and `coap_validation`.
+//!
+//! # First use
+//!
+//! ```rust
+//! let mut store = LruStore::with_limits(alloc, RandomState::new(rt)?, 262_144, 1024)?;
+//! store.put(key, stored);
+//! if let Some(stored) = store.peek(&same_key) {
+//!     let left = stored.left(now); // in whole seconds
+//!     let message = shown(alloc, &stored.response, Some(left), &tags)?;
+//! }
+//! ```
 #![tactic(auto)]
 
 pub use coap_store::{CacheKey, Put, Store, Stored, bytes_of, show_into, shown};

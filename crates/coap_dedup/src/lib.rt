@@ -1,4 +1,14 @@
 //! Messages that were seen before, and the replies that were kept for them (RFC 7252, 4.2 and 4.5).
+//!
+//! # First use
+//!
+//! ```rust
+//! let mut records = Records::new(alloc, 4096, EXCHANGE_LIFETIME)?;
+//! match records.seen(client, 0x1234, now) {
+//!     Seen::New => records.keep(client, 0x1234, now, Some(reply))?,
+//!     Seen::Again(reply) => { /* what was replied, to be sent again */ }
+//! }
+//! ```
 #![tactic(auto)]
 
 mod error;

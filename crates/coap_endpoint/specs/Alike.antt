@@ -74,7 +74,8 @@ target_itself a =
     let parts : (same_parts a.path a.path && same_parts a.query a.query) ≡ true =
     and_from (same_parts a.path a.path) (same_parts a.query a.query)
     ((same_pieces-Decides a.path a.path).1 refl) ((same_pieces-Decides a.query a.query).1 refl) in
-    and_from (same_name a.host a.host) (same_endpoint a.at a.at && (same_parts a.path a.path && same_parts a.query a.query))
+    and_from (same_name a.host a.host)
+    (same_endpoint a.at a.at && (same_parts a.path a.path && same_parts a.query a.query))
     (name_itself a.host)
     (and_from (same_endpoint a.at a.at) (same_parts a.path a.path && same_parts a.query a.query)
     (endpoint_itself a.at) parts)

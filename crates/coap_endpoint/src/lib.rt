@@ -1,5 +1,15 @@
 //! Endpoints, and targets: the resources on origin servers that requests are for (RFC 7252, 1.2 and
 //! 5.7.2).
+//!
+//! # First use
+//!
+//! ```rust
+//! let mut path = Pieces::new(alloc);
+//! path.push(b"temp")?;
+//! let at = Endpoint { ip: Ip::V4([192, 0, 2, 1]), port: 5683 };
+//! let temp = Target { host: None, at, path, query: Pieces::new(alloc) };
+//! assert!(temp == temp.copied()?);
+//! ```
 #![tactic(auto)]
 
 mod endpoint;

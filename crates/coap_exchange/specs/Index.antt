@@ -78,7 +78,8 @@ key_of x =
 -- the digest of its target, from when it is sent until it is tainted or its answer has come
 abbrev pub target_of : Exchange → Option ℕ
 target_of x =
-    if not x.tainted && (is_sent x || is_acked x) then Some (digest_of_target x.key.target) else None
+    if not x.tainted && (is_sent x || is_acked x) then Some (digest_of_target x.key.target)
+    else None
 
 abbrev pub owners_at : Option Exchange → Owners
 owners_at found =

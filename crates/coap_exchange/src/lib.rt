@@ -1,5 +1,17 @@
 //! What is in progress: exchanges with origins, and the clients that wait for them (RFC 7252, 4 and
 //! 5.2).
+//!
+//! # First use
+//!
+//! ```rust
+//! let mut exchanges = Exchanges::new(alloc, 256)?;
+//! let number = exchanges.admit(key, true, form, None, 0)?;
+//! assert!(exchanges.due(1, 93_000) == Some((0, number))); // it is its turn
+//! exchanges.send(number, Sending { asked: 0, id: 7, timer: Timer::start(0, 250) });
+//! assert!(exchanges.due(1, 93_000) == Some((2_250, number))); // when it is sent again
+//! assert!(exchanges.sent_as(origin, 7, 100) == Some(number)); // an acknowledgement of it came
+//! exchanges.acked(number);
+//! ```
 #![tactic(auto)]
 
 mod buckets;

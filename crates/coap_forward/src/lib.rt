@@ -1,5 +1,15 @@
 //! What a proxy passes on (RFC 7252, 5.7): the request that it forwards to an origin, what it makes
 //! of the response, and what it sends to its clients for it.
+//!
+//! # First use
+//!
+//! ```rust
+//! let token = token_of(salt, number); // of the exchange with this number
+//! put_forwarded(&token, &request, &target, None, &mut out, 1500)?;
+//! // its response, received at `now`
+//! let answer = answer_of(alloc, 1500, true, None, now, &response)?;
+//! assert!(answer.message.code == Code::CONTENT && answer.got == now);
+//! ```
 #![tactic(auto)]
 
 mod answers;

@@ -1,4 +1,11 @@
 //! The limits of a proxy.
+//!
+//! # First use
+//!
+//! ```rust
+//! let limits = Limits::new(LimitValues { exchanges: 64, ..LimitValues::default() })?;
+//! assert_eq!(limits.values().waiters, 1024);
+//! ```
 #![tactic(auto)]
 
 mod limits;

@@ -1,4 +1,14 @@
 //! Lines: the events of a proxy and what it sends, as text.
+//!
+//! # First use
+//!
+//! ```rust
+//! let turn = read_turn(alloc, b"500 250 192.0.2.7:40001 50010007B174", 0)?;
+//! assert_eq!((turn.now, turn.draw), (500, 250));
+//! let mut line = line_buffer(alloc, 1500)?;
+//! put_line(&mut line, 500, from, b"\x50\x01\x00\x07\xB1t");
+//! assert_eq!(line, b"500 192.0.2.7:40001 50010007B174\n");
+//! ```
 #![tactic(auto)]
 
 mod error;

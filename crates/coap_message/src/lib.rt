@@ -1,4 +1,14 @@
 //! CoAP messages and their encoding as bytes (RFC 7252, 3).
+//!
+//! # First use
+//!
+//! ```rust
+//! let request = decode(alloc, b"\x40\x01\x12\x34\xB1t")?; // a Confirmable GET of /t
+//! assert!(request.kind == Kind::Con && request.code == Code::GET && request.id == 0x1234);
+//! let mut out = Datagram::new(alloc, 64)?;
+//! encode_into(&request, &mut out, 64)?;
+//! assert_eq!(out.bytes(), b"\x40\x01\x12\x34\xB1t");
+//! ```
 #![tactic(auto)]
 
 mod code;

@@ -1,5 +1,11 @@
 //! The meaning of a proxy: its tables as one value, one step over them, histories, and the laws
 //! that relate them. There is almost no code here.
+//!
+//! # First use
+//!
+//! ```rust
+//! the_word_is_kept(); // a function whose contract needs a law calls it: it does nothing else
+//! ```
 #![tactic(auto)]
 
 pub mod cache_laws;

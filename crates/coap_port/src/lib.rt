@@ -1,4 +1,13 @@
 //! Ports, which datagrams come from and go to, and the loop that drives a core over one.
+//!
+//! # First use
+//!
+//! ```rust
+//! let mut port = MemoryPort::new(alloc, None);
+//! port.add(Scripted { now: 5, draw: 250, datagram: Some((client, request)) })?;
+//! let stats = drive(alloc, &mut core, &mut port, 2)?;
+//! assert_eq!((stats.turns, stats.sent, port.handed().len()), (2, 1, 1));
+//! ```
 #![tactic(auto)]
 
 mod drives;

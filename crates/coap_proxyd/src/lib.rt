@@ -1,5 +1,14 @@
 //! The parts of the program: what its words and its configuration make it do, over an input or over
 //! a port, and how it ends.
+//!
+//! # First use
+//!
+//! ```rust
+//! let wanted = read_wanted(alloc, &words)?;
+//! let plan = read_plan(alloc, wanted, configuration)?; // the bytes of the file, if one is named
+//! let mut port = UdpPort::bind(rt, alloc, plan.local, 1500)?;
+//! serve_port::<_, ListStore>(alloc, (), plan, first_id, salt, &mut port)?;
+//! ```
 #![tactic(auto)]
 
 mod examples;

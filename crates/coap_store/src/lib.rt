@@ -1,5 +1,16 @@
 //! The cache of a proxy: keys, stored responses, what a store of them has to do, and what clients
 //! are sent (RFC 7252, 5.6, 5.7.1, 5.10.5 and 5.10.6).
+//!
+//! # First use
+//!
+//! ```rust
+//! // a 2.05 with Max-Age 10 that came at moment 0
+//! let stored = Stored { response, asked: 1, got_no: 2, got: 0, marked: false };
+//! assert!(stored.is_fresh(10_000) && !stored.is_fresh(10_001));
+//! let left = stored.left(4_000);
+//! let message = shown(alloc, &stored.response, Some(left), &Pieces::new(alloc))?;
+//! assert_eq!(max_age(&message), 6);
+//! ```
 #![tactic(auto)]
 
 mod answer;

@@ -1,4 +1,12 @@
 //! A store of responses as a plain list, with the contracts of `coap_store`'s `Store`.
+//!
+//! # First use
+//!
+//! ```rust
+//! let mut store = ListStore::with_limits(alloc, (), 262_144, 1024)?; // bytes, entries
+//! assert!(store.put(key, stored) == Put::Kept);
+//! assert!(store.hit(&same_key, 5_000)); // usable, and the most recently used from now on
+//! ```
 #![tactic(auto)]
 
 mod list_store;

@@ -2,6 +2,15 @@
 //!
 //! Endpoints and targets themselves are in `coap_endpoint`, and reading URIs is in `coap_uri`; both
 //! are re-exported here.
+//!
+//! # First use
+//!
+//! ```rust
+//! let routes = Routes::fixed(alloc)?; // /t is /temp of the server at 127.0.0.1:5690
+//! let request = decode(alloc, b"\x40\x01\x12\x34\xB1t")?; // a GET of /t
+//! let target = routes.target_of(alloc, &request)?;
+//! assert_eq!(target.at.port, 5690);
+//! ```
 #![tactic(auto)]
 
 mod error;

@@ -1,4 +1,12 @@
 //! `coap` URIs and addresses, read from text (RFC 7252, 6; RFC 3986, 3.2.2).
+//!
+//! # First use
+//!
+//! ```rust
+//! let parts = split_uri(alloc, "coap://192.0.2.1/temp?unit=C")?;
+//! assert_eq!((parts.port, parts.path.len(), parts.query.len()), (5683, 1, 1));
+//! assert!(read_ip(alloc, "192.0.2.1")? == Ip::V4([192, 0, 2, 1]));
+//! ```
 #![tactic(auto)]
 
 mod address;

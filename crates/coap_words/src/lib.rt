@@ -1,5 +1,13 @@
 //! What the people who run the proxy write: the words of its command line, and its configuration
 //! file.
+//!
+//! # First use
+//!
+//! ```rust
+//! let settings = read_words(alloc, &words)?; // as `-p 5683 --config proxy.toml`
+//! let config = read_config(alloc, b"version = 1\n[limits]\nnstart = 2\n")?;
+//! assert_eq!(config.limits.values().nstart, 2);
+//! ```
 #![tactic(auto)]
 
 mod address;
