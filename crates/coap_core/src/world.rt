@@ -107,7 +107,7 @@ impl<S: Store + Drop> World<S> {
         let (bytes, entries) = (limits.values().cache_bytes, limits.values().cache_entries);
         let store = S::with_limits(alloc, seed, bytes, entries as usize)?;
         let (con_records, non_records) = new_records(alloc, &limits)?;
-        let (exchanges, waiters) = new_tables(alloc, &limits)?;
+        let (exchanges, waiters) = new_tables(alloc, &limits, salt)?;
         let room = new_room(alloc, &limits, &routes)?;
         Ok(World {
             alloc,
@@ -237,12 +237,16 @@ fn new_room(alloc: Global, limits: &Limits, routes: &Routes) -> Result<CacheQuer
 }
 
 /// Empty tables of exchanges and of waiters, with room for as many as the limits say.
-fn new_tables(alloc: Global, limits: &Limits) -> Result<(Exchanges, Waiters), OutOfMemory>
+fn new_tables(
+    alloc: Global,
+    limits: &Limits,
+    seed: u64,
+) -> Result<(Exchanges, Waiters), OutOfMemory>
     ensures exchanges { IfOk result (λ made. made.0 ≡ empty_table limits.now.exchanges) }
     ensures waiters { IfOk result (λ made. made.1 ≡ empty_table limits.now.waiters) }
 {
-    let exchanges = Exchanges::new(alloc, limits.values().exchanges as usize)?;
-    let waiters = Waiters::new(alloc, limits.values().waiters as usize)?;
+    let exchanges = Exchanges::seeded(alloc, limits.values().exchanges as usize, seed)?;
+    let waiters = Waiters::seeded(alloc, limits.values().waiters as usize, seed)?;
     Ok((exchanges, waiters))
 }
 

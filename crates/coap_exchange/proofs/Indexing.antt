@@ -1,6 +1,5 @@
 -- Rolls that keep step with a table, as its items come, change and go.
 use Rattle.std.proofs.Common.{◌≡◌, ℕ, ◌+◌, ◌≤◌, List, [], ◌∷◌, ◌++◌, length, Bool, true, false, cond, eqb, Option, Some, None, refl, sym, ap, ◌∙◌, arith}
-use Rattle.std.specs.Prelude.{not}
 use Rattle.std.specs.List.{AllByRecursion}
 use Rattle.std.specs.Option.{is_some, option_map}
 use Rattle.std.proofs.lemmas.Bool.{eqb-true, eqb-false, eq-eqb, ne_eqb}
@@ -10,6 +9,7 @@ use Rattle.coap_exchange.specs.Index.{got_of, id_of, opening_of, end_of, queue_o
 use Rattle.coap_exchange.specs.Roll.{Roll, empty_roll, is_in, is_owner, one_of}
 use Rattle.coap_exchange.specs.Table.{Numbered, Table, IsRising, IsTable, item_at, admitted_to, without, withdrawn_at, withdrawn, changed_at, count, passes}
 use Rattle.coap_exchange.proofs.Counts.{one_if, count-length, count-push, count-moved, count-without}
+use Rattle.coap_exchange.proofs.Tables.{without-gone, without-others}
 
 -- ---- what changes in a table where one item comes, changes or goes
 
@@ -19,26 +19,6 @@ pub record Moves {A : Type 0} (n : ℕ) (xs ys : List (Numbered A)) : Type 0 whe
   pub counts : (test : A → Bool) → count test ys + one_if (passes test (item_at n xs)) ≡ count test xs + one_if (passes test (item_at n ys))
 
 module _ {A : Type 0} where
-  without-others : (n q : ℕ) (xs : List (Numbered A)) → eqb q n ≡ false → item_at q (without n xs) ≡ item_at q xs
-  without-others n q [] e = refl
-  without-others n q (x ∷ xs) e = go (eqb x.0 n) refl (without-others n q xs e)
-    where
-      go : (b : Bool) → eqb x.0 n ≡ b → item_at q (without n xs) ≡ item_at q xs → item_at q (cond (not b) (x ∷ without n xs) (without n xs)) ≡ item_at q (x ∷ xs)
-      go true f i =
-          let other : eqb q x.0 ≡ false = ne_eqb q x.0 (λ g. eqb-false q n e (g ∙ eqb-true x.0 n f)) in
-          i ∙ sym (ap (λ (b : Bool). cond b (Some x.1) (item_at q xs)) other)
-      go false f i = ap (λ (o : Option A). cond (eqb q x.0) (Some x.1) o) i
-
-  pub without-gone : (n : ℕ) (xs : List (Numbered A)) → item_at n (without n xs) ≡ None
-  without-gone n [] = refl
-  without-gone n (x ∷ xs) = go (eqb x.0 n) refl (without-gone n xs)
-    where
-      go : (b : Bool) → eqb x.0 n ≡ b → item_at n (without n xs) ≡ None → item_at n (cond (not b) (x ∷ without n xs) (without n xs)) ≡ None
-      go true f i = i
-      go false f i =
-          let other : eqb n x.0 ≡ false = ne_eqb n x.0 (λ g. eqb-false x.0 n f (sym g)) in
-          ap (λ (b : Bool). cond b (Some x.1) (item_at n (without n xs))) other ∙ i
-
   -- the last that was withdrawn is gone
   pub withdrawn-gone : (t : Table A) → item_at t.admitted (withdrawn t).items ≡ None
   withdrawn-gone t = go (item_at t.admitted t.items) refl

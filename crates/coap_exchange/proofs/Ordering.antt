@@ -21,10 +21,10 @@ use Rattle.coap_exchange.specs.Turns.{head_at, head_in, endpoint_in, noted, AreI
 use Rattle.coap_exchange.proofs.Counts.{count-all_changed}
 use Rattle.coap_exchange.proofs.Dues.{IsDueIn, first_due-is}
 use Rattle.coap_exchange.proofs.Heads.{IsAt, head-is, head-there, heads-moved, heads-same, replaced-fewer, replaced-free, replaced-there, that-same}
-use Rattle.coap_exchange.proofs.Indexing.{Moves, changed-at, moves-admitted, push-at, without-gone}
+use Rattle.coap_exchange.proofs.Indexing.{Moves, changed-at, moves-admitted, push-at}
 use Rattle.coap_exchange.proofs.Lining.{queued-taint, sent-taint}
 use Rattle.coap_exchange.proofs.Sooner.{same_first, sooner_left}
-use Rattle.coap_exchange.proofs.Tables.{admitted-is, item_at-fresh}
+use Rattle.coap_exchange.proofs.Tables.{admitted-is, item_at-fresh, without-gone}
 use Rattle.coap_exchange.proofs.Changes.{IsRising-all_changed}
 
 -- ---- the order of admissions, as exchanges come, change and go

@@ -1,7 +1,7 @@
 -- Who waits, and for which exchange, as waiters come, change and go.
 use Rattle.std.proofs.Common.{◌≡◌, ℕ, ◌+◌, ◌-◌, ◌^◌, ◌≤◌, List, [], ◌∷◌, ◌++◌, false, eqb, Option, Some, None, refl, sym, ap, ◌∙◌, arith}
 use Rattle.std.specs.Prelude.{IfSome}
-use Rattle.std.specs.BTreeMap.{BTreeMap}
+use Rattle.indexmap.specs.IndexMap.{IndexMap}
 use Rattle.coap_exchange.specs.declared.timer.Timer.{Timer}
 use Rattle.coap_exchange.specs.declared.waiter.Waiter.{Waiter}
 use Rattle.coap_exchange.specs.declared.waiter.WaiterState.{WaiterState}
@@ -53,7 +53,7 @@ fewer-awaited e x n before after t is a b c =
     omega arith
 
 -- one more waits
-pub tallied-push : (xs : List (Numbered Waiter)) (old new : BTreeMap ℕ ℕ) (x : ℕ) (w : Numbered Waiter) → w.1.state ≡ Waiting x → AreTallied xs old → ((e : ℕ) → tally new e ≡ tally old e + one_if (eqb x e)) → AreTallied (xs ++ w ∷ []) new
+pub tallied-push : {S : Type 0} (xs : List (Numbered Waiter)) (old new : IndexMap ℕ ℕ S) (x : ℕ) (w : Numbered Waiter) → w.1.state ≡ Waiting x → AreTallied xs old → ((e : ℕ) → tally new e ≡ tally old e + one_if (eqb x e)) → AreTallied (xs ++ w ∷ []) new
 tallied-push xs old new x w s are more = λ e.
     let counted = count-push (waits_for e) xs w in
     let one : waits_for e w.1 ≡ eqb x e = rw s refl in
@@ -63,7 +63,7 @@ tallied-push xs old new x w s are more = λ e.
     omega arith
 
 -- one is taken out
-pub tallied-without : (n : ℕ) (t : Table Waiter) (old new : BTreeMap ℕ ℕ) → IsTable t → AreTallied t.items old → ((e : ℕ) → tally new e + one_if (passes (waits_for e) (item_at n t.items)) ≡ tally old e) → AreTallied (without n t.items) new
+pub tallied-without : {S : Type 0} (n : ℕ) (t : Table Waiter) (old new : IndexMap ℕ ℕ S) → IsTable t → AreTallied t.items old → ((e : ℕ) → tally new e + one_if (passes (waits_for e) (item_at n t.items)) ≡ tally old e) → AreTallied (without n t.items) new
 tallied-without n t old new is are fewer = λ e.
     let counted = count-without (waits_for e) n 0 t.items is.rising in
     let was = are e in
@@ -71,7 +71,7 @@ tallied-without n t old new is are fewer = λ e.
     omega arith
 
 -- the last is withdrawn
-pub tallied-withdrawn : (t : Table Waiter) (old new : BTreeMap ℕ ℕ) → IsTable t → AreTallied t.items old → ((e : ℕ) → tally new e + one_if (passes (waits_for e) (item_at t.admitted t.items)) ≡ tally old e) → AreTallied (withdrawn t).items new
+pub tallied-withdrawn : {S : Type 0} (t : Table Waiter) (old new : IndexMap ℕ ℕ S) → IsTable t → AreTallied t.items old → ((e : ℕ) → tally new e + one_if (passes (waits_for e) (item_at t.admitted t.items)) ≡ tally old e) → AreTallied (withdrawn t).items new
 tallied-withdrawn t old new is are fewer = λ e.
     let counted = count-withdrawn (waits_for e) t is in
     let was = are e in
@@ -84,7 +84,7 @@ delivered-for e bytes id timer None = tt
 delivered-for e bytes id timer (Some w) = refl
 
 -- one is sent the response
-pub tallied-delivered : (n : ℕ) (bytes : List ℕ) (id : ℕ) (timer : Timer) (t : Table Waiter) (old new : BTreeMap ℕ ℕ) → IsTable t → AreTallied t.items old → ((e : ℕ) → tally new e + one_if (passes (waits_for e) (item_at n t.items)) ≡ tally old e) → AreTallied (changed_at n (delivered bytes id timer) t.items) new
+pub tallied-delivered : {S : Type 0} (n : ℕ) (bytes : List ℕ) (id : ℕ) (timer : Timer) (t : Table Waiter) (old new : IndexMap ℕ ℕ S) → IsTable t → AreTallied t.items old → ((e : ℕ) → tally new e + one_if (passes (waits_for e) (item_at n t.items)) ≡ tally old e) → AreTallied (changed_at n (delivered bytes id timer) t.items) new
 tallied-delivered n bytes id timer t old new is are fewer = λ e.
     let counted = count-changed_at (waits_for e) n 0 (delivered bytes id timer) t.items is.rising (delivered-for e bytes id timer (item_at n t.items)) in
     let was = are e in
@@ -100,7 +100,7 @@ fired-for e now w = go w.state
     go (Delivering bytes id timer) = refl
 
 -- a timer is due
-pub tallied-fired : (n now : ℕ) (xs : List (Numbered Waiter)) (counts : BTreeMap ℕ ℕ) → AreTallied xs counts → AreTallied (changed_at n (fired_waiter now) xs) counts
+pub tallied-fired : {S : Type 0} (n now : ℕ) (xs : List (Numbered Waiter)) (counts : IndexMap ℕ ℕ S) → AreTallied xs counts → AreTallied (changed_at n (fired_waiter now) xs) counts
 tallied-fired n now xs counts are = λ e. are e ∙ sym (count-kept (waits_for e) n (fired_waiter now) xs (fired-for e now))
 
 -- ---- timeouts are no longer than they come to be

@@ -1,9 +1,8 @@
 //! Tables of exchanges: which are admitted, sent, answered and closed, and which is due.
-ghost use Rattle.std.specs.Prelude.{◌≡◌, ◌+◌, ◌-◌, ◌<◌, ◌≤◌, ◌^◌, ◌↔◌, ◌&&◌, length, if◌then◌else◌, true, false, None, OnOk, OnErr, IfOk, IfErr, IfSome, IfNone};
+ghost use Rattle.std.specs.Prelude.{◌≡◌, ◌+◌, ◌-◌, ◌<◌, ◌≤◌, ◌^◌, ◌↔◌, ◌&&◌, length, if◌then◌else◌, true, false, None, nat_eq, OnOk, OnErr, IfOk, IfErr, IfSome, IfNone};
 ghost use Rattle.std.specs.Map.{set_value};
 ghost use Rattle.std.specs.Option.{option_copied, option_map};
-ghost use Rattle.std.specs.BTreeMap.{get, is_at};
-ghost use Rattle.std.specs.Ordering.{nat_cmp};
+ghost use Rattle.indexmap.specs.IndexMap.{get};
 ghost use Rattle.coap_endpoint.specs.declared.endpoint.Endpoint.{Endpoint};
 ghost use Rattle.coap_exchange.specs.Answered.{IsFirstGot, IsNextGot};
 ghost use Rattle.coap_exchange.specs.declared.table.AdmitError.TheVariants.{Full};
@@ -21,7 +20,7 @@ use crate::index::{Index, Owners, Sought, first_sought, owners_at, owners_in, ow
 use crate::lines::{Line, Stage, close_one, has_turn, line_to, lowered, move_one, open_one};
 use crate::listed::Listed;
 use crate::peer::Peer;
-use crate::table::{AdmitError, Table};
+use crate::table::{AdmitError, Items, Table};
 use crate::timer::Fire;
 use crate::turns::{Turns, head_of, peer_of};
 use coap_endpoint::{Endpoint, Target};
@@ -83,7 +82,18 @@ impl Exchanges {
     pub fn new(alloc: Global, limit: usize) -> Result<Exchanges, OutOfMemory>
         ensures empty { IfOk result (λ exchanges. exchanges ≡ empty_table limit) }
     {
-        let table = Table::new(alloc, limit)?;
+        Exchanges::seeded(alloc, limit, 0)
+    }
+
+    /// An empty table like that of `new`. Where its map puts a number depends on `seed`, so that
+    /// whoever doesn't know it can't choose which numbers meet there.
+    ///
+    /// # Errors
+    /// Out of memory.
+    pub fn seeded(alloc: Global, limit: usize, seed: u64) -> Result<Exchanges, OutOfMemory>
+        ensures empty { IfOk result (λ exchanges. exchanges ≡ empty_table limit) }
+    {
+        let table = Table::new(alloc, limit, seed)?;
         let index = Index::new(alloc, limit)?;
         let turns = Turns::new(alloc)?;
         Ok(Exchanges {
@@ -481,15 +491,15 @@ impl Table<Listed> {
     }
 }
 
-fn change_under(exchanges: &mut BTreeMap<u64, Listed>, number: u64, change: Change) -> Owners
-    requires { IfSome (get nat_cmp exchanges.old number) (CanChange change) }
-    ensures found { IfSome (get nat_cmp exchanges.old number) (λ x.
+fn change_under(exchanges: &mut Items<Listed>, number: u64, change: Change) -> Owners
+    requires { IfSome (get nat_eq exchanges.old number) (CanChange change) }
+    ensures found { IfSome (get nat_eq exchanges.old number) (λ x.
         exchanges.new.entries
-        ≡ set_value (is_at (nat_cmp number)) exchanges.old.entries (changed_by change x)) }
-    ensures missing { IfNone (get nat_cmp exchanges.old number)
+        ≡ set_value (nat_eq number) exchanges.old.entries (changed_by change x)) }
+    ensures missing { IfNone (get nat_eq exchanges.old number)
         (exchanges.new.entries ≡ exchanges.old.entries) }
     ensures owners { result
-        ≡ owners_at (option_map (changed_by change) (get nat_cmp exchanges.old number)) }
+        ≡ owners_at (option_map (changed_by change) (get nat_eq exchanges.old number)) }
 {
     match exchanges.get_mut(&number) {
         Some(exchange) => {
@@ -500,11 +510,11 @@ fn change_under(exchanges: &mut BTreeMap<u64, Listed>, number: u64, change: Chan
     }
 }
 
-fn taint_under(exchanges: &mut BTreeMap<u64, Listed>, number: u64, target: &Target)
-    ensures found { IfSome (get nat_cmp exchanges.old number) (λ x.
+fn taint_under(exchanges: &mut Items<Listed>, number: u64, target: &Target)
+    ensures found { IfSome (get nat_eq exchanges.old number) (λ x.
         exchanges.new.entries
-        ≡ set_value (is_at (nat_cmp number)) exchanges.old.entries (tainted_by target.now x)) }
-    ensures missing { IfNone (get nat_cmp exchanges.old number)
+        ≡ set_value (nat_eq number) exchanges.old.entries (tainted_by target.now x)) }
+    ensures missing { IfNone (get nat_eq exchanges.old number)
         (exchanges.new.entries ≡ exchanges.old.entries) }
 {
     if let Some(exchange) = exchanges.get_mut(&number) {

@@ -29,6 +29,7 @@ mod marks;
 mod peer;
 mod roll;
 mod row;
+mod seeded;
 mod table;
 mod tally;
 mod timer;

@@ -1,10 +1,9 @@
 //! Tables of waiters: who waits for which exchange, which are being sent a response, and which is
 //! due.
-ghost use Rattle.std.specs.Prelude.{◌≡◌, ◌+◌, ◌-◌, ◌<◌, ◌≤◌, ◌^◌, ◌↔◌, ℕ, length, if◌then◌else◌, true, false, OnOk, OnErr, IfOk, IfErr, IfSome, IfNone};
+ghost use Rattle.std.specs.Prelude.{◌≡◌, ◌+◌, ◌-◌, ◌<◌, ◌≤◌, ◌^◌, ◌↔◌, ℕ, length, if◌then◌else◌, true, false, nat_eq, OnOk, OnErr, IfOk, IfErr, IfSome, IfNone};
 ghost use Rattle.std.specs.Map.{set_value};
 ghost use Rattle.std.specs.Option.{option_copied, option_map};
-ghost use Rattle.std.specs.BTreeMap.{get, is_at};
-ghost use Rattle.std.specs.Ordering.{nat_cmp};
+ghost use Rattle.indexmap.specs.IndexMap.{get};
 ghost use Rattle.coap_exchange.specs.declared.table.AdmitError.TheVariants.{Full};
 ghost use Rattle.coap_exchange.specs.declared.waiter.WaiterState.TheVariants.{Waiting};
 ghost use Rattle.coap_exchange.specs.Answered.{due_at};
@@ -17,14 +16,15 @@ ghost use Rattle.coap_exchange.specs.Waiters.{awaited_by, changed_by, delivered,
 use crate::due::{due_under, sooner};
 use crate::exchanges::Exchanges;
 use crate::marks::{Marks, WaiterIndex, marks_in, marks_of};
-use crate::table::{AdmitError, Table};
-use crate::tally::{count_one, counted, discount_one};
+use crate::seeded::Seeded;
+use crate::table::{AdmitError, Items, Table};
+use crate::tally::{Counts, count_one, counted, discount_one};
 use crate::timer::{Fire, Timer};
 use crate::waiter::{Waiter, WaiterChange, WaiterState};
 use coap_endpoint::Endpoint;
 use coap_message::{Kind, OutOfMemory, Pieces, Seq, Token};
+use indexmap::IndexMap;
 use std::alloc::Global;
-use std::collections::BTreeMap;
 use std::marker::Model;
 
 /// Waiters in order of number. A contract sees the table. Only `new` and `admit` allocate.
@@ -33,7 +33,7 @@ pub struct Waiters {
     /// The number of waiters that wait for an exchange.
     waiting: usize,
     /// The number of waiters for each exchange, by the exchange's number.
-    by_exchange: BTreeMap<u64, usize>,
+    by_exchange: Counts,
     /// What they are looked up by.
     index: WaiterIndex,
     alloc: Global,
@@ -75,11 +75,23 @@ impl Waiters {
     pub fn new(alloc: Global, limit: usize) -> Result<Waiters, OutOfMemory>
         ensures empty { IfOk result (λ waiters. waiters ≡ empty_table limit) }
     {
-        let table = Table::new(alloc, limit)?;
+        Waiters::seeded(alloc, limit, 0)
+    }
+
+    /// An empty table like that of `new`. Where its maps put a number depends on `seed`, so that
+    /// whoever doesn't know it can't choose which numbers meet there.
+    ///
+    /// # Errors
+    /// Out of memory.
+    pub fn seeded(alloc: Global, limit: usize, seed: u64) -> Result<Waiters, OutOfMemory>
+        ensures empty { IfOk result (λ waiters. waiters ≡ empty_table limit) }
+    {
+        let table = Table::new(alloc, limit, seed)?;
+        let (room, hasher) = (limit.saturating_mul(2), Seeded::new(seed));
         Ok(Waiters {
             table,
             waiting: 0,
-            by_exchange: BTreeMap::new(alloc),
+            by_exchange: IndexMap::with_capacity_and_hasher(alloc, room, hasher)?,
             index: WaiterIndex::new(alloc, limit)?,
             alloc,
         })
@@ -359,19 +371,19 @@ fn answered_at(number: u64, waiter: &Waiter, exchanges: &Exchanges) -> Option<(u
 }
 
 fn change_under(
-    waiters: &mut BTreeMap<u64, Waiter>,
+    waiters: &mut Items<Waiter>,
     number: u64,
     change: WaiterChange,
     alloc: Global,
 ) -> Marks
-    requires { IfSome (get nat_cmp waiters.old number) (CanChange change) }
-    ensures found { IfSome (get nat_cmp waiters.old number) (λ w.
+    requires { IfSome (get nat_eq waiters.old number) (CanChange change) }
+    ensures found { IfSome (get nat_eq waiters.old number) (λ w.
         waiters.new.entries
-        ≡ set_value (is_at (nat_cmp number)) waiters.old.entries (changed_by change w)) }
-    ensures missing { IfNone (get nat_cmp waiters.old number)
+        ≡ set_value (nat_eq number) waiters.old.entries (changed_by change w)) }
+    ensures missing { IfNone (get nat_eq waiters.old number)
         (waiters.new.entries ≡ waiters.old.entries) }
     ensures marks { result
-        ≡ marks_at (option_map (changed_by change) (get nat_cmp waiters.old number)) }
+        ≡ marks_at (option_map (changed_by change) (get nat_eq waiters.old number)) }
 {
     match waiters.get_mut(&number) {
         Some(waiter) => {
@@ -416,7 +428,7 @@ fn awaited_by(found: Option<&Waiter>) -> Option<u64>
 /// Stops counting `found`, which is the waiter numbered `number`, for the exchange that it waits
 /// for.
 fn stop_waiting(
-    by_exchange: &mut BTreeMap<u64, usize>,
+    by_exchange: &mut Counts,
     waiters: &Table<Waiter>,
     number: u64,
     found: Option<&Waiter>,

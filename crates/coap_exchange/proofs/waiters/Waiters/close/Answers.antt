@@ -2,9 +2,8 @@ use Rattle.std.proofs.Common.{arith, refl}
 use Rattle.coap_exchange.specs.Table.{without}
 use Rattle.coap_exchange.specs.Waiters.{is_waiting}
 use Rattle.coap_exchange.proofs.Counts.{count-without}
-use Rattle.coap_exchange.proofs.Indexing.{without-gone}
 use Rattle.coap_exchange.proofs.Steps.{step-without, marks-can-pass, marks-passed}
-use Rattle.coap_exchange.proofs.Tables.{closed-is}
+use Rattle.coap_exchange.proofs.Tables.{closed-is, without-gone}
 use Rattle.coap_exchange.proofs.Waiting.{short-without, tallied-without}
 use Rattle.coap_exchange.proofs.waiters.Waiters.close.Goals as goal
 
