@@ -1,0 +1,97 @@
+"""What must hold with the client and the server of libcoap, where they are installed."""
+
+import shutil
+import subprocess
+import time
+
+from testing.cases import Skipped, Case
+from testing.network import Failed, end, expect, free_port
+
+CASES = []
+# What the first resource of libcoap's server says.
+WELCOME = b"This is a test server made with libcoap"
+
+
+def case(*stand_ins):
+    """Notes a case, with the stand-ins that it must find wrong."""
+
+    def note(function):
+        CASES.append(Case(function.__name__, function, stand_ins))
+        return function
+
+    return note
+
+
+def tool(name):
+    """The path of a program of libcoap."""
+    found = shutil.which(f"coap-{name}-notls") or shutil.which(f"coap-{name}")
+    if found is None:
+        raise Skipped(f"libcoap's {name} isn't installed")
+    return found
+
+
+def serve(stage):
+    """Starts libcoap's server, and returns its address once it is ready."""
+    program = tool("server")
+    for _ in range(5):
+        address = ("127.0.0.1", free_port("127.0.0.1"))
+        process = stage.start([program, "-A", address[0], "-p", str(address[1])])
+        if stage.is_ready(process, address):
+            return address
+    raise Failed("libcoap's server served none of five ports")
+
+
+def client(stage, proxy, path, *words):
+    """What libcoap's client prints of a response."""
+    command = [tool("client"), "-B", "10", *words, f"coap://{proxy[0]}:{proxy[1]}/{path}"]
+    done = subprocess.run(command, stdout=subprocess.PIPE, stderr=subprocess.STDOUT, cwd=stage.folder, timeout=30)
+    return done.stdout.strip()
+
+
+def mapped(stage):
+    """A proxy in front of libcoap's server, and that server's address."""
+    server = serve(stage)
+    return stage.proxy("--map", f"/=coap://{server[0]}:{server[1]}/"), server
+
+
+@case("PayloadChanged")
+def its_client_gets_what_its_server_has(stage):
+    proxy, _ = mapped(stage)
+    expect("what the client printed", WELCOME, client(stage, proxy, "")[: len(WELCOME)])
+    core = client(stage, proxy, ".well-known/core", "-N")
+    expect("whether the resources are there", True, b"</async>" in core and b"</example_data>" in core)
+
+
+@case("AnswersFromMemory")
+def its_client_puts_and_gets_again(stage):
+    proxy, _ = mapped(stage)
+    for value in ("Hello", "Good bye"):
+        client(stage, proxy, "example_data", "-m", "put", "-e", value)
+        for _ in range(2):
+            expect("what the client printed", value.encode(), client(stage, proxy, "example_data"))
+
+
+@case("PayloadChanged")
+def its_asynchronous_resource_answers_separately(stage):
+    proxy, _ = mapped(stage)
+    started = time.monotonic()
+    expect("what the client printed", b"done", client(stage, proxy, "async?1"))
+    expect("whether the server took its second", True, time.monotonic() - started > 0.9)
+
+
+@case("NeverFromTheCache")
+def a_server_that_was_stopped_is_answered_for(stage):
+    proxy, _ = mapped(stage)
+    first = client(stage, proxy, "")
+    expect("what the client printed", WELCOME, first[: len(WELCOME)])
+    end(stage.programs[0])
+    expect("what it printed without the server", first, client(stage, proxy, ""))
+
+
+@case("CodeChanged")
+def its_client_names_the_proxy(stage):
+    server, proxy = serve(stage), stage.proxy("-P", ",proxy.test")
+    uri = f"coap://{server[0]}:{server[1]}/"
+    command = [tool("client"), "-B", "10", "-P", f"coap://{proxy[0]}:{proxy[1]}", uri]
+    done = subprocess.run(command, stdout=subprocess.PIPE, stderr=subprocess.STDOUT, cwd=stage.folder, timeout=30)
+    expect("what the client printed", WELCOME, done.stdout[: len(WELCOME)])

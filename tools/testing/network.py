@@ -1,0 +1,299 @@
+"""Endpoints on the loopback, and programs that serve them for as long as a case needs them."""
+
+import math
+import os
+import random
+import shutil
+import signal
+import socket
+import struct
+import subprocess
+import tempfile
+import time
+from collections import namedtuple
+
+from testing.coap import ACK, CON, EMPTY, MAX_AGE, NON, RST, message, number, number_bytes, read, told
+
+# How long a datagram that must come may take, and how long it is watched that none comes, in seconds. The machine may
+# be loaded.
+PATIENCE, SILENCE = 6.0, 0.4
+
+# The Linux option that has each datagram come with the moment of its arrival, and the form of that moment.
+SO_TIMESTAMPNS, TIMESPEC = 35, struct.Struct("@ll")
+
+# A message that was sent or came: as a message and as bytes, the other address, and the moment on the system's clock.
+Came = namedtuple("Came", "message data source at")
+# A response of an origin: its Max-Age, a moment before the proxy got it, and one after it (none if there isn't one yet).
+Life = namedtuple("Life", "max_age sent seen", defaults=(None,))
+
+
+class Failed(Exception):
+    """What a case expected, and what came."""
+
+
+def expect(what, wanted, came):
+    """Fails where something isn't as wanted."""
+    if wanted != came:
+        raise Failed(f"{what}: expected {wanted!r}, got {came!r}")
+
+
+def expect_between(what, least, most, came):
+    """Fails where a number isn't within bounds."""
+    if not least <= came <= most:
+        raise Failed(f"{what}: expected {least} to {most}, got {came}")
+
+
+def left(max_age, age):
+    """What is left of a Max-Age after so many seconds: an age is rounded up."""
+    return max(0, max_age - max(0, math.ceil(age)))
+
+
+def expect_age(life, asked, came):
+    """Fails where a response that came at some moment to a request of an earlier one doesn't have the Max-Age that is
+    left of this life. The proxy's clock may differ by a millisecond or two."""
+    values = [value for number, value in came.message.options if number == MAX_AGE]
+    expect("how many Max-Age it has", 1, len(values))
+    shortest = 0 if life.seen is None else asked - life.seen
+    least, most = left(life.max_age, came.at - life.sent + 0.002), left(life.max_age, shortest - 0.002)
+    expect_between("Max-Age", least, most, number(values[0]))
+    expect("the bytes of Max-Age", number_bytes(number(values[0])), values[0])
+
+
+class Peer:
+    """A UDP socket on the loopback: a client, an origin or a stranger."""
+
+    def __init__(self, host="127.0.0.1", to=None):
+        self.socket = udp(host)
+        self.socket.bind((host, 0))
+        self.socket.setsockopt(socket.SOL_SOCKET, SO_TIMESTAMPNS, 1)
+        self.host, self.port = host, self.socket.getsockname()[1]
+        self.authority = f"[{host}]:{self.port}" if ":" in host else f"{host}:{self.port}"
+        self.to, self.random = to, random.Random()
+        self.next_id = self.random.randrange(0x10000)
+
+    def new_id(self):
+        """A Message ID that this socket hasn't used yet."""
+        self.next_id = (self.next_id + 1) % 0x10000
+        return self.next_id
+
+    def send(self, data, to=None):
+        """Sends a datagram, and returns the moment just before."""
+        at = time.time()
+        self.socket.sendto(data, to or self.to)
+        return at
+
+    def poll(self, seconds):
+        """The next datagram that comes within so many seconds, if one does, where it came from, and when."""
+        self.socket.settimeout(max(seconds, 0.001))
+        try:
+            data, more, _, source = self.socket.recvmsg(65_536, 64)
+        except socket.timeout:
+            return None
+        seconds, nanoseconds = TIMESPEC.unpack(more[0][2][: TIMESPEC.size])
+        return data, source[:2], seconds + nanoseconds / 1e9
+
+    def receive(self, what="a message", seconds=PATIENCE):
+        """The next datagram, which must come, and be a message."""
+        came = self.poll(seconds)
+        if came is None:
+            raise Failed(f"expected {what}, got nothing for {seconds} s")
+        try:
+            return Came(read(came[0]), *came)
+        except ValueError:
+            raise Failed(f"expected {what}, got {told(came[0])}") from None
+
+    def expect_bytes(self, what, data):
+        """Has the next datagram be these very bytes."""
+        came = self.receive(what)
+        if came.data != data:
+            raise Failed(f"{what}: expected {told(data)}, got {told(came.data)}")
+        return came
+
+    def expect_silence(self, what, seconds=SILENCE):
+        """Has no datagram come for a while."""
+        came = self.poll(seconds)
+        if came is not None:
+            raise Failed(f"{what}: expected nothing, got {told(came[0])}")
+
+    # As a client.
+
+    def request(self, code, options=(), payload=b"", kind=CON):
+        """Sends a request, and returns it."""
+        token = bytes(self.random.randrange(256) for _ in range(self.random.choice((1, 2, 4, 8))))
+        data = message(kind, code, self.new_id(), token, options, payload)
+        return Came(read(data), data, self.to, self.send(data))
+
+    def expect_acknowledgement(self, request):
+        """Has the next datagram be an Empty acknowledgement of a request."""
+        return self.expect_bytes("an acknowledgement", message(ACK, EMPTY, request.message.message_id))
+
+    def expect_response(self, request, code, options=(), payload=b"", life=None):
+        """Has the next datagram answer a request: in its acknowledgement, or in a Non-confirmable message. If it has
+        a life, there must also be the Max-Age that is left of it."""
+        kind = ACK if request.message.kind == CON else NON
+        came = self.receive("a response")
+        check_response(came, kind, request, code, options, payload, life)
+        if kind == ACK:
+            expect("Message ID", request.message.message_id, came.message.message_id)
+        return came
+
+    def expect_separate(self, request, code, options=(), payload=b"", life=None):
+        """Has the next datagram answer a request in a Confirmable message, and acknowledges that."""
+        came = self.receive("a separate response")
+        check_response(came, CON, request, code, options, payload, life)
+        self.send(message(ACK, EMPTY, came.message.message_id))
+        return came
+
+    def expect_late(self, request, *answer, **more):
+        """Has what answers a request that was forwarded: a Confirmable one is acknowledged, and answered separately."""
+        if request.message.kind == NON:
+            return self.expect_response(request, *answer, **more)
+        self.expect_acknowledgement(request)
+        return self.expect_separate(request, *answer, **more)
+
+    # As an origin.
+
+    def expect_request(self, code, options=(), payload=b""):
+        """Has the next datagram be a request of the proxy."""
+        came = self.receive("a request")
+        it = came.message
+        expect("the request", (CON, code, 8), (it.kind, it.code, len(it.token)))
+        expect("its options", sorted(options, key=lambda it: it[0]), it.options)
+        expect("its payload", payload, it.payload)
+        return came
+
+    def answer(self, request, code, options=(), payload=b"", kind=ACK):
+        """Answers a request of the proxy, and returns the message with its moment."""
+        message_id = request.message.message_id if kind == ACK else self.new_id()
+        data = message(kind, code, message_id, request.message.token, options, payload)
+        return Came(read(data), data, request.source, self.send(data, request.source))
+
+    def acknowledge(self, request, kind=ACK):
+        """Acknowledges or rejects a message by an Empty one."""
+        self.send(message(kind, EMPTY, request.message.message_id), request.source)
+
+
+def check_response(came, kind, request, code, options, payload, life):
+    """Fails where a message isn't this response to a request."""
+    it = came.message
+    expect("the response", (kind, code, request.message.token), (it.kind, it.code, it.token))
+    others = it.options if life is None else [one for one in it.options if one[0] != MAX_AGE]
+    expect("its options", sorted(options, key=lambda it: it[0]), others)
+    expect("its payload", payload, it.payload)
+    if life is not None:
+        expect_age(life, request.at, came)
+
+
+# What was started and isn't ended yet, and whether no more is to be started.
+STARTED, ENDING = set(), []
+
+
+class Stage:
+    """What one case has on the loopback. All of it is ended and removed when the case is done."""
+
+    def __init__(self, program):
+        self.program = program
+        self.folder = tempfile.mkdtemp(prefix="coap-proxyd-test-")
+        self.peers, self.programs = [], []
+
+    def __enter__(self):
+        return self
+
+    def __exit__(self, *_):
+        for process in self.programs:
+            end(process)
+        for peer in self.peers:
+            peer.socket.close()
+        shutil.rmtree(self.folder)
+
+    def peer(self, host="127.0.0.1", to=None):
+        """A socket, which sends to this address if nothing else is said."""
+        self.peers.append(Peer(host, to))
+        return self.peers[-1]
+
+    def file(self, name, text):
+        """Puts a text into a file, and returns its path."""
+        path = os.path.join(self.folder, name)
+        with open(path, "w", encoding="utf-8") as file:
+            file.write(text)
+        return path
+
+    def start(self, words, output=subprocess.DEVNULL):
+        """Starts a program in a session of its own."""
+        if ENDING:
+            raise Failed("the test is ending")
+        process = subprocess.Popen(
+            words, stdin=subprocess.DEVNULL, stdout=output, stderr=output, cwd=self.folder, start_new_session=True
+        )
+        self.programs.append(process)
+        STARTED.add(process)
+        return process
+
+    def proxy(self, *words, config=None, host="127.0.0.1"):
+        """Starts the program at a free port, and returns its address once it is ready."""
+        if config is not None:
+            words += ("--config", self.file(f"proxy-{len(self.programs)}.toml", "version = 1\n" + config))
+        for _ in range(5):
+            port = free_port(host)
+            process = self.start([*self.program, "-A", host, "-p", str(port), *words])
+            if self.is_ready(process, (host, port)):
+                return host, port
+        raise Failed("the program didn't serve any of five ports")
+
+    def is_ready(self, process, address):
+        """Whether a program comes to reject an Empty Confirmable message, or ends before."""
+        peer, until = self.peer("::1" if ":" in address[0] else "127.0.0.1", address), time.monotonic() + 20
+        while process.poll() is None and time.monotonic() < until:
+            peer.send(message(CON, EMPTY, peer.new_id()))
+            if peer.poll(0.05) is not None:
+                return True
+        return False
+
+    def mapped(self, limits="", host="127.0.0.1"):
+        """A proxy that maps /t to /temp of an origin, with these lines of limits; a client; and the origin."""
+        origin = self.peer(host)
+        config = f"[limits]\n{limits}\n" if limits else None
+        proxy = self.proxy("--map", f"/t=coap://{origin.authority}/temp", config=config, host=host)
+        return proxy, self.peer(host, proxy), origin
+
+
+def udp(host):
+    """A UDP socket for an address of this family."""
+    return socket.socket(socket.AF_INET6 if ":" in host else socket.AF_INET, socket.SOCK_DGRAM)
+
+
+def free_port(host):
+    """A port that was free a moment ago."""
+    with udp(host) as probe:
+        probe.bind((host, 0))
+        return probe.getsockname()[1]
+
+
+def has_ipv6():
+    """Whether there is ::1."""
+    try:
+        return free_port("::1") > 0
+    except OSError:
+        return False
+
+
+def end(process):
+    """Ends a program that was started in a session of its own, and what it started."""
+    if process.poll() is None:
+        process.terminate()
+        try:
+            process.wait(5)
+        except subprocess.TimeoutExpired:
+            os.killpg(process.pid, signal.SIGKILL)
+            process.wait()
+    for stream in (process.stdout, process.stderr):
+        if stream is not None:
+            stream.close()
+    STARTED.discard(process)
+
+
+def end_all():
+    """Ends all that was started, and has nothing more start."""
+    ENDING.append(True)
+    for process in list(STARTED):
+        end(process)
