@@ -34,18 +34,24 @@ def serve(stage):
     """Starts libcoap's server, and returns its address once it is ready."""
     program = tool("server")
     for _ in range(5):
-        address = ("127.0.0.1", free_port("127.0.0.1"))
+        address = (stage.host, free_port(stage.host))
         process = stage.start([program, "-A", address[0], "-p", str(address[1])])
         if stage.is_ready(process, address):
             return address
     raise Failed("libcoap's server served none of five ports")
 
 
-def client(stage, proxy, path, *words):
+def client(stage, server, path, *words):
     """What libcoap's client prints of a response."""
-    command = [tool("client"), "-B", "10", *words, f"coap://{proxy[0]}:{proxy[1]}/{path}"]
+    command = [tool("client"), "-B", "5", *words, f"coap://{server[0]}:{server[1]}/{path}"]
     done = subprocess.run(command, stdout=subprocess.PIPE, stderr=subprocess.STDOUT, cwd=stage.folder, timeout=30)
-    return done.stdout.strip()
+    return done.stdout.rstrip(b"\n")
+
+
+def expect_welcome(stage, server, came):
+    """Has what the client printed be what the server itself answers."""
+    expect("what the client printed", client(stage, server, ""), came)
+    expect("how it begins", WELCOME, came[: len(WELCOME)])
 
 
 def mapped(stage):
@@ -56,10 +62,11 @@ def mapped(stage):
 
 @case("PayloadChanged")
 def its_client_gets_what_its_server_has(stage):
-    proxy, _ = mapped(stage)
-    expect("what the client printed", WELCOME, client(stage, proxy, "")[: len(WELCOME)])
+    proxy, server = mapped(stage)
+    expect_welcome(stage, server, client(stage, proxy, ""))
     core = client(stage, proxy, ".well-known/core", "-N")
-    expect("whether the resources are there", True, b"</async>" in core and b"</example_data>" in core)
+    expect("what the client printed of the resources", client(stage, server, ".well-known/core"), core)
+    expect("whether one is among them", True, b"</example_data>" in core)
 
 
 @case("AnswersFromMemory")
@@ -88,10 +95,7 @@ def a_server_that_was_stopped_is_answered_for(stage):
     expect("what it printed without the server", first, client(stage, proxy, ""))
 
 
-@case("CodeChanged")
+@case("PayloadChanged")
 def its_client_names_the_proxy(stage):
     server, proxy = serve(stage), stage.proxy("-P", ",proxy.test")
-    uri = f"coap://{server[0]}:{server[1]}/"
-    command = [tool("client"), "-B", "10", "-P", f"coap://{proxy[0]}:{proxy[1]}", uri]
-    done = subprocess.run(command, stdout=subprocess.PIPE, stderr=subprocess.STDOUT, cwd=stage.folder, timeout=30)
-    expect("what the client printed", WELCOME, done.stdout[: len(WELCOME)])
+    expect_welcome(stage, server, client(stage, server, "", "-P", f"coap://{proxy[0]}:{proxy[1]}"))

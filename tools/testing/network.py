@@ -23,7 +23,7 @@ SO_TIMESTAMPNS, TIMESPEC = 35, struct.Struct("@ll")
 
 # A message that was sent or came: as a message and as bytes, the other address, and the moment on the system's clock.
 Came = namedtuple("Came", "message data source at")
-# A response of an origin: its Max-Age, a moment before the proxy got it, and one after it (none if there isn't one yet).
+# A response of an origin: its Max-Age, a moment before the proxy got it, and one after that, if there is one yet.
 Life = namedtuple("Life", "max_age sent seen", defaults=(None,))
 
 
@@ -62,7 +62,7 @@ def expect_age(life, asked, came):
 class Peer:
     """A UDP socket on the loopback: a client, an origin or a stranger."""
 
-    def __init__(self, host="127.0.0.1", to=None):
+    def __init__(self, host, to=None):
         self.socket = udp(host)
         self.socket.bind((host, 0))
         self.socket.setsockopt(socket.SOL_SOCKET, SO_TIMESTAMPNS, 1)
@@ -193,6 +193,8 @@ class Stage:
 
     def __init__(self, program):
         self.program = program
+        # No two cases share an address, so none of them takes a port that another one is about to use.
+        self.host = "127.%d.%d.%d" % tuple(random.randrange(64, 255) for _ in range(3))
         self.folder = tempfile.mkdtemp(prefix="coap-proxyd-test-")
         self.peers, self.programs = [], []
 
@@ -206,9 +208,9 @@ class Stage:
             peer.socket.close()
         shutil.rmtree(self.folder)
 
-    def peer(self, host="127.0.0.1", to=None):
+    def peer(self, host=None, to=None):
         """A socket, which sends to this address if nothing else is said."""
-        self.peers.append(Peer(host, to))
+        self.peers.append(Peer(host or self.host, to))
         return self.peers[-1]
 
     def file(self, name, text):
@@ -229,8 +231,9 @@ class Stage:
         STARTED.add(process)
         return process
 
-    def proxy(self, *words, config=None, host="127.0.0.1"):
+    def proxy(self, *words, config=None, host=None):
         """Starts the program at a free port, and returns its address once it is ready."""
+        host = host or self.host
         if config is not None:
             words += ("--config", self.file(f"proxy-{len(self.programs)}.toml", "version = 1\n" + config))
         for _ in range(5):
@@ -242,14 +245,14 @@ class Stage:
 
     def is_ready(self, process, address):
         """Whether a program comes to reject an Empty Confirmable message, or ends before."""
-        peer, until = self.peer("::1" if ":" in address[0] else "127.0.0.1", address), time.monotonic() + 20
+        peer, until = self.peer("::1" if ":" in address[0] else None, address), time.monotonic() + 20
         while process.poll() is None and time.monotonic() < until:
             peer.send(message(CON, EMPTY, peer.new_id()))
             if peer.poll(0.05) is not None:
                 return True
         return False
 
-    def mapped(self, limits="", host="127.0.0.1"):
+    def mapped(self, limits="", host=None):
         """A proxy that maps /t to /temp of an origin, with these lines of limits; a client; and the origin."""
         origin = self.peer(host)
         config = f"[limits]\n{limits}\n" if limits else None

@@ -40,7 +40,7 @@ def runs(folder):
 
 def expected(output):
     """The status, the standard output and the standard error for what a worked run has as output: what the program
-    writes, and a line `status N: TEXT` if it stops with a fault. Help and version are such faults, with the status 0."""
+    writes, and a line `status N: TEXT` if it stops with a fault. Help and version are faults with the status 0."""
     lines, mark, fault = (b"\n" + output).partition(b"\nstatus ")
     if not mark:
         return 0, output, b""
