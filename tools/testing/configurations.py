@@ -1,0 +1,118 @@
+"""Configurations, and what tools/check-config says of them beside what the program says."""
+
+import os
+import subprocess
+import sys
+import tempfile
+from collections import namedtuple
+
+from testing.network import expect
+
+SCRIPT = os.path.join(os.path.dirname(os.path.dirname(os.path.abspath(__file__))), "check-config")
+
+# A name, the words, the configuration, and the lines without the file's name.
+Said = namedtuple("Said", "name words text lines")
+
+MAP = '[[map]]\nprefix = "{}"\norigin = "{}"\n'
+SAID = (
+    Said("nothing", [], "version = 1\n", ["accepted"]),
+    Said(
+        "a_line_that_is_no_toml",
+        [],
+        'version = 1\nnames = ["a",\n  "b" "c"]\n',
+        ["3: error: a comma or ] is expected", "refused: syntax"],
+    ),
+    Said(
+        "the_value_and_its_range",
+        [],
+        "version = 1\n\n[limits]\n# many\nexchanges = 5000\n",
+        ["5: error: exchanges is 5000: it must be a number from 1 to 4096", "refused: value limits.exchanges"],
+    ),
+    Said(
+        "several_faults_and_the_one_that_the_program_tells",
+        [],
+        'version = 1\ncolour = "red"\n[hosts]\na = "192.0.2.7:5683"\n',
+        [
+            "2: error: colour isn't a key: there are version, names, limits, hosts, map",
+            '4: error: the address of a is "192.0.2.7:5683": it must be IPv4, or IPv6 in brackets, without a port',
+            "refused: key colour",
+        ],
+    ),
+    Said(
+        "the_65th_map",
+        [],
+        "version = 1\n" + "".join(MAP.format(f"/{n}", "coap://192.0.2.7/") for n in range(66)),
+        ["194: error: map 65: there may be 64", "refused: routes"],
+    ),
+    Said(
+        "the_65th_map_in_the_words",
+        ["--map", "/t=coap://192.0.2.7/"],
+        "version = 1\n" + "".join(MAP.format(f"/{n}", "coap://192.0.2.7/") for n in range(64)),
+        ["error: --map is map 65: there may be 64", "refused: map option"],
+    ),
+    Said(
+        "slashes_at_the_end",
+        [],
+        "version = 1\n" + MAP.format("/t/", "coap://192.0.2.7/base/") + MAP.format("/", "coap://192.0.2.7/"),
+        [
+            '3: warning: map 1: prefix "/t/" has an empty segment, so it isn\'t the prefix of /t/x',
+            '4: warning: map 1: origin "coap://192.0.2.7/base/" has an empty segment, so it is asked for '
+            "coap://192.0.2.7/base//x",
+            "accepted",
+        ],
+    ),
+    Said(
+        "a_map_to_the_proxy_itself",
+        ["-p", "5684"],
+        "version = 1\n" + MAP.format("/a", "coap://127.0.0.1:5684/") + MAP.format("/a", "coap://127.0.0.1:5685/"),
+        [
+            "6: warning: map 2 is never used, since map 1 has the same prefix",
+            "4: warning: map 1 leads to the proxy itself",
+            "accepted",
+        ],
+    ),
+    Said(
+        "origins_that_the_socket_does_not_reach",
+        ["-A", "127.0.0.1"],
+        'version = 1\n[hosts]\na = "192.0.2.7"\n' + MAP.format("/a", "coap://a/") + MAP.format("/b", "coap://[::1]/"),
+        [
+            "6: warning: map 1: from 127.0.0.1 no other host is reached",
+            "9: warning: map 2: from 127.0.0.1 no IPv6 address is reached",
+            "accepted",
+        ],
+    ),
+    Said(
+        "limits_beyond_the_memory",
+        ["--memory-max", "16M"],
+        "version = 1\n",
+        ["1: warning: the limits allow 18,662,400 bytes, and the unit's MemoryMax 16,777,216", "accepted"],
+    ),
+    Said("what_is_not_read", [], "version = 1979-05-27\n", ["not judged: a date or a time"]),
+)
+
+
+def check_run(program, run):
+    """Has tools/check-config accept or refuse the configuration of a worked run as the program does, and for the same
+    fault."""
+    with tempfile.TemporaryDirectory(prefix="coap-proxyd-test-") as folder:
+        path = os.path.join(folder, "run.toml")
+        with open(path, "wb") as file:
+            file.write(run.config)
+        pipe, words = subprocess.PIPE, [*program, "--replay", "--config", path]
+        told = subprocess.run(words, stdin=subprocess.DEVNULL, stdout=pipe, stderr=pipe, timeout=50)
+        done = subprocess.run([sys.executable, SCRIPT, path], stdout=pipe, timeout=50)
+    verdict = "refused: " + told.stderr.decode().strip().replace("coap-proxyd: config: ", "")
+    expect("the last line", verdict if told.returncode else "accepted", done.stdout.decode().splitlines()[-1])
+    expect("status", 1 if told.returncode else 0, done.returncode)
+
+
+def check_said(said):
+    """Has tools/check-config say these lines of a configuration, with the status that goes with the last."""
+    with tempfile.TemporaryDirectory(prefix="coap-proxyd-test-") as folder:
+        path = os.path.join(folder, "said.toml")
+        with open(path, "w", encoding="utf-8") as file:
+            file.write(said.text)
+        done = subprocess.run([sys.executable, SCRIPT, path, *said.words], stdout=subprocess.PIPE, timeout=50)
+    expect("what it says", said.lines, done.stdout.decode().replace(f"{path}:", "").splitlines())
+    status = {"accepted": 0, "refused": 1, "not judged": 3}[said.lines[-1].partition(":")[0]]
+    expect("status", status, done.returncode)
