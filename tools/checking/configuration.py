@@ -126,7 +126,8 @@ def check_routes(table):
     """Names, hosts and maps that make up no routes."""
     for item in own_names(table):
         if not is_name(item.value):
-            yield Finding(item.line, f"the own name {shown(item.value)} isn't 1 to 255 visible characters without a comma", "routes")
+            text = f"the own name {shown(item.value)} isn't 1 to 255 visible characters without a comma"
+            yield Finding(item.line, text, "routes")
     known = {}
     for name, item in hosts(table):
         yield from check_host(name, item, known)

@@ -5,6 +5,8 @@ import re
 from collections import namedtuple
 from urllib.parse import unquote_to_bytes
 
+from checking.toml_lines import NotRead
+
 # A map: its number (0 for that of the words), and its texts with their lines.
 Route = namedtuple("Route", "number prefix origin")
 # Where a map leads: an address, a port and a path as text.
@@ -13,10 +15,6 @@ Origin = namedtuple("Origin", "address port path")
 LONGEST = 255
 # What a host can't have (the URL Standard, forbidden host code points).
 NO_HOST = re.compile(r"[\x00\t\n\r #/:<>?@\[\\\]^|]")
-
-
-class NotJudged(Exception):
-    """What this reader doesn't know how the program reads."""
 
 
 def ipv4_of(text):
@@ -80,7 +78,7 @@ def path_fault(path):
     if all(len(unquote_to_bytes(it)) <= LONGEST for it in parts):
         return None
     if any(unquote_to_bytes(it) == b".." for it in parts):
-        raise NotJudged("a long path with .. in it")
+        raise NotRead("a long path with .. in it")
     return f"has a segment of more than {LONGEST} bytes"
 
 
@@ -88,7 +86,7 @@ def authority_of(authority, known):
     """The address and the port of a URI, where hosts are known by their names; or what is wrong with them."""
     user, at, rest = authority.rpartition("@")
     if at and not user.strip(":"):
-        raise NotJudged("an empty user in a URI")
+        raise NotRead("an empty user in a URI")
     if at:
         return "has a user"
     host, _, port = rest.partition("]") if rest.startswith("[") else (re.split(":", rest)[0], "", "")

@@ -30,8 +30,8 @@ class Fault(Exception):
         self.text, self.line = text, line
 
 
-class NotRead(Fault):
-    """What this reader doesn't read, and in which line."""
+class NotRead(Exception):
+    """What isn't read here, although the program may read it."""
 
 
 class Table:
@@ -165,7 +165,7 @@ class Reader:
         if word in ("true", "false"):
             return word == "true"
         if DATE.match(word):
-            raise NotRead("a date or a time", self.line())
+            raise NotRead(f"line {self.line()} has a date or a time")
         digits = "[0-9A-Fa-f]" if word.startswith("0x") else "[0-9]"
         plain = re.sub(f"(?<={digits})_(?={digits})", "", word)
         if PREFIXED.fullmatch(plain):

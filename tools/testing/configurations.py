@@ -4,8 +4,10 @@ import os
 import subprocess
 import sys
 import tempfile
+from argparse import Namespace
 from collections import namedtuple
 
+from checking.findings import judge
 from testing.network import expect
 
 SCRIPT = os.path.join(os.path.dirname(os.path.dirname(os.path.abspath(__file__))), "check-config")
@@ -87,23 +89,22 @@ SAID = (
         "version = 1\n",
         ["1: warning: the limits allow 18,662,400 bytes, and the unit's MemoryMax 16,777,216", "accepted"],
     ),
-    Said("what_is_not_read", [], "version = 1979-05-27\n", ["not judged: a date or a time"]),
+    Said("what_is_not_read", [], "version = 1979-05-27\n", ["not judged: line 1 has a date or a time"]),
 )
 
 
 def check_run(program, run):
-    """Has tools/check-config accept or refuse the configuration of a worked run as the program does, and for the same
-    fault."""
+    """Has the configuration of a worked run be accepted or refused as by the program, and for the same fault."""
     with tempfile.TemporaryDirectory(prefix="coap-proxyd-test-") as folder:
         path = os.path.join(folder, "run.toml")
         with open(path, "wb") as file:
             file.write(run.config)
         pipe, words = subprocess.PIPE, [*program, "--replay", "--config", path]
         told = subprocess.run(words, stdin=subprocess.DEVNULL, stdout=pipe, stderr=pipe, timeout=50)
-        done = subprocess.run([sys.executable, SCRIPT, path], stdout=pipe, timeout=50)
-    verdict = "refused: " + told.stderr.decode().strip().replace("coap-proxyd: config: ", "")
-    expect("the last line", verdict if told.returncode else "accepted", done.stdout.decode().splitlines()[-1])
-    expect("status", 1 if told.returncode else 0, done.returncode)
+        words = Namespace(file=path, address=None, port=None, names=None, map=None)
+        _, verdict = judge(words, memory_max=0)
+    refused = "refused: " + told.stderr.decode().strip().replace("coap-proxyd: config: ", "")
+    expect("the verdict", refused if told.returncode else "accepted", verdict)
 
 
 def check_said(said):

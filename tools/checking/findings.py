@@ -1,0 +1,105 @@
+"""All that is to be said of a configuration and the words that the program is started with."""
+
+from checking import configuration, toml_lines
+from checking.configuration import Finding, check_map, faults, maps, slips
+from checking.routes import Origin, Route, host_of, ipv4_of, ipv6_of, is_name, name_of, origin_of
+from checking.toml_lines import NotRead, Value
+
+
+def check_address(words):
+    """What is wrong with the address to listen at."""
+    if words.address is not None and local_address(words) is None:
+        yield Finding(None, f"-A {words.address} isn't an address", "address")
+
+
+def local_address(words):
+    """The address to listen at."""
+    text = words.address or "0.0.0.0"
+    return host_of(text) if text.startswith("[") else ipv4_of(text) or ipv6_of(text)
+
+
+def check_names(words):
+    """What is wrong with the own names of the words."""
+    if words.names is None:
+        return
+    before, comma, names = words.names.partition(",")
+    names = names.split(",")
+    if not comma or before:
+        yield Finding(None, f"-P {words.names} doesn't begin with a comma", "proxy option")
+    elif len(names) > configuration.MOST["names"] or not all(map(is_name, names)):
+        yield Finding(None, f"-P {words.names} isn't 1 to 64 names between commas", "proxy option")
+
+
+def map_of_words(words):
+    """The map of the words, in a list, if there is one and it has an equals sign."""
+    prefix, equals, origin = (words.map or "").partition("=")
+    return [Route(0, Value(prefix, None), Value(origin, None))] if equals else []
+
+
+def check_word_map(words, table, known):
+    """What is wrong with the map of the words, and what may not be meant in it."""
+    if words.map is not None and "=" not in words.map:
+        yield Finding(None, f"--map {words.map} has no equals sign", "map option")
+    for route in map_of_words(words):
+        yield from check_map(route, known, "map option")
+        yield from configuration.slips_of_map(route)
+        if len(configuration.member(table, "map", list)) >= configuration.MOST["map"]:
+            yield Finding(None, "--map is map 65: there may be 64", "map option")
+
+
+def slips_of_places(words, table, known):
+    """Maps to the proxy itself, or to where its socket can't send, if it is known where it listens."""
+    here = local_address(words)
+    if here is None or (words.address is None and words.port is None):
+        return
+    for route in [*maps(table), *map_of_words(words)]:
+        origin = origin_of(route.origin.value, known)
+        if not isinstance(origin, Origin):
+            continue
+        where = f"map {route.number}" if route.number else "--map"
+        there = origin.address
+        if there == here or (here.is_unspecified and (there.is_loopback or there.is_unspecified)):
+            if origin.port == (words.port or 5683):
+                yield Finding(route.origin.line, f"{where} leads to the proxy itself")
+        elif there.version != here.version and not (here.version == 6 and here.is_unspecified):
+            yield Finding(route.origin.line, f"{where}: from {here} no IPv{there.version} address is reached")
+        elif here.is_loopback and not there.is_loopback:
+            yield Finding(route.origin.line, f"{where}: from {here} no other host is reached")
+
+
+def hosts_of(table):
+    """The addresses of the hosts by name."""
+    return {name_of(name): host_of(item.value) for name, item in configuration.hosts(table)}
+
+
+def findings(words, memory_max):
+    """All that is to be said of the words and the file, in the order in which the program looks."""
+    yield from check_address(words)
+    yield from check_names(words)
+    try:
+        with open(words.file, "rb") as file:
+            data = file.read()
+    except OSError as error:
+        yield Finding(None, f"it can't be read: {error.strerror}", "file")
+        return
+    try:
+        table = toml_lines.read_toml(data).value
+    except toml_lines.Fault as fault:
+        yield Finding(fault.line, fault.text, "syntax")
+        return
+    known = hosts_of(table)
+    yield from faults(table)
+    yield from check_word_map(words, table, known)
+    yield from slips(table, memory_max)
+    yield from slips_of_places(words, table, known)
+
+
+def judge(words, memory_max):
+    """The findings, and the program's verdict: accepted, refused or not judged, with the reason."""
+    found = []
+    try:
+        found.extend(findings(words, memory_max))
+    except NotRead as why:
+        return found, f"not judged: {why}"
+    faults_found = [it.fault for it in found if it.fault]
+    return found, f"refused: {faults_found[0]}" if faults_found else "accepted"
