@@ -6,7 +6,6 @@ Each case names the stand-ins (stand_in) that it must find wrong.
 import random
 import subprocess
 import time
-from collections import namedtuple
 
 from testing.coap import (
     ACCEPT, ACK, BAD_GATEWAY, BAD_OPTION, BAD_REQUEST, BLOCK2, CHANGED, CON, CONTENT, CONTENT_FORMAT, CREATED, DELETE,
@@ -14,28 +13,13 @@ from testing.coap import (
     OBSERVE, POST, PROXY_SCHEME, PROXY_URI, PUT, RST, SIZE1, TOO_LARGE, UNAVAILABLE, URI_HOST, URI_PATH, URI_PORT,
     URI_QUERY, VALID, message, number_bytes, read, told,
 )  # fmt: skip
-from testing.network import Failed, Life, expect, expect_between, has_ipv6
+from testing.network import Failed, Life, Skipped, case_list, expect, expect_between, has_ipv6
 
-Case = namedtuple("Case", "name function stand_ins")
-CASES = []
+CASES, case = case_list()
 
 T, TEMP = (URI_PATH, b"t"), (URI_PATH, b"temp")
 # How long the first retransmission takes (RFC 7252, 4.2), in seconds, on a machine that may be loaded.
 FIRST_TIMEOUT = (1.99, 4.5)
-
-
-class Skipped(Exception):
-    """Why a case can't be tried here."""
-
-
-def case(*stand_ins):
-    """Notes a case."""
-
-    def note(function):
-        CASES.append(Case(function.__name__, function, stand_ins))
-        return function
-
-    return note
 
 
 def path(*segments):

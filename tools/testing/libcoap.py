@@ -4,22 +4,11 @@ import shutil
 import subprocess
 import time
 
-from testing.cases import Skipped, Case
-from testing.network import Failed, end, expect, free_port
+from testing.network import Failed, Skipped, case_list, end, expect, free_port
 
-CASES = []
+CASES, case = case_list()
 # What the first resource of libcoap's server says.
 WELCOME = b"This is a test server made with libcoap"
-
-
-def case(*stand_ins):
-    """Notes a case, with the stand-ins that it must find wrong."""
-
-    def note(function):
-        CASES.append(Case(function.__name__, function, stand_ins))
-        return function
-
-    return note
 
 
 def tool(name):

@@ -12,7 +12,7 @@ import tempfile
 import time
 from collections import namedtuple
 
-from testing.coap import ACK, CON, EMPTY, MAX_AGE, NON, RST, message, number, number_bytes, read, told
+from testing.coap import ACK, CON, EMPTY, MAX_AGE, NON, message, number, number_bytes, read, told
 
 # How long a datagram that must come may take, and how long it is watched that none comes, in seconds. The machine may
 # be loaded.
@@ -27,8 +27,30 @@ Came = namedtuple("Came", "message data source at")
 Life = namedtuple("Life", "max_age sent seen", defaults=(None,))
 
 
+# What must hold: a name, a function that tries it on a stage, and the stand-ins that it must find wrong.
+Case = namedtuple("Case", "name function stand_ins")
+
+
 class Failed(Exception):
     """What a case expected, and what came."""
+
+
+class Skipped(Exception):
+    """Why a case can't be tried here."""
+
+
+def case_list():
+    """A list of cases, and what a function is marked with to be among them."""
+    cases = []
+
+    def case(*stand_ins):
+        def note(function):
+            cases.append(Case(function.__name__, function, stand_ins))
+            return function
+
+        return note
+
+    return cases, case
 
 
 def expect(what, wanted, came):
