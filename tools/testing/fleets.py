@@ -7,7 +7,7 @@ import sys
 import threading
 
 from testing.coap import ACK, CONTENT, EMPTY, GET, MAX_AGE, URI_PATH, message, read
-from testing.network import Failed, case_list, expect, udp
+from testing.network import Broken, case_list, expect, udp
 
 CASES, case = case_list()
 SCRIPT = os.path.join(os.path.dirname(os.path.dirname(os.path.abspath(__file__))), "fleet")
@@ -67,7 +67,7 @@ def start_fleet(stage, folder):
         config = os.path.join(folder, f"{name}.toml")
         words = ["-A", address[0], "-p", str(address[1]), "--config", config]
         if not stage.is_ready(stage.start([*stage.program, *words]), address):
-            raise Failed(f"{name} doesn't serve {address}")
+            raise Broken(f"{name} doesn't serve {address}")
         if name == "front":
             front = address
     return front

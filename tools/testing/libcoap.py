@@ -4,7 +4,7 @@ import shutil
 import subprocess
 import time
 
-from testing.network import Failed, Skipped, case_list, end, expect, free_port
+from testing.network import Broken, Skipped, case_list, end, expect, free_port
 
 CASES, case = case_list()
 # What the first resource of libcoap's server says.
@@ -27,7 +27,7 @@ def serve(stage):
         process = stage.start([program, "-A", address[0], "-p", str(address[1])])
         if stage.is_ready(process, address):
             return address
-    raise Failed("libcoap's server served none of five ports")
+    raise Broken("libcoap's server served none of five ports")
 
 
 def client(stage, server, path, *words):

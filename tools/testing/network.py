@@ -39,13 +39,18 @@ class Skipped(Exception):
     """Why a case can't be tried here."""
 
 
+class Broken(Exception):
+    """Why a program couldn't be tested at all."""
+
+
 def case_list():
-    """A list of cases, and what a function is marked with to be among them."""
+    """A list of cases, and what a function is marked with to be among them: the stand-ins that it must find wrong, of
+    which there is at least one."""
     cases = []
 
-    def case(*stand_ins):
+    def case(stand_in, *more):
         def note(function):
-            cases.append(Case(function.__name__, function, stand_ins))
+            cases.append(Case(function.__name__, function, (stand_in, *more)))
             return function
 
         return note
@@ -229,6 +234,8 @@ class Stage:
         for peer in self.peers:
             peer.socket.close()
         shutil.rmtree(self.folder)
+        if any(process.returncode == os.EX_SOFTWARE for process in self.programs):
+            raise Broken("a stand-in ended with an error of its own")
 
     def peer(self, host=None, to=None):
         """A socket, which sends to this address if nothing else is said."""
@@ -245,7 +252,7 @@ class Stage:
     def start(self, words, output=subprocess.DEVNULL):
         """Starts a program in a session of its own."""
         if ENDING:
-            raise Failed("the test is ending")
+            raise Broken("the test is ending")
         process = subprocess.Popen(
             words, stdin=subprocess.DEVNULL, stdout=output, stderr=output, cwd=self.folder, start_new_session=True
         )
@@ -263,7 +270,7 @@ class Stage:
             process = self.start([*self.program, "-A", host, "-p", str(port), *words])
             if self.is_ready(process, (host, port)):
                 return host, port
-        raise Failed("the program didn't serve any of five ports")
+        raise Broken("the program didn't serve any of five ports")
 
     def is_ready(self, process, address):
         """Whether a program comes to reject an Empty Confirmable message, or ends before."""
