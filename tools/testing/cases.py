@@ -122,7 +122,7 @@ def a_name_among_the_hosts_is_sent_on(stage):
     fetch(client, origin, here=here, there=[(URI_HOST, b"sensor.test"), TEMP])
 
 
-@case("CodeChanged")
+@case("ShortPrefixesOnly")
 def the_longest_prefix_wins(stage):
     short, long = stage.peer(), stage.peer()
     maps = "".join(
@@ -383,7 +383,7 @@ def a_separate_response_is_acknowledged_each_time(stage):
     client.expect_silence("for a response that came again")
 
 
-@case("PayloadChanged")
+@case("NonConfirmableIgnored")
 def a_separate_response_may_be_non_confirmable(stage):
     _, client, origin = stage.mapped()
     request = client.request(GET, [T])
@@ -475,7 +475,7 @@ def a_request_waits_for_its_turn(stage):
     second_waits(stage, 1)
 
 
-@case("PayloadChanged")
+@case("NstartIsOne")
 def nstart_requests_go_to_an_origin_at_once(stage):
     second_waits(stage, 2)
 
