@@ -26,7 +26,6 @@ Came = namedtuple("Came", "message data source at")
 # A response of an origin: its Max-Age, a moment before the proxy got it, and one after that, if there is one yet.
 Life = namedtuple("Life", "max_age sent seen", defaults=(None,))
 
-
 # What must hold: a name, a function that tries it on a stage, and the stand-ins that it must find wrong.
 Case = namedtuple("Case", "name function stand_ins")
 
@@ -78,7 +77,7 @@ def left(max_age, age):
 def expect_age(life, asked, came):
     """Fails where a response that came at some moment to a request of an earlier one doesn't have the Max-Age that is
     left of this life. The proxy's clock may differ by a millisecond or two."""
-    values = [value for number, value in came.message.options if number == MAX_AGE]
+    values = [value for option, value in came.message.options if option == MAX_AGE]
     expect("how many Max-Age it has", 1, len(values))
     shortest = 0 if life.seen is None else asked - life.seen
     least, most = left(life.max_age, came.at - life.sent + 0.002), left(life.max_age, shortest - 0.002)
@@ -220,7 +219,7 @@ class Stage:
 
     def __init__(self, program):
         self.program = program
-        # No two cases share an address, so none of them takes a port that another one is about to use.
+        # An address that hardly any other case has, so that none takes a port which another is about to use.
         self.host = "127.%d.%d.%d" % tuple(random.randrange(64, 255) for _ in range(3))
         self.folder = tempfile.mkdtemp(prefix="coap-proxyd-test-")
         self.peers, self.programs = [], []
