@@ -115,8 +115,11 @@ class Peer:
             data, more, _, source = self.socket.recvmsg(65_536, 64)
         except socket.timeout:
             return None
-        seconds, nanoseconds = TIMESPEC.unpack(more[0][2][: TIMESPEC.size])
-        return data, source[:2], seconds + nanoseconds / 1e9
+        at = time.time()
+        if more:
+            seconds, nanoseconds = TIMESPEC.unpack(more[0][2][: TIMESPEC.size])
+            at = seconds + nanoseconds / 1e9
+        return data, source[:2], at
 
     def receive(self, what="a message", seconds=PATIENCE):
         """The next datagram, which must come, and be a message."""
