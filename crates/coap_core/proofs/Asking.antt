@@ -71,13 +71,13 @@ module _ (w : World) (now : ℕ) (client : Endpoint) (m : Message) where
 
   wanted-takes : (key : CacheKey) (stored : Option Stored) → Takes (on_wanted w now client m key stored)
   wanted-takes key stored =
-      either-takes (form_fits w.setting.limits.datagram key.target None m) (cond (has_room_to_open w now) (opens w now client m key stored) (turns_away w now client m)) (turns_down w now client m REQUEST_ENTITY_TOO_LARGE)
-      (either-takes (has_room_to_open w now) (opens w now client m key stored) (turns_away w now client m) (taken-takes Opened client m _ (λ bytes. refl)) away-takes)
+      either-takes (form_fits w.setting.limits.datagram key.target None m) (cond (has_room_to_open w now client) (opens w now client m key stored) (turns_away w now client m)) (turns_down w now client m REQUEST_ENTITY_TOO_LARGE)
+      (either-takes (has_room_to_open w now client) (opens w now client m key stored) (turns_away w now client m) (taken-takes Opened client m _ (λ bytes. refl)) away-takes)
       (down-takes REQUEST_ENTITY_TOO_LARGE)
 
   joinable-takes : (key : CacheKey) (stored : Option Stored) (o : Option ℕ) → Takes (on_joinable w now client m key stored o)
   joinable-takes key stored None = wanted-takes key stored
-  joinable-takes key stored (Some exchange) = either-takes (has_room_to_join w now) (joins w now client m exchange) (turns_away w now client m) (taken-takes Joined client m _ (λ bytes. refl)) away-takes
+  joinable-takes key stored (Some exchange) = either-takes (has_room_to_join w now client) (joins w now client m exchange) (turns_away w now client m) (taken-takes Joined client m _ (λ bytes. refl)) away-takes
 
   miss-takes : (key : CacheKey) (stored : Option Stored) → Takes (on_miss w now client m key stored)
   miss-takes key stored = joinable-takes key stored (first_that (is_joinable key) w.exchanges)
@@ -111,11 +111,11 @@ module _ (w : World) (now : ℕ) (client : Endpoint) (m : Message) where
     too-long reply fits = rw (fits, reply) refl
 
     -- there is no room
-    pub turned-away : can_reply w now m.kind ≡ true → form_fits w.setting.limits.datagram key.target None m ≡ true → has_room_to_open w now ≡ false → on_wanted w now client m key stored ≡ overloads w now client m
+    pub turned-away : can_reply w now m.kind ≡ true → form_fits w.setting.limits.datagram key.target None m ≡ true → has_room_to_open w now client ≡ false → on_wanted w now client m key stored ≡ overloads w now client m
     turned-away reply fits closed = rw (fits, closed, reply) refl
 
     -- it is asked for
-    pub opened : form_fits w.setting.limits.datagram key.target None m ≡ true → has_room_to_open w now ≡ true → on_wanted w now client m key stored ≡ opens w now client m key stored
+    pub opened : form_fits w.setting.limits.datagram key.target None m ≡ true → has_room_to_open w now client ≡ true → on_wanted w now client m key stored ≡ opens w now client m key stored
     opened fits free = rw (fits, free) refl
 
   module _ (key : CacheKey) where
@@ -155,11 +155,11 @@ module _ (w : World) (now : ℕ) (client : Endpoint) (m : Message) where
       go Ack e = e
       go Rst e = e
 
-  apart : can_reply w now m.kind ≡ false → has_room_to_join w now ≡ false
-  apart none = last-false (has_waiter_room w) (has_ids 1 w now) (without-id none)
+  apart : can_reply w now m.kind ≡ false → has_room_to_join w now client ≡ false
+  apart none = last-false (has_waiter_room w client) (has_ids 1 w now) (without-id none)
 
-  shut : can_reply w now m.kind ≡ false → has_room_to_open w now ≡ false
-  shut none = last-false (has_exchange_room w) _ (last-false (has_waiter_room w) (has_ids 2 w now) (few (without-id none)))
+  shut : can_reply w now m.kind ≡ false → has_room_to_open w now client ≡ false
+  shut none = last-false (has_exchange_room w client) _ (last-false (has_waiter_room w client) (has_ids 2 w now) (few (without-id none)))
     where
       few : leb (given_in now w.ids + reserved w + 1) 32768 ≡ false → leb (given_in now w.ids + reserved w + 2) 32768 ≡ false
       few e = let more = leb-false _ _ e in lt-leb _ _ (omega (arith, more))

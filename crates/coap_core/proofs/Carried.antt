@@ -19,11 +19,13 @@ use Rattle.coap_model.proofs.Bounding.{next-bounded}
 use Rattle.coap_model.proofs.Carrying.{keeps_step}
 use Rattle.coap_model.proofs.Frames.{opened-few, admitted-few}
 use Rattle.coap_model.specs.Promised.{Promised}
+use Rattle.coap_model.specs.Shares.{LeavesRoom}
 use Rattle.coap_model.specs.Word.{KeepsItsWord}
+use Rattle.coap_model.proofs.Leaving.{leaves-room}
 use Rattle.coap_model.proofs.Word.{keeps-word}
 use Rattle.coap_model.proofs.Promising.{promises}
 use Rattle.coap_model.proofs.Running.{setting_stays}
-use Rattle.coap_core.specs.Steps.{Does, CanGoOn, KeepsWordOn, PromisesOn, entry_told}
+use Rattle.coap_core.specs.Steps.{Does, CanGoOn, KeepsWordOn, LeavesRoomOn, PromisesOn, entry_told}
 
 -- what is remembered came at the last moment, or before
 until : (w : World) (deeds : List Deed) → w.last ≡ last_of deeds → (rs : List Record) → AreUpTo (last_of deeds) rs → AreUpTo w.last rs
@@ -101,3 +103,7 @@ promises-on = holds-on Promised promises
 -- and keeps its word
 pub word-on : (w : World) (now draw : ℕ) (event : Event) → w.last ≤ now → IsEvent event → (r : Result Report OutOfMemory) (old new : Datagram) (v : World) → IfOk r (λ report. Does (step_of w now draw (grown_of report.outcome) event) report old new v) → IfOk r (λ report. KeepsWordOn w (entry_told now draw event report new.bytes) v)
 word-on = holds-on KeepsItsWord keeps-word
+
+-- and one client still leaves room for the others
+pub room-on : (w : World) (now draw : ℕ) (event : Event) → w.last ≤ now → IsEvent event → (r : Result Report OutOfMemory) (old new : Datagram) (v : World) → IfOk r (λ report. Does (step_of w now draw (grown_of report.outcome) event) report old new v) → IfOk r (λ report. LeavesRoomOn w (entry_told now draw event report new.bytes) v)
+room-on = holds-on LeavesRoom leaves-room

@@ -234,11 +234,11 @@ module _ (w : World) (now : ℕ) (grown : Bool) (source : Endpoint) (m : Message
       plain x p = subst P (pick-false (is_con m.kind) _ _ other) p
 
   -- so it holds of one that is new, where there is room to remember it
-  pub separate-does : is_con m.kind ≡ true → has_record_room w now m.kind ≡ true → IfSome (answering_at w now grown source m number) P → P (separate_step w now grown source m)
+  pub separate-does : is_con m.kind ≡ true → has_record_room w now source m.kind ≡ true → IfSome (answering_at w now grown source m number) P → P (separate_step w now grown source m)
   separate-does con room each = awaited w source m number (λ o. P (on_separate w now grown source m o)) rising found (λ x at. kept x (rw at at each))
     where
       kept : (x : Exchange) → P (answering w now grown source m (number, x)) → P (on_separate w now grown source m (Some (number, x)))
-      kept x p = subst P (pick-true (is_con m.kind) _ _ con ∙ sym (pick-true (has_record_room w now m.kind) _ _ room)) p
+      kept x p = subst P (pick-true (is_con m.kind) _ _ con ∙ sym (pick-true (has_record_room w now source m.kind) _ _ room)) p
 
 -- ---- memory
 

@@ -1,12 +1,12 @@
 -- What is remembered, as the program asks for it.
-use Rattle.std.proofs.Common.{◌≡◌, ℕ, ◌≤◌, Bool, true, false, List, length, Option, Some, None, refl, sym, arith}
-use Rattle.std.specs.Prelude.{◌==◌, nat_lt, not, is_some}
+use Rattle.std.proofs.Common.{◌≡◌, ℕ, ◌<◌, ◌≤◌, Bool, true, false, List, length, Option, Some, None, refl, sym, ap, ◌∙◌, arith}
+use Rattle.std.specs.Prelude.{◌==◌, ◌&&◌, nat_lt, not, is_some}
 use Rattle.std.proofs.lemmas.Bool.{eqb-true, lt-ltb, ltb-true}
 use Rattle.coap_message.specs.declared.kind.Kind.{Kind}
 use Rattle.coap_message.specs.declared.kind.Kind.TheVariants.{Con, Non, Ack, Rst}
 use Rattle.coap_dedup.specs.Lists.{AreUpTo}
-use Rattle.coap_dedup.specs.Records.{Records, AreRecords, living_at}
-use Rattle.coap_dedup.proofs.Kept.{room-there}
+use Rattle.coap_dedup.specs.Records.{AreRecords, living_at, living_of}
+use Rattle.coap_dedup.proofs.Kept.{own-room-there, room-there}
 use Rattle.coap_message.specs.Datagram.{Datagram, holding}
 use Rattle.coap_message.specs.Message.{Message}
 use Rattle.coap_endpoint.specs.declared.endpoint.Endpoint.{Endpoint}
@@ -29,17 +29,25 @@ are-until w Non now can onward = All-weaken (λ r. r.at ≤ w.last) (λ r. r.at 
 are-until w Ack now can onward = All-weaken (λ r. r.at ≤ w.last) (λ r. r.at ≤ now) w.non_records.items (λ r le. omega (arith, le, onward)) can.non_until
 are-until w Rst now can onward = All-weaken (λ r. r.at ≤ w.last) (λ r. r.at ≤ now) w.non_records.items (λ r le. omega (arith, le, onward)) can.non_until
 
--- there is room where they aren't full
-pub room-is : (now : ℕ) (t : Records) → AreRecords t → not (length (living_at now t) == t.limit) ≡ nat_lt (length (living_at now t)) t.limit
-room-is now t are = go (length (living_at now t) == t.limit) refl
+-- a number that doesn't reach its limit is below it
+below-is : (n limit : ℕ) → ((n == limit) ≡ false → n < limit) → not (n == limit) ≡ nat_lt n limit
+below-is n limit below = go (n == limit) refl
   where
-    go : (b : Bool) → (length (living_at now t) == t.limit) ≡ b → not b ≡ nat_lt (length (living_at now t)) t.limit
-    go true full = less (nat_lt (length (living_at now t)) t.limit) refl
+    go : (b : Bool) → (n == limit) ≡ b → not b ≡ nat_lt n limit
+    go true full = less (nat_lt n limit) refl
       where
-        less : (c : Bool) → nat_lt (length (living_at now t)) t.limit ≡ c → false ≡ nat_lt (length (living_at now t)) t.limit
-        less true e = absurd (let lt = ltb-true _ _ e in let same = eqb-true (length (living_at now t)) t.limit full in omega (arith, lt, same))
+        less : (c : Bool) → nat_lt n limit ≡ c → false ≡ nat_lt n limit
+        less true e = absurd (let lt = ltb-true _ _ e in let same = eqb-true n limit full in omega (arith, lt, same))
         less false e = sym e
-    go false free = sym (lt-ltb _ _ (room-there now t are free))
+    go false free = sym (lt-ltb _ _ (below free))
+
+-- where they aren't full, there is room if those of this endpoint don't reach its limit
+pub room-is : (w : World) (now : ℕ) (source : Endpoint) (kind : Kind) → CanGoOn w → (length (living_at now (records_of kind w)) == (records_of kind w).limit) ≡ false → not (living_of source now (records_of kind w) == (records_of kind w).per_client) ≡ has_record_room w now source kind
+room-is w now source kind can free =
+    let t = records_of kind w in
+    let are = are-records w kind can in
+    let all : nat_lt (length (living_at now t)) t.limit ≡ true = lt-ltb _ _ (room-there now t are free) in
+    below-is (living_of source now t) t.per_client (own-room-there source now t are) ∙ sym (ap (λ (b : Bool). b && nat_lt (living_of source now t) t.per_client) all)
 
 -- what isn't there is none
 pub none-some : {A : Type 0} (o : Option A) → is_some o ≡ false → o ≡ None
@@ -47,7 +55,7 @@ none-some None e = refl
 none-some (Some a) e = absurd cc
 
 -- a request that isn't known is new
-pub new-is : (w : World) (now : ℕ) (client : Endpoint) (m : Message) → known_of w now client m ≡ None → has_record_room w now m.kind ≡ true → on_request w now client m ≡ remembers now client m (on_new w now client m)
+pub new-is : (w : World) (now : ℕ) (client : Endpoint) (m : Message) → known_of w now client m ≡ None → has_record_room w now client m.kind ≡ true → on_request w now client m ≡ remembers now client m (on_new w now client m)
 new-is w now client m unknown room = rw (unknown, room) refl
 
 -- what is held hangs on the room, and not on what was held

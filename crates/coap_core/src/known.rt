@@ -77,13 +77,13 @@ impl<S: Store + Drop> World<S> {
         }
     }
 
-    /// Whether there is room to remember one more message of this type.
-    pub(crate) fn has_record_room(&self, now: u64, kind: Kind) -> bool
+    /// Whether there is room to remember one more message of this type from this endpoint.
+    pub(crate) fn has_record_room(&self, now: u64, source: Endpoint, kind: Kind) -> bool
         requires { CanGoOn self.now }
-        ensures { result ≡ has_record_room self.now now kind }
+        ensures { result ≡ has_record_room self.now now source kind }
     {
         let records = self.records(kind);
-        !records.is_full(now)
+        !records.is_full(now) && !records.is_client_full(source, now)
     }
 
     /// If the message is a duplicate, writes to `out` what it gets; otherwise leaves `out` as it

@@ -3,27 +3,29 @@ ghost use Rattle.std.specs.Prelude.{◌≡◌, ◌≤◌, ◌<◌, ◌^◌, ◌+
 ghost use Rattle.coap_message.specs.Datagram.{holding};
 ghost use Rattle.coap_store.specs.Entries.{entry_size};
 ghost use Rattle.coap_store.specs.Lists.{total};
+ghost use Rattle.coap_endpoint.specs.declared.endpoint.Endpoint.{Endpoint};
 ghost use Rattle.coap_dedup.specs.Records.{living_at};
 ghost use Rattle.coap_model.specs.Events.{tick};
 ghost use Rattle.coap_model.specs.Held.{held, most_held};
 ghost use Rattle.coap_model.specs.Setting.{setting_of};
-ghost use Rattle.coap_model.specs.World.{new_world, counts};
+ghost use Rattle.coap_model.specs.World.{new_world, client_counts, counts};
 ghost use Rattle.coap_model.specs.Ticks.{next_due, on_tick};
 ghost use Rattle.coap_model.specs.History.{grown_of};
 ghost use Rattle.coap_model.specs.Step.{step_of};
 ghost use Rattle.coap_model.specs.Carries.{Carries};
 ghost use Rattle.coap_core.specs.Events.{IsUnread, seen};
-ghost use Rattle.coap_core.specs.Steps.{CarriesOn, Does, GivesConfirmable, KeepsWordOn, PromisesOn, entry_told, wants_memory};
+ghost use Rattle.coap_core.specs.Steps.{CarriesOn, Does, GivesConfirmable, KeepsWordOn, LeavesRoomOn, PromisesOn, entry_told, wants_memory};
 
 use crate::event::Event;
 use crate::ticks::moment_of;
 use crate::world::World;
+use coap_endpoint::Endpoint;
 use coap_message::{Datagram, OutOfMemory};
 use coap_model::laws::{
     datagrams_fit, new_proxies_carry_nothing, settings_stay, steps_are_carried,
     what_is_carried_is_promised,
 };
-use coap_model::{Counts, DueItem, Limits, Report};
+use coap_model::{ClientCounts, Counts, DueItem, Limits, Report};
 use coap_store::Store;
 use coap_target::Routes;
 use std::alloc::Global;
@@ -143,6 +145,13 @@ impl<S: Store + Drop> Core<S> {
             KeepsWordOn self.old (entry_told now draw (seen event.entry) report out.new.bytes)
             self.new) }
 
+        // One client leaves room for the others: below its own limits a client is turned away only
+        // if a shared limit is reached or Message IDs are short, and if few enough endpoints have
+        // sent anything, only if Message IDs are short.
+        ensures shares { IfOk result (λ report.
+            LeavesRoomOn self.old (entry_told now draw (seen event.entry) report out.new.bytes)
+            self.new) }
+
         // The settings don't change, and the tables stay within the limits and within the bound on
         // bytes.
         ensures setting { self.new.setting ≡ self.old.setting }
@@ -152,6 +161,17 @@ impl<S: Store + Drop> Core<S> {
             ≤ self.new.setting.limits.con_records }
         ensures non_records { length (living_at self.new.last self.new.non_records)
             ≤ self.new.setting.limits.non_records }
+        ensures client_exchanges { (client : Endpoint)
+            → (client_counts self.new client).exchanges
+            ≤ self.new.setting.limits.client_exchanges }
+        ensures client_waiters { (client : Endpoint)
+            → (client_counts self.new client).waiters ≤ self.new.setting.limits.client_waiters }
+        ensures client_con_records { (from : Endpoint)
+            → (client_counts self.new from).con_records
+            ≤ self.new.setting.limits.client_con_records }
+        ensures client_non_records { (from : Endpoint)
+            → (client_counts self.new from).non_records
+            ≤ self.new.setting.limits.client_non_records }
         ensures entries { length self.new.store ≤ self.new.setting.limits.cache_entries }
         ensures cached_bytes { total entry_size self.new.store
             ≤ self.new.setting.limits.cache_bytes }
@@ -208,6 +228,15 @@ impl<S: Store + Drop> Core<S> {
         ensures exact { result ≡ counts self.now }
     {
         self.world.counts()
+    }
+
+    /// How much of that is an endpoint's: the live records of its messages, the exchanges that it
+    /// opened, and its pending requests. A client that joins an exchange has a pending request, and
+    /// a response counts for the origin server that sent it. Doesn't allocate.
+    pub fn client_counts(&self, client: Endpoint) -> ClientCounts
+        ensures exact { result ≡ client_counts self.now client }
+    {
+        self.world.client_counts(client)
     }
 
     /// The greatest length of a datagram, in bytes.

@@ -80,7 +80,7 @@ impl<S: Store + Drop> World<S> {
             self.pass(arrival.now);
             return Ok(report);
         }
-        if !self.has_record_room(arrival.now, arrival.message.kind()) {
+        if !self.has_record_room(arrival.now, arrival.from, arrival.message.kind()) {
             return Ok(self.drop_message(arrival.now, out));
         }
         self.on_new(arrival, out)
@@ -261,7 +261,7 @@ impl<S: Store + Drop> World<S> {
             (of_arrival (joinable_step self.old) arrival.entry exchange))
             result out.old out.new self.old self.new }
     {
-        if !self.has_room_to_join(arrival.now) {
+        if !self.has_room_to_join(arrival.now, arrival.from) {
             return self.overload(arrival, out);
         }
         let tags = asked.tags.clone()?;
@@ -298,7 +298,7 @@ impl<S: Store + Drop> World<S> {
             let code = Code::REQUEST_ENTITY_TOO_LARGE;
             return self.refuse(arrival, code, out);
         }
-        if !self.has_room_to_open(arrival.now) {
+        if !self.has_room_to_open(arrival.now, arrival.from) {
             return self.overload(arrival, out);
         }
         let copy = self.put_validating(arrival.message, asked, out)?;
@@ -535,7 +535,11 @@ impl<S: Store + Drop> World<S> {
     {
         let form = Seq::from_slice(self.alloc, out.bytes())?;
         let to_get = is_get(arrival.message.code());
-        let Ok(number) = self.exchanges.admit(key, to_get, form, copy, arrival.now) else {
+        let client = arrival.from;
+        let Ok(number) = self
+            .exchanges
+            .admit(client, key, to_get, form, copy, arrival.now)
+        else {
             return Err(OutOfMemory);
         };
         let (kind, token) = (arrival.message.kind(), Token::new(arrival.message.token()));

@@ -198,7 +198,7 @@ impl<S: Store + Drop> World<S> {
         let Some(number) = self.awaiting(arrival.from, arrival.message) else {
             return Ok(self.reject(arrival.now, arrival.from, arrival.message.id(), out));
         };
-        if !self.has_record_room(arrival.now, arrival.message.kind()) {
+        if !self.has_record_room(arrival.now, arrival.from, arrival.message.kind()) {
             return Ok(self.drop_message(arrival.now, out));
         }
         self.answer(arrival, number, out)

@@ -1,19 +1,18 @@
 //! What a proxy was made with, and its tables.
 ghost use Rattle.std.specs.Prelude.{◌≡◌, ◌+◌, ◌<◌, ◌≤◌, ◌^◌, None, IfOk};
-ghost use Rattle.coap_dedup.specs.declared.record.TheConstants.{EXCHANGE_LIFETIME, NON_LIFETIME};
-ghost use Rattle.coap_dedup.specs.Records.{no_records};
 ghost use Rattle.coap_exchange.specs.Ids.{called, left_of};
 ghost use Rattle.coap_exchange.specs.Table.{empty_table};
 ghost use Rattle.coap_limits.specs.Limits.{AreLimits};
 ghost use Rattle.coap_model.specs.Setting.{setting_of};
-ghost use Rattle.coap_model.specs.World.{next_id, later, reserved, has_ids, has_waiter_room, has_room_to_join, has_room_to_open, new_world, counts};
+ghost use Rattle.coap_model.specs.World.{next_id, later, reserved, has_ids, has_exchange_room, has_waiter_room, has_room_to_join, has_room_to_open, new_world, no_con_records, no_non_records, client_counts, counts};
 ghost use Rattle.coap_core.specs.Steps.{CanGoOn, CanStep};
 
 use crate::request_target::CacheQuery;
 use coap_dedup::{EXCHANGE_LIFETIME, NON_LIFETIME, Records};
+use coap_endpoint::Endpoint;
 use coap_exchange::{Exchanges, Ids, Waiters};
 use coap_message::OutOfMemory;
-use coap_model::{Counts, Limits, Outcome, Report};
+use coap_model::{ClientCounts, Counts, Limits, Outcome, Report};
 use coap_store::Store;
 use coap_target::Routes;
 use std::alloc::Global;
@@ -86,6 +85,8 @@ impl<S: Store> Model for World<S> {
 
     ghost invariant = { λ w.
         (w.exchanges.limit ≡ w.limits.exchanges) × (w.waiters.limit ≡ w.limits.waiters)
+        × (w.exchanges.per_client ≡ w.limits.client_exchanges)
+        × (w.waiters.per_client ≡ w.limits.client_waiters)
         × AreStoreLimits w.limits (S.limits w.store) };
 }
 
@@ -187,29 +188,48 @@ impl<S: Store + Drop> World<S> {
         self.reserved() + count <= u64::from(self.ids.left(now))
     }
 
-    /// Whether there is room for one more waiting client.
-    fn has_waiter_room(&self) -> bool
-        ensures { result ≡ has_waiter_room self.now }
-    {
-        (self.waiters.len() as u64) < self.limits.values().waiters
-    }
-
-    /// Whether one more client may wait for an exchange that is in progress.
-    pub(crate) fn has_room_to_join(&self, now: u64) -> bool
-        requires ready { CanStep now self.now }
-        ensures { result ≡ has_room_to_join self.now now }
-    {
-        self.has_waiter_room() && self.has_ids(1, now)
-    }
-
-    /// Whether there is room for an exchange and its client.
-    pub(crate) fn has_room_to_open(&self, now: u64) -> bool
-        requires ready { CanStep now self.now }
-        ensures { result ≡ has_room_to_open self.now now }
+    /// Whether there is room for one more exchange that this client opens.
+    fn has_exchange_room(&self, client: Endpoint) -> bool
+        ensures { result ≡ has_exchange_room self.now client }
     {
         (self.exchanges.len() as u64) < self.limits.values().exchanges
-            && self.has_waiter_room()
-            && self.has_ids(2, now)
+            && (self.exchanges.count_of(client) as u64) < self.limits.values().client_exchanges
+    }
+
+    /// Whether there is room for one more request of this client to wait.
+    fn has_waiter_room(&self, client: Endpoint) -> bool
+        ensures { result ≡ has_waiter_room self.now client }
+    {
+        (self.waiters.len() as u64) < self.limits.values().waiters
+            && (self.waiters.count_of(client) as u64) < self.limits.values().client_waiters
+    }
+
+    /// Whether this client may wait for an exchange that is in progress.
+    pub(crate) fn has_room_to_join(&self, now: u64, client: Endpoint) -> bool
+        requires ready { CanStep now self.now }
+        ensures { result ≡ has_room_to_join self.now now client }
+    {
+        self.has_waiter_room(client) && self.has_ids(1, now)
+    }
+
+    /// Whether there is room for an exchange and this client, which opens it.
+    pub(crate) fn has_room_to_open(&self, now: u64, client: Endpoint) -> bool
+        requires ready { CanStep now self.now }
+        ensures { result ≡ has_room_to_open self.now now client }
+    {
+        self.has_exchange_room(client) && self.has_waiter_room(client) && self.has_ids(2, now)
+    }
+
+    /// How much of what the proxy holds is an endpoint's.
+    pub(crate) fn client_counts(&self, client: Endpoint) -> ClientCounts
+        ensures { result ≡ client_counts self.now client }
+    {
+        ClientCounts {
+            con_records: self.con_records.living_of(client, self.last) as u64,
+            non_records: self.non_records.living_of(client, self.last) as u64,
+            exchanges: self.exchanges.count_of(client) as u64,
+            waiters: self.waiters.count_of(client) as u64,
+        }
     }
 
     /// How much the proxy holds at present.
@@ -242,24 +262,33 @@ fn new_tables(
     limits: &Limits,
     seed: u64,
 ) -> Result<(Exchanges, Waiters), OutOfMemory>
-    ensures exchanges { IfOk result (λ made. made.0 ≡ empty_table limits.now.exchanges) }
-    ensures waiters { IfOk result (λ made. made.1 ≡ empty_table limits.now.waiters) }
+    ensures exchanges { IfOk result (λ made.
+        made.0 ≡ empty_table limits.now.exchanges limits.now.client_exchanges) }
+    ensures waiters { IfOk result (λ made.
+        made.1 ≡ empty_table limits.now.waiters limits.now.client_waiters) }
 {
-    let exchanges = Exchanges::seeded(alloc, limits.values().exchanges as usize, seed)?;
-    let waiters = Waiters::seeded(alloc, limits.values().waiters as usize, seed)?;
+    let (all, per_client) = (limits.values().exchanges, limits.values().client_exchanges);
+    let exchanges = Exchanges::seeded(alloc, all as usize, per_client as usize, seed)?;
+    let (all, per_client) = (limits.values().waiters, limits.values().client_waiters);
+    let waiters = Waiters::seeded(alloc, all as usize, per_client as usize, seed)?;
     Ok((exchanges, waiters))
 }
 
 /// Empty records, with room for as many as the limits say.
 fn new_records(alloc: Global, limits: &Limits) -> Result<(Records, Records), OutOfMemory>
-    ensures con { IfOk result (λ made.
-        made.0 ≡ no_records limits.now.con_records EXCHANGE_LIFETIME) }
-    ensures non { IfOk result (λ made.
-        made.1 ≡ no_records limits.now.non_records NON_LIFETIME) }
+    ensures con { IfOk result (λ made. made.0 ≡ no_con_records limits.now) }
+    ensures non { IfOk result (λ made. made.1 ≡ no_non_records limits.now) }
 {
-    let (con, non) = (limits.values().con_records, limits.values().non_records);
-    let con_records = Records::new(alloc, con as usize, EXCHANGE_LIFETIME)?;
-    let non_records = Records::new(alloc, non as usize, NON_LIFETIME)?;
+    let (all, per_client) = (
+        limits.values().con_records,
+        limits.values().client_con_records,
+    );
+    let con_records = Records::new(alloc, all as usize, per_client as usize, EXCHANGE_LIFETIME)?;
+    let (all, per_client) = (
+        limits.values().non_records,
+        limits.values().client_non_records,
+    );
+    let non_records = Records::new(alloc, all as usize, per_client as usize, NON_LIFETIME)?;
     Ok((con_records, non_records))
 }
 

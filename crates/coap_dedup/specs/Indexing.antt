@@ -4,10 +4,12 @@ use Rattle.std.specs.declared.cmp.Ordering.{Ordering}
 use Rattle.std.specs.BTreeMap.{BTreeMap, get}
 use Rattle.std.specs.Option.{option_or}
 use Rattle.coap_dedup.specs.declared.key.Key.{Key}
+use Rattle.coap_dedup.specs.declared.numbers.Numbers.{Numbers}
 use Rattle.coap_dedup.specs.declared.record.Record.{Record}
 use Rattle.coap_dedup.specs.contracts.key.KeyOrd.TheImpl as order
 use Rattle.coap_dedup.specs.Lists.{is_of}
 use Rattle.coap_dedup.specs.Records.{Records, AreRecords}
+use Rattle.coap_dedup.specs.Sources.{AreSourced}
 
 -- the order of the keys in the index
 abbrev pub key_cmp : Key → Key → Ordering
@@ -33,7 +35,12 @@ pub record AreNumbered (first : ℕ) (index : Index) (records : List Record) : T
   pub is_first : first ≡ origin % 2 ^ 64
   pub numbered : (key : Key) → get key_cmp index key ≡ number_of origin key records
 
--- what holds for the records in a ring and for their index
-pub record AreIndexed (t : Records) (first : ℕ) (index : Index) : Type 0 where
+-- they are the numbers of these records, by message and by source
+pub record AreNumbersOf (numbers : Numbers) (records : List Record) : Type 0 where
+  pub by_message : AreNumbered numbers.first numbers.by_message records
+  pub by_source : AreSourced numbers.first numbers.by_source records
+
+-- what holds for the records in a ring and for their numbers
+pub record AreIndexed (t : Records) (all : Numbers) : Type 0 where
   pub are : AreRecords t
-  pub numbers : AreNumbered first index t.items
+  pub numbers : AreNumbersOf all t.items

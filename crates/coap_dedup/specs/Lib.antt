@@ -4,4 +4,5 @@ pub mod Records
 pub mod Seen
 pub mod Keys
 pub mod Indexing
+pub mod Sources
 pub mod Examples

@@ -28,6 +28,17 @@ is_of from id r = same_endpoint r.from from && (r.id == id)
 abbrev pub record_of : Endpoint → ℕ → List Record → Option Record
 record_of from id records = find (is_of from id) records
 
+-- the record is of a message from this endpoint: address and port are those of its source
+abbrev pub is_from : Endpoint → Record → Bool
+is_from from r = same_endpoint r.from from
+
+-- the records of messages from an endpoint, and how many they are
+abbrev pub records_from : Endpoint → List Record → List Record
+records_from from records = filter (is_from from) records
+
+abbrev pub count_from : Endpoint → List Record → ℕ
+count_from from records = length (records_from from records)
+
 -- no record was kept after this time
 abbrev pub AreUpTo : ℕ → List Record → Type 0
 AreUpTo now records = AllByRecursion (λ r. r.at ≤ now) records

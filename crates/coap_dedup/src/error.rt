@@ -2,7 +2,7 @@
 ghost use Rattle.std.specs.Prelude.{◌≡◌};
 ghost use Rattle.coap_dedup.specs.declared.error.Refused.TheVariants as errors;
 
-use std::alloc::AllocFailed;
+use coap_message::OutOfMemory;
 use thiserror::Error;
 
 /// Why a message wasn't kept.
@@ -14,12 +14,15 @@ pub enum Refused {
     /// Allocation failed.
     #[error("out of memory")]
     OutOfMemory,
+    /// The number of live records of this endpoint has reached the limit for one endpoint.
+    #[error("no room for this client")]
+    ClientFull,
 }
 
-impl<T: Drop> From<AllocFailed<T>> for Refused {
+impl From<OutOfMemory> for Refused {
     ghost from_gives = { λ _ e. e ≡ errors.OutOfMemory };
 
-    fn from(_refused: AllocFailed<T>) -> Refused {
+    fn from(_refused: OutOfMemory) -> Refused {
         Refused::OutOfMemory
     }
 }

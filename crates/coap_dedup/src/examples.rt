@@ -1,12 +1,12 @@
 //! Examples, computed with the definitions.
 ghost use Rattle.std.specs.Prelude.{◌≡◌, ◌^◌, ◌-◌, ◌∷◌, [], true, false, None, Some, length};
 ghost use Rattle.coap_endpoint.specs.declared.endpoint.Ip.TheVariants.{V6};
-ghost use Rattle.coap_dedup.specs.Examples.{acknowledgement, client, confirmable, found_at, message, one, third, two, unanswered};
+ghost use Rattle.coap_dedup.specs.Examples.{acknowledgement, all_taken, client, confirmable, found_at, message, of_another, one, third, two, two_of_one, unanswered};
 ghost use Rattle.coap_dedup.specs.Indexing.{number_of};
 ghost use Rattle.coap_dedup.specs.Keys.{key_of};
 ghost use Rattle.coap_dedup.specs.Lifetimes.{lives};
-ghost use Rattle.coap_dedup.specs.Lists.{bytes_of, record_of};
-ghost use Rattle.coap_dedup.specs.Records.{living_at, no_records, with_kept};
+ghost use Rattle.coap_dedup.specs.Lists.{bytes_of, count_from, record_of};
+ghost use Rattle.coap_dedup.specs.Records.{living_at, living_of, no_records, with_kept};
 
 use crate::record::{EXCHANGE_LIFETIME, NON_LIFETIME};
 
@@ -53,7 +53,27 @@ pub fn held()
     ensures one_place_again { length (living_at 247000 one) ≡ 0 }
     ensures same_id_after_its_lifetime { (with_kept (confirmable 247000) one).items
         ≡ confirmable 247000 ∷ [] }
-    ensures no_place { length (living_at 0 (no_records 0 247000)) ≡ 0 }
+    ensures no_place { length (living_at 0 (no_records 0 0 247000)) ≡ 0 }
+{}
+
+/// How many records an endpoint has: of three places one endpoint may have two. Those of another
+/// endpoint aren't counted, nor are those that have expired, nor those at another port.
+pub fn of_endpoints()
+    ensures none { living_of (client 40001) 0 (no_records 3 2 10) ≡ 0 }
+    ensures two { living_of (client 40001) 5 two_of_one ≡ two_of_one.per_client }
+    ensures room_for_others { length (living_at 5 two_of_one) ≡ 2 }
+    ensures of_the_other { living_of (client 40002) 5 two_of_one ≡ 0 }
+    ensures both { length (living_at 6 all_taken) ≡ all_taken.limit }
+    ensures of_one { living_of (client 40001) 6 all_taken ≡ 2 }
+    ensures of_another { living_of (client 40002) 6 all_taken ≡ 1 }
+    ensures last_moment { living_of (client 40001) 9 all_taken ≡ 2 }
+    ensures one_expired { living_of (client 40001) 10 all_taken ≡ 1 }
+    ensures room_again { (with_kept (message 3 10) all_taken).items
+        ≡ message 2 5 ∷ of_another 1 6 ∷ message 3 10 ∷ [] }
+    ensures held_too { count_from (client 40001) all_taken.items ≡ 2 }
+    ensures other_address { living_of
+        (record { ip = V6 (127 ∷ 0 ∷ 0 ∷ 1 ∷ []); port = 40001 }) 5 two_of_one
+        ≡ 0 }
 {}
 
 /// What is counted: every reply, including that of a record that is held but has expired.

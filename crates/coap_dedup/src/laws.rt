@@ -4,7 +4,7 @@ ghost use Rattle.std.specs.List.{AllByRecursion};
 ghost use Rattle.coap_endpoint.specs.declared.endpoint.Endpoint.{Endpoint};
 ghost use Rattle.coap_dedup.specs.declared.record.Record.{Record};
 ghost use Rattle.coap_dedup.specs.Lists.{AreApart, AreInOrder, AreUpTo, bytes_of, is_living, is_of, living, record_of, reply_bytes};
-ghost use Rattle.coap_dedup.specs.Records.{AreRecords, Records, living_at, no_records, with_kept};
+ghost use Rattle.coap_dedup.specs.Records.{AreRecords, Records, living_at, living_of, no_records, with_kept};
 
 /// What is kept is found until its lifetime ends, and what was found before is still found. Looking
 /// up the message of a record finds that record, and what is found is of the message looked up.
@@ -52,19 +52,25 @@ pub fn time_takes_from_the_front()
         → is_living lifetime now r ≡ true }
 {}
 
-/// Records are within their limit, in order of their times, and no two are of the same message.
+/// Records are within their limits, that of all and that of each endpoint, in order of their times,
+/// and no two are of the same message.
 pub fn records_stay_so()
-    ensures none { (limit lifetime : ℕ) → AreRecords (no_records limit lifetime) }
+    ensures none { (limit per_client lifetime : ℕ)
+        → AreRecords (no_records limit per_client lifetime) }
     ensures kept { (r : Record) (t : Records)
         → AreRecords t
         → record_of r.from r.id (living_at r.at t) ≡ None
         → AreUpTo r.at t.items
         → length (living_at r.at t) < t.limit
+        → living_of r.from r.at t < t.per_client
         → AreRecords (with_kept r t) }
     ensures up_to { (r : Record) (t : Records)
         → AreUpTo r.at t.items
         → AreUpTo r.at (with_kept r t).items }
     ensures few { (t : Records) (now : ℕ) → AreRecords t → length (living_at now t) ≤ t.limit }
+    ensures few_of_each { (t : Records) (from : Endpoint) (now : ℕ)
+        → AreRecords t
+        → living_of from now t ≤ t.per_client }
 {}
 
 /// The number of bytes held: a keep adds at most those of its reply, and the total is at most the

@@ -3,7 +3,7 @@
 //! # First use
 //!
 //! ```rust
-//! let mut records = Records::new(alloc, 4096, EXCHANGE_LIFETIME)?;
+//! let mut records = Records::new(alloc, 4096, 256, EXCHANGE_LIFETIME)?;
 //! match records.seen(client, 0x1234, now) {
 //!     Seen::New => records.keep(client, 0x1234, now, Some(reply))?,
 //!     Seen::Again(reply) => { /* what was replied, to be sent again */ }
@@ -15,9 +15,12 @@ mod error;
 pub mod examples;
 mod key;
 pub mod laws;
+mod numbers;
 mod record;
 mod records;
 mod seen;
+mod source;
+mod sources;
 
 pub use error::Refused;
 pub use record::{EXCHANGE_LIFETIME, NON_LIFETIME, Record};

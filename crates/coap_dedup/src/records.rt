@@ -1,37 +1,40 @@
 //! Records of messages of one type.
-ghost use Rattle.std.specs.Prelude.{◌≡◌, ◌↔◌, ◌==◌, ◌+◌, ◌<◌, ◌++◌, ◌∷◌, [], None, length, drop, slice_get, not, option_map, false, IfOk, IfErr, OnOk, OnErr};
+ghost use Rattle.std.specs.Prelude.{◌≡◌, ◌↔◌, ◌==◌, ◌+◌, ◌-◌, ◌%◌, ◌^◌, ◌<◌, ◌++◌, ◌∷◌, [], None, length, drop, slice_get, not, option_map, false, IfOk, IfErr, OnOk, OnErr};
 ghost use Rattle.std.specs.Option.{option_copied, option_map_or};
 ghost use Rattle.circular_buffer.specs.Buffer.{buffer};
-ghost use Rattle.coap_dedup.specs.declared.error.Refused.TheVariants.{Full};
-ghost use Rattle.coap_dedup.specs.Indexing.{AreNumbered};
-ghost use Rattle.coap_dedup.specs.Lists.{AreApart, AreInOrder, AreUpTo, is_living, living, record_of};
-ghost use Rattle.coap_dedup.specs.Records.{AreRecords, living_at, no_records, with_kept};
+ghost use Rattle.coap_dedup.specs.declared.error.Refused.TheVariants.{ClientFull, Full};
+ghost use Rattle.coap_dedup.specs.Indexing.{AreNumbersOf};
+ghost use Rattle.coap_endpoint.specs.declared.endpoint.Endpoint.{Endpoint};
+ghost use Rattle.coap_dedup.specs.Lists.{AreApart, AreInOrder, AreUpTo, count_from, is_living, living, record_of, records_from};
+ghost use Rattle.coap_dedup.specs.Records.{AreRecords, living_at, living_of, no_records, with_kept};
 ghost use Rattle.coap_dedup.specs.Seen.{told};
+ghost use Rattle.coap_dedup.specs.Sources.{numbers_from};
 
 use crate::error::Refused;
 use crate::key::Key;
+use crate::numbers::Numbers;
 use crate::record::Record;
 use crate::seen::Seen;
+use crate::sources::{forget_first, numbers_of};
 use circular_buffer::HeapCircularBuffer;
 use coap_endpoint::Endpoint;
 use coap_message::{OutOfMemory, Seq};
 use std::alloc::Global;
-use std::collections::BTreeMap;
+use std::collections::VecDeque;
 use std::marker::Model;
 
 /// Records of messages of one type, in the order in which they were kept. A contract sees them as a
-/// list, with its limit and their lifetime. Times are in milliseconds and never decrease.
+/// list, with its limits and their lifetime. Times are in milliseconds and never decrease.
 ///
-/// A lookup and a `keep` cost as much as a lookup in the index, whatever keys a peer chooses; in
-/// addition, each record is released once.
+/// A lookup and a `keep` cost as much as lookups by message and by source, whatever keys a peer
+/// chooses; in addition, each record is released once.
 pub struct Records {
     /// The records, in a buffer whose capacity is the limit.
     ring: HeapCircularBuffer<Record>,
-    /// A number for each record, one more than that of the record before it, wrapping around to 0
-    /// after the greatest.
-    index: BTreeMap<Key, u64>,
-    /// The number of the first record, or of the next one if there is none.
-    first: u64,
+    /// Where they are in it.
+    numbers: Numbers,
+    /// The most live records of messages from one endpoint.
+    per_client: usize,
     /// How long each record lives, in milliseconds.
     lifetime: u64,
 }
@@ -40,8 +43,8 @@ impl Drop for Records {
     fn drop(self) {
         let Records {
             ring: _,
-            index: _,
-            first: _,
+            numbers: _,
+            per_client: _,
             lifetime: _,
         } = self;
     }
@@ -54,28 +57,42 @@ impl Model for Records {
     ghost Value = { Records };
 
     ghost view = { λ r.
-        record { items = r.ring.items; limit = r.ring.capacity; lifetime = r.lifetime } };
+        record {
+          items = r.ring.items;
+          limit = r.ring.capacity;
+          per_client = r.per_client;
+          lifetime = r.lifetime;
+        } };
 
     ghost invariant = { λ r.
         AreIndexed
-        (record { items = r.ring.items; limit = r.ring.capacity; lifetime = r.lifetime })
-        r.first
-        r.index };
+        (record {
+          items = r.ring.items;
+          limit = r.ring.capacity;
+          per_client = r.per_client;
+          lifetime = r.lifetime;
+        })
+        r.numbers };
 }
 
 impl Records {
-    /// No records, with room for `limit` of them, each of which will live for `lifetime`
-    /// milliseconds.
+    /// No records, with room for `limit` of them, and for `per_client` of messages from one
+    /// endpoint, each of which will live for `lifetime` milliseconds.
     ///
     /// # Errors
     /// Out of memory.
-    pub fn new(alloc: Global, limit: usize, lifetime: u64) -> Result<Records, OutOfMemory>
-        ensures empty { IfOk result (λ records. records ≡ no_records limit lifetime) }
+    pub fn new(
+        alloc: Global,
+        limit: usize,
+        per_client: usize,
+        lifetime: u64,
+    ) -> Result<Records, OutOfMemory>
+        ensures empty { IfOk result (λ records. records ≡ no_records limit per_client lifetime) }
     {
         Ok(Records {
             ring: HeapCircularBuffer::with_capacity(alloc, limit)?,
-            index: BTreeMap::new(alloc),
-            first: 0,
+            numbers: Numbers::new(alloc),
+            per_client,
             lifetime,
         })
     }
@@ -107,12 +124,45 @@ impl Records {
         self.ring.len() == self.ring.capacity() && !is_first_dead(&self.ring, self.lifetime, now)
     }
 
+    /// The number of live records of messages from this endpoint. Doesn't allocate.
+    pub fn living_of(&self, from: Endpoint, now: u64) -> usize
+        ensures exact { result ≡ living_of from now self.now }
+    {
+        let _few = self.ring.len();
+        match numbers_of(&self.numbers.by_source, from) {
+            Some(numbers) => {
+                let first = self.numbers.first;
+                numbers.len() - count_dead_of(&self.ring, numbers, first, self.lifetime, now)
+            }
+            None => 0,
+        }
+    }
+
+    /// Whether the number of live records of messages from this endpoint has reached the limit for
+    /// one endpoint. Doesn't allocate.
+    pub fn is_client_full(&self, from: Endpoint, now: u64) -> bool
+        ensures exact { result ≡ (living_of from now self.now == self.now.per_client) }
+    {
+        if self.ring.len() < self.per_client {
+            return false;
+        }
+        match numbers_of(&self.numbers.by_source, from) {
+            Some(numbers) => {
+                let first = self.numbers.first;
+                numbers.len() == self.per_client
+                    && is_first_living(&self.ring, numbers, first, self.lifetime, now)
+            }
+            None => self.per_client == 0,
+        }
+    }
+
     /// Keeps a record of a message that has just arrived and wasn't seen before, with the datagram
     /// that is sent in reply to it, if there is one (RFC 7252, 4.5). Expired records are released.
     ///
     /// # Errors
-    /// 1. `Full` if the number of live records has reached the limit. 2. `OutOfMemory`. In both
-    /// cases nothing is changed.
+    /// `Full` if the number of live records has reached the limit; otherwise `ClientFull` if that
+    /// of the live records of this endpoint has reached the limit for one endpoint; otherwise
+    /// `OutOfMemory`. Nothing is changed then.
     pub fn keep(
         &mut self,
         from: Endpoint,
@@ -127,23 +177,24 @@ impl Records {
             ≡ with_kept (record { from = from; id = id; at = now; reply = reply }) self.old) }
         ensures full { IfErr result (λ error.
             (error ≡ Full) ↔ (length (living_at now self.old) ≡ self.old.limit)) }
+        ensures client_full { IfErr result (λ error.
+            (error ≡ ClientFull)
+            ↔ ((length (living_at now self.old) < self.old.limit)
+            × (living_of from now self.old ≡ self.old.per_client))) }
         ensures room { OnOk result (length (living_at now self.old) < self.old.limit) }
+        ensures client_room { OnOk result (living_of from now self.old < self.old.per_client) }
         ensures err { OnErr result (self.new ≡ self.old) }
         ensures sound { AreRecords self.new }
     {
         if self.is_full(now) {
             return Err(Refused::Full);
         }
+        if self.is_client_full(from, now) {
+            return Err(Refused::ClientFull);
+        }
         let record = Record::new(from, id, now, reply);
-        let number = self.first.wrapping_add(self.ring.len() as u64);
-        self.index.insert(record.key(), number)?;
-        release_dead(
-            &mut self.ring,
-            &mut self.index,
-            &mut self.first,
-            self.lifetime,
-            &record,
-        );
+        self.numbers.add(&record, self.ring.len())?;
+        release_dead(&mut self.ring, &mut self.numbers, self.lifetime, &record);
         let _ = self.ring.try_push_back(record);
         Ok(())
     }
@@ -154,8 +205,9 @@ impl Records {
         ensures sound { AreRecords self.now }
     {
         let _few = self.ring.len();
-        let number = self.index.get(&key)?;
-        self.ring.get(number.wrapping_sub(self.first) as usize)
+        let number = self.numbers.by_message.get(&key)?;
+        self.ring
+            .get(number.wrapping_sub(self.numbers.first) as usize)
     }
 }
 
@@ -188,6 +240,70 @@ fn lives_at(ring: &HeapCircularBuffer<Record>, place: usize, lifetime: u64, now:
     }
 }
 
+/// Whether the record with a number is live.
+fn lives_numbered(
+    ring: &HeapCircularBuffer<Record>,
+    number: u64,
+    first: u64,
+    lifetime: u64,
+    now: u64,
+) -> bool
+    requires { first < 2 ^ 64 }
+    ensures { result
+        ≡ option_map_or
+        (is_living lifetime now)
+        (slice_get ring.now.items ((number + (2 ^ 64 - first)) % 2 ^ 64))
+        false }
+{
+    lives_at(ring, number.wrapping_sub(first) as usize, lifetime, now)
+}
+
+/// Whether the first of the records of an endpoint is live, whose numbers are these.
+fn is_first_living(
+    ring: &HeapCircularBuffer<Record>,
+    numbers: &VecDeque<u64>,
+    first: u64,
+    lifetime: u64,
+    now: u64,
+) -> bool
+    requires few { length ring.now.items < 2 ^ 63 }
+    ensures { (from : Endpoint)
+        → numbers.now.items ≡ numbers_from first from ring.now.items
+        → result
+        ≡ option_map_or (is_living lifetime now) (slice_get (records_from from ring.now.items) 0)
+        false }
+{
+    match numbers.front() {
+        Some(number) => lives_numbered(ring, *number, first, lifetime, now),
+        None => false,
+    }
+}
+
+/// The number of expired ones among the records of an endpoint, whose numbers are these.
+fn count_dead_of(
+    ring: &HeapCircularBuffer<Record>,
+    numbers: &VecDeque<u64>,
+    first: u64,
+    lifetime: u64,
+    now: u64,
+) -> usize
+    requires few { length ring.now.items < 2 ^ 63 }
+    requires in_order { AreInOrder ring.now.items }
+    ensures { (from : Endpoint)
+        → numbers.now.items ≡ numbers_from first from ring.now.items
+        → result + count_from from (living lifetime now ring.now.items)
+        ≡ length numbers.now.items }
+{
+    let mut dead = 0;
+    'dead: while let Some(number) = numbers.get(dead) {
+        if lives_numbered(ring, *number, first, lifetime, now) {
+            break;
+        }
+        dead += 1;
+    }
+    dead
+}
+
 /// Whether the first record has expired.
 fn is_first_dead(ring: &HeapCircularBuffer<Record>, lifetime: u64, now: u64) -> bool
     ensures { result
@@ -199,44 +315,39 @@ fn is_first_dead(ring: &HeapCircularBuffer<Record>, lifetime: u64, now: u64) -> 
     }
 }
 
-/// Releases the records that have expired when the new one is kept. The number of the new one is in
-/// the index already.
+/// Releases the records that have expired when the new one is kept, which has its number already.
 fn release_dead(
     ring: &mut HeapCircularBuffer<Record>,
-    index: &mut BTreeMap<Key, u64>,
-    first: &mut u64,
+    numbers: &mut Numbers,
     lifetime: u64,
     new: &Record,
 )
     requires in_order { AreInOrder ring.old.items }
     requires apart { AreApart ring.old.items }
-    requires numbered { AreNumbered first.old index.old (ring.old.items ++ new.now ∷ []) }
+    requires numbered { AreNumbersOf numbers.old (ring.old.items ++ new.now ∷ []) }
     ensures left { ring.new
         ≡ buffer (living lifetime new.now.at ring.old.items) ring.old.capacity }
-    ensures numbered { AreNumbered first.new index.new (ring.new.items ++ new.now ∷ []) }
+    ensures numbered { AreNumbersOf numbers.new (ring.new.items ++ new.now ∷ []) }
 {
     'dead: while is_first_dead(ring, lifetime, new.at) {
-        release_first(ring, index, first, new);
+        release_first(ring, numbers, new);
     }
 }
 
-/// Releases the first record, and removes its number unless the new record is of the same message.
-fn release_first(
-    ring: &mut HeapCircularBuffer<Record>,
-    index: &mut BTreeMap<Key, u64>,
-    first: &mut u64,
-    new: &Record,
-)
+/// Releases the first record with its numbers, but for the number of its message if the new record
+/// is of the same one.
+fn release_first(ring: &mut HeapCircularBuffer<Record>, numbers: &mut Numbers, new: &Record)
     requires apart { AreApart ring.old.items }
-    requires numbered { AreNumbered first.old index.old (ring.old.items ++ new.now ∷ []) }
+    requires numbered { AreNumbersOf numbers.old (ring.old.items ++ new.now ∷ []) }
     ensures left { ring.new ≡ buffer (drop 1 ring.old.items) ring.old.capacity }
-    ensures numbered { AreNumbered first.new index.new (ring.new.items ++ new.now ∷ []) }
+    ensures numbered { AreNumbersOf numbers.new (ring.new.items ++ new.now ∷ []) }
 {
     if let Some(record) = ring.pop_front() {
-        *first = first.wrapping_add(1);
+        numbers.first = numbers.first.wrapping_add(1);
+        forget_first(&mut numbers.by_source, record.from);
         let key = record.key();
         if key != new.key() {
-            index.remove(&key);
+            numbers.by_message.remove(&key);
         }
     }
 }

@@ -146,6 +146,15 @@ passes-off at test e o is other = go (passes (λ x. test x && same_endpoint x.ke
     go false f = refl
     go true f = let found = passes-with test e o f in absurd (other (here found.0 found.1 found.3))
 
+-- the head of an endpoint is among the heads
+pub head-among : (xs : List (Numbered Exchange)) (heads : Roll) → AreHeads xs heads → (at : Option Endpoint) → IfSome (head_in xs at) (λ p. is_in p heads.pairs ≡ true)
+head-among xs heads are None = tt
+head-among xs heads are (Some at) = go (head_at xs at) refl
+  where
+    go : (o : Option Pair) → head_at xs at ≡ o → IfSome o (λ p. is_in p heads.pairs ≡ true)
+    go None is = tt
+    go (Some p) is = are.all at p is
+
 module _ (n : ℕ) (xs ys : List (Numbered Exchange)) (at : Option Endpoint) (moves : Moves n xs ys) (rx : IsRising 0 xs) (ry : IsRising 0 ys) (wx : IsAt at (item_at n xs)) (wy : IsAt at (item_at n ys)) where
   -- the heads of the other endpoints stay
   head-elsewhere : (e : Endpoint) → (at ≡ Some e → ⊥) → head_at ys e ≡ head_at xs e
@@ -166,15 +175,7 @@ module _ (n : ℕ) (xs ys : List (Numbered Exchange)) (at : Option Endpoint) (mo
   module _ (old : Roll) (are : AreHeads xs old) where
     -- the head that was stands in the roll
     pub replaced-there : IfSome (head_in xs at) (λ p. is_in p old.pairs ≡ true)
-    replaced-there = go at
-      where
-        some : (e : Endpoint) (o : Option Pair) → head_at xs e ≡ o → IfSome o (λ p. is_in p old.pairs ≡ true)
-        some e None f = tt
-        some e (Some p) f = are.all e p f
-
-        go : (a : Option Endpoint) → IfSome (head_in xs a) (λ p. is_in p old.pairs ≡ true)
-        go None = tt
-        go (Some e) = some e (head_at xs e) refl
+    replaced-there = head-among xs old are at
 
     -- the head that comes doesn't, unless it was
     pub replaced-free : IfSome (head_in ys at) (λ p. is_in p old.pairs ≡ true → head_in xs at ≡ Some p)

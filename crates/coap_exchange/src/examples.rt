@@ -3,9 +3,10 @@ ghost use Rattle.std.specs.Prelude.{◌≡◌, ◌∷◌, [], true, false, None,
 ghost use Rattle.coap_store.specs.declared.key.CacheKey.{CacheKey};
 ghost use Rattle.coap_exchange.specs.declared.timer.Fire.TheVariants.{Again, GiveUp};
 ghost use Rattle.coap_exchange.specs.Due.{first_of};
-ghost use Rattle.coap_exchange.specs.Examples.{due, queued, sent_at, timer_after};
-ghost use Rattle.coap_exchange.specs.Exchanges.{due_of, is_some_as, acked};
+ghost use Rattle.coap_exchange.specs.Examples.{client, due, queued, queued_for, sent_at, timer_after};
+ghost use Rattle.coap_exchange.specs.Exchanges.{due_of, is_opened_by, is_some_as, acked};
 ghost use Rattle.coap_exchange.specs.Ids.{after_calls, left_of, next_of};
+ghost use Rattle.coap_exchange.specs.Table.{count};
 ghost use Rattle.coap_exchange.specs.Timers.{fire_of};
 
 /// When a message is sent again, and when the sender gives up (RFC 7252, 4.2 and 4.8), with the
@@ -52,4 +53,17 @@ pub fn due_first()
     ensures known { (key : CacheKey) → is_some_as 9 247007 (sent_at key 7 8).sending ≡ true }
     ensures forgotten { (key : CacheKey) → is_some_as 9 247008 (sent_at key 7 8).sending ≡ false }
     ensures other_id { (key : CacheKey) → is_some_as 8 9 (sent_at key 7 8).sending ≡ false }
+{}
+
+/// How many exchanges a client opened, whatever became of them; another port is another client.
+pub fn of_clients()
+    ensures both { (key : CacheKey)
+        → count (is_opened_by (client 40001)) ((1, queued key 7) ∷ (2, sent_at key 7 8) ∷ [])
+        ≡ 2 }
+    ensures one { (key : CacheKey)
+        → count (is_opened_by (client 40001))
+        ((1, queued key 7) ∷ (2, queued_for (client 40002) key 7) ∷ [])
+        ≡ 1 }
+    ensures none { (key : CacheKey)
+        → count (is_opened_by (client 40002)) ((1, queued key 7) ∷ []) ≡ 0 }
 {}

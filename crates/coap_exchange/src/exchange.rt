@@ -57,6 +57,8 @@ pub enum ExchangeState {
 
 /// A request on its way to an origin.
 pub struct Exchange {
+    /// The client that opened it.
+    pub client: Endpoint,
     /// What its response is cached under: the target, and the options that are part of the cache
     /// key.
     pub key: CacheKey,
@@ -78,6 +80,7 @@ pub struct Exchange {
 impl Drop for Exchange {
     fn drop(self) {
         let Exchange {
+            client: _,
             key: _,
             is_get: _,
             form: _,
@@ -119,15 +122,17 @@ impl Change {
 impl Exchange {
     /// A new exchange, whose request is waiting for its turn.
     pub(crate) fn opened(
+        client: Endpoint,
         key: CacheKey,
         is_get: bool,
         form: Seq<u8>,
         copy: Option<Stored>,
         now: u64,
     ) -> Exchange
-        ensures exact { result ≡ opened key is_get form copy now }
+        ensures exact { result ≡ opened client key is_get form copy now }
     {
         Exchange {
+            client,
             key,
             is_get,
             form,

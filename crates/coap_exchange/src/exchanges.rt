@@ -5,20 +5,22 @@ ghost use Rattle.std.specs.Option.{option_copied, option_map};
 ghost use Rattle.indexmap.specs.IndexMap.{get};
 ghost use Rattle.coap_endpoint.specs.declared.endpoint.Endpoint.{Endpoint};
 ghost use Rattle.coap_exchange.specs.Answered.{IsFirstGot, IsNextGot};
-ghost use Rattle.coap_exchange.specs.declared.table.AdmitError.TheVariants.{Full};
+ghost use Rattle.coap_exchange.specs.declared.table.AdmitError.TheVariants.{ClientFull, Full};
+ghost use Rattle.coap_exchange.specs.Clients.{count_of, AreWithin};
 ghost use Rattle.coap_exchange.specs.Due.{due_row, first_due};
-ghost use Rattle.coap_exchange.specs.Exchanges.{acked, answer_in, answered, changed_by, due_among, fire_at, fired_exchange, is_acked, is_done, is_joinable, is_queued, is_sent, is_sent_to, is_timely, opened, sent, tainted_by, was_sent_as, AreTimely, CanChange, IsDue, IsFireDue};
+ghost use Rattle.coap_exchange.specs.Exchanges.{acked, answer_in, answered, changed_by, due_among, fire_at, fired_exchange, is_acked, is_done, is_joinable, is_opened_by, is_queued, is_sent, is_sent_to, is_timely, opened, sent, tainted_by, was_sent_as, AreTimely, CanChange, IsDue, IsFireDue};
 ghost use Rattle.coap_exchange.specs.Index.{owners_at, turn_among, AreIndexed};
-ghost use Rattle.coap_exchange.specs.Lines.{is_queued_to, is_with, open_in, queued_in, sent_in, AreLined};
+ghost use Rattle.coap_exchange.specs.Lines.{is_queued_to, is_with, one_if_at, open_in, queued_in, sent_in, AreLined};
 ghost use Rattle.coap_exchange.specs.Table.{empty_table, item_at, admitted_to, without, withdrawn, changed_at, all_changed, count, first_that, passes, IsTable};
 ghost use Rattle.coap_exchange.specs.Turns.{AreTurns};
 
+use crate::by_client::{Clients, count_of, depart, enter};
 use crate::digests::{digest_of_key, digest_of_target};
 use crate::due::{later, sooner};
 use crate::exchange::{Change, Exchange, Sending};
 use crate::index::{Index, Owners, Sought, first_sought, owners_at, owners_in, owners_of};
 use crate::lines::{Line, Stage, close_one, has_turn, line_to, lowered, move_one, open_one};
-use crate::listed::Listed;
+use crate::listed::{Listed, client_of};
 use crate::peer::Peer;
 use crate::table::{AdmitError, Items, Table};
 use crate::timer::Fire;
@@ -37,6 +39,8 @@ pub struct Exchanges {
     queued: usize,
     /// The number of exchanges with each endpoint.
     lines: BTreeMap<Peer, Line>,
+    /// The number of exchanges that each client opened.
+    clients: Clients,
     /// What they are looked up by.
     index: Index,
     /// Whose turn it is.
@@ -49,6 +53,7 @@ impl Drop for Exchanges {
             table: _,
             queued: _,
             lines: _,
+            clients: _,
             index: _,
             turns: _,
         } = self;
@@ -57,7 +62,8 @@ impl Drop for Exchanges {
 
 impl Model for Exchanges {
     ghost use Rattle.coap_exchange.specs.declared.exchange.Exchange.{Exchange};
-    ghost use Rattle.coap_exchange.specs.Exchanges.{AreExchanges};
+    ghost use Rattle.coap_exchange.specs.Clients.{AreOfClients, AreWithin};
+    ghost use Rattle.coap_exchange.specs.Exchanges.{AreExchanges, is_opened_by};
     ghost use Rattle.coap_exchange.specs.Index.{AreIndexed};
     ghost use Rattle.coap_exchange.specs.Lines.{AreLined};
     ghost use Rattle.coap_exchange.specs.Table.{Table};
@@ -71,18 +77,20 @@ impl Model for Exchanges {
         AreExchanges e.table.items e.queued
         × AreLined e.table.items e.lines
         × AreIndexed e.table.items e.table.limit e.index
-        × AreTurns e.table.items e.turns };
+        × AreTurns e.table.items e.turns
+        × AreOfClients is_opened_by e.table.items e.clients
+        × AreWithin is_opened_by e.table };
 }
 
 impl Exchanges {
-    /// An empty table with room for `limit` exchanges.
+    /// An empty table with room for `limit` exchanges, and for `per_client` that one client opened.
     ///
     /// # Errors
     /// Out of memory.
-    pub fn new(alloc: Global, limit: usize) -> Result<Exchanges, OutOfMemory>
-        ensures empty { IfOk result (λ exchanges. exchanges ≡ empty_table limit) }
+    pub fn new(alloc: Global, limit: usize, per_client: usize) -> Result<Exchanges, OutOfMemory>
+        ensures empty { IfOk result (λ exchanges. exchanges ≡ empty_table limit per_client) }
     {
-        Exchanges::seeded(alloc, limit, 0)
+        Exchanges::seeded(alloc, limit, per_client, 0)
     }
 
     /// An empty table like that of `new`. Where its map puts a number depends on `seed`, so that
@@ -90,16 +98,22 @@ impl Exchanges {
     ///
     /// # Errors
     /// Out of memory.
-    pub fn seeded(alloc: Global, limit: usize, seed: u64) -> Result<Exchanges, OutOfMemory>
-        ensures empty { IfOk result (λ exchanges. exchanges ≡ empty_table limit) }
+    pub fn seeded(
+        alloc: Global,
+        limit: usize,
+        per_client: usize,
+        seed: u64,
+    ) -> Result<Exchanges, OutOfMemory>
+        ensures empty { IfOk result (λ exchanges. exchanges ≡ empty_table limit per_client) }
     {
-        let table = Table::new(alloc, limit, seed)?;
+        let table = Table::new(alloc, limit, per_client, seed)?;
         let index = Index::new(alloc, limit)?;
         let turns = Turns::new(alloc)?;
         Ok(Exchanges {
             table,
             queued: 0,
             lines: BTreeMap::new(alloc),
+            clients: BTreeMap::new(alloc),
             index,
             turns,
         })
@@ -110,6 +124,14 @@ impl Exchanges {
         ensures exact { result ≡ length self.now.items }
     {
         self.table.len()
+    }
+
+    /// The number of exchanges in the table that this client opened. Doesn't allocate.
+    pub fn count_of(&self, client: Endpoint) -> usize
+        ensures exact { result ≡ count (is_opened_by client) self.now.items }
+        ensures within { AreWithin is_opened_by self.now }
+    {
+        count_of(&self.clients, Peer::new(client))
     }
 
     /// The number of exchanges ever admitted.
@@ -204,16 +226,15 @@ impl Exchanges {
         sooner(deadline, sooner(end, turn))
     }
 
-    /// Opens an exchange after the others, with its request waiting for its turn, and returns its
-    /// number. `now` is in milliseconds, and at most 2^62.
+    /// Opens an exchange of a client after the others, with its request waiting for its turn, and
+    /// returns its number. `now` is in milliseconds, and at most 2^62.
     ///
     /// # Errors
-    /// 1. `Full` if the table has no room for another exchange.
-    /// 2. `OutOfMemory`.
-    ///
-    /// The table is unchanged then.
+    /// `Full` if the table has no room for another exchange; otherwise `ClientFull` if it has none
+    /// for another of this client; otherwise `OutOfMemory`. The table is unchanged then.
     pub fn admit(
         &mut self,
+        client: Endpoint,
         key: CacheKey,
         is_get: bool,
         form: Seq<u8>,
@@ -224,23 +245,35 @@ impl Exchanges {
         requires now { now ≤ 2 ^ 62 }
         ensures number { IfOk result (λ number. number ≡ self.old.admitted + 1) }
         ensures ok { OnOk result
-            (self.new ≡ admitted_to (opened key is_get form copy now) self.old) }
+            (self.new ≡ admitted_to (opened client key is_get form copy now) self.old) }
         ensures full { IfErr result (λ error.
             (error ≡ Full) ↔ (length self.old.items ≡ self.old.limit)) }
+        ensures client_full { IfErr result (λ error.
+            (error ≡ ClientFull)
+            ↔ ((length self.old.items < self.old.limit)
+            × (count (is_opened_by client) self.old.items ≡ self.old.per_client))) }
         ensures room { OnOk result (length self.old.items < self.old.limit) }
+        ensures client_room { OnOk result
+            (count (is_opened_by client) self.old.items < self.old.per_client) }
         ensures err { OnErr result (self.new ≡ self.old) }
         ensures sound { IsTable self.old }
+        ensures within { AreWithin is_opened_by self.old }
     {
         if self.table.is_full() {
             return Err(AdmitError::Full);
         }
-        let listed = Listed::new(Exchange::opened(key, is_get, form, copy, now));
+        let opener = Peer::new(client);
+        if count_of(&self.clients, opener) == self.table.per_client() {
+            return Err(AdmitError::ClientFull);
+        }
+        let exchange = Exchange::opened(client, key, is_get, form, copy, now);
+        let listed = Listed::new(exchange, opener);
         let at = listed.peer();
         let head = head_of(&self.table, &self.index, &self.lines, &Some(at));
         let Ok(()) = self.turns.heads.make_room() else {
             return Err(AdmitError::OutOfMemory);
         };
-        let Ok(()) = open_one(&mut self.lines, at) else {
+        let Ok(()) = open_for(&mut self.lines, &mut self.clients, at, opener) else {
             return Err(AdmitError::OutOfMemory);
         };
         let (was, is) = (owners_in(None), owners_of(&listed));
@@ -255,6 +288,7 @@ impl Exchanges {
             }
             Err(error) => {
                 close_one(&mut self.lines, at, Stage::QUEUED);
+                depart(&mut self.clients, Some(opener));
                 Err(error)
             }
         }
@@ -275,6 +309,7 @@ impl Exchanges {
         let head = head_of(&self.table, &self.index, &self.lines, &at);
         let queued = queued_without(self.queued, &self.table, number, found);
         leave(&mut self.lines, &self.table, number, found);
+        depart(&mut self.clients, client_of(found));
         let was = owners_in(found);
         self.queued = queued;
         self.table.withdraw();
@@ -292,6 +327,7 @@ impl Exchanges {
         let head = head_of(&self.table, &self.index, &self.lines, &at);
         let queued = queued_without(self.queued, &self.table, number, found);
         leave(&mut self.lines, &self.table, number, found);
+        depart(&mut self.clients, client_of(found));
         let was = owners_in(found);
         self.queued = queued;
         self.table.close(number);
@@ -377,6 +413,43 @@ impl Exchanges {
         let next = head_of(&self.table, &self.index, &self.lines, &at);
         self.turns.heads.replace(head, next);
     }
+}
+
+/// Counts an exchange with this endpoint, which is waiting for its turn, for the endpoint and for
+/// the client that opens it.
+///
+/// # Errors
+/// Out of memory. Nothing is changed then.
+fn open_for(
+    lines: &mut BTreeMap<Peer, Line>,
+    clients: &mut Clients,
+    at: Peer,
+    client: Peer,
+) -> Result<(), OutOfMemory>
+    requires all { open_in lines.old at < 2 ^ 64 - 1 }
+    requires sent { sent_in lines.old at ≤ open_in lines.old at }
+    requires queued { queued_in lines.old at ≤ open_in lines.old at }
+    requires client { count_of clients.old client < 2 ^ 64 - 1 }
+    ensures all { OnOk result ((e : Endpoint)
+        → open_in lines.new e ≡ open_in lines.old e + one_if_at true at e) }
+    ensures sent { OnOk result ((e : Endpoint) → sent_in lines.new e ≡ sent_in lines.old e) }
+    ensures queued { OnOk result ((e : Endpoint)
+        → queued_in lines.new e ≡ queued_in lines.old e + one_if_at true at e) }
+    ensures client { OnOk result ((e : Endpoint)
+        → count_of clients.new e ≡ count_of clients.old e + one_if_at true client e) }
+    ensures err_all { OnErr result ((e : Endpoint) → open_in lines.new e ≡ open_in lines.old e) }
+    ensures err_sent { OnErr result ((e : Endpoint) → sent_in lines.new e ≡ sent_in lines.old e) }
+    ensures err_queued { OnErr result ((e : Endpoint)
+        → queued_in lines.new e ≡ queued_in lines.old e) }
+    ensures err_client { OnErr result ((e : Endpoint)
+        → count_of clients.new e ≡ count_of clients.old e) }
+{
+    open_one(lines, at)?;
+    let entered = enter(clients, client);
+    if entered.is_err() {
+        close_one(lines, at, Stage::QUEUED);
+    }
+    entered
 }
 
 impl Table<Listed> {

@@ -4,8 +4,8 @@
 //! # First use
 //!
 //! ```rust
-//! let mut exchanges = Exchanges::new(alloc, 256)?;
-//! let number = exchanges.admit(key, true, form, None, 0)?;
+//! let mut exchanges = Exchanges::new(alloc, 256, 16)?;
+//! let number = exchanges.admit(client, key, true, form, None, 0)?;
 //! assert!(exchanges.due(1, 93_000) == Some((0, number))); // it is its turn
 //! exchanges.send(number, Sending { asked: 0, id: 7, timer: Timer::start(0, 250) });
 //! assert!(exchanges.due(1, 93_000) == Some((2_250, number))); // when it is sent again
@@ -15,6 +15,7 @@
 #![tactic(auto)]
 
 mod buckets;
+mod by_client;
 mod digests;
 mod due;
 pub mod examples;

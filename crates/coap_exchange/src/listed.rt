@@ -1,6 +1,6 @@
 //! Exchanges with the digests that they are looked up by.
 ghost use Rattle.std.specs.Prelude.{◌≡◌};
-ghost use Rattle.std.specs.Option.{option_copied};
+ghost use Rattle.std.specs.Option.{option_copied, option_map};
 ghost use Rattle.coap_exchange.specs.Digests.{digest_of_key, digest_of_target};
 ghost use Rattle.coap_exchange.specs.Exchanges.{changed_by, is_queued, is_sent, tainted_by, CanChange};
 ghost use Rattle.coap_exchange.specs.Table.{item_at, IsTable};
@@ -18,6 +18,7 @@ use std::marker::Model;
 #[derive(Drop)]
 pub(crate) struct Listed {
     exchange: Exchange,
+    client: Peer,
     peer: Peer,
     key: u64,
     target: u64,
@@ -33,14 +34,16 @@ impl Model for Listed {
     ghost view = { λ l. l.exchange };
 
     ghost invariant = { λ l.
-        (l.peer ≡ l.exchange.key.target.at)
+        (l.client ≡ l.exchange.client)
+        × (l.peer ≡ l.exchange.key.target.at)
         × (l.key ≡ digest_of_key l.exchange.key)
         × (l.target ≡ digest_of_target l.exchange.key.target) };
 }
 
 impl Listed {
-    /// Computes the digests of a new exchange.
-    pub(crate) fn new(exchange: Exchange) -> Listed
+    /// Computes the digests of a new exchange, which this client opened.
+    pub(crate) fn new(exchange: Exchange, client: Peer) -> Listed
+        requires { client ≡ exchange.client }
         ensures exact { result ≡ exchange }
     {
         let peer = Peer::new(exchange.key.target.at);
@@ -48,6 +51,7 @@ impl Listed {
         let target = digest_of_target(&exchange.key.target);
         Listed {
             exchange,
+            client,
             peer,
             key,
             target,
@@ -59,6 +63,13 @@ impl Listed {
         ensures exact { result.now ≡ self.now }
     {
         &self.exchange
+    }
+
+    /// The client that opened it.
+    pub(crate) fn client(&self) -> Peer
+        ensures exact { result ≡ self.now.client }
+    {
+        self.client
     }
 
     /// Its endpoint.
@@ -103,6 +114,16 @@ impl Listed {
         ensures exact { self.new ≡ tainted_by target.now self.old }
     {
         self.exchange.taint(target);
+    }
+}
+
+/// The client that opened an exchange, if there is one.
+pub(crate) fn client_of(found: Option<&Listed>) -> Option<Peer>
+    ensures exact { result ≡ option_map (λ x. x.client) (option_copied found.entry) }
+{
+    match found {
+        Some(listed) => Some(listed.client()),
+        None => None,
     }
 }
 

@@ -1,21 +1,26 @@
 //! Tables of waiters: who waits for which exchange, which are being sent a response, and which is
 //! due.
-ghost use Rattle.std.specs.Prelude.{◌≡◌, ◌+◌, ◌-◌, ◌<◌, ◌≤◌, ◌^◌, ◌↔◌, ℕ, length, if◌then◌else◌, true, false, nat_eq, OnOk, OnErr, IfOk, IfErr, IfSome, IfNone};
+ghost use Rattle.std.specs.Prelude.{◌≡◌, ◌+◌, ◌-◌, ◌<◌, ◌≤◌, ◌^◌, ◌==◌, ◌↔◌, ℕ, length, if◌then◌else◌, true, false, nat_eq, OnOk, OnErr, IfOk, IfErr, IfSome, IfNone};
 ghost use Rattle.std.specs.Map.{set_value};
 ghost use Rattle.std.specs.Option.{option_copied, option_map};
 ghost use Rattle.indexmap.specs.IndexMap.{get};
-ghost use Rattle.coap_exchange.specs.declared.table.AdmitError.TheVariants.{Full};
+ghost use Rattle.coap_exchange.specs.declared.table.AdmitError.TheVariants.{ClientFull, Full};
 ghost use Rattle.coap_exchange.specs.declared.waiter.WaiterState.TheVariants.{Waiting};
 ghost use Rattle.coap_exchange.specs.Answered.{due_at};
+ghost use Rattle.coap_endpoint.specs.declared.endpoint.Endpoint.{Endpoint};
+ghost use Rattle.coap_exchange.specs.Clients.{count_of, AreWithin};
 ghost use Rattle.coap_exchange.specs.Due.{due_row, first_due};
+ghost use Rattle.coap_exchange.specs.Lines.{one_if_at};
 ghost use Rattle.coap_exchange.specs.Marks.{answered_of, marks_at};
 ghost use Rattle.coap_exchange.specs.Table.{empty_table, item_at, admitted_to, without, withdrawn, changed_at, count, first_that, passes, IsTable};
 ghost use Rattle.coap_exchange.specs.Tally.{tally, AreTallied};
-ghost use Rattle.coap_exchange.specs.Waiters.{awaited_by, changed_by, delivered, due_after, fire_at, fired_waiter, is_waiting, waits_for, was_sent_as, CanChange, IsDue};
+ghost use Rattle.coap_exchange.specs.Waiters.{awaited_by, changed_by, delivered, due_after, fire_at, fired_waiter, is_of, is_waiting, waits_for, was_sent_as, CanChange, IsDue};
 
+use crate::by_client::{Clients, count_of, depart, enter};
 use crate::due::{due_under, sooner};
 use crate::exchanges::Exchanges;
 use crate::marks::{Marks, WaiterIndex, marks_in, marks_of};
+use crate::peer::Peer;
 use crate::seeded::Seeded;
 use crate::table::{AdmitError, Items, Table};
 use crate::tally::{Counts, count_one, counted, discount_one};
@@ -25,6 +30,7 @@ use coap_endpoint::Endpoint;
 use coap_message::{Kind, OutOfMemory, Pieces, Seq, Token};
 use indexmap::IndexMap;
 use std::alloc::Global;
+use std::collections::BTreeMap;
 use std::marker::Model;
 
 /// Waiters in order of number. A contract sees the table. Only `new` and `admit` allocate.
@@ -34,6 +40,8 @@ pub struct Waiters {
     waiting: usize,
     /// The number of waiters for each exchange, by the exchange's number.
     by_exchange: Counts,
+    /// The number of waiters of each client.
+    clients: Clients,
     /// What they are looked up by.
     index: WaiterIndex,
     alloc: Global,
@@ -45,6 +53,7 @@ impl Drop for Waiters {
             table: _,
             waiting: _,
             by_exchange: _,
+            clients: _,
             index: _,
             alloc: _,
         } = self;
@@ -53,9 +62,11 @@ impl Drop for Waiters {
 
 impl Model for Waiters {
     ghost use Rattle.coap_exchange.specs.declared.waiter.Waiter.{Waiter};
+    ghost use Rattle.coap_exchange.specs.Clients.{AreOfClients, AreWithin};
     ghost use Rattle.coap_exchange.specs.Marks.{AreMarked};
     ghost use Rattle.coap_exchange.specs.Table.{Table, IsTable};
     ghost use Rattle.coap_exchange.specs.Tally.{AreWaiters};
+    ghost use Rattle.coap_exchange.specs.Waiters.{is_of};
 
     ghost Value = { Table Waiter };
 
@@ -64,18 +75,20 @@ impl Model for Waiters {
     ghost invariant = { λ w.
         AreWaiters w.table.items w.waiting w.by_exchange
         × AreMarked w.table.items w.table.limit w.index
-        × IsTable w.table };
+        × IsTable w.table
+        × AreOfClients is_of w.table.items w.clients
+        × AreWithin is_of w.table };
 }
 
 impl Waiters {
-    /// An empty table with room for `limit` waiters.
+    /// An empty table with room for `limit` waiters, and for `per_client` of one client.
     ///
     /// # Errors
     /// Out of memory.
-    pub fn new(alloc: Global, limit: usize) -> Result<Waiters, OutOfMemory>
-        ensures empty { IfOk result (λ waiters. waiters ≡ empty_table limit) }
+    pub fn new(alloc: Global, limit: usize, per_client: usize) -> Result<Waiters, OutOfMemory>
+        ensures empty { IfOk result (λ waiters. waiters ≡ empty_table limit per_client) }
     {
-        Waiters::seeded(alloc, limit, 0)
+        Waiters::seeded(alloc, limit, per_client, 0)
     }
 
     /// An empty table like that of `new`. Where its maps put a number depends on `seed`, so that
@@ -83,15 +96,21 @@ impl Waiters {
     ///
     /// # Errors
     /// Out of memory.
-    pub fn seeded(alloc: Global, limit: usize, seed: u64) -> Result<Waiters, OutOfMemory>
-        ensures empty { IfOk result (λ waiters. waiters ≡ empty_table limit) }
+    pub fn seeded(
+        alloc: Global,
+        limit: usize,
+        per_client: usize,
+        seed: u64,
+    ) -> Result<Waiters, OutOfMemory>
+        ensures empty { IfOk result (λ waiters. waiters ≡ empty_table limit per_client) }
     {
-        let table = Table::new(alloc, limit, seed)?;
+        let table = Table::new(alloc, limit, per_client, seed)?;
         let (room, hasher) = (limit.saturating_mul(2), Seeded::new(seed));
         Ok(Waiters {
             table,
             waiting: 0,
             by_exchange: IndexMap::with_capacity_and_hasher(alloc, room, hasher)?,
+            clients: BTreeMap::new(alloc),
             index: WaiterIndex::new(alloc, limit)?,
             alloc,
         })
@@ -102,6 +121,15 @@ impl Waiters {
         ensures exact { result ≡ length self.now.items }
     {
         self.table.len()
+    }
+
+    /// The number of waiters of this client: of its requests that wait, and of those whose response
+    /// it hasn't acknowledged. Doesn't allocate.
+    pub fn count_of(&self, client: Endpoint) -> usize
+        ensures exact { result ≡ count (is_of client) self.now.items }
+        ensures within { AreWithin is_of self.now }
+    {
+        count_of(&self.clients, Peer::new(client))
     }
 
     /// The number of waiters ever admitted.
@@ -192,10 +220,8 @@ impl Waiters {
     /// waiter's number.
     ///
     /// # Errors
-    /// 1. `Full` if the table has no room for another waiter.
-    /// 2. `OutOfMemory`.
-    ///
-    /// The table is unchanged then.
+    /// `Full` if the table has no room for another waiter; otherwise `ClientFull` if it has none
+    /// for another of this client; otherwise `OutOfMemory`. The table is unchanged then.
     pub fn admit(
         &mut self,
         client: Endpoint,
@@ -219,14 +245,25 @@ impl Waiters {
             self.old) }
         ensures full { IfErr result (λ error.
             (error ≡ Full) ↔ (length self.old.items ≡ self.old.limit)) }
+        ensures client_full { IfErr result (λ error.
+            (error ≡ ClientFull)
+            ↔ ((length self.old.items < self.old.limit)
+            × (count (is_of client) self.old.items ≡ self.old.per_client))) }
         ensures room { OnOk result (length self.old.items < self.old.limit) }
+        ensures client_room { OnOk result
+            (count (is_of client) self.old.items < self.old.per_client) }
         ensures err { OnErr result (self.new ≡ self.old) }
         ensures sound { IsTable self.old }
+        ensures within { AreWithin is_of self.old }
     {
         if self.table.is_full() {
             return Err(AdmitError::Full);
         }
-        let Ok(()) = count_one(&mut self.by_exchange, exchange) else {
+        let peer = Peer::new(client);
+        if count_of(&self.clients, peer) == self.table.per_client() {
+            return Err(AdmitError::ClientFull);
+        }
+        let Ok(()) = wait_for(&mut self.by_exchange, &mut self.clients, exchange, peer) else {
             return Err(AdmitError::OutOfMemory);
         };
         let waiter = Waiter {
@@ -245,6 +282,7 @@ impl Waiters {
             }
             Err(error) => {
                 discount_one(&mut self.by_exchange, exchange);
+                depart(&mut self.clients, Some(peer));
                 Err(error)
             }
         }
@@ -263,6 +301,7 @@ impl Waiters {
         let found = self.table.get(number);
         let waiting = waiting_without(self.waiting, &self.table, number, found);
         stop_waiting(&mut self.by_exchange, &self.table, number, found);
+        depart(&mut self.clients, client_of(found));
         let was = marks_in(found);
         self.waiting = waiting;
         self.table.withdraw();
@@ -276,6 +315,7 @@ impl Waiters {
         let found = self.table.get(number);
         let waiting = waiting_without(self.waiting, &self.table, number, found);
         stop_waiting(&mut self.by_exchange, &self.table, number, found);
+        depart(&mut self.clients, client_of(found));
         let was = marks_in(found);
         self.waiting = waiting;
         self.table.close(number);
@@ -326,6 +366,35 @@ impl Waiters {
         self.index.pass(number, was, is);
         fire
     }
+}
+
+/// Counts a waiter for the exchange that it waits for, and for its client.
+///
+/// # Errors
+/// Out of memory. Nothing is changed then.
+fn wait_for(
+    by_exchange: &mut Counts,
+    clients: &mut Clients,
+    exchange: u64,
+    client: Peer,
+) -> Result<(), OutOfMemory>
+    requires tally { tally by_exchange.old exchange < 2 ^ 64 - 1 }
+    requires client { count_of clients.old client < 2 ^ 64 - 1 }
+    ensures ok { OnOk result ((n : ℕ)
+        → tally by_exchange.new n
+        ≡ tally by_exchange.old n + (if exchange == n then 1 else 0)) }
+    ensures client { OnOk result ((e : Endpoint)
+        → count_of clients.new e ≡ count_of clients.old e + one_if_at true client e) }
+    ensures err { OnErr result ((n : ℕ) → tally by_exchange.new n ≡ tally by_exchange.old n) }
+    ensures err_client { OnErr result ((e : Endpoint)
+        → count_of clients.new e ≡ count_of clients.old e) }
+{
+    count_one(by_exchange, exchange)?;
+    let entered = enter(clients, client);
+    if entered.is_err() {
+        discount_one(by_exchange, exchange);
+    }
+    entered
 }
 
 impl Table<Waiter> {
@@ -412,6 +481,16 @@ fn waiting_without(
     match found {
         Some(waiter) if waiter.is_waiting() => waiting - 1,
         _ => waiting,
+    }
+}
+
+/// The client of a waiter, if there is one.
+fn client_of(found: Option<&Waiter>) -> Option<Peer>
+    ensures exact { result ≡ option_map (λ w. w.client) (option_copied found.entry) }
+{
+    match found {
+        Some(waiter) => Some(Peer::new(waiter.client)),
+        None => None,
     }
 }
 

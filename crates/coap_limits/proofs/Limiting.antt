@@ -4,7 +4,7 @@ use Rattle.std.specs.Prelude.{not}
 use Rattle.std.specs.List.{AllByRecursion}
 use Rattle.std.proofs.lemmas.Bool.{leb-true, and_parts}
 use Rattle.coap_limits.specs.declared.limits.Limit.{Limit}
-use Rattle.coap_limits.specs.declared.limits.Limit.TheVariants.{CacheBytes, CacheEntries, ConRecords, NonRecords, Exchanges, Waiters, Nstart, Datagram, ExchangeMs, RetryS}
+use Rattle.coap_limits.specs.declared.limits.Limit.TheVariants.{CacheBytes, CacheEntries, ConRecords, NonRecords, Exchanges, Waiters, Nstart, Datagram, ExchangeMs, RetryS, ClientConRecords, ClientNonRecords, ClientExchanges, ClientWaiters}
 use Rattle.coap_limits.specs.Limits.{Limits, value_of, range_of, MayBe, AreLimits, is_out, all_limits, first_fault}
 use Rattle.coap_endpoint.proofs.Lists.{none-found}
 
@@ -31,6 +31,10 @@ each P all Nstart = all.1.1.1.1.1.1.0
 each P all Datagram = all.1.1.1.1.1.1.1.0
 each P all ExchangeMs = all.1.1.1.1.1.1.1.1.0
 each P all RetryS = all.1.1.1.1.1.1.1.1.1.0
+each P all ClientConRecords = all.1.1.1.1.1.1.1.1.1.1.0
+each P all ClientNonRecords = all.1.1.1.1.1.1.1.1.1.1.1.0
+each P all ClientExchanges = all.1.1.1.1.1.1.1.1.1.1.1.1.0
+each P all ClientWaiters = all.1.1.1.1.1.1.1.1.1.1.1.1.1.0
 
 -- limits none of which is at fault are within their ranges
 pub are-limits : (l : Limits) → first_fault l ≡ None → AreLimits l

@@ -1,6 +1,6 @@
 //! Limits: their ranges, their defaults, and values within the ranges.
 ghost use Rattle.std.specs.Prelude.{◌≡◌, None, Some, not, IfOk, IfErr};
-ghost use Rattle.coap_limits.specs.Limits.{AreLimits, default_limits, range_of, value_of, is_out, first_fault};
+ghost use Rattle.coap_limits.specs.Limits.{AreLimits, default_limits, limits_per_client, without_client_limits, range_of, value_of, is_out, first_fault};
 
 use std::marker::Model;
 use thiserror::Error;
@@ -18,6 +18,10 @@ pub enum Limit {
     Datagram,
     ExchangeMs,
     RetryS,
+    ClientConRecords,
+    ClientNonRecords,
+    ClientExchanges,
+    ClientWaiters,
 }
 
 /// A limit is out of its range.
@@ -30,7 +34,7 @@ pub struct LimitError {
 
 impl Limit {
     /// All limits, in the order in which they are checked.
-    pub const ALL: [Limit; 10] = [
+    pub const ALL: [Limit; 14] = [
         Limit::CacheBytes,
         Limit::CacheEntries,
         Limit::ConRecords,
@@ -41,6 +45,10 @@ impl Limit {
         Limit::Datagram,
         Limit::ExchangeMs,
         Limit::RetryS,
+        Limit::ClientConRecords,
+        Limit::ClientNonRecords,
+        Limit::ClientExchanges,
+        Limit::ClientWaiters,
     ];
 
     /// The least and the greatest value.
@@ -58,6 +66,10 @@ impl Limit {
             Limit::Datagram => (128, 4_096),
             Limit::ExchangeMs => (1_000, 600_000),
             Limit::RetryS => (0, 3_600),
+            Limit::ClientConRecords => (1, 65_536),
+            Limit::ClientNonRecords => (1, 65_536),
+            Limit::ClientExchanges => (1, 4_096),
+            Limit::ClientWaiters => (1, 16_384),
         }
     }
 
@@ -95,6 +107,15 @@ pub struct LimitValues {
     pub exchange_ms: u64,
     /// After how long a rejected client may retry, in seconds.
     pub retry_s: u64,
+    /// The maximum number of deduplication records of Confirmable messages from one endpoint.
+    pub client_con_records: u64,
+    /// The maximum number of deduplication records of Non-confirmable messages from one endpoint.
+    pub client_non_records: u64,
+    /// The maximum number of exchanges in progress that one client opened.
+    pub client_exchanges: u64,
+    /// The maximum number of requests of one client that wait for an answer, or whose answer it
+    /// hasn't acknowledged.
+    pub client_waiters: u64,
 }
 
 impl LimitValues {
@@ -113,6 +134,10 @@ impl LimitValues {
             Limit::Datagram => self.datagram,
             Limit::ExchangeMs => self.exchange_ms,
             Limit::RetryS => self.retry_s,
+            Limit::ClientConRecords => self.client_con_records,
+            Limit::ClientNonRecords => self.client_non_records,
+            Limit::ClientExchanges => self.client_exchanges,
+            Limit::ClientWaiters => self.client_waiters,
         }
     }
 
@@ -140,6 +165,39 @@ impl Default for LimitValues {
             datagram: 1_500,
             exchange_ms: 93_000,
             retry_s: 5,
+            client_con_records: 4_096,
+            client_non_records: 4_096,
+            client_exchanges: 256,
+            client_waiters: 1_024,
+        }
+    }
+}
+
+impl LimitValues {
+    /// The limits of a configuration of version 2 that has no others: one client may use a part of
+    /// what clients share.
+    pub fn per_client() -> LimitValues
+        ensures exact { result ≡ limits_per_client }
+    {
+        LimitValues {
+            client_con_records: 256,
+            client_non_records: 256,
+            client_exchanges: 16,
+            client_waiters: 64,
+            ..LimitValues::default()
+        }
+    }
+
+    /// The same, but one client may use up all that clients share.
+    pub fn without_client_limits(self) -> LimitValues
+        ensures exact { result ≡ without_client_limits self }
+    {
+        LimitValues {
+            client_con_records: self.con_records,
+            client_non_records: self.non_records,
+            client_exchanges: self.exchanges,
+            client_waiters: self.waiters,
+            ..self
         }
     }
 }

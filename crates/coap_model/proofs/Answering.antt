@@ -105,6 +105,7 @@ module _ (w : World) (history : List Deed) (c : Bears history w) (now draw : ℕ
       changed (found-tainted (changed_by x.1.key.target m) x.0 w.exchanges x.1 h.found) onward
       (record {
         opened = opened-later e f.opened;
+        client_is = f.client_is;
         admitted = f.admitted;
         verdict = f.verdict;
         method = f.method;
@@ -145,7 +146,7 @@ keeps_answering w history c now draw source bytes grown m x storing store onward
     )
 
 -- and so does a Confirmable one, which is acknowledged and remembered
-pub keeps_answering_con : (w : World) (history : List Deed) (c : Bears history w) → (now draw : ℕ) (source : Endpoint) (bytes : List ℕ) (grown : Bool) (m : Message) (x : Numbered Exchange) (storing : Storing) (store : List Entry) → w.last ≤ now → IsBytes bytes → Recorded w bytes m → IsAnswerFor w now source m x → is_con m.kind ≡ true → known_of w now source m ≡ None → has_record_room w now m.kind ≡ true → IsStoring (changed_world w m x) now grown x (answer_for w now m x.1) storing store
+pub keeps_answering_con : (w : World) (history : List Deed) (c : Bears history w) → (now draw : ℕ) (source : Endpoint) (bytes : List ℕ) (grown : Bool) (m : Message) (x : Numbered Exchange) (storing : Storing) (store : List Entry) → w.last ≤ now → IsBytes bytes → Recorded w bytes m → IsAnswerFor w now source m x → is_con m.kind ≡ true → known_of w now source m ≡ None → has_record_room w now source m.kind ≡ true → IsStoring (changed_world w m x) now grown x (answer_for w now m x.1) storing store
     → Bears (doing (moves x.0) (entry_of now draw (arrival source bytes) (says (Answered storing) source (acknowledgement m.id) (answered_world (changed_world w m x) now x.0 (answer_for w now m x.1) store))) ∷ history) (remembers now source m (says (Answered storing) source (acknowledgement m.id) (answered_world (changed_world w m x) now x.0 (answer_for w now m x.1) store))).world
 keeps_answering_con w history c now draw source bytes grown m x storing store onward fits recorded for con unknown room stored =
     let s = says (Answered storing) source (acknowledgement m.id) (answered_world (changed_world w m x) now x.0 (answer_for w now m x.1) store) in
@@ -187,6 +188,7 @@ keeps_acknowledging w history c now draw source bytes m x onward fits read about
     (others-quiet w history c e x.0 refl refl) h.found onward
     (record {
       opened = opened-later e f.opened;
+      client_is = f.client_is;
       admitted = f.admitted;
       verdict = f.verdict;
       method = f.method;
@@ -197,7 +199,7 @@ keeps_acknowledging w history c now draw source bytes m x onward fits read about
       copy_is = f.copy_is;
       state = record { sending = flight.sending; sending_is = flight.sending_is; asked = asked_frame e quiet was; method = flight.method; former = flight.former; was_cache = flight.was_cache; copy_is = flight.copy_is; told = told-stays x.1.tainted w.setting x.1.key.target was.asking history e refl flight.told; unended = ((λ ended. let k = ended.outcome in absurd cc), flight.unended) };
     })
-    (staged-seen x.0 acked stage.acked w.exchanges (All-weaken (λ y. Has y w.exchanges) (λ y. y.0 ≡ x.0 → stage.acked ≡ stage.acked) w.exchanges (λ y there same. refl) (Has-all w.exchanges)))
+    (staged-seen x.0 acked stage.acked w.exchanges (λ y. refl) (All-weaken (λ y. Has y w.exchanges) (λ y. y.0 ≡ x.0 → stage.acked ≡ stage.acked) w.exchanges (λ y there same. refl) (Has-all w.exchanges)))
     (ids-kept history w _ e c.clock c.ids onward refl refl refl)
     (schedules_frame history e refl c.schedules)
     (λ to. let pace = c.within.pace to in let moved = count-moved (is_sent_to to) x.0 0 acked w.exchanges c.whole.rising in let none = unsent-acked (is_sent_to to) (λ b. refl) (item_at x.0 w.exchanges) in omega arith)

@@ -89,8 +89,8 @@ starts setting are =
         exchanges = tt;
         waiters = tt;
         store = store-empty setting;
-        con_records = record { same = λ now later. refl; limit = refl; lifetime = refl; are = record { within = omega arith; in_order = tt; apart = tt }; until = tt; short = λ most wide long. tt };
-        non_records = record { same = λ now later. refl; limit = refl; lifetime = refl; are = record { within = omega arith; in_order = tt; apart = tt }; until = tt; short = λ most wide long. tt };
+        con_records = record { same = λ now later. refl; limit = refl; per_client = refl; lifetime = refl; are = record { within = omega arith; within_each = λ from. omega arith; in_order = tt; apart = tt }; until = tt; short = λ most wide long. tt };
+        non_records = record { same = λ now later. refl; limit = refl; per_client = refl; lifetime = refl; are = record { within = omega arith; within_each = λ from. omega arith; in_order = tt; apart = tt }; until = tt; short = λ most wide long. tt };
         within = record { exchanges = omega arith; waiters = omega arith; pace = λ to. omega arith; ids = λ now later. let none = (new_ids-are setting).given now later in omega arith };
         past = tt;
       };

@@ -61,7 +61,7 @@ pub record IsService (n : ℕ) (e : Deed) : Type 0 where
   pub gives : gives_id e.entry ≡ 0
   pub takes : takes e.entry.report.outcome ≡ false
   pub leaving : leaves e.entry.report.outcome ≡ true
-  pub leaves_open : (standing : List Standing) (xs : List Open) → open_by e.entry.report.outcome e.act e.entry.report.send standing xs ≡ xs
+  pub leaves_open : (standing : List Standing) (xs : List Open) → open_by e.entry.report.outcome e.act e.entry.event e.entry.report.send standing xs ≡ xs
 
 -- what is known of the remaining clients: as many wait for each exchange as before
 pub record AreLeft (w : World) (left : List (Numbered Waiter)) : Type 0 where
@@ -226,7 +226,7 @@ keeps_redelivering w history c now draw at n v bytes id timer onward turn fire =
     (λ k. refl) onward
     (record { place = g.serving; is_there = g.was_served; holds = g.is_serving })
     (left-fired w history c n now)
-    (served-seen n (fired_waiter now) w.waiters (λ u. still-so u.state) ∙ c.whole.waiters)
+    (served-seen n (fired_waiter now) w.waiters (λ u. refl) (λ u. still-so u.state) ∙ c.whole.waiters)
     (λ u other has. HasNumber-changed n u (fired_waiter now) w.waiters has)
     (All-map (λ u. IsWaiterOf w.setting history u × Has u w.waiters) (IsWaiterOf w.setting (e ∷ history)) (changed n (fired_waiter now)) w.waiters
     (λ u f.

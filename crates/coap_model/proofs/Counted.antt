@@ -1,13 +1,15 @@
 -- The counts of a proxy's store and records agree with the history.
 use Rattle.std.proofs.Common.{◌≡◌, List, length, ap, ◌∙◌, arith}
 use Rattle.coap_message.specs.declared.kind.Kind.{Kind}
-use Rattle.coap_dedup.specs.Records.{Records, living_at}
+use Rattle.coap_endpoint.specs.declared.endpoint.Endpoint.{Endpoint}
+use Rattle.coap_dedup.specs.Lists.{count_from}
+use Rattle.coap_dedup.specs.Records.{Records, living_at, living_of}
 use Rattle.coap_store.specs.Entries.{Entry, entry_size}
 use Rattle.coap_store.specs.Lists.{total}
 use Rattle.coap_model.specs.Setting.{Setting}
 use Rattle.coap_model.specs.World.{World}
 use Rattle.coap_model.specs.History.{Deed}
-use Rattle.coap_model.specs.Remembered.{remembered_at}
+use Rattle.coap_model.specs.Remembered.{remembered_at, remembered_of}
 use Rattle.coap_model.specs.Cached.{Cached, cached_size, IsCacheOf, IsStored}
 use Rattle.coap_model.specs.Carries.{Bears, AreRemembered}
 use Rattle.coap_model.proofs.Cached.{cache-unique}
@@ -30,3 +32,7 @@ store-bytes deeds w cached c is =
 -- the number of living records is the number of messages that are still remembered
 pub records-living : (deeds : List Deed) (w : World) (kind : Kind) (records : Records) → Bears deeds w → AreRemembered w.setting deeds kind records → length (living_at w.last records) ≡ length (remembered_at kind w.last deeds)
 records-living deeds w kind records c are = let last = c.clock.last in ap length (are.same w.last (omega arith))
+
+-- and so it is for those of one endpoint
+pub records-own : (deeds : List Deed) (w : World) (kind : Kind) (records : Records) (from : Endpoint) → Bears deeds w → AreRemembered w.setting deeds kind records → living_of from w.last records ≡ remembered_of from kind w.last deeds
+records-own deeds w kind records from c are = let last = c.clock.last in ap (count_from from) (are.same w.last (omega arith))

@@ -331,9 +331,9 @@ two-open : (setting : Setting) (past : List Deed) (d e : Deed) → d.entry.repor
 two-open setting past d e first second all =
     let j : IsOpening setting past d = subst (λ (o : Outcome). JustifiedBy o setting past d) first all.1.0 in
     let k : IsOpening setting (d ∷ past) e = subst (λ (o : Outcome). JustifiedBy o setting (d ∷ past) e) second all.0 in
-    let there : open_in (d ∷ past) ≡ open_in past ++ record { number = opened_in past + 1; stage = queued } ∷ [] = λ i. open_by (first i) (j.act i) d.entry.report.send (standing_in (d ∷ past)) (open_in past) in
-    let more = length-append (open_in past) (record { number = opened_in past + 1; stage = queued } ∷ []) in
-    let room = k.room.exchange in
+    let there : open_in (d ∷ past) ≡ open_in past ++ record { number = opened_in past + 1; client = j.client; stage = queued } ∷ [] = λ i. open_by (first i) (j.act i) (j.asked.brings.came i) d.entry.report.send (standing_in (d ∷ past)) (open_in past) in
+    let more = length-append (open_in past) (record { number = opened_in past + 1; client = j.client; stage = queued } ∷ []) in
+    let room = k.room.shared.exchange in
     omega (arith, ap (λ (xs : List Open). length xs) there, more, room)
 
 -- so with room for one, this isn't the history of a proxy that keeps its promise

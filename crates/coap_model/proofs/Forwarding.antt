@@ -107,6 +107,7 @@ keeps_forwarding w history c now draw at number x onward turn queued early =
     (others-quiet w history c e number refl refl) turn.found onward
     (record {
       opened = opened-later e f.opened;
+      client_is = f.client_is;
       admitted = f.admitted;
       verdict = f.verdict;
       method = f.method;
@@ -137,7 +138,7 @@ keeps_forwarding w history c now draw at number x onward turn queued early =
         unended = ((λ h. let g = h.outcome in cc), state.unended);
       };
     })
-    (staged-seen number (sent sending) (stages.sent x.key.target.at) w.exchanges (All-weaken (λ y. Has y w.exchanges) (λ y. y.0 ≡ number → stages.sent y.1.key.target.at ≡ stages.sent x.key.target.at) w.exchanges (λ y there same. ap (λ (a : Exchange). stages.sent a.key.target.at) (one-item 0 w.exchanges y (number, x) c.whole.rising there (turn-there w history c now at number x turn) same)) (Has-all w.exchanges)))
+    (staged-seen number (sent sending) (stages.sent x.key.target.at) w.exchanges (λ y. refl) (All-weaken (λ y. Has y w.exchanges) (λ y. y.0 ≡ number → stages.sent y.1.key.target.at ≡ stages.sent x.key.target.at) w.exchanges (λ y there same. ap (λ (a : Exchange). stages.sent a.key.target.at) (one-item 0 w.exchanges y (number, x) c.whole.rising there (turn-there w history c now at number x turn) same)) (Has-all w.exchanges)))
     (ids-given history w _ e c.clock c.ids onward refl refl refl (omega arith) (record { gives = refl; message = request; spells = spells; id_is = id-same w history c }))
     (schedules_with history e (subst IsSchedule (sym grown) (record { few = omega arith; spaced = tt })) c.schedules)
     (λ to. paced to sending (count-moved (is_sent_to to) number 0 (sent sending) w.exchanges c.whole.rising) (same_endpoint x.key.target.at to) refl (ap (passes (is_sent_to to)) turn.found ∙ ap (λ (s : ExchangeState). is_sent_state s && same_endpoint x.key.target.at to) queued) (ap (passes (λ a. is_sent_to to (sent sending a))) turn.found))

@@ -183,6 +183,7 @@ pub exchange_tainted : (setting : Setting) (history : List Deed) (e : Deed) (x :
 exchange_tainted setting history e x b other taint f =
     record {
       opened = opened-later e f.opened;
+      client_is = f.client_is;
       admitted = f.admitted;
       verdict = f.verdict;
       method = f.method;

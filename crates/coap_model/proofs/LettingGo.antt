@@ -88,8 +88,8 @@ comes-next setting past d v x _ j one is = absurd (omega (arith, one))
 all-stay : (setting : Setting) (history : List Deed) → AllJustified setting history → AllByRecursion (λ s. Never (LetsGo s.number) history) (standing_in history)
 all-stay setting [] all = tt
 all-stay setting (d ∷ past) all =
-    All-standing (λ s. Never (LetsGo s.number) past) (λ s. Never (LetsGo s.number) (d ∷ past)) d.entry.report.outcome d.act d.entry.bytes (standing_in past)
-    (λ v x one is. (
+    All-standing (λ s. Never (LetsGo s.number) past) (λ s. Never (LetsGo s.number) (d ∷ past)) d.entry.report.outcome d.act d.entry.event d.entry.bytes (standing_in past)
+    (λ client came v x brings one is. (
       (λ g. let e = sym is ∙ g.act in cc),
       never-from (LetsGo v) past (λ p at g. let next = comes-next setting past d v x d.entry.report.outcome all.0 one is in let below = gone-number setting past v p all.1 at g in omega (arith, next, below)),
     ))

@@ -69,7 +69,10 @@ pub mod Telling
 pub mod Fitting
 pub mod OneStep
 pub mod Ticking
+pub mod Owned
+pub mod Within
 pub mod Word
+pub mod Leaving
 pub mod ForgingClosings
 pub mod ForgingHits
 pub mod Bounding

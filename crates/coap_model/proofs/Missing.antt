@@ -5,6 +5,7 @@ use Rattle.std.proofs.lemmas.Bool.{and_parts, and_from}
 use Rattle.std.proofs.lemmas.Option.{same_Some}
 use Rattle.coap_message.specs.declared.code.Code.{Code}
 use Rattle.coap_message.specs.Message.{Message}
+use Rattle.coap_endpoint.specs.declared.endpoint.Endpoint.{Endpoint}
 use Rattle.coap_store.specs.declared.key.CacheKey.{CacheKey}
 use Rattle.coap_store.specs.Freshness.{is_fresh}
 use Rattle.coap_store.specs.Keys.{same_key}
@@ -158,6 +159,6 @@ deserves w history c now m code (rules.by_verdict verdict) = by_verdict verdict
 deserves w history c now m code (rules.by_length key verdict none long is) = by_length key verdict (unanswered w history c now key m none) long is
 
 -- if the tables have no room for it, there is none according to the history
-pub lacks_room : (w : World) (history : List Deed) (c : Bears history w) (now : ℕ) (key : CacheKey) (m : Message) → w.last ≤ now → IsFull w now key m → LacksRoom w.setting history now key m
-lacks_room w history c now key m onward (rules.to_join exchange get none found full) = to_join exchange get (missed w history c now key none) (joinable-found w history c key exchange found).0 (join-none now history w c onward full)
-lacks_room w history c now key m onward (rules.to_open none short full) = to_open (unanswered w history c now key m none) short (room-none now history w c onward full)
+pub lacks_room : (w : World) (history : List Deed) (c : Bears history w) (now : ℕ) (client : Endpoint) (key : CacheKey) (m : Message) → w.last ≤ now → IsFull w now client key m → LacksRoom w.setting history now client key m
+lacks_room w history c now client key m onward (rules.to_join exchange get none found full) = to_join exchange get (missed w history c now key none) (joinable-found w history c key exchange found).0 (join-none now client history w c onward full)
+lacks_room w history c now client key m onward (rules.to_open none short full) = to_open (unanswered w history c now key m none) short (room-none now client history w c onward full)

@@ -37,7 +37,7 @@ pub record IsMove (n : ℕ) (e : Deed) : Type 0 where
   pub act : e.act ≡ moves n
   pub opens : opens_one e.entry.report.outcome ≡ 0
   pub admits : admits_one e.entry.report.outcome ≡ 0
-  pub stands : (standing : List Standing) → standing_by e.entry.report.outcome e.act e.entry.bytes standing ≡ standing
+  pub stands : (standing : List Standing) → standing_by e.entry.report.outcome e.act e.entry.event e.entry.bytes standing ≡ standing
 
 -- What is known of the exchanges before one of them changes: they are those of the table, except
 -- for taints, and the others are already right.
@@ -118,7 +118,7 @@ moved_world w now xs n f ids store con non =
 -- such a step preserves what is carried
 pub keeps_moving : (w : World) (history : List Deed) (c : Bears history w) (e : Deed) (xs : List (Numbered Exchange)) (n : ℕ) (x : Exchange) (f : Exchange → Exchange) (ids : Given) (store : List cache.Entry) (con non : Records) → IsMove n e → AreOthers w history e n xs → item_at n xs ≡ Some x → w.last ≤ e.entry.now
     → IsExchangeOf w.setting (e ∷ history) (n, f x)
-    → map stage_seen (changed_at n f xs) ≡ open_by e.entry.report.outcome e.act e.entry.report.send (standing_in (e ∷ history)) (map stage_seen xs)
+    → map stage_seen (changed_at n f xs) ≡ open_by e.entry.report.outcome e.act e.entry.event e.entry.report.send (standing_in (e ∷ history)) (map stage_seen xs)
     → Ids (e ∷ history) (moved_world w e.entry.now xs n f ids store con non)
     → AreSchedules (e ∷ history)
     → ((to : Endpoint) → count (is_sent_to to) (changed_at n f xs) ≤ w.setting.limits.nstart)
@@ -139,7 +139,7 @@ keeps_moving w history c e xs n x f ids store con non m are found onward new see
       unused = unused_frame w.setting history e (λ y above same. let k = same_moves n y (sym m.act ∙ same) in omega (arith, k, above, number.1)) (λ v above. unserved v) c.unused;
       schedules = schedules;
       whole = record {
-        exchanges = seen ∙ ap (open_by e.entry.report.outcome e.act e.entry.report.send (standing_in (e ∷ history))) (are.seen ∙ c.whole.exchanges);
+        exchanges = seen ∙ ap (open_by e.entry.report.outcome e.act e.entry.event e.entry.report.send (standing_in (e ∷ history))) (are.seen ∙ c.whole.exchanges);
         waiters = c.whole.waiters ∙ sym (m.stands (standing_in history));
         rising = IsRising-changed_at n f 0 xs are.rising;
         waiters_rise = c.whole.waiters_rise;

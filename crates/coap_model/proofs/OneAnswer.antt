@@ -376,8 +376,8 @@ one-answer setting past d e all few f g turn =
         unknown : known_of past e.entry.now j.source j.message ≡ None
         unknown = subst (λ (n : ℕ). known_of past n j.source j.message ≡ None) turn.now j.unknown
 
-        full : ¬ HasRecordRoom setting past e.entry.now j.message
-        full = subst (λ (n : ℕ). ¬ HasRecordRoom setting past n j.message) turn.now j.full
+        full : ¬ HasRecordRoom setting past e.entry.now j.source j.message
+        full = subst (λ (n : ℕ). ¬ HasRecordRoom setting past n j.source j.message) turn.now j.full
 
         brings : Brings setting.limits.datagram j.source j.message e.entry.event
         brings = subst (Brings setting.limits.datagram j.source j.message) turn.event j.comes.brings
@@ -389,7 +389,7 @@ one-answer setting past d e all few f g turn =
         by_answer con wanted =
             let a : IsAwaited setting past e.entry.now wanted.0 e.entry.event = turned (λ n event. IsAwaited setting past n wanted.0 event) wanted.1 in
             let one = one-brought brings a.meets.brings in
-            given_no_room e.entry.report.outcome setting past e wanted.0 g.justified a (sym (ap (λ (m : Message). m.kind) one.1) ∙ con) ((λ i. known_of past e.entry.now (sym one.0 i) (sym one.1 i)) ∙ unknown) (subst (λ (m : Message). ¬ HasRecordRoom setting past e.entry.now m) one.1 full)
+            given_no_room e.entry.report.outcome setting past e wanted.0 g.justified a (sym (ap (λ (m : Message). m.kind) one.1) ∙ con) ((λ i. known_of past e.entry.now (sym one.0 i) (sym one.1 i)) ∙ unknown) (subst (λ (to : Endpoint). ¬ HasRecordRoom setting past e.entry.now to a.meets.message) one.0 (subst (λ (m : Message). ¬ HasRecordRoom setting past e.entry.now j.source m) one.1 full))
 
     -- an answer is accepted by the other entry
     answered_too : IsAnswer setting past d → takes e.entry.report.outcome ≡ true
@@ -436,7 +436,7 @@ one-answer setting past d e all few f g turn =
         record { outcome = is ∙ sym o; act = j.act ∙ sym k.act; say = told-same d.entry e.entry j.client k.client _ _ j.tells k.tells one.0 same }
     by_outcome Overloaded is j =
         let r = same_request j.client j.request j.asked in
-        let o = given_overloaded e.entry.report.outcome setting past e j.client j.request g.justified r (new_too j.client j.request j.new) j.key j.verdict (subst (λ (n : ℕ). LacksRoom setting past n j.key j.request) turn.now j.no_room) (same_ids j.request j.ids) in
+        let o = given_overloaded e.entry.report.outcome setting past e j.client j.request g.justified r (new_too j.client j.request j.new) j.key j.verdict (subst (λ (n : ℕ). LacksRoom setting past n j.client j.key j.request) turn.now j.no_room) (same_ids j.request j.ids) in
         let k = holds Overloaded o in
         let one = request-unique setting e.entry.event j.client k.client j.request k.request r k.asked in
         let token : j.request.token ≡ k.request.token = ap (λ (m : Message). m.token) one.1 in
@@ -450,7 +450,7 @@ one-answer setting past d e all few f g turn =
         record { outcome = is ∙ sym o; act = j.act ∙ sym k.act; say = silent-same d.entry e.entry j.silent k.silent }
     by_outcome Joined is j =
         let r = same_request j.client j.request j.asked in
-        let o = given_joined e.entry.report.outcome setting past e j.client j.request g.justified r (new_too j.client j.request j.new) j.key j.exchange j.method j.verdict (same_miss j.key j.miss) j.joinable (subst (λ (n : ℕ). HasRoomToJoin setting.limits n past) turn.now j.room) in
+        let o = given_joined e.entry.report.outcome setting past e j.client j.request g.justified r (new_too j.client j.request j.new) j.key j.exchange j.method j.verdict (same_miss j.key j.miss) j.joinable (subst (λ (n : ℕ). HasRoomToJoin setting.limits n j.client past) turn.now j.room) in
         let k = holds Joined o in
         let one = request-unique setting e.entry.event j.client k.client j.request k.request r k.asked in
         let key : j.key ≡ k.key = one_key (sym j.verdict ∙ ap (verdict_on setting) one.1 ∙ k.verdict) in
@@ -458,7 +458,7 @@ one-answer setting past d e all few f g turn =
         record { outcome = is ∙ sym o; act = j.act ∙ ap (admits (admitted_in past + 1)) exchange ∙ sym k.act; say = taken_up-same d.entry e.entry j.request.kind k.request.kind j.client k.client j.request.id k.request.id (ap (λ (m : Message). m.kind) one.1) one.0 (ap (λ (m : Message). m.id) one.1) j.takes_up k.takes_up }
     by_outcome Opened is j =
         let r = same_request j.client j.request j.asked in
-        let o = given_opened e.entry.report.outcome setting past e j.client j.request g.justified r (new_too j.client j.request j.new) j.key j.verdict (subst (λ (n : ℕ). IsUnanswered setting past n j.key j.request) turn.now j.unanswered) j.fits (subst (λ (n : ℕ). HasRoomToOpen setting.limits n past) turn.now j.room) in
+        let o = given_opened e.entry.report.outcome setting past e j.client j.request g.justified r (new_too j.client j.request j.new) j.key j.verdict (subst (λ (n : ℕ). IsUnanswered setting past n j.key j.request) turn.now j.unanswered) j.fits (subst (λ (n : ℕ). HasRoomToOpen setting.limits n j.client past) turn.now j.room) in
         let k = holds Opened o in
         let one = request-unique setting e.entry.event j.client k.client j.request k.request r k.asked in
         record { outcome = is ∙ sym o; act = j.act ∙ sym k.act; say = taken_up-same d.entry e.entry j.request.kind k.request.kind j.client k.client j.request.id k.request.id (ap (λ (m : Message). m.kind) one.1) one.0 (ap (λ (m : Message). m.id) one.1) j.takes_up k.takes_up }

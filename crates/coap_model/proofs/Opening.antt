@@ -2,7 +2,7 @@
 use Rattle.std.proofs.Common.{◌≡◌, ◌≢◌, inl, ⊎_elim, ℕ, ◌+◌, ◌<◌, ◌≤◌, Bool, true, false, cond, Option, Some, None, List, [], ◌∷◌, ◌++◌, length, map, length-append, refl, sym, ap, ◌∙◌, subst, arith}
 use Rattle.std.specs.Prelude.{◌&&◌, is_some, option_map}
 use Rattle.std.specs.List.{AllByRecursion}
-use Rattle.std.proofs.lemmas.Bool.{leb-true, ltb-true, and_parts, eq-eqb}
+use Rattle.std.proofs.lemmas.Bool.{leb-true, and_parts, eq-eqb}
 use Rattle.std.proofs.lemmas.List.{map-append}
 use Rattle.coap_message.specs.Message.{Message}
 use Rattle.coap_message.specs.Spelling.{spelling}
@@ -49,6 +49,7 @@ use Rattle.coap_model.proofs.Remembering.{first-new, first-remembered}
 use Rattle.coap_model.proofs.Replying.{request-came}
 use Rattle.coap_model.proofs.Room.{join-there, room-there}
 use Rattle.coap_model.proofs.Rules.{IsFirst, verdict_in, fits_in, IsMissed, IsUnanswered, IsTakenUp, sending, joined_world, opened_world, held_for}
+use Rattle.coap_model.proofs.Splitting.{both-below}
 use Rattle.coap_model.proofs.Stores.{store-otherwise, stored-kept}
 use Rattle.coap_model.proofs.TakingUp.{taken-up, taken-short}
 use Rattle.coap_model.proofs.Tables.{HasNumber-push, HasNumber-last, HasExchange-on}
@@ -95,8 +96,8 @@ module _ (w : World) (history : List Deed) (c : Bears history w) (e : Deed) (cli
   still-unused = unused_frame w.setting history e (λ n above. unmoved n) (λ n above. unserved n) c.unused
 
   -- the client is in the history
-  pub clients-seen : map standing_seen clients ≡ standing_in history ++ record { number = admitted_in history + 1; service = stages.waits exchange } ∷ []
-  clients-seen = map-append standing_seen w.waiters (new_waiter w client m exchange ∷ []) ∙ (λ i. c.whole.waiters i ++ record { number = place i; service = stages.waits exchange } ∷ [])
+  pub clients-seen : map standing_seen clients ≡ standing_in history ++ record { number = admitted_in history + 1; client = client; service = stages.waits exchange } ∷ []
+  clients-seen = map-append standing_seen w.waiters (new_waiter w client m exchange ∷ []) ∙ (λ i. c.whole.waiters i ++ record { number = place i; client = client; service = stages.waits exchange } ∷ [])
 
   -- the numbers of the clients rise
   pub clients-rise : IsRising 0 clients
@@ -197,7 +198,7 @@ module _ (w : World) (history : List Deed) (c : Bears history w) (key : CacheKey
 -- ---- the rules
 
 -- joining an exchange preserves what is carried
-pub keeps_joining : (w : World) (history : List Deed) (c : Bears history w) → (now draw : ℕ) (client : Endpoint) (bytes : List ℕ) (m : Message) (key : CacheKey) (exchange : ℕ) (send : Option Endpoint) (told : List ℕ) → w.last ≤ now → IsFirst w now client bytes m → is_get m.code ≡ true → verdict_in w m ≡ may_ask key → IsMissed w now key → first_that (is_joinable key) w.exchanges ≡ Some exchange → has_room_to_join w now ≡ true → IsTakenUp client m send told
+pub keeps_joining : (w : World) (history : List Deed) (c : Bears history w) → (now draw : ℕ) (client : Endpoint) (bytes : List ℕ) (m : Message) (key : CacheKey) (exchange : ℕ) (send : Option Endpoint) (told : List ℕ) → w.last ≤ now → IsFirst w now client bytes m → is_get m.code ≡ true → verdict_in w m ≡ may_ask key → IsMissed w now key → first_that (is_joinable key) w.exchanges ≡ Some exchange → has_room_to_join w now client ≡ true → IsTakenUp client m send told
     → Bears (doing (admits (admitted_in history + 1) exchange) (entry_of now draw (arrival client bytes) (sending Joined send told (joined_world w now client m exchange))) ∷ history) (remembers now client m (sending Joined send told (joined_world w now client m exchange))).world
 keeps_joining w history c now draw client bytes m key exchange send told onward first get verdict none found may up =
     let s = sending Joined send told (joined_world w now client m exchange) in
@@ -207,8 +208,8 @@ keeps_joining w history c now draw client bytes m key exchange send told onward 
     let joined = joinable-found w history c key exchange found in
     let v = new_waiter w client m exchange in
     let remembered = first-remembered w history c now client bytes m onward draw act s first refl (λ most wide long. taken-short client m send told up most wide) in
-    let parts = and_parts (has_waiter_room w) (has_ids 1 w now) may in
-    let waiter_room = ltb-true (length w.waiters) w.setting.limits.waiters parts.0 in
+    let parts = and_parts (has_waiter_room w client) (has_ids 1 w now) may in
+    let waiter_room : length w.waiters < w.setting.limits.waiters = (both-below refl refl refl refl parts.0).0 in
     let ids_room = leb-true (given_in now w.ids + reserved w + 1) 32768 parts.1 in
     let longer_waiters = length-append w.waiters (v ∷ []) in
     let more_waiting = count-push is_waiting w.waiters v in
@@ -241,11 +242,11 @@ keeps_joining w history c now draw client bytes m key exchange send told onward 
         pace = c.within.pace;
         ids = λ n after. let fewer = given-later w.ids history c.ids.given c.clock.in_order now n since after in omega arith;
       };
-      past = (record { exchange = exchange; act = refl; client = client; request = m; key = key; asked = came; method = get; verdict = verdict; miss = missed w history c now key none; joinable = joined.0; new = first-new w history c now client bytes m onward first; room = join-there now history w c onward may; takes_up = taken-up client m send told e.entry refl refl up }, c.past);
+      past = (record { exchange = exchange; act = refl; client = client; request = m; key = key; asked = came; method = get; verdict = verdict; miss = missed w history c now key none; joinable = joined.0; new = first-new w history c now client bytes m onward first; room = join-there now client history w c onward may; takes_up = taken-up client m send told e.entry refl refl up }, c.past);
     }
 
 -- and so does opening one
-pub keeps_opening : (w : World) (history : List Deed) (c : Bears history w) → (now draw : ℕ) (client : Endpoint) (bytes : List ℕ) (m : Message) (key : CacheKey) (send : Option Endpoint) (told : List ℕ) → w.last ≤ now → IsFirst w now client bytes m → verdict_in w m ≡ may_ask key → IsUnanswered w now key m → fits_in w key m ≡ true → has_room_to_open w now ≡ true → IsTakenUp client m send told
+pub keeps_opening : (w : World) (history : List Deed) (c : Bears history w) → (now draw : ℕ) (client : Endpoint) (bytes : List ℕ) (m : Message) (key : CacheKey) (send : Option Endpoint) (told : List ℕ) → w.last ≤ now → IsFirst w now client bytes m → verdict_in w m ≡ may_ask key → IsUnanswered w now key m → fits_in w key m ≡ true → has_room_to_open w now client ≡ true → IsTakenUp client m send told
     → Bears (doing (admits (admitted_in history + 1) (opened_in history + 1)) (entry_of now draw (arrival client bytes) (sending Opened send told (opened_world w now client m key (held_for w key m)))) ∷ history) (remembers now client m (sending Opened send told (opened_world w now client m key (held_for w key m)))).world
 keeps_opening w history c now draw client bytes m key send told onward first verdict none short room up =
     let stored = held_for w key m in
@@ -253,7 +254,7 @@ keeps_opening w history c now draw client bytes m key send told onward first ver
     let act : Act = admits (admitted_in history + 1) (opened_in history + 1) in
     let e = doing act (entry_of now draw (arrival client bytes) s) in
     let came = request-came w client bytes m first.fits first.asked in
-    let x = new_exchange w now m key stored in
+    let x = new_exchange w now client m key stored in
     let most = w.setting.limits.datagram in
     let kept = kept_for key c.store.cached in
     let tag : tag_carried most key.target m stored ≡ tag_for most key.target m kept = carried-tag w history c key m in
@@ -263,10 +264,10 @@ keeps_opening w history c now draw client bytes m key send told onward first ver
     let is : act ≡ admits (admitted_in history + 1) (w.opened + 1) = ap (λ (n : ℕ). admits (admitted_in history + 1) n) (sym number) in
     let unused = c.unused.exchanges (w.opened + 1) (omega arith) in
     let other = unmoved w history c e client m (w.opened + 1) is refl in
-    let parts = and_parts (has_exchange_room w) (has_waiter_room w && has_ids 2 w now) room in
-    let more = and_parts (has_waiter_room w) (has_ids 2 w now) parts.1 in
-    let exchange_room = ltb-true (length w.exchanges) w.setting.limits.exchanges parts.0 in
-    let waiter_room = ltb-true (length w.waiters) w.setting.limits.waiters more.0 in
+    let parts = and_parts (has_exchange_room w client) (has_waiter_room w client && has_ids 2 w now) room in
+    let more = and_parts (has_waiter_room w client) (has_ids 2 w now) parts.1 in
+    let exchange_room : length w.exchanges < w.setting.limits.exchanges = (both-below refl refl refl refl parts.0).0 in
+    let waiter_room : length w.waiters < w.setting.limits.waiters = (both-below refl refl refl refl more.0).0 in
     let ids_room = leb-true (given_in now w.ids + reserved w + 2) 32768 more.1 in
     let longer_exchanges = length-append w.exchanges (x ∷ []) in
     let longer_waiters = length-append w.waiters (v ∷ []) in
@@ -282,8 +283,8 @@ keeps_opening w history c now draw client bytes m key send told onward first ver
       unused = still-unused w history c e client m (w.opened + 1) is refl;
       schedules = schedules_frame history e refl c.schedules;
       whole = record {
-        exchanges = map-append stage_seen w.exchanges (x ∷ []) ∙ (λ i. c.whole.exchanges i ++ record { number = number i; stage = stages.queued } ∷ []);
-        waiters = clients-seen w history c e client m (w.opened + 1) is refl ∙ (λ i. standing_in history ++ record { number = admitted_in history + 1; service = stages.waits (number i) } ∷ []);
+        exchanges = map-append stage_seen w.exchanges (x ∷ []) ∙ (λ i. c.whole.exchanges i ++ record { number = number i; client = client; stage = stages.queued } ∷ []);
+        waiters = clients-seen w history c e client m (w.opened + 1) is refl ∙ (λ i. standing_in history ++ record { number = admitted_in history + 1; client = client; service = stages.waits (number i) } ∷ []);
         rising = IsRising-push 0 (w.opened + 1) w.exchanges x.1 (omega arith) (exchanges-below w history c) c.whole.rising;
         waiters_rise = clients-rise w history c e client m (w.opened + 1) is refl;
         awaited = clients-awaited w history c e client m (w.opened + 1) is refl (w.exchanges ++ x ∷ []) (HasNumber-last (w.opened + 1) w.exchanges x.1) (λ n has. HasNumber-push n w.exchanges (x ∷ []) has);
@@ -302,6 +303,7 @@ keeps_opening w history c now draw client bytes m key send told onward first ver
           All-append (IsExchangeOf w.setting (e ∷ history)) w.exchanges (x ∷ []) (exchanges_frame w.setting history e w.exchanges refl other c.exchanges) (
             record {
               opened = opened;
+              client_is = refl;
               admitted = refl;
               verdict = verdict;
               method = refl;
@@ -330,5 +332,5 @@ keeps_opening w history c now draw client bytes m key send told onward first ver
         pace = λ to. let pace = c.within.pace to in let one = count-push (is_sent_to to) w.exchanges x in omega arith;
         ids = λ n after. let fewer = given-later w.ids history c.ids.given c.clock.in_order now n since after in omega arith;
       };
-      past = (record { act = refl; client = client; request = m; key = key; asked = came; verdict = verdict; unanswered = unanswered w history c now key m none; fits = short; new = first-new w history c now client bytes m onward first; room = room-there now history w c onward room; takes_up = taken-up client m send told e.entry refl refl up }, c.past);
+      past = (record { act = refl; client = client; request = m; key = key; asked = came; verdict = verdict; unanswered = unanswered w history c now key m none; fits = short; new = first-new w history c now client bytes m onward first; room = room-there now client history w c onward room; takes_up = taken-up client m send told e.entry refl refl up }, c.past);
     }

@@ -170,24 +170,24 @@ joins_well setting past now x request code key (by_verdict refusal) get verdict 
 joins_well setting past now x request code key (by_length other asked unanswered long is) get verdict joinable = none-joinable setting past now x other key request unanswered get (one_key (sym asked ∙ verdict)) joinable
 
 -- nor does one for which there is no room
-lacks_well : {A : Type 0} (setting : Setting) (past : List Deed) (now : ℕ) (request : Message) (code : Code) (key : CacheKey) → Deserves setting past now request code → verdict_on setting request ≡ may_ask key → LacksRoom setting past now key request → A
+lacks_well : {A : Type 0} {client : Endpoint} (setting : Setting) (past : List Deed) (now : ℕ) (request : Message) (code : Code) (key : CacheKey) → Deserves setting past now request code → verdict_on setting request ≡ may_ask key → LacksRoom setting past now client key request → A
 lacks_well setting past now request code key deserved verdict (to_join x get miss joinable full) = joins_well setting past now x request code key deserved get verdict joinable
 lacks_well setting past now request code key deserved verdict (to_open unanswered short full) = fits_well setting past now request code key deserved verdict short
 
 -- if there is no room for a GET, the cache has no usable entry for it
-lacks-miss : {setting : Setting} {past : List Deed} {now : ℕ} {key : CacheKey} {request : Message} → IsGet request → LacksRoom setting past now key request → IsMiss setting past key now
+lacks-miss : {setting : Setting} {past : List Deed} {now : ℕ} {client : Endpoint} {key : CacheKey} {request : Message} → IsGet request → LacksRoom setting past now client key request → IsMiss setting past key now
 lacks-miss get (to_join x also miss joinable full) = miss
 lacks-miss get (to_open unanswered short full) = unanswered.miss get
 
 -- if a request has to be forwarded, and there is room to open an exchange, room isn't lacking
-roomy-open : {A : Type 0} (setting : Setting) (past : List Deed) (now : ℕ) (key other : CacheKey) (request : Message) → IsUnanswered setting past now key request → HasRoomToOpen setting.limits now past → key ≡ other → LacksRoom setting past now other request → A
-roomy-open setting past now key other request unanswered room same (to_join x get miss joinable full) = none-joinable setting past now x key other request unanswered get same joinable
-roomy-open setting past now key other request unanswered room same (to_open also short full) = absurd (full room)
+roomy-open : {A : Type 0} {a b : Endpoint} (setting : Setting) (past : List Deed) (now : ℕ) (key other : CacheKey) (request : Message) → IsUnanswered setting past now key request → HasRoomToOpen setting.limits now a past → a ≡ b → key ≡ other → LacksRoom setting past now b other request → A
+roomy-open setting past now key other request unanswered room client same (to_join x get miss joinable full) = none-joinable setting past now x key other request unanswered get same joinable
+roomy-open setting past now key other request unanswered room client same (to_open also short full) = absurd (full (subst (λ (e : Endpoint). HasRoomToOpen setting.limits now e past) client room))
 
 -- nor is it if an exchange may be joined, and there is room to join it
-roomy-join : {A : Type 0} (setting : Setting) (past : List Deed) (now x : ℕ) (key other : CacheKey) (request : Message) → IsGet request → IsJoinable setting past key x → HasRoomToJoin setting.limits now past → key ≡ other → LacksRoom setting past now other request → A
-roomy-join setting past now x key other request get joinable room same (to_join y also miss again full) = absurd (full room)
-roomy-join setting past now x key other request get joinable room same (to_open unanswered short full) = none-joinable setting past now x other key request unanswered get (sym same) joinable
+roomy-join : {A : Type 0} {a b : Endpoint} (setting : Setting) (past : List Deed) (now x : ℕ) (key other : CacheKey) (request : Message) → IsGet request → IsJoinable setting past key x → HasRoomToJoin setting.limits now a past → a ≡ b → key ≡ other → LacksRoom setting past now b other request → A
+roomy-join setting past now x key other request get joinable room client same (to_join y also miss again full) = absurd (full (subst (λ (e : Endpoint). HasRoomToJoin setting.limits now e past) client room))
+roomy-join setting past now x key other request get joinable room client same (to_open unanswered short full) = none-joinable setting past now x other key request unanswered get (sym same) joinable
 
 -- a request deserves only one code
 one_code : (setting : Setting) (past : List Deed) (now : ℕ) (request : Message) (a b : Code) → Deserves setting past now request a → Deserves setting past now request b → a ≡ b
@@ -205,7 +205,7 @@ key-of : (setting : Setting) (d : Deed) (a b : Endpoint) (r s : Message) (k l : 
 key-of setting d a b r s k l asked again p q = one_key (sym p ∙ ap (verdict_on setting) (request-unique setting d.entry.event a b r s asked again).1 ∙ q)
 
 -- if two ids are free, one is
-fewer_ids : (now : ℕ) (past : List Deed) → HasIds 2 now past → HasIds 1 now past
+pub fewer_ids : (now : ℕ) (past : List Deed) → HasIds 2 now past → HasIds 1 now past
 fewer_ids now past h = record { free = let f = h.free in omega arith }
 
 -- ---- new messages
@@ -219,8 +219,9 @@ new-known : {A : Type 0} (most : ℕ) (past : List Deed) (d : Deed) (a b : Endpo
 new-known most past d a b r s known brings again new found = absurd (let e = sym new ∙ same_known most past d a b r s brings again ∙ found in cc)
 
 -- and there is room to remember it
-new-full : {A : Type 0} (setting : Setting) (past : List Deed) (d : Deed) (a b : Endpoint) (r s : Message) → Brings setting.limits.datagram a r d.entry.event → Brings setting.limits.datagram b s d.entry.event → IsNew setting past d.entry.now a r → ¬ HasRecordRoom setting past d.entry.now s → A
-new-full setting past d a b r s brings again new full = absurd (full (subst (HasRecordRoom setting past d.entry.now) (one-brought brings again).1 new.room))
+new-full : {A : Type 0} (setting : Setting) (past : List Deed) (d : Deed) (a b : Endpoint) (r s : Message) → Brings setting.limits.datagram a r d.entry.event → Brings setting.limits.datagram b s d.entry.event → IsNew setting past d.entry.now a r → ¬ HasRecordRoom setting past d.entry.now b s → A
+new-full setting past d a b r s brings again new full =
+    absurd (let one = one-brought brings again in full (subst (λ (e : Endpoint). HasRecordRoom setting past d.entry.now e s) one.0 (subst (HasRecordRoom setting past d.entry.now a) one.1 new.room)))
 
 -- a duplicate of a remembered message gets what is remembered
 pub given_again : (o : Outcome) (setting : Setting) (past : List Deed) (d : Deed) (source : Endpoint) (m : Message) (known : Record) → JustifiedBy o setting past d → Comes setting source m d.entry.event → known_of past d.entry.now source m ≡ Some known → o ≡ Again
@@ -264,6 +265,10 @@ module _ (o : Outcome) (setting : Setting) (past : List Deed) (d : Deed) (client
   one : (other : Endpoint) (m : Message) → IsRequestOf setting other m d.entry.event → m ≡ request
   one other m asked = (request-unique setting d.entry.event other client m request asked r).1
 
+  -- and so is its client
+  one_client : (other : Endpoint) (m : Message) → IsRequestOf setting other m d.entry.event → other ≡ client
+  one_client other m asked = (request-unique setting d.entry.event other client m request asked r).0
+
   -- so it is a GET in both accounts
   got-too : (other : Endpoint) (m : Message) → IsRequestOf setting other m d.entry.event → IsGet m → IsGet request
   got-too other m asked get = subst IsGet (one other m asked) get
@@ -272,7 +277,7 @@ module _ (o : Outcome) (setting : Setting) (past : List Deed) (d : Deed) (client
   got-there other m asked get = subst IsGet (sym (one other m asked)) get
 
   -- if there is no room to remember it, nothing is sent
-  pub given_dropped : known_of past d.entry.now client request ≡ None → ¬ HasRecordRoom setting past d.entry.now request → o ≡ NoRecordRoom
+  pub given_dropped : known_of past d.entry.now client request ≡ None → ¬ HasRecordRoom setting past d.entry.now client request → o ≡ NoRecordRoom
   given_dropped unknown full = go (on-request o setting past d client request j r)
     where
       not-new : {A : Type 0} (other : Endpoint) (m : Message) → IsRequestOf setting other m d.entry.event → IsNew setting past d.entry.now other m → A
@@ -325,27 +330,27 @@ module _ (o : Outcome) (setting : Setting) (past : List Deed) (d : Deed) (client
         go (dropped k) = not-dropped k
 
     -- a request that may be forwarded is turned away if there is no room
-    pub given_overloaded : (key : CacheKey) → verdict_on setting request ≡ may_ask key → LacksRoom setting past d.entry.now key request → HasIdFor request d.entry.now past → o ≡ Overloaded
+    pub given_overloaded : (key : CacheKey) → verdict_on setting request ≡ may_ask key → LacksRoom setting past d.entry.now client key request → HasIdFor request d.entry.now past → o ≡ Overloaded
     given_overloaded key verdict lacks ids = go (on-request o setting past d client request j r)
       where
         go : {p : Outcome} → OnRequest setting past d p → p ≡ Overloaded
         go (refused code k) = lacks_well setting past now request code key (same_deserved setting past now d k.client client k.request request code k.asked r k.deserved) verdict lacks
         go (overloaded k) = refl
         go (lacking k) = absurd (k.no_ids (ids (sym (ap (λ (m : Message). m.kind) (one k.client k.request k.asked)) ∙ k.kind)))
-        go (joined k) = roomy-join setting past now k.exchange k.key key request (got-too k.client k.request k.asked k.method) k.joinable k.room (key-of setting d k.client client k.request request k.key key k.asked r k.verdict verdict) lacks
-        go (opened k) = roomy-open setting past now k.key key request (subst (IsUnanswered setting past now k.key) (one k.client k.request k.asked) k.unanswered) k.room (key-of setting d k.client client k.request request k.key key k.asked r k.verdict verdict) lacks
+        go (joined k) = roomy-join setting past now k.exchange k.key key request (got-too k.client k.request k.asked k.method) k.joinable k.room (one_client k.client k.request k.asked) (key-of setting d k.client client k.request request k.key key k.asked r k.verdict verdict) lacks
+        go (opened k) = roomy-open setting past now k.key key request (subst (IsUnanswered setting past now k.key) (one k.client k.request k.asked) k.unanswered) k.room (one_client k.client k.request k.asked) (key-of setting d k.client client k.request request k.key key k.asked r k.verdict verdict) lacks
         go (hit k) = missed-or-hit setting past now key k.key k.cached k.entry (lacks-miss (got-too k.client k.request k.asked k.method) lacks) (key-of setting d client k.client request k.request key k.key r k.asked verdict k.verdict) k.is_cache k.found k.usable
         go (repeated k) = not-again k
         go (dropped k) = not-dropped k
 
     -- a request that has to be forwarded opens an exchange, if there is room
-    pub given_opened : (key : CacheKey) → verdict_on setting request ≡ may_ask key → IsUnanswered setting past d.entry.now key request → fits_on setting key request ≡ true → HasRoomToOpen setting.limits d.entry.now past → o ≡ Opened
+    pub given_opened : (key : CacheKey) → verdict_on setting request ≡ may_ask key → IsUnanswered setting past d.entry.now key request → fits_on setting key request ≡ true → HasRoomToOpen setting.limits d.entry.now client past → o ≡ Opened
     given_opened key verdict unanswered short room = go (on-request o setting past d client request j r)
       where
         go : {p : Outcome} → OnRequest setting past d p → p ≡ Opened
         go (refused code k) = fits_well setting past now request code key (same_deserved setting past now d k.client client k.request request code k.asked r k.deserved) verdict short
-        go (overloaded k) = roomy-open setting past now key k.key k.request (subst (IsUnanswered setting past now key) (sym (one k.client k.request k.asked)) unanswered) room (key-of setting d client k.client request k.request key k.key r k.asked verdict k.verdict) k.no_room
-        go (lacking k) = absurd (k.no_ids (fewer_ids d.entry.now past room.ids))
+        go (overloaded k) = roomy-open setting past now key k.key k.request (subst (IsUnanswered setting past now key) (sym (one k.client k.request k.asked)) unanswered) room (sym (one_client k.client k.request k.asked)) (key-of setting d client k.client request k.request key k.key r k.asked verdict k.verdict) k.no_room
+        go (lacking k) = absurd (k.no_ids (fewer_ids d.entry.now past room.shared.ids))
         go (joined k) = none-joinable setting past now k.exchange key k.key request unanswered (got-too k.client k.request k.asked k.method) (key-of setting d client k.client request k.request key k.key r k.asked verdict k.verdict) k.joinable
         go (opened k) = refl
         go (hit k) = missed-or-hit setting past now key k.key k.cached k.entry (unanswered.miss (got-too k.client k.request k.asked k.method)) (key-of setting d client k.client request k.request key k.key r k.asked verdict k.verdict) k.is_cache k.found k.usable
@@ -354,13 +359,13 @@ module _ (o : Outcome) (setting : Setting) (past : List Deed) (d : Deed) (client
 
     -- a GET that is missed in the cache, and whose key has an exchange that may be joined, joins
     -- it, if there is room
-    pub given_joined : (key : CacheKey) (x : ℕ) → IsGet request → verdict_on setting request ≡ may_ask key → IsMiss setting past key d.entry.now → IsJoinable setting past key x → HasRoomToJoin setting.limits d.entry.now past → o ≡ Joined
+    pub given_joined : (key : CacheKey) (x : ℕ) → IsGet request → verdict_on setting request ≡ may_ask key → IsMiss setting past key d.entry.now → IsJoinable setting past key x → HasRoomToJoin setting.limits d.entry.now client past → o ≡ Joined
     given_joined key x get verdict miss joinable room = go (on-request o setting past d client request j r)
       where
         go : {p : Outcome} → OnRequest setting past d p → p ≡ Joined
         go (refused code k) = joins_well setting past now x request code key (same_deserved setting past now d k.client client k.request request code k.asked r k.deserved) get verdict joinable
-        go (overloaded k) = roomy-join setting past now x key k.key k.request (got-there k.client k.request k.asked get) joinable room (key-of setting d client k.client request k.request key k.key r k.asked verdict k.verdict) k.no_room
-        go (lacking k) = absurd (k.no_ids room.ids)
+        go (overloaded k) = roomy-join setting past now x key k.key k.request (got-there k.client k.request k.asked get) joinable room (sym (one_client k.client k.request k.asked)) (key-of setting d client k.client request k.request key k.key r k.asked verdict k.verdict) k.no_room
+        go (lacking k) = absurd (k.no_ids room.shared.ids)
         go (joined k) = refl
         go (opened k) = none-joinable setting past now x k.key key k.request k.unanswered (got-there k.client k.request k.asked get) (key-of setting d k.client client k.request request k.key key k.asked r k.verdict verdict) joinable
         go (hit k) = missed-or-hit setting past now key k.key k.cached k.entry miss (key-of setting d client k.client request k.request key k.key r k.asked verdict k.verdict) k.is_cache k.found k.usable
@@ -379,8 +384,8 @@ module _ (o : Outcome) (setting : Setting) (past : List Deed) (d : Deed) (client
           go (refused code k) = absurd (none (k.ids (non k.client k.request k.asked)))
           go (overloaded k) = absurd (none (k.ids (non k.client k.request k.asked)))
           go (lacking k) = refl
-          go (joined k) = absurd (none k.room.ids)
-          go (opened k) = absurd (none (fewer_ids d.entry.now past k.room.ids))
+          go (joined k) = absurd (none k.room.shared.ids)
+          go (opened k) = absurd (none (fewer_ids d.entry.now past k.room.shared.ids))
           go (hit k) = absurd (none (k.ids (non k.client k.request k.asked)))
           go (repeated k) = not-again k
           go (dropped k) = not-dropped k
@@ -413,7 +418,7 @@ module _ (o : Outcome) (setting : Setting) (past : List Deed) (d : Deed) (x : �
 
   -- one in a Confirmable message that isn't known, and that there is no room to remember, gets no
   -- reply
-  pub given_no_room : a.meets.message.kind ≡ Con → known_of past d.entry.now a.meets.asks.sends.to a.meets.message ≡ None → ¬ HasRecordRoom setting past d.entry.now a.meets.message → o ≡ NoRecordRoom
+  pub given_no_room : a.meets.message.kind ≡ Con → known_of past d.entry.now a.meets.asks.sends.to a.meets.message ≡ None → ¬ HasRecordRoom setting past d.entry.now a.meets.asks.sends.to a.meets.message → o ≡ NoRecordRoom
   given_no_room con unknown full = go o j
     where
       go : (p : Outcome) → JustifiedBy p setting past d → p ≡ NoRecordRoom

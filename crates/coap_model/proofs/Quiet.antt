@@ -26,8 +26,8 @@ pub record IsQuiet (e : Deed) : Type 0 where
   pub admits : admits_one e.entry.report.outcome ≡ 0
   pub sends : is_sending e.entry.report.outcome ≡ false
   pub takes : takes e.entry.report.outcome ≡ false
-  pub leaves_open : (standing : List Standing) (xs : List Open) → open_by e.entry.report.outcome e.act e.entry.report.send standing xs ≡ xs
-  pub stands : (standing : List Standing) → standing_by e.entry.report.outcome e.act e.entry.bytes standing ≡ standing
+  pub leaves_open : (standing : List Standing) (xs : List Open) → open_by e.entry.report.outcome e.act e.entry.event e.entry.report.send standing xs ≡ xs
+  pub stands : (standing : List Standing) → standing_by e.entry.report.outcome e.act e.entry.event e.entry.bytes standing ≡ standing
 
 -- it acts on no exchange and on no client
 pub acts-on-none : (e : Deed) → e.act ≡ no_item → (x : ℕ) → e.act ≢ moves x

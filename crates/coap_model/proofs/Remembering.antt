@@ -1,7 +1,7 @@
 -- The remembered messages are those of the history, as it grows.
 use Rattle.std.proofs.Common.{◌≡◌, ℕ, ◌<◌, ◌≤◌, Bool, true, false, List, [], ◌∷◌, ◌++◌, length, Option, Some, None, refl, sym, ap, ◌∙◌, subst, arith}
 use Rattle.std.specs.Prelude.{◌&&◌, if◌then◌else◌}
-use Rattle.std.proofs.lemmas.Bool.{and_parts, ltb-true}
+use Rattle.std.proofs.lemmas.Bool.{and_parts}
 use Rattle.std.proofs.lemmas.List.{append-nil}
 use Rattle.std.proofs.lemmas.List.Elements.{filter-append}
 use Rattle.coap_endpoint.proofs.Lists.{All-append, All-weaken}
@@ -13,14 +13,14 @@ use Rattle.coap_message.specs.Message.{Message}
 use Rattle.coap_message.specs.Reading.{head_at}
 use Rattle.coap_endpoint.specs.declared.endpoint.Endpoint.{Endpoint}
 use Rattle.coap_dedup.specs.declared.record.Record.{Record}
-use Rattle.coap_dedup.specs.Lists.{is_living, living, record_of, AreUpTo, reply_bytes}
-use Rattle.coap_dedup.specs.Records.{Records, living_at, with_kept}
+use Rattle.coap_dedup.specs.Lists.{count_from, is_living, living, record_of, AreUpTo, reply_bytes}
+use Rattle.coap_dedup.specs.Records.{Records, living_at, living_of, with_kept}
 use Rattle.coap_dedup.proofs.Kept.{AreRecords-kept}
 use Rattle.coap_dedup.proofs.Passing.{living-kept, AreUpTo-kept}
 use Rattle.coap_model.specs.Setting.{Setting}
 use Rattle.coap_model.specs.Events.{Event, arrival, tick}
 use Rattle.coap_forward.specs.Messages.{is_con, brings_requests, told_again}
-use Rattle.coap_model.specs.Remembered.{is_remembered, goes_with, kept_at, kept_by, kept_in, kept_of, most_remembered, remembered_at, remembered_for}
+use Rattle.coap_model.specs.Remembered.{is_remembered, goes_with, kept_at, kept_by, kept_in, kept_of, most_of_client, most_remembered, remembered_at, remembered_for, remembered_of}
 use Rattle.coap_model.specs.World.{World, Step, records_of, record_made, known_of, has_record_room}
 use Rattle.coap_model.specs.Step.{message_in}
 use Rattle.coap_model.specs.declared.report.Outcome.{Outcome}
@@ -29,12 +29,13 @@ use Rattle.coap_model.specs.declared.report.Storing.{Storing}
 use Rattle.std.proofs.lemmas.Option.{same_Some}
 use Rattle.coap_message.specs.Uint.{IsBytes}
 use Rattle.coap_model.specs.History.{Act, Deed, last_of}
-use Rattle.coap_model.specs.Justified.{IsNew}
+use Rattle.coap_model.specs.Justified.{HasRecordRoom, IsNew}
 use Rattle.coap_model.specs.Runs.{entry_of}
 use Rattle.coap_model.specs.Carries.{AreRemembered, Bears}
 use Rattle.coap_model.proofs.Places.{doing}
 use Rattle.coap_model.proofs.Rules.{Asked, IsFirst, head_of_read}
 use Rattle.coap_model.proofs.Lists.{All-filter}
+use Rattle.coap_model.proofs.Splitting.{both-below, not-both}
 
 -- after an entry that adds no record, the same is remembered
 pub remembered-on : {setting : Setting} {history : List Deed} {kind : Kind} {t : Records} (e : Deed) → last_of history ≤ e.entry.now → kept_by kind e.entry ≡ [] → AreRemembered setting history kind t → AreRemembered setting (e ∷ history) kind t
@@ -42,6 +43,7 @@ remembered-on {history = history} {kind = kind} {t = t} e onward none s =
     record {
       same = λ n later. s.same n (omega (arith, onward, later)) ∙ ap (living (remembered_for kind) n) (sym (ap (λ (rs : List Record). kept_in kind history ++ rs) none ∙ append-nil (kept_in kind history)));
       limit = s.limit;
+      per_client = s.per_client;
       lifetime = s.lifetime;
       are = s.are;
       until = All-weaken (λ r. r.at ≤ last_of history) (λ r. r.at ≤ e.entry.now) t.items (λ r le. omega (arith, le, onward)) s.until;
@@ -49,14 +51,15 @@ remembered-on {history = history} {kind = kind} {t = t} e onward none s =
     }
 
 -- and after one that adds the record of a new message, this is remembered, too
-pub remembered-more : {setting : Setting} {history : List Deed} {kind : Kind} {t : Records} (e : Deed) (r : Record) → last_of history ≤ e.entry.now → r.at ≡ e.entry.now → kept_by kind e.entry ≡ r ∷ [] → record_of r.from r.id (living_at e.entry.now t) ≡ None → length (living_at e.entry.now t) < t.limit
+pub remembered-more : {setting : Setting} {history : List Deed} {kind : Kind} {t : Records} (e : Deed) (r : Record) → last_of history ≤ e.entry.now → r.at ≡ e.entry.now → kept_by kind e.entry ≡ r ∷ [] → record_of r.from r.id (living_at e.entry.now t) ≡ None → length (living_at e.entry.now t) < t.limit → living_of r.from e.entry.now t < t.per_client
     → ((most : ℕ) → 128 ≤ most → setting.limits.datagram ≤ most → reply_bytes r ≤ most) → AreRemembered setting history kind t → AreRemembered setting (e ∷ history) kind (with_kept r t)
-remembered-more {setting = setting} {history = history} {kind = kind} {t = t} e r onward at one unknown room short s =
+remembered-more {setting = setting} {history = history} {kind = kind} {t = t} e r onward at one unknown room own short s =
     record {
       same = λ n later. living-kept r t n (omega (arith, at, later)) ∙ both n later;
       limit = s.limit;
+      per_client = s.per_client;
       lifetime = s.lifetime;
-      are = AreRecords-kept r t s.are (subst (λ (n : ℕ). record_of r.from r.id (living_at n t) ≡ None) (sym at) unknown) until (subst (λ (n : ℕ). length (living_at n t) < t.limit) (sym at) room);
+      are = AreRecords-kept r t s.are (subst (λ (n : ℕ). record_of r.from r.id (living_at n t) ≡ None) (sym at) unknown) until (subst (λ (n : ℕ). length (living_at n t) < t.limit) (sym at) room) (subst (λ (n : ℕ). living_of r.from n t < t.per_client) (sym at) own);
       until = subst (λ (n : ℕ). AreUpTo n (with_kept r t).items) at (AreUpTo-kept r t until);
       short = λ most wide long.
           All-append (λ q. reply_bytes q ≤ most) (living t.lifetime r.at t.items) (r ∷ [])
@@ -113,22 +116,37 @@ module _ (w : World) (history : List Deed) (c : Bears history w) (now : ℕ) (cl
   limit-is Ack e = absurd cc
   limit-is Rst e = absurd cc
 
+  pub per_client-is : (k : Kind) → brings_requests k ≡ true → (records_of k w).per_client ≡ most_of_client k w.setting.limits
+  per_client-is Con e = c.con_records.per_client
+  per_client-is Non e = c.non_records.per_client
+  per_client-is Ack e = absurd cc
+  per_client-is Rst e = absurd cc
+
+  module _ (kind : brings_requests m.kind ≡ true) where
+    -- as much of its type is remembered, of all and of its endpoint
+    same : living_at now (records_of m.kind w) ≡ remembered_at m.kind now history
+    same = known-is m.kind kind
+
+    own : living_of client now (records_of m.kind w) ≡ remembered_of client m.kind now history
+    own = ap (count_from client) same
+
+    -- if the tables have room to remember it, there is room according to the history
+    pub record-room : has_record_room w now client m.kind ≡ true → HasRecordRoom w.setting history now client m
+    record-room room = let both = both-below (ap length same) own (limit-is m.kind kind) (per_client-is m.kind kind) room in record { shared = both.0; own = both.1 }
+
+    -- and if not, there is none
+    pub record-full : has_record_room w now client m.kind ≡ false → ¬ HasRecordRoom w.setting history now client m
+    record-full full room = not-both (ap length same) own (limit-is m.kind kind) (per_client-is m.kind kind) full room.shared room.own
+
   -- it isn't remembered, and there is room
-  pub record-new : brings_requests m.kind ≡ true → known_of w now client m ≡ None → has_record_room w now m.kind ≡ true → IsNew w.setting history now client m
-  record-new kind unknown room =
-      let same = known-is m.kind kind in
-      let limit = limit-is m.kind kind in
-      let less = ltb-true _ _ room in
-      record {
-        unknown = ap (record_of client m.id) (sym same) ∙ unknown;
-        room = omega (arith, ap length same, limit, less);
-      }
+  pub record-new : brings_requests m.kind ≡ true → known_of w now client m ≡ None → has_record_room w now client m.kind ≡ true → IsNew w.setting history now client m
+  record-new kind unknown room = record { unknown = ap (record_of client m.id) (sym (known-is m.kind kind)) ∙ unknown; room = record-room kind room }
 
   pub first-new : IsFirst w now client bytes m → IsNew w.setting history now client m
   first-new first = record-new (request-kind first.asked) first.unknown first.room
 
   -- the message is remembered from here on
-  pub now-remembered : (draw : ℕ) (act : Act) (s : Step) → IsBytes bytes → message_in w.setting.limits.datagram bytes ≡ Some m → brings_requests m.kind ≡ true → known_of w now client m ≡ None → has_record_room w now m.kind ≡ true → is_remembered s.report.outcome m.kind ≡ true → ((most : ℕ) → 128 ≤ most → w.setting.limits.datagram ≤ most → length s.bytes ≤ most)
+  pub now-remembered : (draw : ℕ) (act : Act) (s : Step) → IsBytes bytes → message_in w.setting.limits.datagram bytes ≡ Some m → brings_requests m.kind ≡ true → known_of w now client m ≡ None → has_record_room w now client m.kind ≡ true → is_remembered s.report.outcome m.kind ≡ true → ((most : ℕ) → 128 ≤ most → w.setting.limits.datagram ≤ most → length s.bytes ≤ most)
       → AreRemembered w.setting (doing act (entry_of now draw (arrival client bytes) s) ∷ history) Con (if is_con m.kind then with_kept (record_made now client m s.bytes) w.con_records else w.con_records)
       × AreRemembered w.setting (doing act (entry_of now draw (arrival client bytes) s) ∷ history) Non (if is_con m.kind then w.non_records else with_kept (record_made now client m s.bytes) w.non_records)
   now-remembered draw act s fits came kind new free kept short = go m.kind refl
@@ -151,8 +169,14 @@ module _ (w : World) (history : List Deed) (c : Bears history w) (now : ℕ) (cl
       unknown : (k : Kind) → m.kind ≡ k → record_of client m.id (living_at now (records_of k w)) ≡ None
       unknown k is = subst (λ (l : Kind). record_of client m.id (living_at now (records_of l w)) ≡ None) is new
 
+      both : (length (living_at now (records_of m.kind w)) < (records_of m.kind w).limit) × (living_of client now (records_of m.kind w) < (records_of m.kind w).per_client)
+      both = both-below refl refl refl refl free
+
       room : (k : Kind) → m.kind ≡ k → length (living_at now (records_of k w)) < (records_of k w).limit
-      room k is = subst (λ (l : Kind). length (living_at now (records_of l w)) < (records_of l w).limit) is (ltb-true _ _ free)
+      room k is = subst (λ (l : Kind). length (living_at now (records_of l w)) < (records_of l w).limit) is both.0
+
+      own_room : (k : Kind) → m.kind ≡ k → living_of client now (records_of k w) < (records_of k w).per_client
+      own_room k is = subst (λ (l : Kind). living_of client now (records_of l w) < (records_of l w).per_client) is both.1
 
       none : {A : Type 0} (k : Kind) → m.kind ≡ k → brings_requests k ≡ false → A
       none k is no_request = absurd (let f = sym kind ∙ ap brings_requests is ∙ no_request in cc)
@@ -160,8 +184,8 @@ module _ (w : World) (history : List Deed) (c : Bears history w) (now : ℕ) (cl
       go : (k : Kind) → m.kind ≡ k
           → AreRemembered w.setting (e ∷ history) Con (if is_con k then with_kept (made k) w.con_records else w.con_records)
           × AreRemembered w.setting (e ∷ history) Non (if is_con k then w.non_records else with_kept (made k) w.non_records)
-      go Con is = (remembered-more e (made Con) since refl (leaves Con Con is) (unknown Con is) (room Con is) short c.con_records, remembered-on e since (leaves Non Con is) c.non_records)
-      go Non is = (remembered-on e since (leaves Con Non is) c.con_records, remembered-more e (made Non) since refl (leaves Non Non is) (unknown Non is) (room Non is) (λ most wide long. omega arith) c.non_records)
+      go Con is = (remembered-more e (made Con) since refl (leaves Con Con is) (unknown Con is) (room Con is) (own_room Con is) short c.con_records, remembered-on e since (leaves Non Con is) c.non_records)
+      go Non is = (remembered-on e since (leaves Con Non is) c.con_records, remembered-more e (made Non) since refl (leaves Non Non is) (unknown Non is) (room Non is) (own_room Non is) (λ most wide long. omega arith) c.non_records)
       go Ack is = none Ack is refl
       go Rst is = none Rst is refl
 

@@ -147,6 +147,7 @@ keeps_resending w history c now draw at number x onward turn sent early fire =
     (others-quiet w history c e number refl refl) turn.found onward
     (record {
       opened = opened-later e f.opened;
+      client_is = f.client_is;
       admitted = f.admitted;
       verdict = f.verdict;
       method = f.method;
@@ -179,7 +180,7 @@ keeps_resending w history c now draw at number x onward turn sent early fire =
           }
           );
     })
-    (unseen number (fired_exchange now) w.exchanges (λ y. refl))
+    (unseen number (fired_exchange now) w.exchanges (λ y. refl) (λ y. refl))
     (ids-kept history w _ e c.clock c.ids onward refl refl refl)
     (schedules_with history e (subst IsSchedule (sym grown) g.schedule) c.schedules)
     (λ to. let same = count-kept (is_sent_to to) number (fired_exchange now) w.exchanges (λ y. refl) in let pace = c.within.pace to in omega arith)
@@ -202,7 +203,7 @@ keeps_resending w history c now draw at number x onward turn sent early fire =
 
 -- the stage becomes `done`
 pub ended-seen : (n : ℕ) (a : Answer) (xs : List (Numbered Exchange)) → map stage_seen (changed_at n (answered a) xs) ≡ staged n done (map stage_seen xs)
-ended-seen n a xs = staged-seen n (answered a) done xs (All-weaken (λ y. Has y xs) (λ y. y.0 ≡ n → done ≡ done) xs (λ y there same. refl) (Has-all xs))
+ended-seen n a xs = staged-seen n (answered a) done xs (λ y. refl) (All-weaken (λ y. Has y xs) (λ y. y.0 ≡ n → done ≡ done) xs (λ y there same. refl) (Has-all xs))
 
 -- an exchange that has its answer is neither queued nor sent
 pub ended-room : (w : World) (history : List Deed) (c : Bears history w) (now n : ℕ) (a : Answer) (xs : List (Numbered Exchange)) → IsRising 0 xs → count is_queued xs ≡ count is_queued w.exchanges → w.last ≤ now → (later : ℕ) → now ≤ later → given_in later w.ids + (count is_waiting w.waiters + count is_queued (changed_at n (answered a) xs)) ≤ 32768
@@ -247,6 +248,7 @@ keeps_giving_up w history c now draw at number x onward turn over =
     (others-quiet w history c e number refl refl) turn.found onward
     (record {
       opened = opened-later e f.opened;
+      client_is = f.client_is;
       admitted = f.admitted;
       verdict = f.verdict;
       method = f.method;

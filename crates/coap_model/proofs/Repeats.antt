@@ -35,7 +35,7 @@ pub record IsNewHere (setting : Setting) (past : List Deed) (d : Deed) : Type 0 
   pub brings : Brings setting.limits.datagram source message d.entry.event
   pub kind : brings_requests message.kind ≡ true
   pub unknown : known_of past d.entry.now source message ≡ None
-  pub room : HasRecordRoom setting past d.entry.now message
+  pub room : HasRecordRoom setting past d.entry.now source message
   pub sent : message.kind ≡ Con → d.entry.report.send ≡ Some source
 
 -- no message has both types

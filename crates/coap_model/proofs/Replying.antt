@@ -2,7 +2,7 @@
 use Rattle.std.proofs.Common.{◌≡◌, ℕ, ◌+◌, ◌%◌, ◌<◌, ◌≤◌, Bool, true, false, List, [], ◌∷◌, length, Option, Some, None, Ok, refl, sym, ap, ◌∙◌, subst, arith}
 use Rattle.std.specs.Prelude.{◌&&◌, if◌then◌else◌}
 use Rattle.std.specs.Option.{option_map_or}
-use Rattle.std.proofs.lemmas.Bool.{leb-true, and_parts, and_from, ltb-false}
+use Rattle.std.proofs.lemmas.Bool.{leb-true, and_parts, and_from}
 use Rattle.coap_message.specs.declared.kind.Kind.{Kind}
 use Rattle.coap_message.specs.declared.kind.Kind.TheVariants.{Con, Non, Ack, Rst}
 use Rattle.coap_message.specs.declared.code.Code.{Code}
@@ -40,7 +40,7 @@ use Rattle.coap_model.proofs.Places.{doing, arrival-same}
 use Rattle.coap_model.proofs.Verdicts.{deserved-code}
 use Rattle.coap_model.proofs.Rules.{by_response, recorded-kind, recorded-response, Asked, Recorded, IsFirst, IsNotCon, IsNothing, verdict_in, IsDenied, IsFull, head_of_read}
 use Rattle.coap_model.proofs.OwnReplies.{at_once-is, own-short, busy-short, reply-due, free-one, free-none}
-use Rattle.coap_model.proofs.Remembering.{known-is, limit-is, first-new, first-remembered}
+use Rattle.coap_model.proofs.Remembering.{known-is, record-full, first-new, first-remembered}
 use Rattle.coap_model.proofs.Missing.{deserves, lacks_room}
 use Rattle.coap_model.proofs.Room.{ids-free, ids-none}
 use Rattle.coap_model.proofs.Stores.{store-otherwise}
@@ -133,7 +133,7 @@ module _ (w : World) (history : List Deed) (c : Bears history w) (now draw : ℕ
       (record { act = refl; client = client; request = m; id = next_id w; asked = came; new = is_new; deserved = deserved; ids = has-id free; tells = record { sent = refl; spells = spells } }, c.past)
 
   -- so does a 5.03
-  pub keeps_overloading : (key : CacheKey) → verdict_in w m ≡ may_ask key → IsFull w now key m → can_reply w now m.kind ≡ true
+  pub keeps_overloading : (key : CacheKey) → verdict_in w m ≡ may_ask key → IsFull w now client key m → can_reply w now m.kind ≡ true
       → Bears (doing no_item (entry_of now draw (arrival client bytes) (overloads w now client m)) ∷ history) (remembers now client m (overloads w now client m)).world
   keeps_overloading key verdict full free =
       let s = overloads w now client m in
@@ -144,7 +144,7 @@ module _ (w : World) (history : List Deed) (c : Bears history w) (now draw : ℕ
       keeps_still w history c e ids_after w.store _ _ (record { act = refl; opens = refl; admits = refl; sends = refl; takes = refl; leaves_open = λ standing xs. refl; stands = λ standing. refl }) onward (reply-ids e _ reply refl gives spells refl free refl refl) (reply-room free)
       (store-otherwise w.setting history w.store e refl refl c.store)
       (first-remembered w history c now client bytes m onward draw no_item s first refl (λ most wide long. omega (arith, wide, busy-short m w.setting.limits.retry_s (next_id w) m.token short_token)))
-      (record { act = refl; client = client; request = m; key = key; id = next_id w; asked = came; verdict = verdict; no_room = lacks_room w history c now key m onward full; new = is_new; ids = has-id free; tells = record { sent = refl; spells = spells } }, c.past)
+      (record { act = refl; client = client; request = m; key = key; id = next_id w; asked = came; verdict = verdict; no_room = lacks_room w history c now client key m onward full; new = is_new; ids = has-id free; tells = record { sent = refl; spells = spells } }, c.past)
 
   -- and so does silence because no id is free
   pub keeps_lacking : can_reply w now m.kind ≡ false
@@ -185,14 +185,12 @@ keeps_repeating w history c now draw source bytes m known onward fits recorded f
         (record { act = refl; source = source; message = m; known = known; comes = recorded-came w source bytes m fits recorded; found = same; says_again = subst (λ (o : Option (List ℕ)). SaysAgain source o e.entry) (sym is) (refl, refl) }, c.past)
 
 -- and so does silence if there is no room to remember what arrived
-pub keeps_dropping : (w : World) (history : List Deed) (c : Bears history w) (now draw : ℕ) (source : Endpoint) (bytes : List ℕ) (m : Message) → w.last ≤ now → IsBytes bytes → Recorded w bytes m → (is_response m.code ≡ true → (x : Numbered Exchange) × (awaiting w source m ≡ Some x)) → known_of w now source m ≡ None → has_record_room w now m.kind ≡ false
+pub keeps_dropping : (w : World) (history : List Deed) (c : Bears history w) (now draw : ℕ) (source : Endpoint) (bytes : List ℕ) (m : Message) → w.last ≤ now → IsBytes bytes → Recorded w bytes m → (is_response m.code ≡ true → (x : Numbered Exchange) × (awaiting w source m ≡ Some x)) → known_of w now source m ≡ None → has_record_room w now source m.kind ≡ false
     → Bears (doing no_item (entry_of now draw (arrival source bytes) (drops w now)) ∷ history) (drops w now).world
 keeps_dropping w history c now draw source bytes m onward fits recorded wanted unknown full =
     let e = doing no_item (entry_of now draw (arrival source bytes) (drops w now)) in
     let kind = recorded-kind m recorded.recorded in
     let same = known-is w history c now source bytes m onward m.kind kind in
-    let limit = limit-is w history c now source bytes m onward m.kind kind in
-    let most = ltb-false _ _ full in
     keeps_quiet w history c e (record { act = refl; opens = refl; admits = refl; sends = refl; takes = refl; leaves_open = λ standing xs. refl; stands = λ standing. refl }) refl (λ k. refl) onward refl (
       record {
         act = refl;
@@ -201,7 +199,7 @@ keeps_dropping w history c now draw source bytes m onward fits recorded wanted u
         comes = recorded-came w source bytes m fits recorded;
         wanted = λ response. let x = wanted response in (x.0.0, awaited-by w history c now source m x.0 bytes fits recorded.read (by_response (recorded-response m recorded.recorded response) x.1));
         unknown = ap (record_of source m.id) (sym same) ∙ unknown;
-        full = λ room. omega (arith, ap length same, limit, most, room);
+        full = record-full w history c now source bytes m onward kind full;
         silent = record { sent = refl; bytes = refl };
       },
       c.past,

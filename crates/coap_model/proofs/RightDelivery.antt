@@ -16,7 +16,7 @@ use Rattle.coap_forward.specs.Forms.{target_options}
 use Rattle.coap_forward.specs.Messages.{token_of, is_get}
 use Rattle.coap_forward.specs.Answers.{answer_of, shown_as}
 use Rattle.coap_model.specs.declared.report.Outcome.TheVariants.{Opened}
-use Rattle.coap_model.specs.Events.{Event}
+use Rattle.coap_model.specs.Events.{arrival}
 use Rattle.coap_model.specs.Examples.{origin, client, content, content_for_client, content_in, get_t}
 use Rattle.coap_model.specs.OptionExamples.{key_of_temp}
 use Rattle.coap_model.specs.CacheExamples.{content_for, get_for}
@@ -31,9 +31,9 @@ use Rattle.coap_model.specs.Forged.{setting, asked, answered, past, past_con, de
 use Rattle.coap_model.proofs.Places.{here, admitted-number}
 use Rattle.coap_model.proofs.CacheExamples.{are-bytes, first_sent, first_got, get_read, get_spelled}
 
--- a client's request is accepted, with whatever is sent immediately
-abbrev opening : Event → Option Endpoint → List ℕ → Deed
-opening event send bytes = record { entry = record { now = 0; draw = 0; event = event; report = record { send = send; outcome = Opened }; bytes = bytes }; act = admits 1 1 }
+-- a client's request in these bytes is accepted, with whatever is sent immediately
+abbrev opening : List ℕ → Option Endpoint → List ℕ → Deed
+opening came send bytes = record { entry = record { now = 0; draw = 0; event = arrival (client 1) came; report = record { send = send; outcome = Opened }; bytes = bytes }; act = admits 1 1 }
 
 -- it is forwarded, and its answer arrives
 abbrev past_of : Deed → List Deed
@@ -49,38 +49,38 @@ asks_first o unsent_there = record {
 -- ---- what is due
 
 -- the only exchange has ended
-one_stage : {A : Type 0} (o : Event) (send : Option Endpoint) (bytes : List ℕ) (x : ℕ) (stage : Stage) → stage ≢ done → stage_of x (past_of (opening o send bytes)) ≡ Some stage → A
-one_stage o send bytes x stage other e = go (1 == x) e
+one_stage : {A : Type 0} (came : List ℕ) (send : Option Endpoint) (bytes : List ℕ) (x : ℕ) (stage : Stage) → stage ≢ done → stage_of x (past_of (opening came send bytes)) ≡ Some stage → A
+one_stage came send bytes x stage other e = go (1 == x) e
   where
-    go : {A : Type 0} (b : Bool) → option_map {T = Open} (λ q. q.stage) (cond b (Some (record { number = 1; stage = done })) None) ≡ Some stage → A
+    go : {A : Type 0} (b : Bool) → option_map {T = Open} (λ q. q.stage) (cond b (Some (record { number = 1; client = client 1; stage = done })) None) ≡ Some stage → A
     go true e = absurd (other (sym (same_Some done stage e)))
     go false e = absurd cc
 
 -- the only client waits
-one_service : {A : Type 0} (o : Event) (send : Option Endpoint) (bytes : List ℕ) (v : ℕ) → service_of v (past_of (opening o send bytes)) ≡ Some told → A
-one_service o send bytes v e = go (1 == v) e
+one_service : {A : Type 0} (came : List ℕ) (send : Option Endpoint) (bytes : List ℕ) (v : ℕ) → service_of v (past_of (opening came send bytes)) ≡ Some told → A
+one_service came send bytes v e = go (1 == v) e
   where
-    go : {A : Type 0} (b : Bool) → option_map {T = Standing} (λ s. s.service) (cond b (Some (record { number = 1; service = waits 1 })) None) ≡ Some told → A
+    go : {A : Type 0} (b : Bool) → option_map {T = Standing} (λ s. s.service) (cond b (Some (record { number = 1; client = client 1; service = waits 1 })) None) ≡ Some told → A
     go true e = absurd cc
     go false e = absurd cc
 
 -- nothing is due before the client is served
-first_due : (o : Event) (send : Option Endpoint) (bytes : List ℕ) (a : Act) (m : ℕ) → IsDueAt setting (past_of (opening o send bytes)) a m → ¬ IsSooner a m (serves 1) 0
-first_due o send bytes no_item m due sooner = due
-first_due o send bytes (admits v x) m due sooner = due
-first_due o send bytes (moves x) m (to_send t) sooner = one_stage o send bytes x queued (λ e. cc) t.stage
-first_due o send bytes (moves x) m (to_repeat t) sooner = one_stage o send bytes x (sent t.to) (λ e. cc) t.stage
-first_due o send bytes (moves x) m (to_end t) sooner = let at = t.at_is in ⊎_elim (λ (less : m < 0). omega (arith, less)) (λ same. let now = same.0 in omega (arith, at, now)) sooner
-first_due o send bytes (serves v) m (to_serve t) sooner = let number = admitted-number t.admitted in ⊎_elim (λ (less : m < 0). omega (arith, less)) (λ same. let before = same.1 in omega (arith, before, number.0)) sooner
-first_due o send bytes (serves v) m (to_serve_again t) sooner = one_service o send bytes v t.service
+first_due : (came : List ℕ) (send : Option Endpoint) (bytes : List ℕ) (a : Act) (m : ℕ) → IsDueAt setting (past_of (opening came send bytes)) a m → ¬ IsSooner a m (serves 1) 0
+first_due came send bytes no_item m due sooner = due
+first_due came send bytes (admits v x) m due sooner = due
+first_due came send bytes (moves x) m (to_send t) sooner = one_stage came send bytes x queued (λ e. cc) t.stage
+first_due came send bytes (moves x) m (to_repeat t) sooner = one_stage came send bytes x (sent t.to) (λ e. cc) t.stage
+first_due came send bytes (moves x) m (to_end t) sooner = let at = t.at_is in ⊎_elim (λ (less : m < 0). omega (arith, less)) (λ same. let now = same.0 in omega (arith, at, now)) sooner
+first_due came send bytes (serves v) m (to_serve t) sooner = let number = admitted-number t.admitted in ⊎_elim (λ (less : m < 0). omega (arith, less)) (λ same. let before = same.1 in omega (arith, before, number.0)) sooner
+first_due came send bytes (serves v) m (to_serve_again t) sooner = one_service came send bytes v t.service
 
 -- ---- right deliveries
 
 -- the client's view of the answer, in a message of the type of its request, is a delivery
-right-is : (event : Event) (send : Option Endpoint) (bytes reply : List ℕ) (request : Message) → IsRequestOf setting (client 1) request event → verdict_on setting request ≡ may_ask key_of_temp → Spells reply (shown_as request.kind (is_get request.code) 2500 (answer_of 1500 true None 0 (content_for 1 1)) 2 request.token (tags_of request)) → IsDelivery setting (past_of (opening event send bytes)) (delivery (client 1) reply (serves 1))
+right-is : (came : List ℕ) (send : Option Endpoint) (bytes reply : List ℕ) (request : Message) → IsRequestOf setting (client 1) request (arrival (client 1) came) → verdict_on setting request ≡ may_ask key_of_temp → Spells reply (shown_as request.kind (is_get request.code) 2500 (answer_of 1500 true None 0 (content_for 1 1)) 2 request.token (tags_of request)) → IsDelivery setting (past_of (opening came send bytes)) (delivery (client 1) reply (serves 1))
 unfolding token_of target_options target_sent key_sent
-right-is event send bytes reply request asked_so verdict spells =
-    let o = opening event send bytes in
+right-is came send bytes reply request asked_so verdict spells =
+    let o = opening came send bytes in
     let serve : IsToServe setting (past_of o) 1 0 = record {
       admitted = record { exchange = 1; admission = here [] o; client = client 1; request = request; was_admitted = inr (inr (inl refl)); admits = record { act = refl; outcome = refl; number = refl }; asked = asked_so };
       unserved = ((λ s. let e = s.outcome in cc), ((λ s. let e = s.outcome in cc), ((λ s. let e = s.outcome in cc), tt)));
@@ -92,7 +92,7 @@ right-is event send bytes reply request asked_so verdict spells =
     record {
       waiter = 1;
       act = refl;
-      acting = record { ticked = refl; at = 0; due = to_serve serve; come = omega arith; first = first_due event send bytes };
+      acting = record { ticked = refl; at = 0; due = to_serve serve; come = omega arith; first = first_due came send bytes };
       to_serve = serve;
       later = inr (inl refl);
       key = key_of_temp;

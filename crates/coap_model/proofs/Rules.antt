@@ -67,7 +67,7 @@ pub record IsFirst (w : World) (now : ℕ) (client : Endpoint) (bytes : List ℕ
   pub fits : IsBytes bytes
   pub asked : Asked w bytes m
   pub unknown : known_of w now client m ≡ None
-  pub room : has_record_room w now m.kind ≡ true
+  pub room : has_record_room w now client m.kind ≡ true
 
 -- a message that is remembered arrived in these bytes
 pub record Recorded (w : World) (bytes : List ℕ) (m : Message) : Type 0 where
@@ -135,9 +135,9 @@ pub data IsDenied (w : World) (now : ℕ) (m : Message) (code : Code) : Type 0 w
   by_length : (key : CacheKey) → verdict_in w m ≡ may_ask key → IsUnanswered w now key m → fits_in w key m ≡ false → code ≡ REQUEST_ENTITY_TOO_LARGE → IsDenied w now m code
 
 -- there is no room for what the request needs: to join the exchange that is found, or to open one
-pub data IsFull (w : World) (now : ℕ) (key : CacheKey) (m : Message) : Type 0 where
-  to_join : (exchange : ℕ) → is_get m.code ≡ true → IsMissed w now key → first_that (is_joinable key) w.exchanges ≡ Some exchange → has_room_to_join w now ≡ false → IsFull w now key m
-  to_open : IsUnanswered w now key m → fits_in w key m ≡ true → has_room_to_open w now ≡ false → IsFull w now key m
+pub data IsFull (w : World) (now : ℕ) (client : Endpoint) (key : CacheKey) (m : Message) : Type 0 where
+  to_join : (exchange : ℕ) → is_get m.code ≡ true → IsMissed w now key → first_that (is_joinable key) w.exchanges ≡ Some exchange → has_room_to_join w now client ≡ false → IsFull w now client key m
+  to_open : IsUnanswered w now key m → fits_in w key m ≡ true → has_room_to_open w now client ≡ false → IsFull w now client key m
 
 -- what the store does with an answer, and the store after that
 pub data IsStoring (w : World) (now : ℕ) (grown : Bool) (x : Numbered Exchange) (a : Answer) : Storing → List Entry → Type 0 where
@@ -185,7 +185,7 @@ joined_world w now client m exchange =
 -- and for one that is opened
 abbrev pub opened_world : World → ℕ → Endpoint → Message → CacheKey → Option Stored → World
 opened_world w now client m key stored =
-    record (later w now) { exchanges = w.exchanges ++ new_exchange w now m key stored ∷ []; waiters = w.waiters ++ new_waiter w client m (w.opened + 1) ∷ []; opened = w.opened + 1; admitted = w.admitted + 1 }
+    record (later w now) { exchanges = w.exchanges ++ new_exchange w now client m key stored ∷ []; waiters = w.waiters ++ new_waiter w client m (w.opened + 1) ∷ []; opened = w.opened + 1; admitted = w.admitted + 1 }
 
 -- the clients that are left after one was sent this message: without it, or with it, until it
 -- acknowledges the message
@@ -207,14 +207,14 @@ answered_world w now n a store = record (later w now) { exchanges = changed_at n
 pub data Rule (w : World) (now draw : ℕ) (grown : Bool) : Event → Step → Type 0 where
   refusing : (client : Endpoint) (bytes : List ℕ) (m : Message) (code : Code) → IsFirst w now client bytes m → IsDenied w now m code → can_reply w now m.kind ≡ true → Rule w now draw grown (arrival client bytes) (remembers now client m (refuses w now client m code))
   lacking : (client : Endpoint) (bytes : List ℕ) (m : Message) → IsFirst w now client bytes m → can_reply w now m.kind ≡ false → Rule w now draw grown (arrival client bytes) (remembers now client m (lacks_id w now))
-  overloading : (client : Endpoint) (bytes : List ℕ) (m : Message) (key : CacheKey) → IsFirst w now client bytes m → verdict_in w m ≡ may_ask key → IsFull w now key m → can_reply w now m.kind ≡ true → Rule w now draw grown (arrival client bytes) (remembers now client m (overloads w now client m))
-  joining : (client : Endpoint) (bytes : List ℕ) (m : Message) (key : CacheKey) (exchange : ℕ) (send : Option Endpoint) (told : List ℕ) → IsFirst w now client bytes m → is_get m.code ≡ true → verdict_in w m ≡ may_ask key → IsMissed w now key → first_that (is_joinable key) w.exchanges ≡ Some exchange → has_room_to_join w now ≡ true → IsTakenUp client m send told → Rule w now draw grown (arrival client bytes) (remembers now client m (sending Joined send told (joined_world w now client m exchange)))
-  opening : (client : Endpoint) (bytes : List ℕ) (m : Message) (key : CacheKey) (send : Option Endpoint) (told : List ℕ) → IsFirst w now client bytes m → verdict_in w m ≡ may_ask key → IsUnanswered w now key m → fits_in w key m ≡ true → has_room_to_open w now ≡ true → IsTakenUp client m send told → Rule w now draw grown (arrival client bytes) (remembers now client m (sending Opened send told (opened_world w now client m key (held_for w key m))))
+  overloading : (client : Endpoint) (bytes : List ℕ) (m : Message) (key : CacheKey) → IsFirst w now client bytes m → verdict_in w m ≡ may_ask key → IsFull w now client key m → can_reply w now m.kind ≡ true → Rule w now draw grown (arrival client bytes) (remembers now client m (overloads w now client m))
+  joining : (client : Endpoint) (bytes : List ℕ) (m : Message) (key : CacheKey) (exchange : ℕ) (send : Option Endpoint) (told : List ℕ) → IsFirst w now client bytes m → is_get m.code ≡ true → verdict_in w m ≡ may_ask key → IsMissed w now key → first_that (is_joinable key) w.exchanges ≡ Some exchange → has_room_to_join w now client ≡ true → IsTakenUp client m send told → Rule w now draw grown (arrival client bytes) (remembers now client m (sending Joined send told (joined_world w now client m exchange)))
+  opening : (client : Endpoint) (bytes : List ℕ) (m : Message) (key : CacheKey) (send : Option Endpoint) (told : List ℕ) → IsFirst w now client bytes m → verdict_in w m ≡ may_ask key → IsUnanswered w now key m → fits_in w key m ≡ true → has_room_to_open w now client ≡ true → IsTakenUp client m send told → Rule w now draw grown (arrival client bytes) (remembers now client m (sending Opened send told (opened_world w now client m key (held_for w key m))))
   hitting : (client : Endpoint) (bytes : List ℕ) (m : Message) (key : CacheKey) (entry : Entry) → IsFirst w now client bytes m → is_get m.code ≡ true → verdict_in w m ≡ may_ask key → of_key entry_key key w.store ≡ Some entry → is_usable now entry.1 ≡ true → can_reply w now m.kind ≡ true → Rule w now draw grown (arrival client bytes) (remembers now client m (hits w now client m key entry.1))
   repeating : (source : Endpoint) (bytes : List ℕ) (m : Message) (known : Record) → IsBytes bytes → Recorded w bytes m → known_of w now source m ≡ Some known → Rule w now draw grown (arrival source bytes) (repeats w now source known.reply)
-  dropping : (source : Endpoint) (bytes : List ℕ) (m : Message) → IsBytes bytes → Recorded w bytes m → (is_response m.code ≡ true → (x : Numbered Exchange) × (awaiting w source m ≡ Some x)) → known_of w now source m ≡ None → has_record_room w now m.kind ≡ false → Rule w now draw grown (arrival source bytes) (drops w now)
+  dropping : (source : Endpoint) (bytes : List ℕ) (m : Message) → IsBytes bytes → Recorded w bytes m → (is_response m.code ≡ true → (x : Numbered Exchange) × (awaiting w source m ≡ Some x)) → known_of w now source m ≡ None → has_record_room w now source m.kind ≡ false → Rule w now draw grown (arrival source bytes) (drops w now)
   answering : (source : Endpoint) (bytes : List ℕ) (m : Message) (x : Numbered Exchange) (storing : Storing) (store : List Entry) → IsBytes bytes → message_in w.setting.limits.datagram bytes ≡ Some m → IsAnswerFor w now source m x → is_con m.kind ≡ false → IsStoring (changed_world w m x) now grown x (answer_for w now m x.1) storing store → Rule w now draw grown (arrival source bytes) (silent (Answered storing) (answered_world (changed_world w m x) now x.0 (answer_for w now m x.1) store))
-  answering_con : (source : Endpoint) (bytes : List ℕ) (m : Message) (x : Numbered Exchange) (storing : Storing) (store : List Entry) → IsBytes bytes → Recorded w bytes m → IsAnswerFor w now source m x → is_con m.kind ≡ true → known_of w now source m ≡ None → has_record_room w now m.kind ≡ true → IsStoring (changed_world w m x) now grown x (answer_for w now m x.1) storing store
+  answering_con : (source : Endpoint) (bytes : List ℕ) (m : Message) (x : Numbered Exchange) (storing : Storing) (store : List Entry) → IsBytes bytes → Recorded w bytes m → IsAnswerFor w now source m x → is_con m.kind ≡ true → known_of w now source m ≡ None → has_record_room w now source m.kind ≡ true → IsStoring (changed_world w m x) now grown x (answer_for w now m x.1) storing store
       → Rule w now draw grown (arrival source bytes) (remembers now source m (says (Answered storing) source (acknowledgement m.id) (answered_world (changed_world w m x) now x.0 (answer_for w now m x.1) store)))
   acknowledging : (source : Endpoint) (bytes : List ℕ) (m : Message) (x : Numbered Exchange) → IsBytes bytes → message_in w.setting.limits.datagram bytes ≡ Some m → IsAbout w now source m x → is_ack m.kind ≡ true → Rule w now draw grown (arrival source bytes) (acknowledges w now x.0)
   closing : (source : Endpoint) (bytes : List ℕ) (m : Message) (number : ℕ) → IsBytes bytes → message_in w.setting.limits.datagram bytes ≡ Some m → IsOfAnswer w now source m number → Rule w now draw grown (arrival source bytes) (closes w now number)
@@ -331,7 +331,7 @@ rule_refusal w now draw grown client bytes m code first denied = go (can_reply w
     go false free = lacking client bytes m first free
 
 -- if there is no room for what a request needs, it is turned away
-rule_full : (w : World) (now draw : ℕ) (grown : Bool) (client : Endpoint) (bytes : List ℕ) (m : Message) (key : CacheKey) → IsFirst w now client bytes m → verdict_in w m ≡ may_ask key → IsFull w now key m → Rule w now draw grown (arrival client bytes) (remembers now client m (turns_away w now client m))
+rule_full : (w : World) (now draw : ℕ) (grown : Bool) (client : Endpoint) (bytes : List ℕ) (m : Message) (key : CacheKey) → IsFirst w now client bytes m → verdict_in w m ≡ may_ask key → IsFull w now client key m → Rule w now draw grown (arrival client bytes) (remembers now client m (turns_away w now client m))
 rule_full w now draw grown client bytes m key first e full = go (can_reply w now m.kind) refl
   where
     go : (b : Bool) → can_reply w now m.kind ≡ b → Rule w now draw grown (arrival client bytes) (remembers now client m (cond b (overloads w now client m) (lacks_id w now)))
@@ -342,33 +342,33 @@ rule_full w now draw grown client bytes m key first e full = go (can_reply w now
 rule_wanted : (w : World) (now draw : ℕ) (grown : Bool) (client : Endpoint) (bytes : List ℕ) (m : Message) (key : CacheKey) (stored : Option Stored) → IsFirst w now client bytes m → verdict_in w m ≡ may_ask key → IsUnanswered w now key m → held_for w key m ≡ stored → Rule w now draw grown (arrival client bytes) (remembers now client m (on_wanted w now client m key stored))
 rule_wanted w now draw grown client bytes m key stored first e none held = by_fit (fits_in w key m) refl
   where
-    up : fits_in w key m ≡ true → has_room_to_open w now ≡ true → (b : Bool) → is_con m.kind ≡ b → Rule w now draw grown (arrival client bytes) (remembers now client m (cond b (says Opened client (acknowledgement m.id) (opened_world w now client m key stored)) (silent Opened (opened_world w now client m key stored))))
+    up : fits_in w key m ≡ true → has_room_to_open w now client ≡ true → (b : Bool) → is_con m.kind ≡ b → Rule w now draw grown (arrival client bytes) (remembers now client m (cond b (says Opened client (acknowledgement m.id) (opened_world w now client m key stored)) (silent Opened (opened_world w now client m key stored))))
     up short there true con = subst (λ (s : Option Stored). Rule w now draw grown (arrival client bytes) (remembers now client m (says Opened client (acknowledgement m.id) (opened_world w now client m key s)))) held (opening client bytes m key (Some client) (spelling (acknowledgement m.id)) first e none short there (with_acknowledgement con))
     up short there false other = subst (λ (s : Option Stored). Rule w now draw grown (arrival client bytes) (remembers now client m (silent Opened (opened_world w now client m key s)))) held (opening client bytes m key None [] first e none short there (silently other))
 
-    room : fits_in w key m ≡ true → (b : Bool) → has_room_to_open w now ≡ b → Rule w now draw grown (arrival client bytes) (remembers now client m (cond b (opens w now client m key stored) (turns_away w now client m)))
+    room : fits_in w key m ≡ true → (b : Bool) → has_room_to_open w now client ≡ b → Rule w now draw grown (arrival client bytes) (remembers now client m (cond b (opens w now client m key stored) (turns_away w now client m)))
     room short true there = up short there (is_con m.kind) refl
     room short false full = rule_full w now draw grown client bytes m key first e (to_open none short full)
 
-    by_fit : (b : Bool) → fits_in w key m ≡ b → Rule w now draw grown (arrival client bytes) (remembers now client m (cond b (cond (has_room_to_open w now) (opens w now client m key stored) (turns_away w now client m)) (turns_down w now client m REQUEST_ENTITY_TOO_LARGE)))
-    by_fit true short = room short (has_room_to_open w now) refl
+    by_fit : (b : Bool) → fits_in w key m ≡ b → Rule w now draw grown (arrival client bytes) (remembers now client m (cond b (cond (has_room_to_open w now client) (opens w now client m key stored) (turns_away w now client m)) (turns_down w now client m REQUEST_ENTITY_TOO_LARGE)))
+    by_fit true short = room short (has_room_to_open w now client) refl
     by_fit false long = rule_refusal w now draw grown client bytes m REQUEST_ENTITY_TOO_LARGE first (by_length key e none long refl)
 
 -- a GET whose key is missed is a case by the exchange that may be joined, and by the room
 rule_miss : (w : World) (now draw : ℕ) (grown : Bool) (client : Endpoint) (bytes : List ℕ) (m : Message) (key : CacheKey) (stored : Option Stored) → IsFirst w now client bytes m → is_get m.code ≡ true → verdict_in w m ≡ may_ask key → IsMissed w now key → held_for w key m ≡ stored → Rule w now draw grown (arrival client bytes) (remembers now client m (on_miss w now client m key stored))
 rule_miss w now draw grown client bytes m key stored first get e missed held = by_search (first_that (is_joinable key) w.exchanges) refl
   where
-    up : (exchange : ℕ) → first_that (is_joinable key) w.exchanges ≡ Some exchange → has_room_to_join w now ≡ true → (b : Bool) → is_con m.kind ≡ b → Rule w now draw grown (arrival client bytes) (remembers now client m (cond b (says Joined client (acknowledgement m.id) (joined_world w now client m exchange)) (silent Joined (joined_world w now client m exchange))))
+    up : (exchange : ℕ) → first_that (is_joinable key) w.exchanges ≡ Some exchange → has_room_to_join w now client ≡ true → (b : Bool) → is_con m.kind ≡ b → Rule w now draw grown (arrival client bytes) (remembers now client m (cond b (says Joined client (acknowledgement m.id) (joined_world w now client m exchange)) (silent Joined (joined_world w now client m exchange))))
     up exchange found there true con = joining client bytes m key exchange (Some client) (spelling (acknowledgement m.id)) first get e missed found there (with_acknowledgement con)
     up exchange found there false other = joining client bytes m key exchange None [] first get e missed found there (silently other)
 
-    room : (exchange : ℕ) → first_that (is_joinable key) w.exchanges ≡ Some exchange → (b : Bool) → has_room_to_join w now ≡ b → Rule w now draw grown (arrival client bytes) (remembers now client m (cond b (joins w now client m exchange) (turns_away w now client m)))
+    room : (exchange : ℕ) → first_that (is_joinable key) w.exchanges ≡ Some exchange → (b : Bool) → has_room_to_join w now client ≡ b → Rule w now draw grown (arrival client bytes) (remembers now client m (cond b (joins w now client m exchange) (turns_away w now client m)))
     room exchange found true there = up exchange found there (is_con m.kind) refl
     room exchange found false full = rule_full w now draw grown client bytes m key first e (to_join exchange get missed found full)
 
     by_search : (o : Option ℕ) → first_that (is_joinable key) w.exchanges ≡ o → Rule w now draw grown (arrival client bytes) (remembers now client m (on_joinable w now client m key stored o))
     by_search None none = rule_wanted w now draw grown client bytes m key stored first e (record { missed = λ _. missed; alone = λ _. none }) held
-    by_search (Some exchange) found = room exchange found (has_room_to_join w now) refl
+    by_search (Some exchange) found = room exchange found (has_room_to_join w now client) refl
 
 -- a GET is a case by the entry with its key
 rule_entry : (w : World) (now draw : ℕ) (grown : Bool) (client : Endpoint) (bytes : List ℕ) (m : Message) (key : CacheKey) → IsFirst w now client bytes m → is_get m.code ≡ true → verdict_in w m ≡ may_ask key → (o : Option Entry) → of_key entry_key key w.store ≡ o → Rule w now draw grown (arrival client bytes) (remembers now client m (on_entry w now client m key o))
@@ -412,9 +412,9 @@ request_recorded w bytes m asked = record { read = asked.read; recorded = or_fir
 -- a request is a case by its record
 rule_known : (w : World) (now draw : ℕ) (grown : Bool) (client : Endpoint) (bytes : List ℕ) (m : Message) → IsBytes bytes → Asked w bytes m → (o : Option Record) → known_of w now client m ≡ o → Rule w now draw grown (arrival client bytes) (on_known w now client m o)
 rule_known w now draw grown client bytes m fits asked (Some known) e = repeating client bytes m known fits (request_recorded w bytes m asked) e
-rule_known w now draw grown client bytes m fits asked None e = go (has_record_room w now m.kind) refl
+rule_known w now draw grown client bytes m fits asked None e = go (has_record_room w now client m.kind) refl
   where
-    go : (b : Bool) → has_record_room w now m.kind ≡ b → Rule w now draw grown (arrival client bytes) (cond b (remembers now client m (on_new w now client m)) (drops w now))
+    go : (b : Bool) → has_record_room w now client m.kind ≡ b → Rule w now draw grown (arrival client bytes) (cond b (remembers now client m (on_new w now client m)) (drops w now))
     go true room = rule_verdict w now draw grown client bytes m (record { fits = fits; asked = asked; unknown = e; room = room }) (verdict_in w m) refl
     go false room =
         dropping client bytes m fits (request_recorded w bytes m asked)
@@ -485,7 +485,7 @@ module _ (w : World) (now draw : ℕ) (grown : Bool) (source : Endpoint) (bytes 
       go storing store s false e = answering source bytes m x storing store fits read for other s
 
   -- one that is Confirmable, and is new
-  rule_answer_con : (x : Numbered Exchange) → is_recorded m ≡ true → IsAnswerFor w now source m x → is_con m.kind ≡ true → known_of w now source m ≡ None → has_record_room w now m.kind ≡ true → Rule w now draw grown (arrival source bytes) (remembers now source m (answers w now grown source m x))
+  rule_answer_con : (x : Numbered Exchange) → is_recorded m ≡ true → IsAnswerFor w now source m x → is_con m.kind ≡ true → known_of w now source m ≡ None → has_record_room w now source m.kind ≡ true → Rule w now draw grown (arrival source bytes) (remembers now source m (answers w now grown source m x))
   rule_answer_con x recorded for con unknown room = rule_storing w (changed_world w m x) now draw grown (arrival source bytes) (remembers now source m) (arrived x) (λ storing store s. go storing store s (is_con m.kind) con)
     where
       go : (storing : Storing) (store : List Entry) → IsStoring (changed_world w m x) now grown x (answer_for w now m x.1) storing store → (b : Bool) → b ≡ true
@@ -520,12 +520,12 @@ module _ (w : World) (now draw : ℕ) (grown : Bool) (source : Endpoint) (bytes 
     -- so is one that is Confirmable, and also by the room
     rule_separate : m.kind ≡ Con → known_of w now source m ≡ None → (o : Option (Numbered Exchange)) → awaiting w source m ≡ o → Rule w now draw grown (arrival source bytes) (on_separate w now grown source m o)
     rule_separate con unknown None e = rejecting source bytes own_head (head_of_read w bytes m fits read) (ap is_con con) (unawaited (λ recorded. unknown) e)
-    rule_separate con unknown (Some x) e = go (has_record_room w now m.kind) refl
+    rule_separate con unknown (Some x) e = go (has_record_room w now source m.kind) refl
       where
         recorded : is_recorded m ≡ true
         recorded = or_second (brings_requests m.kind && is_request m.code) (is_con m.kind && is_response m.code) (and_from (is_con m.kind) (is_response m.code) (ap is_con con) code)
 
-        go : (b : Bool) → has_record_room w now m.kind ≡ b → Rule w now draw grown (arrival source bytes) (cond b (remembers now source m (answers w now grown source m x)) (drops w now))
+        go : (b : Bool) → has_record_room w now source m.kind ≡ b → Rule w now draw grown (arrival source bytes) (cond b (remembers now source m (answers w now grown source m x)) (drops w now))
         go true room = rule_answer_con x recorded (by_response response e) (ap is_con con) unknown room
         go false full = dropping source bytes m fits (record { read = read; recorded = recorded }) (λ _. (x, e)) unknown full
 

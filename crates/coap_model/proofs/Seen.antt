@@ -16,15 +16,15 @@ use Rattle.coap_exchange.specs.declared.waiter.WaiterState.TheVariants.{Waiting,
 use Rattle.coap_exchange.specs.Exchanges as exchanges
 use Rattle.coap_exchange.specs.Waiters as waiters
 use Rattle.coap_exchange.specs.Table.{Numbered, item_at, changed_at, without, count}
-use Rattle.coap_model.specs.Standing.{Standing, Stage, Open, told, is_queued, is_sent_to, staged, others_than, as_told, is_waiting, waits_for, one_if, count_if, count_open}
+use Rattle.coap_model.specs.Standing.{Standing, Stage, Open, told, is_queued, is_sent_to, staged, others_than, as_told, is_waiting, waits_for, one_if, count_if}
 use Rattle.coap_model.specs.Carries.{HasNumber, stage_at, stage_seen, service_in, standing_seen}
 
 -- ---- what is counted
 
--- as many exchanges pass a test as stages pass the corresponding test
-pub counted-seen : (test : Exchange → Bool) (seen : Stage → Bool) → ((x : Exchange) → seen (stage_at x.key.target.at x.state) ≡ test x) → (xs : List (Numbered Exchange)) → count test xs ≡ count_open seen (map stage_seen xs)
-counted-seen test seen same [] = refl
-counted-seen test seen same (x ∷ xs) = rw (same x.1, counted-seen test seen same xs) refl
+-- as many items pass a test as pass it by what is visible of them
+pub counted-seen : {A B : Type 0} (seen : Numbered A → B) (test : A → Bool) (shown : B → Bool) → ((x : Numbered A) → shown (seen x) ≡ test x.1) → (xs : List (Numbered A)) → count test xs ≡ count_if shown (map seen xs)
+counted-seen seen test shown same [] = refl
+counted-seen seen test shown same (x ∷ xs) = rw (same x, counted-seen seen test shown same xs) refl
 
 -- whether an exchange is queued is visible in its stage
 pub queued-same : (x : Exchange) → is_queued (stage_at x.key.target.at x.state) ≡ exchanges.is_queued x
@@ -99,21 +99,21 @@ found-service n vs e = seen-item (λ (s : Standing). s.number) standing_seen (λ
 -- ---- changes
 
 -- a change of one exchange to a stage is visible as that
-pub staged-seen : (n : ℕ) (f : Exchange → Exchange) (stage : Stage) (xs : List (Numbered Exchange)) → AllByRecursion (λ x. x.0 ≡ n → stage_at (f x.1).key.target.at (f x.1).state ≡ stage) xs → map stage_seen (changed_at n f xs) ≡ staged n stage (map stage_seen xs)
-staged-seen n f stage [] all = refl
-staged-seen n f stage (x ∷ xs) all = λ i. one (eqb x.0 n) refl i ∷ staged-seen n f stage xs all.1 i
+pub staged-seen : (n : ℕ) (f : Exchange → Exchange) (stage : Stage) (xs : List (Numbered Exchange)) → ((x : Exchange) → (f x).client ≡ x.client) → AllByRecursion (λ x. x.0 ≡ n → stage_at (f x.1).key.target.at (f x.1).state ≡ stage) xs → map stage_seen (changed_at n f xs) ≡ staged n stage (map stage_seen xs)
+staged-seen n f stage [] own all = refl
+staged-seen n f stage (x ∷ xs) own all = λ i. one (eqb x.0 n) refl i ∷ staged-seen n f stage xs own all.1 i
   where
-    one : (b : Bool) → eqb x.0 n ≡ b → stage_seen (cond b (x.0, f x.1) x) ≡ cond b (record { number = x.0; stage = stage }) (stage_seen x)
-    one true t = λ i. record { number = x.0; stage = all.0 (eqb-true x.0 n t) i }
+    one : (b : Bool) → eqb x.0 n ≡ b → stage_seen (cond b (x.0, f x.1) x) ≡ cond b (record { number = x.0; client = x.1.client; stage = stage }) (stage_seen x)
+    one true t = λ i. record { number = x.0; client = own x.1 i; stage = all.0 (eqb-true x.0 n t) i }
     one false t = refl
 
--- a change that leaves the stage isn't visible
-pub unseen : (n : ℕ) (f : Exchange → Exchange) (xs : List (Numbered Exchange)) → ((x : Exchange) → stage_at (f x).key.target.at (f x).state ≡ stage_at x.key.target.at x.state) → map stage_seen (changed_at n f xs) ≡ map stage_seen xs
-unseen n f [] same = refl
-unseen n f (x ∷ xs) same = λ i. one (eqb x.0 n) i ∷ unseen n f xs same i
+-- a change that leaves the client and the stage isn't visible
+pub unseen : (n : ℕ) (f : Exchange → Exchange) (xs : List (Numbered Exchange)) → ((x : Exchange) → (f x).client ≡ x.client) → ((x : Exchange) → stage_at (f x).key.target.at (f x).state ≡ stage_at x.key.target.at x.state) → map stage_seen (changed_at n f xs) ≡ map stage_seen xs
+unseen n f [] own same = refl
+unseen n f (x ∷ xs) own same = λ i. one (eqb x.0 n) i ∷ unseen n f xs own same i
   where
     one : (b : Bool) → stage_seen (cond b (x.0, f x.1) x) ≡ stage_seen x
-    one true = λ i. record { number = x.0; stage = same x.1 i }
+    one true = λ i. record { number = x.0; client = own x.1 i; stage = same x.1 i }
     one false = refl
 
 -- a client that is removed isn't visible
@@ -130,17 +130,17 @@ pub told-seen : (n id : ℕ) (bytes : List ℕ) (timer : Timer) (vs : List (Numb
 told-seen n id bytes timer [] = refl
 told-seen n id bytes timer (v ∷ vs) = λ i. one (eqb v.0 n) i ∷ told-seen n id bytes timer vs i
   where
-    one : (b : Bool) → standing_seen (cond b (v.0, waiters.delivered bytes id timer v.1) v) ≡ cond b (record { number = v.0; service = told }) (standing_seen v)
+    one : (b : Bool) → standing_seen (cond b (v.0, waiters.delivered bytes id timer v.1) v) ≡ cond b (record { number = v.0; client = v.1.client; service = told }) (standing_seen v)
     one true = refl
     one false = refl
 
--- a change that leaves the stages of clients isn't visible
-pub served-seen : (n : ℕ) (f : Waiter → Waiter) (vs : List (Numbered Waiter)) → ((v : Waiter) → service_in (f v).state ≡ service_in v.state) → map standing_seen (changed_at n f vs) ≡ map standing_seen vs
-served-seen n f [] same = refl
-served-seen n f (v ∷ vs) same = λ i. one (eqb v.0 n) i ∷ served-seen n f vs same i
+-- a change that leaves a client and its stage isn't visible
+pub served-seen : (n : ℕ) (f : Waiter → Waiter) (vs : List (Numbered Waiter)) → ((v : Waiter) → (f v).client ≡ v.client) → ((v : Waiter) → service_in (f v).state ≡ service_in v.state) → map standing_seen (changed_at n f vs) ≡ map standing_seen vs
+served-seen n f [] own same = refl
+served-seen n f (v ∷ vs) own same = λ i. one (eqb v.0 n) i ∷ served-seen n f vs own same i
   where
     one : (b : Bool) → standing_seen (cond b (v.0, f v.1) v) ≡ standing_seen v
-    one true = λ i. record { number = v.0; service = same v.1 i }
+    one true = λ i. record { number = v.0; client = own v.1 i; service = same v.1 i }
     one false = refl
 
 -- if all but one pass a test, all others are kept
@@ -174,11 +174,6 @@ who-waits x (v ∷ vs) = go (waiters.waits_for x v.1) (waits-seen x v.1.state) (
     go false t i = let same : 0 + count (waiters.waits_for x) vs ≡ count (waiters.waits_for x) vs = omega arith in rw (t, same) i
 
 -- whether a client waits is visible
-waiting-same : (s : WaiterState) → is_waiting (service_in s) ≡ waiters.is_waiting_state s
+pub waiting-same : (s : WaiterState) → is_waiting (service_in s) ≡ waiters.is_waiting_state s
 waiting-same (Waiting exchange) = refl
 waiting-same (Delivering bytes id timer) = refl
-
--- so as many clients are visible as waiting as there are
-pub waiting-seen : (vs : List (Numbered Waiter)) → count waiters.is_waiting vs ≡ count_if (λ s. is_waiting s.service) (map standing_seen vs)
-waiting-seen [] = refl
-waiting-seen (v ∷ vs) = rw (waiting-same v.1.state, waiting-seen vs) refl

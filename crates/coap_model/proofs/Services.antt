@@ -7,8 +7,10 @@ use Rattle.coap_endpoint.proofs.Lists.{All-append, All-weaken}
 use Rattle.coap_model.specs.declared.report.Outcome.{Outcome}
 use Rattle.coap_model.specs.declared.report.Outcome.TheVariants.{Joined, Opened, Acked, GaveUp, Delivered}
 use Rattle.coap_model.specs.Setting.{Setting}
+use Rattle.coap_endpoint.specs.declared.endpoint.Endpoint.{Endpoint}
+use Rattle.coap_model.specs.Events.{Event, arrival, tick}
 use Rattle.coap_model.specs.History.{Act, no_item, admits, moves, serves, Deed, Somewhere, Serves, admits_one, lets_go, is_con_datagram}
-use Rattle.coap_model.specs.Standing.{Service, Standing, waits, told, others_than, as_told, admitted, served, closed, standing_by, standing_in, service_of}
+use Rattle.coap_model.specs.Standing.{Service, Standing, waits, told, others_than, as_told, waiting_since, admitted, served, closed, standing_by, standing_in, service_of}
 use Rattle.coap_model.specs.Due.{IsToServe, IsToServeAgain}
 use Rattle.coap_model.proofs.Lists.{find-holds, All-map, All-filter}
 use Rattle.coap_model.proofs.Places.{here, same_serves, Never-at}
@@ -17,12 +19,12 @@ use Rattle.coap_model.proofs.Places.{here, same_serves, Never-at}
 
 -- What held of each pending client holds, as it changes, of each one after a deed: of one that is
 -- admitted, of one that is sent its answer, and of each one that the deed leaves as it is.
-pub All-standing : (P Q : Standing → Type 0) (o : Outcome) (act : Act) (bytes : List ℕ) (xs : List Standing)
-    → ((v x : ℕ) → admits_one o ≡ 1 → act ≡ admits v x → Q (record { number = v; service = waits x }))
+pub All-standing : (P Q : Standing → Type 0) (o : Outcome) (act : Act) (event : Event) (bytes : List ℕ) (xs : List Standing)
+    → ((client : Endpoint) (came : List ℕ) (v x : ℕ) → event ≡ arrival client came → admits_one o ≡ 1 → act ≡ admits v x → Q (record { number = v; client = client; service = waits x }))
     → ((v : ℕ) → o ≡ Delivered → is_con_datagram bytes ≡ true → act ≡ serves v → (s : Standing) → P s → s.number ≡ v → Q (record s { service = told }))
     → ((s : Standing) → P s → (lets_go o bytes ≡ true → act ≢ serves s.number) → Q s)
-    → AllByRecursion P xs → AllByRecursion Q (standing_by o act bytes xs)
-All-standing P Q o act bytes xs new this others all = by_outcome o refl
+    → AllByRecursion P xs → AllByRecursion Q (standing_by o act event bytes xs)
+All-standing P Q o act event bytes xs new this others all = by_outcome o refl
   where
     -- no client is finished
     kept : (lets_go o bytes ≡ false) → AllByRecursion Q xs
@@ -40,9 +42,13 @@ All-standing P Q o act bytes xs new this others all = by_outcome o refl
         apart_from s true e passes same = let f : false ≡ true = ap not (sym e) ∙ passes in absurd cc
         apart_from s false e passes same = eqb-false s.number v e same
 
-    coming : admits_one o ≡ 1 → lets_go o bytes ≡ false → (a : Act) → act ≡ a → AllByRecursion Q (admitted a xs)
+    coming : admits_one o ≡ 1 → lets_go o bytes ≡ false → (a : Act) → act ≡ a → AllByRecursion Q (admitted a event xs)
     coming one stays no_item is = kept stays
-    coming one stays (admits v x) is = All-append Q xs _ (kept stays) (new v x one is, tt)
+    coming one stays (admits v x) is = All-append Q xs (waiting_since event v x) (kept stays) (since event refl)
+      where
+        since : (f : Event) → event ≡ f → AllByRecursion Q (waiting_since f v x)
+        since (arrival source came) brings = (new source came v x brings one is, tt)
+        since tick brings = tt
     coming one stays (moves x) is = kept stays
     coming one stays (serves v) is = kept stays
 
@@ -69,7 +75,7 @@ All-standing P Q o act bytes xs new this others all = by_outcome o refl
     serving is (moves x) to = apart (λ v same. let e = sym to ∙ same in cc)
     serving is (serves v) to = given_one v is to (is_con_datagram bytes) refl
 
-    by_outcome : (p : Outcome) → o ≡ p → AllByRecursion Q (standing_by p act bytes xs)
+    by_outcome : (p : Outcome) → o ≡ p → AllByRecursion Q (standing_by p act event bytes xs)
     by_outcome Joined is = coming (ap admits_one is) (ap (λ (q : Outcome). lets_go q bytes) is) act refl
     by_outcome Opened is = coming (ap admits_one is) (ap (λ (q : Outcome). lets_go q bytes) is) act refl
     by_outcome Acked is = going act refl
@@ -95,8 +101,8 @@ served-later d s = record { place = s.place; is_there = inr s.is_there; holds = 
 all-served : (history : List Deed) → AllByRecursion (λ s. s.service ≡ told → Somewhere (Serves s.number) history) (standing_in history)
 all-served [] = tt
 all-served (d ∷ past) =
-    All-standing (λ s. s.service ≡ told → Somewhere (Serves s.number) past) (λ s. s.service ≡ told → Somewhere (Serves s.number) (d ∷ past)) d.entry.report.outcome d.act d.entry.bytes (standing_in past)
-    (λ v x one is e. absurd cc)
+    All-standing (λ s. s.service ≡ told → Somewhere (Serves s.number) past) (λ s. s.service ≡ told → Somewhere (Serves s.number) (d ∷ past)) d.entry.report.outcome d.act d.entry.event d.entry.bytes (standing_in past)
+    (λ client came v x brings one is e. absurd cc)
     (λ v is con act s h same e. record { place = here past d; is_there = inl refl; holds = record { act = act ∙ ap serves (sym same); outcome = is } })
     (λ s h stays e. served-later d (h e))
     (all-served past)

@@ -10,8 +10,9 @@ use Rattle.coap_forward.specs.Messages.{token_of}
 use Rattle.coap_model.specs.declared.report.Outcome.{Outcome}
 use Rattle.coap_model.specs.declared.report.Outcome.TheVariants.{Opened, Answered, Acked, SentRequest, GaveUp, Delivered}
 use Rattle.coap_model.specs.Setting.{Setting}
+use Rattle.coap_model.specs.Events.{Event, arrival, tick}
 use Rattle.coap_model.specs.History.{Act, admits, moves, Deed, Place, IsPlaceOf, Never, opened_in, ends, Sends, Ends}
-use Rattle.coap_model.specs.Standing.{Standing, Stage, queued, sent, acked, done, Open, staged, waits_for, awaited, open_by, open_in, standing_in, stage_of}
+use Rattle.coap_model.specs.Standing.{Standing, Stage, queued, sent, acked, done, Open, staged, waits_for, awaited, open_since, open_by, open_in, standing_in, stage_of}
 use Rattle.coap_model.specs.Justified.{IsOpening, IsSettled, Settles, a_request, an_answer, IsForwarding, IsGivingUp, overdue, unheard, unacknowledged, JustifiedBy, AllJustified}
 use Rattle.coap_model.proofs.Lists.{find-holds, All-filter}
 use Rattle.coap_model.proofs.Places.{here, same_moves, same_admits, never-from, justified-at, opened-number}
@@ -36,27 +37,31 @@ All-staged P Q x stage (o ∷ xs) this others all = (go (o.number == x) refl, Al
 -- What held of all open exchanges holds, as they change, of all after a deed: of a new one, of the
 -- one that is sent, of the one that is acknowledged, of the one that ends, and of each one that the
 -- deed leaves as it is.
-pub All-open : (P Q : Open → Type 0) (o : Outcome) (act : Act) (send : Option Endpoint) (standing : List Standing) (xs : List Open)
-    → ((v x : ℕ) → o ≡ Opened → act ≡ admits v x → Q (record { number = x; stage = queued }))
+pub All-open : (P Q : Open → Type 0) (o : Outcome) (act : Act) (event : Event) (send : Option Endpoint) (standing : List Standing) (xs : List Open)
+    → ((client : Endpoint) (came : List ℕ) (v x : ℕ) → event ≡ arrival client came → o ≡ Opened → act ≡ admits v x → Q (record { number = x; client = client; stage = queued }))
     → ((x : ℕ) (to : Endpoint) → o ≡ SentRequest → act ≡ moves x → send ≡ Some to → (q : Open) → P q → q.number ≡ x → Q (record q { stage = sent to }))
     → ((x : ℕ) → o ≡ Acked → act ≡ moves x → (q : Open) → P q → q.number ≡ x → Q (record q { stage = acked }))
     → ((x : ℕ) → ends o ≡ true → act ≡ moves x → (q : Open) → P q → q.number ≡ x → Q (record q { stage = done }))
     → ((q : Open) → P q → (((o ≡ SentRequest) × (send ≢ None)) ⊎ (ends o ≡ true) → act ≢ moves q.number) → Q q)
-    → AllByRecursion P xs → AllByRecursion Q (open_by o act send standing xs)
-All-open P Q Opened (admits v x) send standing xs new sending acking ending others all =
-    All-append Q xs _ (All-weaken P Q xs (λ q h. others q h (λ either same. cc)) all) (new v x refl refl, tt)
-All-open P Q SentRequest (moves x) None standing xs new sending acking ending others all = All-weaken P Q xs (λ q h. others q h (λ either same. ⊎_elim (λ e. e.1 refl) (λ e. cc) either)) all
-All-open P Q SentRequest (moves x) (Some to) standing xs new sending acking ending others all =
+    → AllByRecursion P xs → AllByRecursion Q (open_by o act event send standing xs)
+All-open P Q Opened (admits v x) event send standing xs new sending acking ending others all =
+    All-append Q xs (open_since event x) (All-weaken P Q xs (λ q h. others q h (λ either same. cc)) all) (since event refl)
+  where
+    since : (f : Event) → event ≡ f → AllByRecursion Q (open_since f x)
+    since (arrival source came) brings = (new source came v x brings refl refl, tt)
+    since tick brings = tt
+All-open P Q SentRequest (moves x) event None standing xs new sending acking ending others all = All-weaken P Q xs (λ q h. others q h (λ either same. ⊎_elim (λ e. e.1 refl) (λ e. cc) either)) all
+All-open P Q SentRequest (moves x) event (Some to) standing xs new sending acking ending others all =
     All-staged P Q x (sent to) xs (sending x to refl refl refl) (λ q h other. others q h (λ either same. other (sym (same_moves x q.number same)))) all
-All-open P Q Acked (moves x) send standing xs new sending acking ending others all =
+All-open P Q Acked (moves x) event send standing xs new sending acking ending others all =
     All-staged P Q x acked xs (acking x refl refl) (λ q h other. others q h (λ either same. other (sym (same_moves x q.number same)))) all
-All-open P Q (Answered s) (moves x) send standing xs new sending acking ending others all =
+All-open P Q (Answered s) (moves x) event send standing xs new sending acking ending others all =
     All-staged P Q x done xs (ending x refl refl) (λ q h other. others q h (λ either same. other (sym (same_moves x q.number same)))) all
-All-open P Q GaveUp (moves x) send standing xs new sending acking ending others all =
+All-open P Q GaveUp (moves x) event send standing xs new sending acking ending others all =
     All-staged P Q x done xs (ending x refl refl) (λ q h other. others q h (λ either same. other (sym (same_moves x q.number same)))) all
-All-open P Q Delivered act send standing xs new sending acking ending others all =
+All-open P Q Delivered act event send standing xs new sending acking ending others all =
     All-awaited Q standing xs (All-weaken P Q xs (λ q h. others q h (λ either same. ⊎_elim (λ e. let f = e.0 in cc) (λ e. cc) either)) all)
-All-open P Q _ _ send standing xs new sending acking ending others all =
+All-open P Q _ _ event send standing xs new sending acking ending others all =
     All-weaken P Q xs (λ q h. others q h (λ either same. ⊎_elim (λ e. let f = e.0 in cc) (λ e. cc) either)) all
 
 -- the property of an exchange that has a stage
@@ -82,8 +87,8 @@ stage-holds P x stage history all e = go (find (λ (q : Open). q.number == x) (o
 pub open-numbers : (setting : Setting) (history : List Deed) → AllJustified setting history → AllByRecursion (λ o. o.number ≤ opened_in history) (open_in history)
 open-numbers setting [] all = tt
 open-numbers setting (d ∷ past) all =
-    All-open (λ o. o.number ≤ opened_in past) (λ o. o.number ≤ opened_in (d ∷ past)) d.entry.report.outcome d.act d.entry.report.send (standing_in (d ∷ past)) (open_in past)
-    (λ v x is act. new v x is act)
+    All-open (λ o. o.number ≤ opened_in past) (λ o. o.number ≤ opened_in (d ∷ past)) d.entry.report.outcome d.act d.entry.event d.entry.report.send (standing_in (d ∷ past)) (open_in past)
+    (λ client came v x brings is act. new v x is act)
     (λ x to is act sent_to q h same. omega (arith, h))
     (λ x is act q h same. omega (arith, h))
     (λ x is act q h same. omega (arith, h))
@@ -187,10 +192,10 @@ sent-come setting history x to all come stage =
 pub all-come : (setting : Setting) (history : List Deed) → AllJustified setting history → AllByRecursion (HasCome setting.salt history) (open_in history)
 all-come setting [] all = tt
 all-come setting (d ∷ past) all =
-    All-open (HasCome setting.salt past) (HasCome setting.salt (d ∷ past)) d.entry.report.outcome d.act d.entry.report.send (standing_in (d ∷ past)) (open_in past) new (sending (all-come setting past all.1)) (acking (all-come setting past all.1)) ending others (all-come setting past all.1)
+    All-open (HasCome setting.salt past) (HasCome setting.salt (d ∷ past)) d.entry.report.outcome d.act d.entry.event d.entry.report.send (standing_in (d ∷ past)) (open_in past) new (sending (all-come setting past all.1)) (acking (all-come setting past all.1)) ending others (all-come setting past all.1)
   where
-    new : (v x : ℕ) → d.entry.report.outcome ≡ Opened → d.act ≡ admits v x → HasCome setting.salt (d ∷ past) (record { number = x; stage = queued })
-    new v x is act =
+    new : (client : Endpoint) (came : List ℕ) (v x : ℕ) → d.entry.event ≡ arrival client came → d.entry.report.outcome ≡ Opened → d.act ≡ admits v x → HasCome setting.salt (d ∷ past) (record { number = x; client = client; stage = queued })
+    new client came v x brings is act =
         let j : IsOpening setting past d = subst (λ (o : Outcome). JustifiedBy o setting past d) is all.0 in
         let number = (same_admits v _ x _ (sym act ∙ j.act)).1 in
         record {

@@ -78,7 +78,7 @@ awaited-told w now source m (Some x) = answers-told w now source m x
 separate-told : (w : World) (now : ℕ) (source : Endpoint) (m : Message) (o : Option (Numbered Exchange)) → IsTold (λ grown. on_separate w now grown source m o)
 separate-told w now source m None = λ grown. refl
 separate-told w now source m (Some x) =
-    either (has_record_room w now m.kind) (λ grown. remembers now source m (answers w now grown source m x)) (λ grown. drops w now)
+    either (has_record_room w now source m.kind) (λ grown. remembers now source m (answers w now grown source m x)) (λ grown. drops w now)
     (remembered-told now source m (λ grown. answers w now grown source m x) (answers-told w now source m x)) (λ grown. refl)
 
 -- a Confirmable response that may be known

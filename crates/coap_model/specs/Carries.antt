@@ -36,7 +36,7 @@ use Rattle.coap_model.specs.Schedules.{IsSchedule, oldest, sends_by}
 use Rattle.coap_model.specs.History.{Entry, Act, moves, serves, Deed, told_by, Place, index, IsPlaceOf, Never, Somewhere, opened_in, admitted_in, ids_in, Opens, Admits, Sends, Serves, Asks, Ends, WasOpened, WasAdmitted, last_of, IsInOrder, AreIds}
 use Rattle.coap_model.specs.Changed.{IsTold}
 use Rattle.coap_model.specs.Cached.{Cached, kept_for, copied, IsCacheOf, WasCacheAt, IsStoreOf}
-use Rattle.coap_model.specs.Remembered.{most_remembered, remembered_at, remembered_for}
+use Rattle.coap_model.specs.Remembered.{most_of_client, most_remembered, remembered_at, remembered_for}
 use Rattle.coap_model.specs.Justified.{verdict_on, EndsWith, AllJustified}
 
 -- ---- the clock, the numbers and the ids
@@ -70,14 +70,20 @@ stage_at at Acked = acked
 stage_at at (Done a) = done
 
 abbrev pub stage_seen : Numbered Exchange → Open
-stage_seen x = record { number = x.0; stage = stage_at x.1.key.target.at x.1.state }
+stage_seen x =
+    record {
+      number = x.0;
+      client = x.1.client;
+      stage = stage_at x.1.key.target.at x.1.state;
+    }
 
 abbrev pub service_in : WaiterState → Service
 service_in (Waiting exchange) = waits exchange
 service_in (Delivering bytes id timer) = told
 
 abbrev pub standing_seen : Numbered Waiter → Standing
-standing_seen v = record { number = v.0; service = service_in v.1.state }
+standing_seen v =
+    record { number = v.0; client = v.1.client; service = service_in v.1.state }
 
 abbrev pub HasNumber : {A : Type 0} → ℕ → List (Numbered A) → Type 0
 HasNumber n [] = ⊥
@@ -202,6 +208,7 @@ form_id (Some s) = s.id
 pub record IsExchangeOf
     (setting : Setting) (history : List Deed) (x : Numbered Exchange) : Type 0 where
   pub opened : WasOpened setting history x.0
+  pub client_is : x.1.client ≡ opened.client
   pub admitted : x.1.admitted ≡ opened.opening.deed.entry.now
   pub verdict : verdict_on setting opened.request ≡ may_ask x.1.key
   pub method : x.1.is_get ≡ is_get opened.request.code
@@ -292,7 +299,7 @@ AreSchedules history = (act : Act) → IsSchedule (sends_by act history)
 
 -- ---- the messages that are remembered
 
--- The living records are those that the history implies, and they are within their limit.
+-- The living records are those that the history implies, and they are within their limits.
 pub record AreRemembered
     (setting : Setting) (history : List Deed) (kind : Kind) (records : Records)
     : Type 0 where
@@ -301,6 +308,7 @@ pub record AreRemembered
       → last_of history ≤ now
       → living_at now records ≡ remembered_at kind now history
   pub limit : records.limit ≡ most_remembered kind setting.limits
+  pub per_client : records.per_client ≡ most_of_client kind setting.limits
   pub lifetime : records.lifetime ≡ remembered_for kind
   pub are : AreRecords records
   pub until : AreUpTo (last_of history) records.items

@@ -13,7 +13,7 @@ ghost use Rattle.coap_model.specs.Keys.{request_key};
 ghost use Rattle.coap_model.specs.Verdicts.{refusal_of};
 ghost use Rattle.coap_forward.specs.Answers.{answer_of, bad_gateway, greatest_max_age};
 ghost use Rattle.coap_model.specs.Events.{tick};
-ghost use Rattle.coap_model.specs.World.{counts};
+ghost use Rattle.coap_model.specs.World.{client_counts, counts};
 ghost use Rattle.coap_message.specs.declared.code.TheConstants.Code.{BAD_REQUEST, NOT_FOUND};
 ghost use Rattle.coap_message.specs.Uint.{uint_spelling};
 ghost use Rattle.coap_target.specs.declared.error.TargetError.TheVariants.{OutOfMemory};
@@ -31,14 +31,15 @@ ghost use Rattle.coap_model.specs.DuplicateExamples.{con_u, con_not_found, twice
 ghost use Rattle.coap_model.specs.ReliableExamples.{hasty_proxy, patient_proxy, silent_origin, longest_waits, silence_sent, late_ticks, late_ticks_sent, first_again_at, again_in_time, too_late, after_the_last, after_the_last_sent, answered_later, answered_later_sent, deadline, deadline_sent, sent_late, never_sent, never_sent_sent, blocked, blocked_sent, turn_of_the_second, turn_of_the_second_sent, after_the_end, after_the_end_sent, one_at_a_time, one_at_a_time_sent, two_at_a_time, two_at_a_time_sent, two_origins, two_origins_sent, next_window, next_window_sent, over_the_edge, over_the_edge_sent, again_without_id, again_without_id_sent, spent_with_cache, hit_without_id, hit_without_id_sent, greatest_id, after_the_greatest, after_the_greatest_sent, sent_twice, then_answered, history_of, two_windows};
 ghost use Rattle.coap_model.specs.ResponseExamples as responses;
 ghost use Rattle.coap_model.specs.ResponseExamples.{empty_ack, empty_reset, con_got, non_got, acked_as, comes, becomes, taken, ignored, acknowledged_until, silence_after, of_others, of_others_sent, reset_by_origin, reset_by_origin_sent, reset_after, reset_after_sent, con_response, con_response_sent, non_response, non_response_sent, before_acknowledgement, before_acknowledgement_sent, block_in_separate, block_in_separate_sent, of_impostors, of_impostors_sent, after_giving_up, after_giving_up_sent, no_room, no_room_sent, no_room_needed, no_room_needed_sent, lets_go, lets_go_sent, response, request, is_awaited, queued_turns, sent_turns, acked_turns, answered_turns, opened_acting, sent_acting, acked_acting, reset_acting, got_acting, served_acting, non_acting, record_of_response};
+ghost use Rattle.coap_model.specs.ClientExamples as clients;
 ghost use Rattle.coap_model.specs.JoiningExamples as joining;
 ghost use Rattle.coap_model.specs.ConfirmableExamples as confirmable;
 ghost use Rattle.coap_model.specs.ChangeExamples as changes;
-ghost use Rattle.coap_model.specs.Standing.{waits, queued, sent, acked, done, stage_of, outstanding_to, queued_in, window_ids, open_in, standing_in, service_of, waiting_in, told};
+ghost use Rattle.coap_model.specs.Standing.{exchanges_of, waiters_of, waits, queued, sent, acked, done, stage_of, outstanding_to, queued_in, window_ids, open_in, standing_in, service_of, waiting_in, told};
 ghost use Rattle.coap_model.specs.Schedules.{sends_by, next_send};
 ghost use Rattle.coap_model.specs.Held.{target_bytes, held, most_held};
 ghost use Rattle.coap_model.specs.LimitExamples.{get_u, not_found, got, one_exchange, one_waiter, two_at_once, until_served, until_served_sent, retries_after, two_requests, second_is_told, narrow, long_datagrams, long_datagrams_sent, later_proxy, counted_on, counted_on_sent, after_ids, last_refusal, last_refusal_sent, kept_ids, kept_ids_sent};
-ghost use Rattle.coap_model.specs.Remembered.{remembered_at, is_remembered};
+ghost use Rattle.coap_model.specs.Remembered.{most_of_client, remembered_at, remembered_of, is_remembered};
 
 /// Runs of the step, computed on the definitions.
 pub fn runs()
@@ -76,6 +77,55 @@ pub fn limits()
     ensures counted_on { play later_proxy counted_on ≡ counted_on_sent }
     ensures last_refusal { play (after_ids 32767) last_refusal ≡ last_refusal_sent }
     ensures kept_ids { play (after_ids 32766) kept_ids ≡ kept_ids_sent }
+{}
+
+/// Limits for one client, computed: what counts for which client and until when, and what other
+/// clients may do meanwhile.
+pub fn limits_of_clients()
+    ensures one_each { play clients.two_exchanges clients.one_each ≡ clients.one_each_sent }
+    ensures two_of_one { play (clients.exchanges_of_one 2) clients.two_of_one
+        ≡ clients.two_of_one_sent }
+    ensures until_closed { play (clients.exchanges_of_one 1) clients.until_closed
+        ≡ clients.until_closed_sent }
+    ensures one_at_all { play clients.one_for_all clients.one_at_all ≡ clients.one_at_all_sent }
+    ensures one_waits { play (clients.waiters_of_one 1) clients.one_waits
+        ≡ clients.one_waits_sent }
+    ensures until_acknowledged { play (clients.waiters_of_one 1) clients.until_acknowledged
+        ≡ clients.until_acknowledged_sent }
+    ensures one_record_each { play (clients.records_of_one 1) clients.one_record_each
+        ≡ clients.one_record_each_sent }
+    ensures one_of_each_type { play (clients.records_of_one 1) clients.one_of_each_type
+        ≡ clients.one_of_each_type_sent }
+    ensures of_the_origin { play (clients.records_of_one 1) clients.of_the_origin
+        ≡ clients.of_the_origin_sent }
+    ensures counted { client_counts (after clients.two_exchanges clients.one_each) (client 1)
+        ≡ record { con_records = 0; non_records = 3; exchanges = 1; waiters = 2 } }
+    ensures of_another { client_counts (after clients.two_exchanges clients.one_each) (client 3)
+        ≡ record { con_records = 0; non_records = 1; exchanges = 0; waiters = 0 } }
+    ensures of_an_origin { client_counts (after (clients.records_of_one 1) clients.of_the_origin)
+        origin
+        ≡ record { con_records = 1; non_records = 0; exchanges = 0; waiters = 0 } }
+    ensures until_expired { (client_counts
+        (after (clients.records_of_one 1)
+        (from 0 (client 1) (con_u 1) ∷ tick_at 246999 ∷ []))
+        (client 1)).con_records
+        ≡ 1 }
+    ensures expired { (client_counts
+        (after (clients.records_of_one 1)
+        (from 0 (client 1) (con_u 1) ∷ tick_at 247000 ∷ []))
+        (client 1)).con_records
+        ≡ 0 }
+    ensures con_limit { most_of_client Con (record default_limits { client_con_records = 7 }) ≡ 7 }
+    ensures non_limit { most_of_client Non (record default_limits { client_non_records = 8 })
+        ≡ 8 }
+    ensures opened_once { exchanges_of (client 1) clients.one_each_deeds ≡ 1 }
+    ensures opened_too { exchanges_of (client 2) clients.one_each_deeds ≡ 1 }
+    ensures opened_none { exchanges_of (client 3) clients.one_each_deeds ≡ 0 }
+    ensures waits_twice { waiters_of (client 1) clients.one_each_deeds ≡ 2 }
+    ensures waits_once { waiters_of (client 2) clients.one_each_deeds ≡ 1 }
+    ensures remembered { remembered_of (client 1) Non 144999 clients.one_each_deeds ≡ 3 }
+    ensures forgotten { remembered_of (client 1) Non 145000 clients.one_each_deeds ≡ 0 }
+    ensures none_of_that_type { remembered_of (client 1) Con 0 clients.one_each_deeds ≡ 0 }
 {}
 
 /// What clients are sent, computed for edge cases of definitions that the step and the history
@@ -431,7 +481,7 @@ pub fn joining()
     ensures one_open { length (open_in (history_of joining.queued_acting)) ≡ 1 }
     ensures two_stand { length (standing_in (history_of joining.queued_acting)) ≡ 2 }
     ensures one_stands { standing_in (history_of joining.one_left_acting)
-        ≡ record { number = 3; service = waits 1 } ∷ [] }
+        ≡ record { number = 3; client = client 3; service = waits 1 } ∷ [] }
     ensures is_open { stage_of 1 (history_of joining.one_left_acting) ≡ Some done }
     ensures none_stands { standing_in (history_of joining.none_left_acting) ≡ [] }
     ensures is_closed { stage_of 1 (history_of joining.none_left_acting) ≡ None }

@@ -12,7 +12,7 @@ ghost use Rattle.coap_model.specs.Keys.{key_sent};
 ghost use Rattle.coap_model.specs.Verdicts.{may_ask};
 ghost use Rattle.coap_forward.specs.Answers.{left_of};
 ghost use Rattle.coap_model.specs.Events.{tick, arrival, Event, IsEvent};
-ghost use Rattle.coap_model.specs.World.{counts, World, new_world};
+ghost use Rattle.coap_model.specs.World.{client_counts, counts, World, new_world};
 ghost use Rattle.coap_model.specs.Ticks.{next_due};
 ghost use Rattle.coap_model.specs.History.{Act, no_item, serves, takes, opened_in, Deed, Place, IsPlaceOf, Somewhere, Sends, Ends, Serves, LetsGo, Never, last_of, IsInOrder, IsRequestOf, Entry, grown_of, gives_id, ids_in, Gives};
 ghost use Rattle.coap_forward.specs.Messages.{told_again, brings_requests, acknowledgement};
@@ -20,7 +20,7 @@ ghost use Rattle.coap_model.specs.Justified.{HaveOneMemory, Comes, known_of, Has
 ghost use Rattle.coap_model.specs.Runs.{turns_of, AreTurns, Taken, new_run, run_of, entry_of, answer_at};
 ghost use Rattle.coap_model.specs.Examples.{nothing, to, from, client, proxy, changed, content_for_client};
 ghost use Rattle.coap_model.specs.ResponseExamples.{comes, taken, no_room, response, request};
-ghost use Rattle.coap_model.specs.Standing.{waits, sent, done, outstanding_to, HasRoomToJoin, HasRoomToOpen, open_in, standing_in, told};
+ghost use Rattle.coap_model.specs.Standing.{waits, sent, done, outstanding_to, exchanges_of, waiters_of, HasOwnRoomToJoin, HasOwnRoomToOpen, HasSharedRoomToJoin, HasSharedRoomToOpen, HasRoomToJoin, HasRoomToOpen, open_in, standing_in, told};
 ghost use Rattle.coap_model.specs.Schedules.{sends_by, IsSchedule};
 ghost use Rattle.coap_model.specs.Held.{bytes_held, held, most_held};
 ghost use Rattle.coap_model.specs.Ranges.{AreInRange};
@@ -34,7 +34,8 @@ ghost use Rattle.coap_target.specs.Routes.{AreRoutes};
 ghost use Rattle.coap_dedup.specs.declared.record.Record.{Record};
 ghost use Rattle.coap_option.specs.declared.side.Side.{Side};
 ghost use Rattle.coap_option.specs.Screening.{first_refused};
-ghost use Rattle.coap_model.specs.Remembered.{remembered_at};
+ghost use Rattle.coap_model.specs.Remembered.{remembered_at, remembered_of};
+ghost use Rattle.coap_model.specs.Shares.{LeavesRoom};
 ghost use Rattle.coap_model.specs.Duplicates.{IsRememberedAt, Repeats};
 ghost use Rattle.coap_model.specs.Due.{IsDueAt, IsNextDue};
 ghost use Rattle.coap_model.specs.Forged as forged;
@@ -186,22 +187,39 @@ pub fn counts_are_of_the_history()
         → (counts w).non_records ≡ length (remembered_at Non w.last deeds) }
 {}
 
+/// The same for what is one endpoint's: open exchanges count for the client that opened them,
+/// pending requests for the client that sent them, and remembered messages for their source.
+pub fn client_counts_are_of_the_history()
+    ensures exchanges { (deeds : List Deed) (w : World) (client : Endpoint)
+        → Bears deeds w
+        → (client_counts w client).exchanges ≡ exchanges_of client deeds }
+    ensures waiters { (deeds : List Deed) (w : World) (client : Endpoint)
+        → Bears deeds w
+        → (client_counts w client).waiters ≡ waiters_of client deeds }
+    ensures con_records { (deeds : List Deed) (w : World) (from : Endpoint)
+        → Bears deeds w
+        → (client_counts w from).con_records ≡ remembered_of from Con w.last deeds }
+    ensures non_records { (deeds : List Deed) (w : World) (from : Endpoint)
+        → Bears deeds w
+        → (client_counts w from).non_records ≡ remembered_of from Non w.last deeds }
+{}
+
 /// A proxy that carries a history keeps this promise about it: each entry is justified by the
 /// entries before it, each waiter is served at most once, Message IDs count up and none is reused
 /// within 247 seconds, each message is sent by its schedule, at most `nstart` requests to one
-/// endpoint are outstanding, and exchanges, waiters, records, the store and the bytes held are
-/// within their limits.
+/// endpoint are outstanding, exchanges, waiters and records are within their shared and client
+/// limits, and the store and the bytes held are within their limits.
 pub fn what_is_carried_is_promised()
     ensures promised { (history : List Entry) (w : World) → Carries history w → Promised history w }
 {}
 
 /// The promise in short. A proxy keeps its promise for any history that it carries, at each place
 /// of it: pending exchanges, waiting clients, remembered messages and the cache are within their
-/// limits; each reply from the cache is a response that was received for an equal key, only renewed
-/// by later validations, fresh, with its Max-Age reduced by its age, and with a target that wasn't
-/// changed since it was requested; and each message that repeats one within its lifetime gets the
-/// kept reply again. So does a new proxy, whatever datagrams and ticks come at moments that never
-/// decrease.
+/// shared and client limits; each reply from the cache is a response that was received for an equal
+/// key, only renewed by later validations, fresh, with its Max-Age reduced by its age, and with a
+/// target that wasn't changed since it was requested; and each message that repeats one within its
+/// lifetime gets the kept reply again. So does a new proxy, whatever datagrams and ticks come at
+/// moments that never decrease.
 pub fn the_word_is_kept()
     ensures carried { (history : List Entry) (w : World)
         → Carries history w
@@ -211,6 +229,32 @@ pub fn the_word_is_kept()
         → AreTurns 0 (turns_of turns)
         → KeepsItsWord (run_of (new_run setting) turns).history
         (run_of (new_run setting) turns).world }
+{}
+
+/// One client doesn't use up the room of the others. In any history that a proxy carries, a message
+/// of an endpoint that is below its own limits is dropped, or gets 5.03, only if a limit that all
+/// clients share is reached, or if Message IDs are short; and if few enough endpoints have sent
+/// anything that the limits for one of them, added up, are no more than the shared ones, then only
+/// if Message IDs are short. So it is for a new proxy, whatever datagrams and ticks come at moments
+/// that never decrease. What an entry lacked is stated exactly by what justifies it: room of its
+/// own or shared room.
+pub fn one_client_leaves_room_for_others()
+    ensures carried { (history : List Entry) (w : World)
+        → Carries history w
+        → LeavesRoom history w }
+    ensures run { (setting : Setting) (turns : List Taken)
+        → AreRoutes setting.routes
+        → AreTurns 0 (turns_of turns)
+        → LeavesRoom (run_of (new_run setting) turns).history
+        (run_of (new_run setting) turns).world }
+    ensures to_join { (setting : Setting) (past : List Deed) (now : ℕ) (client : Endpoint)
+        → HasOwnRoomToJoin setting.limits client past
+        → HasSharedRoomToJoin setting.limits now past
+        → HasRoomToJoin setting.limits now client past }
+    ensures to_open { (setting : Setting) (past : List Deed) (now : ℕ) (client : Endpoint)
+        → HasOwnRoomToOpen setting.limits client past
+        → HasSharedRoomToOpen setting.limits now past
+        → HasRoomToOpen setting.limits now client past }
 {}
 
 /// What is promised, place by place: each deed is justified by those before it, isn't earlier than
@@ -264,6 +308,18 @@ pub fn what_is_promised_holds_at_each_place()
     ensures non_records { (history : List Entry) (w : World)
         → Promised history w
         → (counts w).non_records ≤ w.setting.limits.non_records }
+    ensures client_exchanges { (history : List Entry) (w : World) (client : Endpoint)
+        → Promised history w
+        → (client_counts w client).exchanges ≤ w.setting.limits.client_exchanges }
+    ensures client_waiters { (history : List Entry) (w : World) (client : Endpoint)
+        → Promised history w
+        → (client_counts w client).waiters ≤ w.setting.limits.client_waiters }
+    ensures client_con_records { (history : List Entry) (w : World) (from : Endpoint)
+        → Promised history w
+        → (client_counts w from).con_records ≤ w.setting.limits.client_con_records }
+    ensures client_non_records { (history : List Entry) (w : World) (from : Endpoint)
+        → Promised history w
+        → (client_counts w from).non_records ≤ w.setting.limits.client_non_records }
     ensures held { (history : List Entry) (w : World)
         → Promised history w
         → held w ≤ most_held w.setting.limits }
@@ -287,7 +343,7 @@ pub fn what_is_owed_is_given_at_each_place()
         → IsPlaceOf p.deeds place
         → IsRequestOf w.setting client request place.deed.entry.event
         → known_of place.before place.deed.entry.now client request ≡ None
-        → ¬ HasRecordRoom w.setting place.before place.deed.entry.now request
+        → ¬ HasRecordRoom w.setting place.before place.deed.entry.now client request
         → place.deed.entry.report.outcome ≡ NoRecordRoom }
     ensures no_answer_room { (history : List Entry) (w : World) (p : Promised history w)
         (place : Place) (exchange : ℕ)
@@ -297,7 +353,8 @@ pub fn what_is_owed_is_given_at_each_place()
         → awaited.meets.message.kind ≡ Con
         → known_of place.before place.deed.entry.now awaited.meets.asks.sends.to
         awaited.meets.message ≡ None
-        → ¬ HasRecordRoom w.setting place.before place.deed.entry.now awaited.meets.message
+        → ¬ HasRecordRoom w.setting place.before place.deed.entry.now
+        awaited.meets.asks.sends.to awaited.meets.message
         → place.deed.entry.report.outcome ≡ NoRecordRoom }
     ensures hit { (history : List Entry) (w : World) (p : Promised history w) (place : Place)
         (client : Endpoint) (request : Message) (key : CacheKey) (cached : List Cached)
@@ -388,7 +445,7 @@ pub fn what_is_owed_is_given()
         → verdict_on setting request ≡ may_ask key
         → IsUnanswered setting past d.entry.now key request
         → fits_on setting key request ≡ true
-        → HasRoomToOpen setting.limits d.entry.now past
+        → HasRoomToOpen setting.limits d.entry.now client past
         → d.entry.report.outcome ≡ Opened }
     ensures joined { (setting : Setting) (past : List Deed) (d : Deed) (client : Endpoint)
         (request : Message)
@@ -400,7 +457,7 @@ pub fn what_is_owed_is_given()
         → verdict_on setting request ≡ may_ask key
         → IsMiss setting past key d.entry.now
         → IsJoinable setting past key exchange
-        → HasRoomToJoin setting.limits d.entry.now past
+        → HasRoomToJoin setting.limits d.entry.now client past
         → d.entry.report.outcome ≡ Joined }
     ensures answered { (setting : Setting) (past : List Deed) (d : Deed) (exchange : ℕ)
         (awaited : IsAwaited setting past d.entry.now exchange d.entry.event)
@@ -421,7 +478,8 @@ pub fn what_is_owed_is_given()
         → JustifiedBy d.entry.report.outcome setting past d
         → awaited.meets.message.kind ≡ Con
         → known_of past d.entry.now awaited.meets.asks.sends.to awaited.meets.message ≡ None
-        → ¬ HasRecordRoom setting past d.entry.now awaited.meets.message
+        → ¬ HasRecordRoom setting past d.entry.now awaited.meets.asks.sends.to
+        awaited.meets.message
         → d.entry.report.outcome ≡ NoRecordRoom }
     ensures rejected { (setting : Setting) (past : List Deed) (d : Deed) (source : Endpoint)
         (bytes : List ℕ)

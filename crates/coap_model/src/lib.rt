@@ -16,4 +16,4 @@ mod report;
 
 pub use coap_limits::{Limit, LimitError, LimitValues, Limits};
 pub use due::DueItem;
-pub use report::{Counts, Outcome, Report, Storing};
+pub use report::{ClientCounts, Counts, Outcome, Report, Storing};

@@ -72,3 +72,13 @@ pub struct Counts {
     pub exchanges: u64,
     pub waiters: u64,
 }
+
+/// How much of what a proxy holds is an endpoint's: duplicate records of its messages, exchanges
+/// that it opened, and its pending requests. Expired records don't count.
+#[derive(Clone, Copy, Debug, PartialEq, Eq)]
+pub struct ClientCounts {
+    pub con_records: u64,
+    pub non_records: u64,
+    pub exchanges: u64,
+    pub waiters: u64,
+}

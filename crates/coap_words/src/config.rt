@@ -11,7 +11,7 @@ ghost use Rattle.coap_words.specs.declared.config_error.ConfigError.TheVariants 
 use crate::config_error::{ConfigError, KeyName};
 use crate::limit_table::read_limits;
 use crate::lists::{read_hosts, read_maps, read_names};
-use crate::tables::{Place, bad_value, check_keys, member};
+use crate::tables::{Place, Version, bad_value, check_keys, member};
 use coap_limits::Limits;
 use coap_target::{RouteError, Routes};
 use std::alloc::Global;
@@ -33,9 +33,10 @@ pub struct Config {
 
 /// Reads a configuration, whose bytes are TOML:
 ///
-/// - `version`, which must be present and be 1;
+/// - `version`, which must be present and be 1 or 2;
 /// - `names`, a list of texts;
-/// - `limits`, a table with a number for each limit that differs from its default;
+/// - `limits`, a table with a number for each limit that differs from its default; in version 2
+///   with limits for one client, which in version 1 are the shared ones;
 /// - `hosts`, a table with an address for each name;
 /// - `map`, a list of tables with a `prefix` and an `origin`.
 ///
@@ -75,10 +76,10 @@ fn read_document(alloc: Global, text: &[u8]) -> Result<Table, ConfigError>
 fn read_table(alloc: Global, table: &Table) -> Result<Config, ConfigError>
     ensures { Says seen errors.OutOfMemory result (spec.table_said (table_view table.now)) }
 {
-    check_version(alloc, member(table, "version"))?;
+    let version = read_version(alloc, member(table, "version"))?;
     check_keys(alloc, Place::Top, table)?;
     let names = read_names(alloc, member(table, "names"))?;
-    let limits = read_limits(alloc, member(table, "limits"))?;
+    let limits = read_limits(alloc, version, member(table, "limits"))?;
     let hosts = read_hosts(alloc, member(table, "hosts"))?;
     let maps = read_maps(alloc, member(table, "map"))?;
     Ok(Config {
@@ -89,30 +90,30 @@ fn read_table(alloc: Global, table: &Table) -> Result<Config, ConfigError>
     })
 }
 
-/// Checks that the version is present, and is 1.
-fn check_version(alloc: Global, said: Option<&Value>) -> Result<(), ConfigError>
+/// The version, which must be present, and be 1 or 2.
+fn read_version(alloc: Global, said: Option<&Value>) -> Result<Version, ConfigError>
     ensures { Answers errors.OutOfMemory result
-        (spec.version_checked (option_map (λ value. view value.now) said.entry)) }
+        (spec.version_said (option_map (λ value. view value.now) said.entry)) }
 {
     let Some(said) = said else {
         return Err(ConfigError::Key {
             name: KeyName::new(alloc, "version")?,
         });
     };
-    if is_one(said) {
-        Ok(())
-    } else {
-        Err(bad_value(alloc, "version"))
+    match version_of(said) {
+        Some(version) => Ok(version),
+        None => Err(bad_value(alloc, "version")),
     }
 }
 
-/// Whether a value is the number 1.
-fn is_one(value: &Value) -> bool
-    ensures { result ≡ spec.is_one (view value.now) }
+/// The version that a value is, if it is one.
+fn version_of(value: &Value) -> Option<Version>
+    ensures { result ≡ spec.version_of (view value.now) }
 {
     match value.as_integer() {
-        Some(number) => number == 1,
-        None => false,
+        Some(1) => Some(Version::One),
+        Some(2) => Some(Version::Two),
+        _ => None,
     }
 }
 

@@ -6,9 +6,9 @@ ghost use Rattle.coap_target.specs.declared.error.RouteError.TheVariants as rout
 ghost use Rattle.coap_endpoint.specs.declared.endpoint.Ip.TheVariants.{V4};
 ghost use Rattle.toml.specs.Data.{integer, string};
 ghost use Rattle.toml.specs.Parse.{parse_document};
-ghost use Rattle.coap_words.specs.Config.{holding, routes_checked, sending, table_said};
-ghost use Rattle.coap_limits.specs.Limits.{all_limits};
-ghost use Rattle.coap_words.specs.Examples.{greatest, least, list, nothing, number, said_limits, said_maps, said_with, table_of, tree, version_1};
+ghost use Rattle.coap_words.specs.Config.{for_a_client, holding, limits_in, routes_checked, sending, table_said};
+ghost use Rattle.coap_limits.specs.Limits.{all_limits, default_limits, limits_per_client, without_client_limits};
+ghost use Rattle.coap_words.specs.Examples.{greatest, least, list, nothing, nothing_2, number, said_limits, said_limits_2, said_maps, said_with, table_of, tree, version_1, version_2};
 ghost use Rattle.coap_words.specs.LocalAddress.{local_address_of};
 ghost use Rattle.coap_words.specs.MapOption.{map_option_of};
 ghost use Rattle.coap_words.specs.OptionTable.{option_table};
@@ -139,7 +139,7 @@ pub fn configurations()
         ∷ [])
         ≡ Ok (record nothing { maps = (codes "/t", codes "x") ∷ (codes "/", codes "y") ∷ [] }) }
     ensures no_maps { said_maps [] ≡ Ok nothing }
-    ensures limit_keys { holding ++ sending ≡ all_limits }
+    ensures limit_keys { holding ++ sending ++ for_a_client ≡ all_limits }
 {}
 
 /// Limits of configurations.
@@ -182,11 +182,80 @@ pub fn limits()
         ≡ Err (config_errors.Value (codes "limits")) }
 {}
 
+/// Limits for one client, which version 2 has and version 1 has not.
+pub fn limits_of_clients()
+    ensures version_2 { table_said (table_of (version_2 ∷ [])) ≡ Ok nothing_2 }
+    ensures empty { said_limits_2 [] ≡ Ok nothing_2 }
+    ensures con_records { nothing_2.limits.client_con_records ≡ 256 }
+    ensures non_records { nothing_2.limits.client_non_records ≡ 256 }
+    ensures exchanges { nothing_2.limits.client_exchanges ≡ 16 }
+    ensures waiters { nothing_2.limits.client_waiters ≡ 64 }
+    ensures shared { nothing_2.limits.exchanges ≡ 256 }
+    ensures given { said_limits_2
+        ((codes "client_exchanges", number 1) ∷ (codes "exchanges", number 2) ∷ [])
+        ≡ Ok (record nothing {
+          limits = record limits_per_client { exchanges = 2; client_exchanges = 1 };
+        }) }
+    ensures greater { said_limits_2
+        ((codes "client_waiters", number 16384) ∷ (codes "waiters", number 1) ∷ [])
+        ≡ Ok (record nothing {
+          limits = record limits_per_client { waiters = 1; client_waiters = 16384 };
+        }) }
+    ensures least { said_limits_2
+        ((codes "client_con_records", number 1) ∷ (codes "client_exchanges", number 1)
+        ∷ (codes "client_non_records", number 1) ∷ (codes "client_waiters", number 1) ∷ [])
+        ≡ Ok (record nothing {
+          limits = record default_limits {
+            client_con_records = 1;
+            client_non_records = 1;
+            client_exchanges = 1;
+            client_waiters = 1;
+          };
+        }) }
+    ensures below { said_limits_2 ((codes "client_waiters", number 0) ∷ [])
+        ≡ Err (config_errors.Value (codes "limits.client_waiters")) }
+    ensures above { said_limits_2 ((codes "client_exchanges", number 4097) ∷ [])
+        ≡ Err (config_errors.Value (codes "limits.client_exchanges")) }
+    ensures text { said_limits_2 ((codes "client_non_records", string (codes "1")) ∷ [])
+        ≡ Err (config_errors.Value (codes "limits.client_non_records")) }
+    ensures after_shared_ones { said_limits_2
+        ((codes "client_con_records", number 0) ∷ (codes "retry_s", number 3601) ∷ [])
+        ≡ Err (config_errors.Value (codes "limits.retry_s")) }
+    ensures in_their_order { said_limits_2
+        ((codes "client_con_records", number 0) ∷ (codes "client_exchanges", number 0)
+        ∷ (codes "client_non_records", number 0) ∷ [])
+        ≡ Err (config_errors.Value (codes "limits.client_con_records")) }
+    ensures unknown { said_limits ((codes "client_exchanges", number 1) ∷ [])
+        ≡ Err (config_errors.Key (codes "limits.client_exchanges")) }
+    ensures key { said_limits_2 ((codes "client_cache", number 1) ∷ [])
+        ≡ Err (config_errors.Key (codes "limits.client_cache")) }
+    ensures as_shared { said_limits
+        ((codes "con_records", number 1) ∷ (codes "exchanges", number 2)
+        ∷ (codes "non_records", number 3) ∷ (codes "waiters", number 4) ∷ [])
+        ≡ Ok (record nothing {
+          limits = record default_limits {
+            con_records = 1;
+            non_records = 3;
+            exchanges = 2;
+            waiters = 4;
+            client_con_records = 1;
+            client_non_records = 3;
+            client_exchanges = 2;
+            client_waiters = 4;
+          };
+        }) }
+    ensures shared_fault { said_limits ((codes "waiters", number 16385) ∷ [])
+        ≡ Err (config_errors.Value (codes "limits.waiters")) }
+    ensures defaults { without_client_limits default_limits ≡ default_limits }
+{}
+
 /// Faults of configurations.
 pub fn faults()
     ensures no_toml { parse_document (codes "version = ") ≡ None }
     ensures nothing { table_said (table_of []) ≡ Err (config_errors.Key (codes "version")) }
-    ensures version_2 { table_said (table_of ((codes "version", number 2) ∷ []))
+    ensures version_0 { table_said (table_of ((codes "version", number 0) ∷ []))
+        ≡ Err (config_errors.Value (codes "version")) }
+    ensures version_3 { table_said (table_of ((codes "version", number 3) ∷ []))
         ≡ Err (config_errors.Value (codes "version")) }
     ensures version_text { table_said (table_of ((codes "version", string (codes "1")) ∷ []))
         ≡ Err (config_errors.Value (codes "version")) }
@@ -219,7 +288,7 @@ pub fn faults()
 /// Which of two faults is reported.
 pub fn first_faults()
     ensures version { table_said (table_of
-        ((codes "ants", number 1) ∷ (codes "version", number 2) ∷ []))
+        ((codes "ants", number 1) ∷ (codes "version", number 3) ∷ []))
         ≡ Err (config_errors.Value (codes "version")) }
     ensures missing_version { table_said (table_of ((codes "ants", number 1) ∷ []))
         ≡ Err (config_errors.Key (codes "version")) }

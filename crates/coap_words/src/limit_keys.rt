@@ -1,7 +1,8 @@
 //! The keys of the limits.
 ghost use Rattle.std.specs.Prelude.{◌≡◌, map};
-ghost use Rattle.coap_words.specs.Config.{holding, is_among, is_limit, limit_key, sending};
+ghost use Rattle.coap_words.specs.Config.{for_a_client, holding, is_among, is_limit, limit_key, sending};
 
+use crate::tables::Version;
 use coap_limits::Limit;
 
 /// The key of a limit.
@@ -19,6 +20,10 @@ pub fn limit_key(limit: Limit) -> &'static str
         Limit::Datagram => "datagram",
         Limit::ExchangeMs => "exchange_ms",
         Limit::RetryS => "retry_s",
+        Limit::ClientConRecords => "client_con_records",
+        Limit::ClientNonRecords => "client_non_records",
+        Limit::ClientExchanges => "client_exchanges",
+        Limit::ClientWaiters => "client_waiters",
     }
 }
 
@@ -41,9 +46,23 @@ fn is_sending(key: &str) -> bool
     key == "nstart" || key == "datagram" || key == "exchange_ms" || key == "retry_s"
 }
 
-/// Whether a key is that of a limit.
-pub(crate) fn is_limit(key: &str) -> bool
-    ensures { result ≡ is_limit key.now }
+/// Whether a key is that of a limit on what is held for one client.
+fn is_for_a_client(key: &str) -> bool
+    ensures { result ≡ is_among (map limit_key for_a_client) key.now }
 {
-    is_holding(key) || is_sending(key)
+    key == "client_con_records"
+        || key == "client_non_records"
+        || key == "client_exchanges"
+        || key == "client_waiters"
+}
+
+/// Whether a key is that of a limit in a configuration of this version.
+pub(crate) fn is_limit(version: Version, key: &str) -> bool
+    ensures { result ≡ is_limit version key.now }
+{
+    let shared = is_holding(key) || is_sending(key);
+    match version {
+        Version::One => shared,
+        Version::Two => shared || is_for_a_client(key),
+    }
 }

@@ -14,13 +14,22 @@ use coap_message::OutOfMemory;
 use std::alloc::Global;
 use toml::{Table, Value};
 
+/// The version of a configuration.
+#[derive(Clone, Copy, Debug, PartialEq, Eq)]
+pub enum Version {
+    /// Version 1, which has no limits for one client.
+    One,
+    /// Version 2, which has.
+    Two,
+}
+
 /// A table of a configuration.
 #[derive(Clone, Copy, Debug, PartialEq, Eq)]
 pub enum Place {
     /// The whole file.
     Top,
-    /// `limits`.
-    Limits,
+    /// `limits`, in a configuration of this version.
+    Limits(Version),
     /// One of `map`.
     Map,
 }
@@ -39,7 +48,7 @@ fn is_known(place: Place, key: &str) -> bool
 {
     match place {
         Place::Top => is_top(key),
-        Place::Limits => is_limit(key),
+        Place::Limits(version) => is_limit(version, key),
         Place::Map => key == "prefix" || key == "origin",
     }
 }
@@ -70,7 +79,7 @@ fn name_in(alloc: Global, place: Place, key: &str) -> Result<KeyName, OutOfMemor
 {
     match place {
         Place::Top => KeyName::new(alloc, key),
-        Place::Limits => KeyName::within(alloc, "limits", key),
+        Place::Limits(_) => KeyName::within(alloc, "limits", key),
         Place::Map => KeyName::within(alloc, "map", key),
     }
 }

@@ -1,6 +1,6 @@
--- Live records stay, and the index has the numbers of the remaining records and of the new one.
+-- Live records stay, and the numbers are those of the remaining records and of the new one.
 use Rattle.std.proofs.Common.{◌≡◌, [], ◌∷◌, ◌++◌, length}
-use Rattle.coap_dedup.specs.Indexing.{AreNumbered}
+use Rattle.coap_dedup.specs.Indexing.{AreNumbersOf}
 use Rattle.coap_dedup.specs.Lists.{AreApart, AreInOrder, living}
 use Rattle.coap_dedup.proofs.records.release_dead.Given as goal
 
@@ -10,7 +10,7 @@ invariant-dead l = record {
   same : living l.lifetime l.new.at l.ring.items ≡ living l.lifetime l.new.at l.initial.ring.items;
   in_order : AreInOrder l.ring.items;
   apart : AreApart l.ring.items;
-  numbered : AreNumbered l.first l.index (l.ring.items ++ l.new ∷ []);
+  numbered : AreNumbersOf l.numbers (l.ring.items ++ l.new ∷ []);
 }
 
 abbrev pub decreases-dead : goal.decreases-dead

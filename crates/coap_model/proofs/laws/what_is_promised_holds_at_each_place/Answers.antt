@@ -20,5 +20,9 @@ returns c =
       cached_bytes = λ history w p. p.cached_bytes;
       con_records = λ history w p. p.con_records;
       non_records = λ history w p. p.non_records;
+      client_exchanges = λ history w client p. p.client_exchanges client;
+      client_waiters = λ history w client p. p.client_waiters client;
+      client_con_records = λ history w from p. p.client_con_records from;
+      client_non_records = λ history w from p. p.client_non_records from;
       held = λ history w p. p.bytes;
     }

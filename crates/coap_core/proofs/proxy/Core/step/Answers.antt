@@ -3,7 +3,7 @@ use Rattle.coap_model.specs.Setting.{Setting}
 use Rattle.coap_limits.specs.Limits.{AreLimits}
 use Rattle.coap_model.specs.Step.{step_of}
 use Rattle.coap_core.specs.Events.{seen}
-use Rattle.coap_core.proofs.Carried.{IsLeft, can_go_on, is-left, is-short, promises-on, word-on}
+use Rattle.coap_core.proofs.Carried.{IsLeft, can_go_on, is-left, is-short, promises-on, room-on, word-on}
 use Rattle.coap_core.proofs.proxy.Core.step.Given.{Over}
 use Rattle.coap_core.proofs.proxy.Core.step.Goals.{After-step-done}
 use Rattle.coap_core.proofs.proxy.Core.step.Goals as goal
@@ -89,6 +89,31 @@ pub returns-clause-word : goal.returns-clause-word
 returns-clause-word g c =
     rw (← c.self.view_is)
     (word-on c.self.inside.world c.args.now c.args.draw (seen c.args.event) (rw (← c.self.view_is) at c.requires.onward) c.holds_bytes.ensures c.step-done.result c.args.out.now c.step-done.new.out c.step-done.new.self c.step-done.ensures.exact)
+
+pub returns-clause-shares : goal.returns-clause-shares
+returns-clause-shares g c =
+    rw (← c.self.view_is)
+    (room-on c.self.inside.world c.args.now c.args.draw (seen c.args.event) (rw (← c.self.view_is) at c.requires.onward) c.holds_bytes.ensures c.step-done.result c.args.out.now c.step-done.new.out c.step-done.new.self c.step-done.ensures.exact)
+
+pub returns-clause-client_exchanges : goal.returns-clause-client_exchanges
+returns-clause-client_exchanges g c =
+    let left = leaves g (goal.at.returns-clause-client_exchanges g c).After-step-done in
+    (c.what_is_carried_is_promised.ensures.promised left.history c.step-done.new.self left.carries).client_exchanges
+
+pub returns-clause-client_waiters : goal.returns-clause-client_waiters
+returns-clause-client_waiters g c =
+    let left = leaves g (goal.at.returns-clause-client_waiters g c).After-step-done in
+    (c.what_is_carried_is_promised.ensures.promised left.history c.step-done.new.self left.carries).client_waiters
+
+pub returns-clause-client_con_records : goal.returns-clause-client_con_records
+returns-clause-client_con_records g c =
+    let left = leaves g (goal.at.returns-clause-client_con_records g c).After-step-done in
+    (c.what_is_carried_is_promised.ensures.promised left.history c.step-done.new.self left.carries).client_con_records
+
+pub returns-clause-client_non_records : goal.returns-clause-client_non_records
+returns-clause-client_non_records g c =
+    let left = leaves g (goal.at.returns-clause-client_non_records g c).After-step-done in
+    (c.what_is_carried_is_promised.ensures.promised left.history c.step-done.new.self left.carries).client_non_records
 
 pub returns-clause-ticks : goal.returns-clause-ticks
 returns-clause-ticks g c = rw (← c.self.view_is) c.step-done.ensures.ticks

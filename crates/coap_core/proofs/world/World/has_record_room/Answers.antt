@@ -1,5 +1,8 @@
-use Rattle.coap_core.proofs.Records.{are-records, room-is}
+use Rattle.std.proofs.Common.{sym}
+use Rattle.coap_core.proofs.Records.{room-is}
 use Rattle.coap_core.proofs.world.World.has_record_room.Goals as goal
 
-pub returns : goal.returns
-returns g c = rw (c.is_full.ensures.exact, ← c.records-records.ensures) (room-is c.args.now _ (rw c.records-records.ensures (are-records c.args.self.now c.args.kind c.requires)))
+pub returns-then-not-is_full : goal.returns-then-not-is_full
+returns-then-not-is_full g c =
+    rw (c.is_client_full.ensures.exact, c.records-records.ensures)
+    (room-is c.args.self.now c.args.now c.args.source c.args.kind c.requires (sym (rw c.records-records.ensures at c.if-not-is_full.ensures.exact)))

@@ -17,7 +17,7 @@ returns-clause-done g c =
     let client = c.args.arrival.from in
     let m = c.args.arrival.message.now in
     let unknown : known_of w now client m ≡ None = none-some (known_of w now client m) (sym c.in_default.ensures.found) in
-    let room : has_record_room w now m.kind ≡ true = rw (← c.kind.ensures) (sym c.if-not-has_record_room.ensures) in
+    let room : has_record_room w now client m.kind ≡ true = rw (← c.kind.ensures) (sym c.if-not-has_record_room.ensures) in
     record {
       exact = does-as (remembers now client m (on_new w now client m)) (on_request w now client m) c.on_new.result c.args.out.now c.repeat.new.out c.on_new.new.out c.on_new.new.self (new-is w now client m unknown room) c.repeat.ensures.kept c.on_new.ensures.exact;
       err = search rules;
@@ -31,7 +31,7 @@ on_new-requires-clause-fits g c =
     let client = c.args.arrival.from in
     let m = c.args.arrival.message.now in
     let unknown : known_of w now client m ≡ None = none-some (known_of w now client m) (sym c.in_default.ensures.found) in
-    let room : has_record_room w now m.kind ≡ true = rw (← c.kind.ensures) (sym c.if-not-has_record_room.ensures) in
+    let room : has_record_room w now client m.kind ≡ true = rw (← c.kind.ensures) (sym c.if-not-has_record_room.ensures) in
     fits-as (remembers now client m (on_new w now client m)) (on_request w now client m) c.args.out.now.room c.repeat.new.out.room (new-is w now client m unknown room) c.repeat.ensures.kept c.requires.fits
 
 pub returns-clause-memory : goal.returns-clause-memory
@@ -41,5 +41,5 @@ returns-clause-memory g c =
     let client = c.args.arrival.from in
     let m = c.args.arrival.message.now in
     let unknown : known_of w now client m ≡ None = none-some (known_of w now client m) (sym c.in_default.ensures.found) in
-    let room : has_record_room w now m.kind ≡ true = rw (← c.kind.ensures) (sym c.if-not-has_record_room.ensures) in
+    let room : has_record_room w now client m.kind ≡ true = rw (← c.kind.ensures) (sym c.if-not-has_record_room.ensures) in
     rw (new-is w now client m unknown room) (on_err c.on_new.result (new-takes w now client m))

@@ -16,7 +16,7 @@ pub returns-clause-done : goal.returns-clause-done
 returns-clause-done g c =
     let w = c.args.self.now in
     let m = c.args.arrival.message.now in
-    let room : has_record_room w c.args.arrival.now m.kind ≡ true = rw (← c.kind.ensures) (sym c.if-not-has_record_room.ensures) in
+    let room : has_record_room w c.args.arrival.now c.args.arrival.from m.kind ≡ true = rw (← c.kind.ensures) (sym c.if-not-has_record_room.ensures) in
     let left : Step → Report → Type 0 = λ s report. Does s report c.args.out.now c.answer.new.out c.answer.new.self in
     record {
       exact = IfOk-weaker c.answer.result
@@ -32,6 +32,6 @@ pub returns-clause-memory : goal.returns-clause-memory
 returns-clause-memory g c =
     let w = c.args.self.now in
     let m = c.args.arrival.message.now in
-    let room : has_record_room w c.args.arrival.now m.kind ≡ true = rw (← c.kind.ensures) (sym c.if-not-has_record_room.ensures) in
+    let room : has_record_room w c.args.arrival.now c.args.arrival.from m.kind ≡ true = rw (← c.kind.ensures) (sym c.if-not-has_record_room.ensures) in
     awaited w c.args.arrival.from m c.in-Some.number (λ o. OnErr c.answer.result (wants_memory (on_separate w c.args.arrival.now true c.args.arrival.from m o) ≡ true)) c.requires.can.exchanges c.in-Some.ensures.exact
     (λ x found. on_err c.answer.result (rw room (answer-takes w c.args.arrival.now true c.args.arrival.from m (c.in-Some.number, x))))

@@ -53,7 +53,7 @@ overload-requires-clause-fits g c =
     let m = c.args.arrival.message.now in
     let busy : Step = overloads w c.args.arrival.now c.args.arrival.from m in
     let missed : Step = on_wanted w c.args.arrival.now c.args.arrival.from m c.args.asked.now.key (held_for w m c.args.asked.now.key) in
-    let closed : has_room_to_open w c.args.arrival.now ≡ false = sym c.if-not-has_room_to_open.ensures in
+    let closed : has_room_to_open w c.args.arrival.now c.args.arrival.from ≡ false = sym c.if-not-has_room_to_open.ensures in
     let away : missed ≡ busy = turned-away w c.args.arrival.now c.args.arrival.from m c.args.asked.now.key (held_for w m c.args.asked.now.key) c.requires.reply.ids (sym c.put_request.ensures.exact ∙ c.if-is_err.ensures.negation) closed in
     fits-as busy missed c.args.out.now.room c.put_request.new.out.room away c.put_request.ensures.kept c.requires.fits
 
@@ -63,7 +63,7 @@ returns-then-not-has_room_to_open g c =
     let m = c.args.arrival.message.now in
     let busy : Step = overloads w c.args.arrival.now c.args.arrival.from m in
     let missed : Step = on_wanted w c.args.arrival.now c.args.arrival.from m c.args.asked.now.key (held_for w m c.args.asked.now.key) in
-    let closed : has_room_to_open w c.args.arrival.now ≡ false = sym c.if-not-has_room_to_open.ensures in
+    let closed : has_room_to_open w c.args.arrival.now c.args.arrival.from ≡ false = sym c.if-not-has_room_to_open.ensures in
     let away : missed ≡ busy = turned-away w c.args.arrival.now c.args.arrival.from m c.args.asked.now.key (held_for w m c.args.asked.now.key) c.requires.reply.ids (sym c.put_request.ensures.exact ∙ c.if-is_err.ensures.negation) closed in
     record {
       exact = does-as (remembers c.args.arrival.now c.args.arrival.from m busy) (remembers c.args.arrival.now c.args.arrival.from m missed) c.overload.result c.args.out.now c.put_request.new.out c.overload.new.out c.overload.new.self (ap (remembers c.args.arrival.now c.args.arrival.from m) away) c.put_request.ensures.kept c.overload.ensures.exact;
@@ -78,7 +78,7 @@ returns g c =
     let key = c.args.asked.now.key in
     let asked : Step = opens w c.args.arrival.now c.args.arrival.from m key (held_for w m key) in
     let missed : Step = on_wanted w c.args.arrival.now c.args.arrival.from m key (held_for w m key) in
-    let free : has_room_to_open w c.args.arrival.now ≡ true = sym c.if-not-has_room_to_open.ensures in
+    let free : has_room_to_open w c.args.arrival.now c.args.arrival.from ≡ true = sym c.if-not-has_room_to_open.ensures in
     let is : missed ≡ asked = opened w c.args.arrival.now c.args.arrival.from m key (held_for w m key) (sym c.put_request.ensures.exact ∙ c.if-is_err.ensures.negation) free in
     record {
       exact = does-as (remembers c.args.arrival.now c.args.arrival.from m asked) (remembers c.args.arrival.now c.args.arrival.from m missed) c.open.result c.args.out.now c.put_validating.new.out c.open.new.out c.open.new.self (ap (remembers c.args.arrival.now c.args.arrival.from m) is) (c.in_ok-copy.ensures.kept ∙ c.put_request.ensures.kept) (rw c.in_ok-key.ensures.key at c.open.ensures.exact);
@@ -93,6 +93,6 @@ open-requires-clause-fits g c =
     let key = c.args.asked.now.key in
     let asked : Step = opens w c.args.arrival.now c.args.arrival.from m key (held_for w m key) in
     let missed : Step = on_wanted w c.args.arrival.now c.args.arrival.from m key (held_for w m key) in
-    let free : has_room_to_open w c.args.arrival.now ≡ true = sym c.if-not-has_room_to_open.ensures in
+    let free : has_room_to_open w c.args.arrival.now c.args.arrival.from ≡ true = sym c.if-not-has_room_to_open.ensures in
     let is : missed ≡ asked = opened w c.args.arrival.now c.args.arrival.from m key (held_for w m key) (sym c.put_request.ensures.exact ∙ c.if-is_err.ensures.negation) free in
     rw c.in_ok-key.ensures.key (fits-as asked missed c.args.out.now.room c.put_validating.new.out.room is (c.in_ok-copy.ensures.kept ∙ c.put_request.ensures.kept) c.requires.fits)

@@ -4,6 +4,7 @@ use Rattle.coap_exchange.specs.declared.exchange.Exchange.{Exchange}
 use Rattle.coap_exchange.specs.Exchanges.{changed_by, is_queued, IsFireDue}
 use Rattle.coap_exchange.specs.Table.{Table, changed_at, item_at}
 use Rattle.coap_exchange.specs.Turns.{endpoint_in}
+use Rattle.coap_exchange.proofs.ByClient.{client-after, of_clients-changed, within-changed}
 use Rattle.coap_exchange.proofs.Changes.{changed_at-is}
 use Rattle.coap_exchange.proofs.Heads.{at-its}
 use Rattle.coap_exchange.proofs.Indexing.{can-pass-as, changed-at, have-passed-as, moves-changed}
@@ -69,4 +70,6 @@ invariant_of-self c =
       lined-changed c.args.number c.args.change c.self.inside.table c.self.inside.lines c.recount.new.lines is c.self.invariant.1 c.recount.ensures.all c.recount.ensures.sent off c.recount.ensures.queued,
       have-passed-as c.args.number c.self.inside.table.limit c.self.inside.table.items (changed_at c.args.number (changed_by c.args.change) c.self.inside.table.items) c.self.inside.index (moves-changed c.args.number (changed_by c.args.change) c.self.inside.table is) c.self.invariant.2 _ _ refl (changed-at c.args.number (changed_by c.args.change) c.self.inside.table.items) c.pass.new.self passed (changed_at-is c.args.number (changed_by c.args.change) c.self.inside.table is).rising,
       turns-moved n c.self.inside.table.items (changed_at n f c.self.inside.table.items) (endpoint_in (item_at n c.self.inside.table.items)) (moves-changed n f c.self.inside.table is) is.rising (changed_at-is n f c.self.inside.table is).rising (at-its (item_at n c.self.inside.table.items)) (at-changed n f c.self.inside.table.items (endpoint-after c.args.change)) c.self.inside.turns c.self.invariant.3 (kept-changed n f c.self.inside.table.items (admitted-after c.args.change) (moves-changed n f c.self.inside.table is)) (changed-off n f c.self.inside.table.items off) c.replace.new.self c.replace.ensures.limit len replaced,
+      of_clients-changed (λ (x : Exchange). x.client) n f c.self.inside.table.items c.self.inside.clients (client-after c.args.change) c.self.invariant.4,
+      within-changed (λ (x : Exchange). x.client) n f c.self.inside.table (client-after c.args.change) c.self.invariant.5,
     )

@@ -15,7 +15,7 @@ change_under-requires c =
 pub invariant_of-self : goal.invariant_of-self
 invariant_of-self c =
     rw (written-is c.args.number (changed_by c.args.change) 0 c.self.inside.items.entries c.change_under.new.exchanges.entries c.self.invariant.rising c.change_under.ensures.found c.change_under.ensures.missing)
-    (changed_at-is c.args.number (changed_by c.args.change) (record { items = by_number c.self.inside.items.entries; limit = c.self.inside.limit; admitted = c.self.inside.admitted }) c.self.invariant)
+    (changed_at-is c.args.number (changed_by c.args.change) (record { items = by_number c.self.inside.items.entries; limit = c.self.inside.limit; per_client = c.self.inside.per_client; admitted = c.self.inside.admitted }) c.self.invariant)
 
 pub returns-clause-changed : goal.returns-clause-changed
 returns-clause-changed c =

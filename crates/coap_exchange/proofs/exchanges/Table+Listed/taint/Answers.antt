@@ -7,7 +7,7 @@ use Rattle.coap_exchange.proofs.exchanges.Table+Listed.taint.Goals as goal
 pub invariant_of-self : goal.invariant_of-self
 invariant_of-self c =
     rw (written-is c.args.number (tainted_by c.args.target.now) 0 c.self.inside.items.entries c.taint_under.new.exchanges.entries c.self.invariant.rising c.taint_under.ensures.found c.taint_under.ensures.missing)
-    (changed_at-is c.args.number (tainted_by c.args.target.now) (record { items = by_number c.self.inside.items.entries; limit = c.self.inside.limit; admitted = c.self.inside.admitted }) c.self.invariant)
+    (changed_at-is c.args.number (tainted_by c.args.target.now) (record { items = by_number c.self.inside.items.entries; limit = c.self.inside.limit; per_client = c.self.inside.per_client; admitted = c.self.inside.admitted }) c.self.invariant)
 
 pub returns : goal.returns
 returns c =

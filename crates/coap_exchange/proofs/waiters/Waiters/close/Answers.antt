@@ -1,6 +1,8 @@
 use Rattle.std.proofs.Common.{arith, refl}
+use Rattle.coap_exchange.specs.declared.waiter.Waiter.{Waiter}
 use Rattle.coap_exchange.specs.Table.{without}
 use Rattle.coap_exchange.specs.Waiters.{is_waiting}
+use Rattle.coap_exchange.proofs.ByClient.{of_clients-without, within-without}
 use Rattle.coap_exchange.proofs.Counts.{count-without}
 use Rattle.coap_exchange.proofs.Steps.{step-without, marks-can-pass, marks-passed}
 use Rattle.coap_exchange.proofs.Tables.{closed-is, without-gone}
@@ -29,4 +31,6 @@ invariant_of-self c =
       },
       marks-passed n t (record t { items = without n t.items }) (step-without t is n) c.self.inside.index c.self.invariant.1 _ _ refl (without-gone n t.items) c.pass.new.self passed,
       closed-is n t is,
+      of_clients-without (λ (w : Waiter). w.client) n t c.self.inside.clients c.depart.new.clients is (rw (c.client_of.ensures.exact, c.get-found.ensures.exact) at c.depart.ensures.exact) c.self.invariant.3,
+      within-without (λ (w : Waiter). w.client) n t is c.self.invariant.4,
     )

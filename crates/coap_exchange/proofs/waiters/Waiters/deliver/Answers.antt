@@ -1,6 +1,8 @@
 use Rattle.std.proofs.Common.{arith, refl}
+use Rattle.coap_exchange.specs.declared.waiter.Waiter.{Waiter}
 use Rattle.coap_exchange.specs.Table.{changed_at, item_at}
 use Rattle.coap_exchange.specs.Waiters.{delivered, is_waiting}
+use Rattle.coap_exchange.proofs.ByClient.{of_clients-changed, within-changed}
 use Rattle.coap_exchange.proofs.Changes.{changed_at-is}
 use Rattle.coap_exchange.proofs.Counts.{count-changed_at}
 use Rattle.coap_exchange.proofs.Indexing.{changed-at}
@@ -32,4 +34,6 @@ invariant_of-self c =
       },
       marks-passed n t (record t { items = changed_at n f t.items }) (step-changed_at t is n f) c.self.inside.index c.self.invariant.1 _ _ refl (changed-at n f t.items) c.pass.new.self passed,
       changed_at-is n f t is,
+      of_clients-changed (λ (w : Waiter). w.client) n f t.items c.self.inside.clients (λ w. refl) c.self.invariant.3,
+      within-changed (λ (w : Waiter). w.client) n f t (λ w. refl) c.self.invariant.4,
     )

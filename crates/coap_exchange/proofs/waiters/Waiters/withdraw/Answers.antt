@@ -1,7 +1,9 @@
 use Rattle.std.proofs.Common.{◌≡◌, ℕ, ◌+◌, arith, refl, subst}
+use Rattle.coap_exchange.specs.declared.waiter.Waiter.{Waiter}
 use Rattle.coap_exchange.specs.Table.{item_at, passes, withdrawn}
 use Rattle.coap_exchange.specs.Tally.{tally}
 use Rattle.coap_exchange.specs.Waiters.{is_waiting, waits_for}
+use Rattle.coap_exchange.proofs.ByClient.{of_clients-withdrawn, within-withdrawn}
 use Rattle.coap_exchange.proofs.Counts.{one_if, count-withdrawn}
 use Rattle.coap_exchange.proofs.Indexing.{withdrawn-gone}
 use Rattle.coap_exchange.proofs.Steps.{step-withdrawn, marks-can-pass, marks-passed}
@@ -32,4 +34,6 @@ invariant_of-self c =
       },
       marks-passed t.admitted t (withdrawn t) (step-withdrawn t is) c.self.inside.index c.self.invariant.1 _ _ refl (withdrawn-gone t) c.pass.new.self passed,
       withdrawn-is t is,
+      of_clients-withdrawn (λ (w : Waiter). w.client) t c.self.inside.clients c.depart.new.clients is (rw (c.client_of.ensures.exact, c.get-found.ensures.exact, c.admitted-number.ensures.exact) at c.depart.ensures.exact) c.self.invariant.3,
+      within-withdrawn (λ (w : Waiter). w.client) t is c.self.invariant.4,
     )

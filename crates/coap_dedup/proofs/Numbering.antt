@@ -73,6 +73,22 @@ found-at first index rs k m apart are few number =
     let here : (m + (2 ^ 64 - first)) % 2 ^ 64 ≡ i = omega arith in
     ap (slice_get rs) here ∙ at
 
+-- an index with the same numbers serves as well
+pub AreNumbered-kept : (first : ℕ) (old new : BTreeMap Key ℕ) (rs : List Record) → ((k : Key) → get key_cmp new k ≡ get key_cmp old k) → AreNumbered first old rs → AreNumbered first new rs
+AreNumbered-kept first old new rs same are = record { origin = are.origin; is_first = are.is_first; numbered = λ k. same k ∙ are.numbered k }
+
+-- keys are equal in the order of the index if they are the same
+pub put-by_key : (old new : BTreeMap Key ℕ) (key : Key) (w : Option ℕ) → ((k : Key) → get key_cmp new k ≡ cond (is_eq (key_cmp key k)) w (get key_cmp old k)) → (k : Key) → get key_cmp new k ≡ cond (same_key key k) w (get key_cmp old k)
+put-by_key old new key w puts k = puts k ∙ ap (λ b. cond b w (get key_cmp old k)) (is_eq-key_cmp key k)
+
+-- a number that was given and taken back leaves the index as it was
+pub given-back : (old given new : BTreeMap Key ℕ) (key : Key) (number : ℕ) (was : Option ℕ) → was ≡ get key_cmp old key → ((k : Key) → get key_cmp given k ≡ cond (is_eq (key_cmp key k)) (Some number) (get key_cmp old k)) → ((k : Key) → get key_cmp new k ≡ cond (same_key key k) was (get key_cmp given k)) → (k : Key) → get key_cmp new k ≡ get key_cmp old k
+given-back old given new key number was is gives takes k = takes k ∙ go (same_key key k) refl
+  where
+    go : (b : Bool) → same_key key k ≡ b → cond b was (get key_cmp given k) ≡ get key_cmp old k
+    go true same = is ∙ ap (get key_cmp old) (same_key-only key k same)
+    go false other = put-by_key old given key (Some number) gives k ∙ rw other refl
+
 -- one more record gets the next number
 pub AreNumbered-push : (first : ℕ) (index new : BTreeMap Key ℕ) (rs : List Record) (x : Record) (next : ℕ) → AreNumbered first index rs → next ≡ (first + length rs) % 2 ^ 64 → ((k : Key) → get key_cmp new k ≡ cond (same_key (key_of x) k) (Some next) (get key_cmp index k)) → AreNumbered first new (rs ++ x ∷ [])
 AreNumbered-push first index new rs x next are is_next puts = record {

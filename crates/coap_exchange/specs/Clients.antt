@@ -1,0 +1,34 @@
+-- How many items of a table each client has: exchanges that it opened, or requests that wait.
+use Rattle.std.specs.Prelude.{◌≡◌, ℕ, ◌≤◌, Bool, true, List, Option, Some, None}
+use Rattle.std.specs.BTreeMap.{BTreeMap, get}
+use Rattle.coap_endpoint.specs.declared.endpoint.Endpoint.{Endpoint}
+use Rattle.coap_exchange.specs.Lines.{one_if_at}
+use Rattle.coap_exchange.specs.Peers.{peer_cmp}
+use Rattle.coap_exchange.specs.Table.{Numbered, Table, count}
+use Rattle.coap_exchange.specs.Tally.{count_or_none}
+
+-- no client has more items of a table than one client may have, given a function for whether an
+-- item is a client's
+abbrev pub AreWithin : {A : Type 0} → (Endpoint → A → Bool) → Table A → Type 0
+AreWithin is_whose t = (client : Endpoint) → count (is_whose client) t.items ≤ t.per_client
+
+-- ---- counts by client
+
+-- items by client
+abbrev pub Clients : Type 0
+Clients = BTreeMap Endpoint ℕ
+
+-- the count of a client: zero if it has no entry
+abbrev pub count_of : Clients → Endpoint → ℕ
+count_of counts client = count_or_none (get peer_cmp counts client)
+
+-- the count of each client is the number of its items
+abbrev pub AreOfClients :
+    {A : Type 0} → (Endpoint → A → Bool) → List (Numbered A) → Clients → Type 0
+AreOfClients is_whose items counts =
+    (client : Endpoint) → count_of counts client ≡ count (is_whose client) items
+
+-- one for the client, if there is one, else zero
+abbrev pub one_of : Option Endpoint → Endpoint → ℕ
+one_of None e = 0
+one_of (Some client) e = one_if_at true client e

@@ -1,0 +1,13 @@
+use Rattle.coap_message.specs.declared.kind.Kind.TheVariants.{Con, Non}
+use Rattle.coap_model.proofs.Room.{exchanges-count, waiters-count}
+use Rattle.coap_model.proofs.Counted.{records-own}
+use Rattle.coap_model.proofs.laws.client_counts_are_of_the_history.Goals as goal
+
+pub returns : goal.returns
+returns c =
+    record {
+      exchanges = λ deeds w client. exchanges-count client deeds w;
+      waiters = λ deeds w client. waiters-count client deeds w;
+      con_records = λ deeds w from c. records-own deeds w Con w.con_records from c c.con_records;
+      non_records = λ deeds w from c. records-own deeds w Non w.non_records from c c.non_records;
+    }
