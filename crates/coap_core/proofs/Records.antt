@@ -6,7 +6,7 @@ use Rattle.coap_message.specs.declared.kind.Kind.{Kind}
 use Rattle.coap_message.specs.declared.kind.Kind.TheVariants.{Con, Non, Ack, Rst}
 use Rattle.coap_dedup.specs.Lists.{AreUpTo}
 use Rattle.coap_dedup.specs.Records.{AreRecords, living_at, living_of}
-use Rattle.coap_dedup.proofs.Kept.{own-room-there, room-there}
+use Rattle.coap_dedup.proofs.Kept.{client_room-there, room-there}
 use Rattle.coap_message.specs.Datagram.{Datagram, holding}
 use Rattle.coap_message.specs.Message.{Message}
 use Rattle.coap_endpoint.specs.declared.endpoint.Endpoint.{Endpoint}
@@ -47,7 +47,7 @@ room-is w now source kind can free =
     let t = records_of kind w in
     let are = are-records w kind can in
     let all : nat_lt (length (living_at now t)) t.limit ≡ true = lt-ltb _ _ (room-there now t are free) in
-    below-is (living_of source now t) t.per_client (own-room-there source now t are) ∙ sym (ap (λ (b : Bool). b && nat_lt (living_of source now t) t.per_client) all)
+    below-is (living_of source now t) t.per_client (client_room-there source now t are) ∙ sym (ap (λ (b : Bool). b && nat_lt (living_of source now t) t.per_client) all)
 
 -- what isn't there is none
 pub none-some : {A : Type 0} (o : Option A) → is_some o ≡ false → o ≡ None
