@@ -8,8 +8,8 @@ from checking.toml_lines import Value
 # A line, what is wrong there, and the program's name for the fault, or none for what it accepts.
 Finding = namedtuple("Finding", "line text fault", defaults=(None,))
 
-# The limits in the program's order, with their least and greatest values and their defaults.
-LIMITS = {
+# The limits that all clients share, in the program's order, with their least and greatest values and their defaults.
+SHARED = {
     "cache_bytes": (0, 268_435_456, 262_144),
     "cache_entries": (1, 65_536, 1_024),
     "con_records": (1, 65_536, 4_096),
@@ -21,6 +21,15 @@ LIMITS = {
     "exchange_ms": (1_000, 600_000, 93_000),
     "retry_s": (0, 3_600, 5),
 }
+# Those of each client, which only version 2 knows; each begins with this and ends with the name of the shared one.
+CLIENT = "client_"
+OF_CLIENT = {
+    "client_con_records": (1, 65_536, 256),
+    "client_non_records": (1, 65_536, 256),
+    "client_exchanges": (1, 4_096, 16),
+    "client_waiters": (1, 16_384, 64),
+}
+LIMITS = {**SHARED, **OF_CLIENT}
 TOP = ("version", "names", "limits", "hosts", "map")
 MOST = {"names": 64, "hosts": 256, "map": 64}
 
@@ -32,18 +41,23 @@ def shown(value):
     return {list: "a list", dict: "a table"}.get(type(value)) or str(value).lower()
 
 
-def unknown_keys(table, known, where=""):
-    """The keys of a table that aren't known, in the program's order."""
+def unknown_keys(table, known, where="", known_later=()):
+    """The keys of a table that aren't known, in the program's order, some of which a later version knows."""
     for key in sorted(set(table) - set(known)):
-        known_keys = ", ".join(known)
-        yield Finding(table[key].line, f"{where}{key} isn't a key: there are {known_keys}", f"key {where}{key}")
+        text = "is a key of version 2 only" if key in known_later else "isn't a key: there are " + ", ".join(known)
+        yield Finding(table[key].line, f"{where}{key} {text}", f"key {where}{key}")
 
 
 def check_version(table):
     if "version" not in table:
-        yield Finding(1, "version = 1 is missing", "key version")
-    elif type(table["version"].value) is not int or table["version"].value != 1:
-        yield Finding(table["version"].line, f"version is {shown(table['version'].value)}, not 1", "value version")
+        yield Finding(1, "version = 2 is missing", "key version")
+    elif type(table["version"].value) is not int or table["version"].value not in (1, 2):
+        yield Finding(table["version"].line, f"version is {shown(table['version'].value)}, not 1 or 2", "value version")
+
+
+def known_limits(table):
+    """The limits that the version of a configuration knows."""
+    return SHARED if "version" in table and table["version"].value == 1 else LIMITS
 
 
 def check_kinds(table, key, kind, what):
@@ -63,9 +77,9 @@ def check_names(table):
 def check_limits(table):
     """Limits that aren't known or are out of their ranges."""
     yield from check_kinds(table, "limits", dict, "a table")
-    limits = member(table, "limits", dict)
-    yield from unknown_keys(limits, LIMITS, "limits.")
-    for key, (least, most, _) in LIMITS.items():
+    limits, known = member(table, "limits", dict), known_limits(table)
+    yield from unknown_keys(limits, known, "limits.", OF_CLIENT)
+    for key, (least, most, _) in known.items():
         if key in limits:
             value = limits[key].value
             if type(value) is not int or not least <= value <= most:
@@ -214,7 +228,8 @@ def most_bytes(limits):
 def slips_of_limits(table, memory_max):
     """Limits that the unit has no memory for, or that don't do what they seem to."""
     said = member(table, "limits", dict)
-    limits = {key: said[key].value if key in said else default for key, (_, _, default) in LIMITS.items()}
+    known = known_limits(table)
+    limits = {key: said[key].value if key in said else default for key, (_, _, default) in known.items()}
     if any(type(value) is not int for value in limits.values()):
         return
     line = table["limits"].line if "limits" in table else 1
@@ -224,3 +239,15 @@ def slips_of_limits(table, memory_max):
     if limits["exchange_ms"] > 93_000:
         text = "exchange_ms is over 93000: an origin that doesn't acknowledge is given up after 62 to 93 s all the same"
         yield Finding(said["exchange_ms"].line, text)
+    for key in OF_CLIENT:
+        if key in known:
+            yield from slips_of_client(said, limits, key)
+
+
+def slips_of_client(said, limits, key):
+    """A limit of a client that is greater than the one that all share, so that it never has an effect."""
+    shared = key[len(CLIENT) :]
+    if limits[key] > limits[shared]:
+        ours = f"{key} is {limits[key]}" + ("" if key in said else " by default")
+        text = f"{ours}, but {shared} is {limits[shared]}: it has no effect, and one client can use up all"
+        yield Finding(said[key if key in said else shared].line, text)

@@ -89,6 +89,36 @@ SAID = (
         "version = 1\n",
         ["1: warning: the limits allow 18,662,400 bytes, and the unit's MemoryMax 16,777,216", "accepted"],
     ),
+    Said(
+        "a_limit_of_a_client_in_version_1",
+        [],
+        "version = 1\n[limits]\nclient_waiters = 0\n",
+        ["3: error: limits.client_waiters is a key of version 2 only", "refused: key limits.client_waiters"],
+    ),
+    Said(
+        "a_limit_of_a_client_out_of_its_range",
+        [],
+        "version = 2\n[limits]\nclient_waiters = 0\n",
+        ["3: error: client_waiters is 0: it must be a number from 1 to 16384", "refused: value limits.client_waiters"],
+    ),
+    Said(
+        "limits_of_a_client_without_effect",
+        [],
+        "version = 2\n[limits]\nexchanges = 8\nclient_con_records = 4097\nclient_waiters = 1024\n",
+        [
+            "4: warning: client_con_records is 4097, but con_records is 4096: it has no effect, and one client can use "
+            "up all",
+            "3: warning: client_exchanges is 16 by default, but exchanges is 8: it has no effect, and one client can "
+            "use up all",
+            "accepted",
+        ],
+    ),
+    Said(
+        "a_version_that_there_is_not",
+        [],
+        "version = 3\n",
+        ["1: error: version is 3, not 1 or 2", "refused: value version"],
+    ),
     Said("what_is_not_read", [], "version = 1979-05-27\n", ["not judged: line 1 has a date or a time"]),
 )
 
