@@ -262,11 +262,12 @@ class Stage:
         STARTED.add(process)
         return process
 
-    def proxy(self, *words, config=None, host=None):
-        """Starts the program at a free port, and returns its address once it is ready."""
+    def proxy(self, *words, config=None, host=None, version=1):
+        """Starts the program at a free port, with a configuration of this version if there is one. Returns its address
+        once it is ready."""
         host = host or self.host
         if config is not None:
-            words += ("--config", self.file(f"proxy-{len(self.programs)}.toml", "version = 1\n" + config))
+            words += ("--config", self.file(f"proxy-{len(self.programs)}.toml", f"version = {version}\n{config}"))
         for _ in range(5):
             port = free_port(host)
             process = self.start([*self.program, "-A", host, "-p", str(port), *words])
@@ -283,11 +284,11 @@ class Stage:
                 return True
         return False
 
-    def mapped(self, limits="", host=None):
+    def mapped(self, limits="", host=None, version=1):
         """A proxy that maps /t to /temp of an origin, with these lines of limits; a client; and the origin."""
         origin = self.peer(host)
         config = f"[limits]\n{limits}\n" if limits else None
-        proxy = self.proxy("--map", f"/t=coap://{origin.authority}/temp", config=config, host=host)
+        proxy = self.proxy("--map", f"/t=coap://{origin.authority}/temp", config=config, host=host, version=version)
         return proxy, self.peer(host, proxy), origin
 
 
