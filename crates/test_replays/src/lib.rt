@@ -1,5 +1,5 @@
 //! Tests of what no worked run can show: what a core reports about itself, readers and writers that
-//! fail, calls that the program doesn't make, and stores that are called directly.
+//! fail, calls that the program doesn't make, and stores and tables that are called directly.
 #![tactic(auto)]
 
 #[cfg(test)]
@@ -10,3 +10,5 @@ mod replays;
 mod steps;
 #[cfg(test)]
 mod stores;
+#[cfg(test)]
+mod tables;

@@ -3,6 +3,7 @@
 use coap_cache::ListStore;
 use coap_core::{Core, Counts, Event, LimitValues, Limits, Outcome, Report, Storing};
 use coap_message::{Datagram, OutOfMemory};
+use coap_model::ClientCounts;
 use coap_target::{Endpoint, Ip, Routes};
 use std::alloc::Global;
 use std::process::Abort;
@@ -125,12 +126,17 @@ fn check_step(
     Ok(())
 }
 
-/// A datagram from a port of the loopback network.
-fn arrival(port: u16, bytes: &[u8]) -> Event<'_> {
-    let from = Endpoint {
+/// An endpoint on the loopback network.
+fn local(port: u16) -> Endpoint {
+    Endpoint {
         ip: Ip::V4([127, 0, 0, 1]),
         port,
-    };
+    }
+}
+
+/// A datagram from a port of the loopback network.
+fn arrival(port: u16, bytes: &[u8]) -> Event<'_> {
+    let from = local(port);
     Event::Datagram { from, bytes }
 }
 
@@ -190,6 +196,7 @@ fn store_first_answer(rt: &impl Abort, run: &mut Run) -> Result<(), OutOfMemory>
 fn ids_run_out_and_come_again(rt: HostRuntime) -> Result<(), Fail> {
     let limits = Limits::new(LimitValues {
         non_records: 65_536,
+        client_non_records: 65_536,
         ..LimitValues::default()
     })?;
     let mut run = Run::new(rt.alloc(), limits)?;
@@ -218,4 +225,93 @@ fn ids_run_out_and_come_again(rt: HostRuntime) -> Result<(), Fail> {
     run.step(&rt, 247_000, arrival(40003, b"\x50\x01\x00\x07\xB1u"))?;
     assert_eq!(rt; run.sent(), b"\x50\x84\x80\x01".as_slice());
     Ok(())
+}
+
+/// What an endpoint has: records of its messages by type, exchanges that it opened, and pending
+/// requests.
+fn has(con_records: u64, non_records: u64, exchanges: u64, waiters: u64) -> ClientCounts {
+    ClientCounts {
+        con_records,
+        non_records,
+        exchanges,
+        waiters,
+    }
+}
+
+/// Checks a step, and what two clients and the origin server have after it.
+fn check_counts(
+    rt: &impl Abort,
+    run: &mut Run,
+    now: u64,
+    event: Event<'_>,
+    outcome: Outcome,
+    expected: [ClientCounts; 3],
+) -> Result<(), OutOfMemory> {
+    let report = run.step(rt, now, event)?;
+    assert_eq!(rt; report.outcome, outcome);
+    let [first, second, origin] = expected;
+    assert_eq!(rt; run.core.client_counts(local(40001)), first);
+    assert_eq!(rt; run.core.client_counts(local(40002)), second);
+    assert_eq!(rt; run.core.client_counts(local(5690)), origin);
+    Ok(())
+}
+
+/// The first client opens an exchange and may have no other; the second client, at another port of
+/// the same address, joins it.
+fn check_counts_of_requests(rt: &impl Abort, run: &mut Run) -> Result<(), OutOfMemory> {
+    let nothing = has(0, 0, 0, 0);
+    let opens = arrival(40001, b"\x40\x01\x00\x01\xB1t");
+    let counts = [has(1, 0, 1, 1), nothing, nothing];
+    check_counts(rt, run, 0, opens, Outcome::Opened, counts)?;
+    let joins = arrival(40002, b"\x50\x01\x00\x01\xB1t");
+    let counts = [has(1, 0, 1, 1), has(0, 1, 0, 1), nothing];
+    check_counts(rt, run, 0, joins, Outcome::Joined, counts)?;
+    let another = arrival(40001, b"\x40\x01\x00\x02\xB1t\x01x");
+    let counts = [has(2, 0, 1, 1), has(0, 1, 0, 1), nothing];
+    check_counts(rt, run, 0, another, Outcome::Overloaded, counts)
+}
+
+/// The answer comes in a Confirmable message, and goes to both clients. The first client has a
+/// pending request until it acknowledges the answer.
+fn check_counts_of_answer(rt: &impl Abort, run: &mut Run) -> Result<(), OutOfMemory> {
+    let (opener, joiner) = (has(2, 0, 1, 1), has(0, 1, 0, 1));
+    let counts = [opener, joiner, has(0, 0, 0, 0)];
+    check_counts(rt, run, 0, Event::Tick, Outcome::SentRequest, counts)?;
+    let bytes = b"\x48\x45\x00\x09\x00\x00\x00\x00\x00\x00\x00\x01\xD1\x01\x0A\xFF21";
+    let storing = Storing::Kept;
+    let origin = has(1, 0, 0, 0);
+    let (answer, outcome) = (arrival(5690, bytes), Outcome::Answered { storing });
+    check_counts(rt, run, 0, answer, outcome, [opener, joiner, origin])?;
+    let counts = [opener, joiner, origin];
+    check_counts(rt, run, 0, Event::Tick, Outcome::Delivered, counts)?;
+    let counts = [has(2, 0, 0, 1), has(0, 1, 0, 0), origin];
+    check_counts(rt, run, 0, Event::Tick, Outcome::Delivered, counts)?;
+    let acknowledgement = arrival(40001, b"\x60\x00\x00\x02");
+    let counts = [has(2, 0, 0, 0), has(0, 1, 0, 0), origin];
+    check_counts(rt, run, 0, acknowledgement, Outcome::Acked, counts)
+}
+
+/// A hit leaves a record alone, until the end of its lifetime.
+fn check_counts_of_records(rt: &impl Abort, run: &mut Run) -> Result<(), OutOfMemory> {
+    let origin = has(1, 0, 0, 0);
+    let hit = arrival(40002, b"\x40\x01\x00\x02\xB1t");
+    let counts = [has(2, 0, 0, 0), has(1, 1, 0, 0), origin];
+    check_counts(rt, run, 1, hit, Outcome::Hit, counts)?;
+    let counts = [has(2, 0, 0, 0), has(1, 0, 0, 0), origin];
+    check_counts(rt, run, 145_000, Event::Tick, Outcome::Idle, counts)?;
+    let counts = [has(0, 0, 0, 0), has(1, 0, 0, 0), has(0, 0, 0, 0)];
+    check_counts(rt, run, 247_000, Event::Tick, Outcome::Idle, counts)
+}
+
+// Each client has what it asked for itself, and the origin server what it sent.
+#[test]
+fn what_a_client_has_is_counted(rt: HostRuntime) -> Result<(), Fail> {
+    let limits = Limits::new(LimitValues {
+        client_exchanges: 1,
+        ..LimitValues::default()
+    })?;
+    let mut run = Run::new(rt.alloc(), limits)?;
+    check_counts_of_requests(&rt, &mut run)?;
+    check_counts_of_answer(&rt, &mut run)?;
+    Ok(check_counts_of_records(&rt, &mut run)?)
 }
