@@ -27,6 +27,8 @@ mod step;
 mod ticks;
 mod world;
 
-pub use coap_model::{Counts, Limit, LimitError, LimitValues, Limits, Outcome, Report, Storing};
+pub use coap_model::{
+    ClientCounts, Counts, Limit, LimitError, LimitValues, Limits, Outcome, Report, Storing,
+};
 pub use event::Event;
 pub use proxy::Core;

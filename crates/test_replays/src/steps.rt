@@ -1,9 +1,8 @@
 //! A core that is called directly: what it returns, what it sends, and what it reports about
 //! itself.
 use coap_cache::ListStore;
-use coap_core::{Core, Counts, Event, LimitValues, Limits, Outcome, Report, Storing};
+use coap_core::{ClientCounts, Core, Counts, Event, LimitValues, Limits, Outcome, Report, Storing};
 use coap_message::{Datagram, OutOfMemory};
-use coap_model::ClientCounts;
 use coap_target::{Endpoint, Ip, Routes};
 use std::alloc::Global;
 use std::process::Abort;
