@@ -6,7 +6,7 @@
 //! ```rust
 //! let wanted = read_wanted(alloc, &words)?;
 //! let plan = read_plan(alloc, wanted, configuration)?; // the bytes of the file, if one is named
-//! let mut port = UdpPort::bind(rt, alloc, plan.local, 1500)?;
+//! let mut port = UdpPort::bind(rt, alloc, plan.local)?;
 //! serve_port::<_, ListStore>(alloc, (), plan, first_id, salt, &mut port)?;
 //! ```
 #![tactic(auto)]

@@ -1,4 +1,5 @@
 pub mod Addresses
 pub mod Failing
+pub mod Systems
 pub mod Udp
-pub mod Waits
+pub mod Values

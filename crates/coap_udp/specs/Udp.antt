@@ -1,16 +1,26 @@
 -- What is known about a port over a socket.
-use Rattle.std.specs.Prelude.{◌≡◌, ◌≤◌, ◌+◌, ◌^◌, ℕ, min, List, Bool, true, false}
-use Rattle.coap_model.specs.Events.{tick}
+use Rattle.std.specs.Prelude.{◌≡◌, ◌≤◌, ◌+◌, ◌^◌, ◌==◌, ◌&&◌, ⊤, ℕ, take, List, Bool, true, false, Option, Result, Ok, Err}
+use Rattle.std.specs.IoError.{error_kind}
+use Rattle.std.specs.declared.io.Error.{Error}
+use Rattle.std.specs.declared.io.ErrorKind.{ErrorKind}
+use Rattle.std.specs.declared.net.socket_addr.SocketAddr.{SocketAddr}
+use Rattle.coap_model.specs.Events.{Event, arrival, tick}
 use Rattle.coap_model.specs.Runs.{Turn}
 use Rattle.coap_endpoint.specs.declared.endpoint.Endpoint.{Endpoint}
 use Rattle.coap_endpoint.specs.declared.endpoint.Ip.{Ip}
 use Rattle.coap_endpoint.specs.declared.endpoint.Ip.TheVariants.{V4, V6}
+use Rattle.coap_udp.specs.Systems.{IsEvent, IsFrom, IsTo, ReadsBy, SendsWhole, ends}
+use Rattle.coap_udp.specs.Values.{draw_of, moment_after, read_waits, rest_of, silent_after}
 
--- how many bytes of a datagram it reads at most, whether its socket is an IPv6 socket, its last
--- moment in milliseconds, and how often it failed
-pub record Udp : Type 0 where
+-- its socket, clock and generator, whether the calls of the socket wait, how many bytes of a
+-- datagram it reads at most, whether its socket is an IPv6 socket, how many turns in a row were
+-- silent, its last moment in milliseconds, and how often it failed
+pub record Udp (S : Type 0) : Type 0 where
+  pub system : S
+  pub waiting : Bool
   pub room : ℕ
   pub is_ipv6 : Bool
+  pub silent : ℕ
   pub last : ℕ
   pub failures : ℕ
 
@@ -18,24 +28,107 @@ abbrev pub is_of_ipv6 : Ip → Bool
 is_of_ipv6 (V4 octets) = false
 is_of_ipv6 (V6 octets) = true
 
--- the port at a local address, which reads one byte more than the longest datagram has
-abbrev pub new_port : Endpoint → ℕ → Udp
-new_port local longest = record {
-  room = min (longest + 1) 18446744073709551615;
-  is_ipv6 = is_of_ipv6 local.ip;
+-- a new port, which has room for any datagram
+abbrev pub port_over : {S : Type 0} → S → Bool → Udp S
+port_over system is_ipv6 = record {
+  system = system;
+  waiting = true;
+  room = 65536;
+  is_ipv6 = is_ipv6;
+  silent = 0;
   last = 0;
   failures = 0;
 }
 
--- What is known about a turn of a socket. Which datagram came, and whether one did, isn't known;
--- without a wait none did.
-pub record Gives (room : ℕ) (p : Udp) (wait : ℕ) (t : Turn) (q : Udp) : Type 0 where
-  pub onward : p.last ≤ t.now
-  pub moment : t.now ≤ 2 ^ 62
-  pub draw : t.draw ≤ 1000
-  pub ticks : wait ≡ 0 → t.event ≡ tick
-  pub left : q ≡ record p { last = t.now }
+-- the port at a local address
+abbrev pub new_port : {S : Type 0} → S → Endpoint → Udp S
+new_port system local = port_over system (is_of_ipv6 local.ip)
 
--- What a socket does with a datagram isn't known; the port doesn't change.
-abbrev pub Takes : Udp → Endpoint → List ℕ → Bool → Udp → Type 0
-Takes p to bytes went q = q ≡ p
+-- what a read puts into a buffer with this room, and the source that it gives
+abbrev pub IsPut : ℕ → Result (List ℕ × SocketAddr) ErrorKind → Result Endpoint Error → List ℕ
+    → Type 0
+IsPut room (Ok d) (Ok from) bytes = IsFrom d.1 from × (bytes ≡ take room d.0)
+IsPut room (Ok d) (Err e) bytes = ⊥
+IsPut room (Err k) (Ok from) bytes = ⊥
+IsPut room (Err k) (Err e) bytes = error_kind e ≡ k
+
+abbrev pub is_tick : Event → Bool
+is_tick (arrival from bytes) = false
+is_tick tick = true
+
+module _ {S : Type 0} (sets : S → Bool → Result ⊤ ErrorKind → S → Type 0)
+    (receives : S → ℕ → Result (List ℕ × SocketAddr) ErrorKind → S → Type 0)
+    (awaits : S → ℕ → Result Bool ErrorKind → S → Type 0) where
+  -- what a read does that was asked to wait this many milliseconds: what it reads, its system, and
+  -- whether its socket waits from then on
+  abbrev pub ReadsFor : Udp S → ℕ → Result (List ℕ × SocketAddr) ErrorKind → S → Bool → Type 0
+  ReadsFor p wait r t now = ReadsBy sets receives awaits p.system p.waiting (read_waits wait) p.room
+      (rest_of wait p.silent) r t now
+
+  abbrev pub ReadsInto : Udp S → ℕ → ℕ → Result Endpoint Error → List ℕ → Udp S → Type 0
+  ReadsInto p room wait result bytes q = (r : Result (List ℕ × SocketAddr) ErrorKind)
+      × ReadsFor p wait r q.system q.waiting × IsPut room r result bytes
+
+  -- it ended, by a read that failed for good
+  pub record EndsBy (p : Udp S) (wait : ℕ) (q : Udp S) : Type 0 where
+    pub read : Result (List ℕ × SocketAddr) ErrorKind
+    pub reads : ReadsFor p wait read q.system q.waiting
+    pub ends : ends read ≡ true
+    pub left : q
+        ≡ record p { system = q.system; waiting = q.waiting; failures = p.failures + 1 }
+
+  -- the state after a read: whether its socket waits, and how many turns were silent
+  abbrev pub after_read : Udp S → ℕ → Event → S → Bool → Udp S
+  after_read p wait event system waiting = record p {
+    system = system;
+    waiting = waiting;
+    silent = silent_after p.silent ((rest_of wait p.silent == 0) && is_tick event);
+  }
+
+  -- a read for a buffer with this room led to this event
+  pub record Arrives (room : ℕ) (p : Udp S) (wait : ℕ) (event : Event) (q : Udp S) : Type 0 where
+    pub read : Result (List ℕ × SocketAddr) ErrorKind
+    pub reads : ReadsFor p wait read q.system q.waiting
+    pub given : IsEvent room read event
+    pub left : q ≡ after_read p wait event q.system q.waiting
+
+module _ {S : Type 0} (shows : S → Option ℕ → S → Type 0) (draws : S → ℕ → S → Type 0) where
+  -- the moment is what the clock shows now, and the draw is drawn now
+  abbrev pub IsTimed : Udp S → ℕ → ℕ → Udp S → Type 0
+  IsTimed p now draw q = (shown : Option ℕ) × (number : ℕ) × (m : S)
+      × shows p.system shown m × draws m number q.system
+      × (now ≡ moment_after p.last shown) × (draw ≡ draw_of number)
+      × (q ≡ record p { system = q.system; last = now })
+
+module _ {S : Type 0} (sets : S → Bool → Result ⊤ ErrorKind → S → Type 0)
+    (receives : S → ℕ → Result (List ℕ × SocketAddr) ErrorKind → S → Type 0)
+    (awaits : S → ℕ → Result Bool ErrorKind → S → Type 0)
+    (shows : S → Option ℕ → S → Type 0) (draws : S → ℕ → S → Type 0) where
+  -- without a wait (`true`) a tick; otherwise what was read, and then the moment and the draw
+  abbrev pub GivesBy : Bool → ℕ → Udp S → ℕ → Turn → Udp S → Type 0
+  GivesBy true room p wait t q = (t.event ≡ tick) × IsTimed shows draws p t.now t.draw q
+  GivesBy false room p wait t q = (m : Udp S)
+      × Arrives sets receives awaits room p wait t.event m × IsTimed shows draws m t.now t.draw q
+
+  -- What is known about a turn of a socket, for a buffer with this room.
+  pub record Gives (room : ℕ) (p : Udp S) (wait : ℕ) (t : Turn) (q : Udp S) : Type 0 where
+    pub onward : p.last ≤ t.now
+    pub moment : t.now ≤ 2 ^ 62
+    pub draw : t.draw ≤ 1000
+    pub ticks : wait ≡ 0 → t.event ≡ tick
+    pub by : GivesBy (wait == 0) room p wait t q
+    pub left : q ≡ record p {
+      system = q.system;
+      waiting = q.waiting;
+      silent = q.silent;
+      last = t.now;
+    }
+
+-- what was handed to the socket: these bytes, for the address of the endpoint; the next turn isn't
+-- one of several silent ones
+abbrev pub Takes : {S : Type 0} → (S → Bool → Result ⊤ ErrorKind → S → Type 0)
+    → (S → List ℕ → SocketAddr → Result ℕ ErrorKind → S → Type 0) → Udp S → Endpoint → List ℕ
+    → Bool → Udp S → Type 0
+Takes sets sends p to bytes went q = (a : SocketAddr) × IsTo p.is_ipv6 to a
+    × SendsWhole sets sends p.system p.waiting bytes a went q.system q.waiting
+    × (q ≡ record p { system = q.system; waiting = q.waiting; silent = 0 })

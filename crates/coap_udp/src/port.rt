@@ -1,59 +1,64 @@
 //! The port over a UDP socket.
-ghost use Rattle.std.specs.Prelude.{◌≡◌, ◌≤◌, ◌<◌, ◌^◌, IfOk};
-ghost use Rattle.coap_udp.specs.Udp.{new_port};
+ghost use Rattle.std.specs.Prelude.{◌≡◌, ◌≤◌, ◌<◌, ◌+◌, ◌^◌, [], None, IfOk, IsOk, OnErr, OnOk};
+ghost use Rattle.coap_port.specs.Given.{IsOnward, event_given, given_by};
+ghost use Rattle.coap_udp.specs.Systems.{IsTo};
+ghost use Rattle.coap_udp.specs.Udp.{Arrives, EndsBy, IsTimed, ReadsInto, is_of_ipv6, new_port, port_over};
 
 use crate::address::{address_of, endpoint_of};
-use crate::failing::passes;
-use crate::waiting::Waiting;
+use crate::exchanging::{read_by, send_whole};
+use crate::host::Host;
+use crate::system::System;
+use crate::values::{draw_of, moment_after, read_waits, rest_of, silent_after, turn_of_read};
 use coap_endpoint::{Endpoint, Ip};
 use coap_message::Datagram;
 use coap_port::{Port, PortFault, Turn};
-use rand_core::Rng;
-use rand_pcg::Pcg32;
 use std::alloc::Global;
 use std::io;
 use std::marker::Model;
-use std::net::{Net, UdpSocket};
+use std::net::Net;
 use std::random::RandomSource;
-use std::time::{Clock, Instant};
+use std::time::Clock;
 
-/// The last moment that a port may give: 2^62 ms.
-const LAST_MOMENT: u64 = 1 << 62;
-
-/// The greatest draw, in milliseconds.
-const LAST_DRAW: u32 = 1000;
+/// The room for what is read: more than any UDP datagram has.
+const ROOM: usize = 1 << 16;
 
 /// A port over one UDP socket.
 ///
 /// Its moments are the milliseconds since it was created, or the last moment if the clock can't be
 /// read. Its draws come from a generator that is seeded from the system's random source. The
-/// contracts don't say what the socket receives, nor what becomes of what is sent.
+/// contracts say which calls it makes to the system, and not what the system gives.
 ///
-/// A read takes one system call, and so does a send; changing how long a read waits takes another.
+/// A read takes one system call while datagrams come, and so does a send. If nothing is there, the
+/// port waits for as long as it was asked to, which takes up to five more. With a wait of one
+/// millisecond it only looks, since something may be due already; after 32 turns in a row in which
+/// nothing came and nothing was handed over it waits. A send that finds no room to send waits for
+/// some, at most 50 ms, and is tried once more.
+///
 /// An IPv6 socket uses IPv4-mapped addresses, `::ffff:a.b.c.d`, for IPv4 endpoints.
 #[derive(Drop)]
-pub struct UdpPort<'a, R> {
-    rt: &'a R,
-    socket: UdpSocket,
-    is_ipv6: bool,
-    waiting: Waiting,
-    start: Instant,
-    generator: Pcg32,
+pub struct UdpPort<S> {
+    system: S,
+    waiting: bool,
     room: Vec<u8>,
+    is_ipv6: bool,
+    silent: u64,
     last: u64,
     failures: u64,
 }
 
-impl<'a, R> Model for UdpPort<'a, R> {
+impl<S> Model for UdpPort<S> {
     ghost use Rattle.std.specs.Prelude.{◌≤◌, ◌^◌, vec_len};
     ghost use Rattle.coap_udp.specs.Udp.{Udp};
 
-    ghost Value = { Udp };
+    ghost Value = { Udp S };
 
     ghost view = { λ p.
         record {
+          system = p.system;
+          waiting = p.waiting;
           room = vec_len p.room;
           is_ipv6 = p.is_ipv6;
+          silent = p.silent;
           last = p.last;
           failures = p.failures;
         } };
@@ -61,133 +66,153 @@ impl<'a, R> Model for UdpPort<'a, R> {
     ghost invariant = { λ p. p.last ≤ 2 ^ 62 };
 }
 
-/// A generator that is seeded by the system.
-fn generator(source: &impl RandomSource) -> io::Result<Pcg32> {
-    let mut seed = [0; 8];
-    source.fill_bytes(&mut seed)?;
-    Ok(Pcg32::new(u64::from_le_bytes(seed), 0))
-}
-
-impl<'a, R: Net + Clock + RandomSource> UdpPort<'a, R> {
-    /// A port at a local address, which reads datagrams of up to `longest` bytes; of a longer
-    /// datagram it reads `longest + 1` bytes.
+impl<'a, R: Net + Clock + RandomSource> UdpPort<Host<'a, R>> {
+    /// A port at a local address.
     ///
     /// # Errors
-    /// The address or its port isn't available, the system has no random bytes, the clock can't be
-    /// read, or there is no memory for the buffer.
-    pub fn bind(
-        rt: &'a R,
-        alloc: Global,
-        local: Endpoint,
-        longest: usize,
-    ) -> io::Result<UdpPort<'a, R>>
-        ensures { IfOk result (λ port. port ≡ new_port local longest) }
+    /// The address or its port isn't available, the system has no random bytes or no descriptor
+    /// left, the clock can't be read, or there is no memory for the buffer.
+    pub fn bind(rt: &'a R, alloc: Global, local: Endpoint) -> io::Result<UdpPort<Host<'a, R>>>
+        ensures new { IfOk result (λ port. port ≡ new_port port.system local) }
+        ensures bound { IfOk result (λ port. IsTo (is_of_ipv6 local.ip) local port.system.local) }
     {
-        let room = vec![in alloc; 0; longest.saturating_add(1)]?;
         let is_ipv6 = matches!(local.ip, Ip::V6(_));
-        let socket = UdpSocket::bind(rt, address_of(local, is_ipv6))?;
+        let system = Host::bind(rt, alloc, address_of(local, is_ipv6))?;
+        UdpPort::over(system, alloc, is_ipv6)
+    }
+}
+
+impl<S: System + Drop> UdpPort<S> {
+    /// A port over a system whose socket is new, for addresses of this family.
+    ///
+    /// # Errors
+    /// There is no memory for the buffer.
+    pub fn over(system: S, alloc: Global, is_ipv6: bool) -> io::Result<UdpPort<S>>
+        ensures { IfOk result (λ port. port ≡ port_over system is_ipv6) }
+    {
         Ok(UdpPort {
-            rt,
-            socket,
+            system,
+            waiting: true,
+            room: vec![in alloc; 0; ROOM]?,
             is_ipv6,
-            waiting: Waiting::new(),
-            start: Instant::now(rt)?,
-            generator: generator(rt)?,
-            room,
+            silent: 0,
             last: 0,
             failures: 0,
         })
     }
-}
 
-impl<'a, R: Clock> UdpPort<'a, R> {
-    /// The current moment, in milliseconds, which becomes the last one.
-    fn moment(&mut self) -> u64
-        ensures onward { self.old.last ≤ result }
-        ensures moment { result ≤ 2 ^ 62 }
-        ensures held { self.new ≡ record self.old { last = result } }
-    {
-        if let Ok(now) = Instant::now(self.rt) {
-            let millis = now.duration_since(self.start).as_millis();
-            let now = u64::try_from(millis)
-                .unwrap_or(LAST_MOMENT)
-                .min(LAST_MOMENT);
-            self.last = now.max(self.last);
-        }
-        self.last
-    }
-
-    /// A draw, in milliseconds.
-    fn draw(&mut self) -> u16
-        ensures draw { result ≤ 1000 }
-        ensures same { self.new ≡ self.old }
-    {
-        (self.generator.next_u32() % (LAST_DRAW + 1)) as u16
-    }
-
-    /// Reads a datagram, if one comes within `wait` milliseconds, into an empty buffer. Returns its
-    /// source.
+    /// Reads a datagram, if one is there or comes within `wait` milliseconds, into an empty buffer.
+    /// Returns its source.
     fn read(&mut self, wait: u64, into: &mut Datagram) -> io::Result<Endpoint>
-        requires { 0 < wait }
-        ensures same { self.new ≡ self.old }
+        requires empty { into.old.bytes ≡ [] }
+        ensures reads { ReadsInto S.sets S.receives S.awaits self.old into.old.room wait result
+            into.new.bytes self.new }
+        ensures same { self.new
+            ≡ record self.old { system = self.new.system; waiting = self.new.waiting } }
         ensures room { into.new.room ≡ into.old.room }
     {
-        self.waiting.set(&self.socket, wait)?;
-        let (count, from) = self.socket.recv_from(&mut self.room)?;
+        let rest = rest_of(wait, self.silent);
+        let waits = read_waits(wait);
+        let (count, from) = read_by(
+            &mut self.system,
+            &mut self.waiting,
+            waits,
+            &mut self.room,
+            rest,
+        )?;
         into.put(&self.room[..count]);
         Ok(endpoint_of(from))
     }
 
-    /// A turn with the source of what was read, or a tick.
+    /// Reads a datagram, and notes how silent the turn is. Returns its source, or none for a tick.
+    ///
+    /// # Errors
+    /// The socket can't be read any more. The failure is counted.
+    fn arrival(&mut self, wait: u64, into: &mut Datagram) -> Result<Option<Endpoint>, PortFault>
+        requires empty { into.old.bytes ≡ [] }
+        requires few { self.old.failures < 2 ^ 63 }
+        ensures arrives { IfOk result (λ from. Arrives S.sets S.receives S.awaits into.old.room
+            self.old wait (event_given from into.new.bytes) self.new) }
+        ensures ended { OnErr result
+            (EndsBy S.sets S.receives S.awaits self.old wait self.new) }
+        ensures room { into.new.room ≡ into.old.room }
+    {
+        let looks = rest_of(wait, self.silent) == 0;
+        let read = self.read(wait, into);
+        match turn_of_read(read) {
+            Ok(from) => {
+                self.silent = silent_after(self.silent, looks && from.is_none());
+                Ok(from)
+            }
+            Err(fault) => {
+                self.failures += 1;
+                Err(fault)
+            }
+        }
+    }
+
+    /// A turn with the source of what was read, or a tick. Its moment is the current one.
     fn turn(&mut self, from: Option<Endpoint>) -> Turn
+        ensures timed { IsTimed S.shows S.draws self.old result.now result.draw self.new }
         ensures onward { self.old.last ≤ result.now }
         ensures moment { result.now ≤ 2 ^ 62 }
         ensures draw { result.draw ≤ 1000 }
         ensures from { result.from ≡ from }
-        ensures held { self.new ≡ record self.old { last = result.now } }
     {
+        let shown = self.system.millis();
+        let number = self.system.random();
+        self.last = moment_after(self.last, shown);
         Turn {
-            now: self.moment(),
-            draw: self.draw(),
+            now: self.last,
+            draw: draw_of(number),
             from,
         }
     }
 }
 
-impl<'a, R: Clock> Port for UdpPort<'a, R> {
+impl<S: System + Drop> Port for UdpPort<S> {
     ghost use Rattle.coap_udp.specs.Udp.{Gives, Takes};
 
     ghost clock = { λ p. p.last };
 
     ghost failures = { λ p. p.failures };
 
-    ghost gives = { Gives };
+    ghost gives = { Gives S.sets S.receives S.awaits S.shows S.draws };
 
-    ghost takes = { Takes };
+    ghost takes = { Takes S.sets S.sends };
 
     fn last(&self) -> u64 {
         self.last
     }
 
-    fn next(&mut self, wait: u64, into: &mut Datagram) -> Result<Turn, PortFault> {
+    /// The next turn; see the trait.
+    ///
+    /// # Errors
+    /// The socket can't be read any more. The failure is counted.
+    fn next(&mut self, wait: u64, into: &mut Datagram) -> Result<Turn, PortFault>
+        requires { self.old.failures < 2 ^ 63 }
+        ensures gives { IfOk result (λ turn. Gives S.sets S.receives S.awaits S.shows S.draws
+            into.old.room self.old wait (given_by turn into.new.bytes) self.new) }
+        ensures onward { IfOk result (IsOnward self.old.last self.new.last) }
+        ensures ticks { wait ≡ 0 → IfOk result (λ turn. turn.from ≡ None) }
+        ensures lasts { wait ≡ 0 → IsOk result }
+        ensures room { into.new.room ≡ into.old.room }
+        ensures works { OnOk result (self.new.failures ≡ self.old.failures) }
+        ensures fails { OnErr result (self.new.failures ≡ self.old.failures + 1) }
+        ensures ended { OnErr result
+            (EndsBy S.sets S.receives S.awaits self.old wait self.new) }
+    {
         into.clear();
         if wait == 0 {
             return Ok(self.turn(None));
         }
-        match self.read(wait, into) {
-            Ok(from) => Ok(self.turn(Some(from))),
-            Err(error) if passes(error.kind()) => Ok(self.turn(None)),
-            Err(_) => {
-                self.failures += 1;
-                Err(PortFault)
-            }
-        }
+        let from = self.arrival(wait, into)?;
+        Ok(self.turn(from))
     }
 
     fn send(&mut self, to: Endpoint, bytes: &[u8]) -> bool {
-        match self.socket.send_to(bytes, address_of(to, self.is_ipv6)) {
-            Ok(count) => count == bytes.len(),
-            Err(_) => false,
-        }
+        self.silent = 0;
+        let address = address_of(to, self.is_ipv6);
+        send_whole(&mut self.system, &mut self.waiting, bytes, address)
     }
 }

@@ -71,8 +71,7 @@ fn seed(rt: &HostRuntime) -> Result<RandomState, Fault> {
 /// Serves a socket.
 fn serve_socket(rt: &HostRuntime, plan: Plan) -> Result<(), Fault> {
     let (first_id, salt) = draw(rt)?;
-    let longest = plan.limits.values().datagram as usize;
-    match UdpPort::bind(rt, rt.alloc(), plan.local, longest) {
+    match UdpPort::bind(rt, rt.alloc(), plan.local) {
         Ok(mut port) => {
             serve_port::<_, Cache>(rt.alloc(), seed(rt)?, plan, first_id, salt, &mut port)
         }

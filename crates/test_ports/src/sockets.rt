@@ -8,7 +8,7 @@ use coap_udp::UdpPort;
 use std::net::UdpSocket;
 use std::process::Abort;
 use std::test::*;
-use std::time::Duration;
+use std::time::{Duration, Instant};
 
 /// Takes a turn, and checks where its datagram came from and what was read of it.
 fn check<P: Port>(
@@ -35,9 +35,32 @@ fn at(port: u16) -> Endpoint {
     Endpoint { ip, port }
 }
 
+/// The moments of two turns that are asked to wait 20 ms and in which nothing comes.
+fn two_moments<P: Port>(port: &mut P, into: &mut Datagram) -> Result<(u64, u64), PortFault>
+    requires { P.failures port.old < 2 ^ 63 }
+{
+    let first = port.next(20, into)?;
+    let second = port.next(20, into)?;
+    Ok((first.now, second.now))
+}
+
+/// How many of ten draws are the first one.
+fn same_draws<P: Port>(port: &mut P, into: &mut Datagram) -> Result<usize, PortFault>
+    requires { P.failures port.old < 2 ^ 63 }
+{
+    let first = port.next(0, into)?.draw;
+    let mut same = 0;
+    for _ in 0..10 {
+        if port.next(0, into)?.draw == first {
+            same += 1;
+        }
+    }
+    Ok(same)
+}
+
 #[test]
 fn datagrams_come_and_go_over_a_socket(rt: HostRuntime) -> Result<(), Fail> {
-    let mut port = UdpPort::bind(&rt, rt.alloc(), at(0), 4)?;
+    let mut port = UdpPort::bind(&rt, rt.alloc(), at(0))?;
     let peer = UdpSocket::bind(&rt, "127.0.0.1:0")?;
     peer.set_read_timeout(Some(Duration::from_secs(5)))?;
     let to = at(peer.local_addr()?.port());
@@ -46,11 +69,68 @@ fn datagrams_come_and_go_over_a_socket(rt: HostRuntime) -> Result<(), Fail> {
     let (count, from) = peer.recv_from(&mut bytes)?;
     assert_eq!(rt; &bytes[..count], b"abc".as_slice());
     peer.send_to(b"defghij", from)?;
-    let mut into = Datagram::new(rt.alloc(), 8)?;
-    // without a wait nothing is read; then the longest length is read, and one more byte
+    let mut into = Datagram::new(rt.alloc(), 5)?;
+    // without a wait nothing is read; then as much as there is room for
     check(&rt, &mut port, &mut into, 0, (None, ""))?;
     check(&rt, &mut port, &mut into, 1000, (Some(to), "defgh"))?;
     check(&rt, &mut port, &mut into, 1, (None, ""))?;
     check(&rt, &mut port, &mut into, 20, (None, ""))?;
+    // it was sent once
+    peer.set_read_timeout(Some(Duration::from_millis(20)))?;
+    assert!(rt; peer.recv_from(&mut bytes).is_err());
+    Ok(())
+}
+
+#[test]
+fn the_address_is_the_one_that_was_asked_for(rt: HostRuntime) -> Result<(), Fail> {
+    let peer = UdpSocket::bind(&rt, "127.0.0.1:0")?;
+    peer.set_read_timeout(Some(Duration::from_secs(5)))?;
+    let probe = UdpSocket::bind(&rt, "127.0.0.1:0")?;
+    let free = probe.local_addr()?.port();
+    drop(probe);
+    let mut port = UdpPort::bind(&rt, rt.alloc(), at(free))?;
+    assert!(rt; port.send(at(peer.local_addr()?.port()), b"abc"));
+    let mut bytes = [0; 8];
+    let (_, from) = peer.recv_from(&mut bytes)?;
+    assert_eq!(rt; from.port(), free);
+    // what goes to another address of this host doesn't come
+    peer.send_to(b"no", ("127.0.0.2", free))?;
+    let mut into = Datagram::new(rt.alloc(), 5)?;
+    check(&rt, &mut port, &mut into, 50, (None, ""))?;
+    Ok(())
+}
+
+#[test]
+fn waits_are_as_long_as_asked_for_and_the_clock_moves(rt: HostRuntime) -> Result<(), Fail> {
+    let mut port = UdpPort::bind(&rt, rt.alloc(), at(0))?;
+    let mut into = Datagram::new(rt.alloc(), 5)?;
+    let start = Instant::now(&rt)?;
+    let (first, second) = two_moments(&mut port, &mut into)?;
+    let took = start.elapsed(&rt)?;
+    assert!(rt; took >= Duration::from_millis(40));
+    assert!(rt; took < Duration::from_secs(2));
+    let between = second.saturating_sub(first);
+    assert!(rt; (19..2000).contains(&between));
+    Ok(())
+}
+
+#[test]
+fn draws_are_not_all_the_same(rt: HostRuntime) -> Result<(), Fail> {
+    let mut port = UdpPort::bind(&rt, rt.alloc(), at(0))?;
+    let mut into = Datagram::new(rt.alloc(), 5)?;
+    assert!(rt; same_draws(&mut port, &mut into)? < 10);
+    Ok(())
+}
+
+#[test]
+fn a_peer_that_is_gone_ends_nothing(rt: HostRuntime) -> Result<(), Fail> {
+    let mut port = UdpPort::bind(&rt, rt.alloc(), at(0))?;
+    let probe = UdpSocket::bind(&rt, "127.0.0.1:0")?;
+    let gone = at(probe.local_addr()?.port());
+    drop(probe);
+    assert!(rt; port.send(gone, b"abc"));
+    let mut into = Datagram::new(rt.alloc(), 5)?;
+    check(&rt, &mut port, &mut into, 20, (None, ""))?;
+    check(&rt, &mut port, &mut into, 1, (None, ""))?;
     Ok(())
 }

@@ -1,0 +1,98 @@
+//! What the values mean that the system gives, and how long a port waits.
+ghost use Rattle.std.specs.Prelude.{◌≡◌, ◌≤◌, ◌^◌};
+ghost use Rattle.coap_udp.specs.Values as spec;
+
+use crate::failing::passes;
+use coap_endpoint::Endpoint;
+use coap_port::PortFault;
+use std::io;
+use std::time::Instant;
+
+/// The last moment that a port may give: 2^62 ms.
+const LAST_MOMENT: u64 = 1 << 62;
+
+/// The greatest draw, in milliseconds.
+const LAST_DRAW: u32 = 1000;
+
+/// The shortest wait for which the read itself waits, in milliseconds.
+const WAITING_READ: u64 = 8;
+
+/// How long a read that waits takes at least, if nothing comes, in milliseconds.
+const FIRST_WAIT: u64 = 4;
+
+/// After how many silent turns in a row a wait of one millisecond is a wait.
+const SILENT_TURNS: u64 = 32;
+
+/// The draw that a random number gives, in milliseconds.
+pub(crate) fn draw_of(number: u32) -> u16
+    ensures exact { result ≡ spec.draw_of number }
+    ensures draw { result ≤ 1000 }
+{
+    (number % (LAST_DRAW + 1)) as u16
+}
+
+/// The milliseconds from an instant to a later one, at most 2^62.
+pub(crate) fn millis_between(start: Instant, now: Instant) -> u64
+    ensures exact { result ≡ spec.millis_between start now }
+    ensures moment { result ≤ 2 ^ 62 }
+{
+    let millis = now.duration_since(start).as_millis();
+    u64::try_from(millis)
+        .unwrap_or(LAST_MOMENT)
+        .min(LAST_MOMENT)
+}
+
+/// The moment after `last`, given what the clock shows, if it can be read.
+pub(crate) fn moment_after(last: u64, shown: Option<u64>) -> u64
+    requires { last ≤ 2 ^ 62 }
+    ensures exact { result ≡ spec.moment_after last shown }
+    ensures onward { last ≤ result }
+{
+    match shown {
+        Some(now) => now.max(last),
+        None => last,
+    }
+}
+
+/// What a read means: the source of a datagram, no datagram if the error is transient, or the end
+/// of the port.
+pub(crate) fn turn_of_read(read: io::Result<Endpoint>) -> Result<Option<Endpoint>, PortFault>
+    ensures { result ≡ spec.turn_of_read read }
+{
+    match read {
+        Ok(from) => Ok(Some(from)),
+        Err(error) if passes(error.kind()) => Ok(None),
+        Err(_) => Err(PortFault),
+    }
+}
+
+/// Whether the read itself waits.
+pub(crate) fn read_waits(wait: u64) -> bool
+    ensures { result ≡ spec.read_waits wait }
+{
+    wait >= WAITING_READ
+}
+
+/// For how long a port waits after a read that gave nothing, after this many silent turns in a row.
+pub(crate) fn rest_of(wait: u64, silent: u64) -> u64
+    ensures { result ≡ spec.rest_of wait silent }
+{
+    if read_waits(wait) {
+        wait - FIRST_WAIT
+    } else if wait > 1 || silent >= SILENT_TURNS {
+        wait
+    } else {
+        0
+    }
+}
+
+/// How many turns in a row were silent, after one that was, or that wasn't.
+pub(crate) fn silent_after(silent: u64, is_silent: bool) -> u64
+    ensures { result ≡ spec.silent_after silent is_silent }
+{
+    if is_silent {
+        silent.saturating_add(1)
+    } else {
+        0
+    }
+}
