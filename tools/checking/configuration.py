@@ -247,7 +247,7 @@ def slips_of_limits(table, memory_max):
 def slips_of_client(said, limits, key):
     """A limit of a client that is greater than the one that all share, so that it never has an effect."""
     shared = key[len(CLIENT) :]
-    if limits[key] > limits[shared]:
+    if 0 < limits[shared] < limits[key]:
         ours = f"{key} is {limits[key]}" + ("" if key in said else " by default")
         text = f"{ours}, but {shared} is {limits[shared]}: it has no effect, and one client can use up all"
         yield Finding(said[key if key in said else shared].line, text)
