@@ -1,5 +1,5 @@
 -- A datagram: the bytes that it holds, and the number of bytes that it has room for.
-use Rattle.std.specs.Prelude.{◌≡◌, ℕ, ◌+◌, ◌<◌, ◌≤◌, List, ◌++◌, length, take, Result, Ok, Err}
+use Rattle.std.specs.Prelude.{◌≡◌, ℕ, ◌+◌, ◌<◌, ◌≤◌, List, ◌++◌, length, take, drop, Result, Ok, Err}
 use Rattle.coap_message.specs.declared.error.Full.{Full}
 
 pub record Datagram : Type 0 where
@@ -9,6 +9,10 @@ pub record Datagram : Type 0 where
 -- the datagram with its bytes replaced by these
 abbrev pub holding : Datagram → List ℕ → Datagram
 holding d bytes = record { room = d.room; bytes = bytes }
+
+-- bytes, with others written over them from the first on, as far as they go
+abbrev pub written_over : List ℕ → List ℕ → List ℕ
+written_over old new = take (length old) (new ++ drop (length new) old)
 
 -- what was held is followed by a prefix of the bytes, or by nothing
 abbrev pub AddsFront : List ℕ → List ℕ → List ℕ → Type 0

@@ -1,5 +1,7 @@
 //! Buffers for datagrams.
 ghost use Rattle.std.specs.Prelude.{◌≡◌, ◌++◌, ◌≤◌, [], IfOk, length, take};
+ghost use Rattle.std.specs.Borrow.{sem, Lends, Array, u8 as byte};
+ghost use Rattle.coap_message.specs.contracts.datagram.Datagram.{the_row};
 
 use crate::error::OutOfMemory;
 use std::alloc::Global;
@@ -26,7 +28,7 @@ impl Model for Datagram {
 }
 
 impl Datagram {
-    ghost use Rattle.coap_message.specs.Datagram.{holding};
+    ghost use Rattle.coap_message.specs.Datagram.{holding, written_over};
 
     /// An empty datagram with room for `room` bytes. No other call allocates.
     ///
@@ -71,5 +73,22 @@ impl Datagram {
         let end = self.held + count;
         self.places[self.held..end].copy_from_slice(&bytes[..count]);
         self.held = end;
+    }
+
+    /// All its places, to be written. It then holds them all: `truncate` keeps those that count.
+    pub fn places(&mut self) -> &mut [u8]
+        ensures* lends { sem 𝓛 (Lends the_row (Array byte 0) self.entry result
+            (λ w. holding self.old (written_over result.now w))) }
+        ensures places { length result.now ≡ self.old.room }
+    {
+        self.held = self.places.len();
+        self.places.as_mut_slice()
+    }
+
+    /// Keeps the first `count` bytes of those that it holds.
+    pub fn truncate(&mut self, count: usize)
+        ensures { self.new ≡ holding self.old (take count self.old.bytes) }
+    {
+        self.held = self.held.min(count);
     }
 }
