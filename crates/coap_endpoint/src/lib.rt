@@ -14,7 +14,9 @@
 
 mod endpoint;
 pub mod laws;
+mod seeded;
 mod target;
 
 pub use endpoint::{Endpoint, Ip};
+pub use seeded::Seeded;
 pub use target::{Target, copy_host};

@@ -30,7 +30,6 @@ mod marks;
 mod peer;
 mod roll;
 mod row;
-mod seeded;
 mod table;
 mod tally;
 mod timer;

@@ -8,13 +8,13 @@ use std::hash::{BuildHasher, FoldHasher, Hasher};
 /// Makes hashers that have read a seed already, so that whoever doesn't know it can't tell which
 /// numbers meet in a map. It costs a look-up nothing, since the seed is read once.
 #[derive(Clone, Copy)]
-pub(crate) struct Seeded {
+pub struct Seeded {
     begun: FoldHasher,
 }
 
 impl Seeded {
     /// Makes hashers that have read this seed.
-    pub(crate) fn new(seed: u64) -> Seeded
+    pub fn new(seed: u64) -> Seeded
         ensures { result.begun ≡ fold write initial (u64 seed) }
     {
         let mut begun = FoldHasher::default();
