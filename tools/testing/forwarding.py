@@ -119,6 +119,20 @@ def the_first_id_and_the_salt_can_be_given(stage):
     client.expect_silence("for a duplicate")
 
 
+@case("NothingDrawn")
+def the_first_id_and_the_salt_are_drawn(stage):
+    ids, salts = [], []
+    for _ in range(3):
+        _, client, origin = stage.mapped()
+        client.request(GET, [T], kind=NON)
+        asked = origin.expect_request(GET, [TEMP]).message
+        ids.append(asked.message_id)
+        salts.append(int.from_bytes(asked.token, "big") - 1)
+    expect("whether first Message IDs differ", True, len(set(ids)) > 1)
+    expect("how many salts differ", 3, len(set(salts)))
+    expect("whether a salt has 33 bits or more", True, min(salts) >= 1 << 32)
+
+
 @case("PayloadChanged")
 def ipv6_is_served(stage):
     if not has_ipv6():

@@ -3,7 +3,8 @@
 import random
 
 from testing.coap import (
-    ACK, BAD_GATEWAY, CON, CONTENT, EMPTY, GET, NON, NOT_FOUND, PUT, RST, TOO_LARGE, UNAVAILABLE, message, read, told,
+    ACK, BAD_GATEWAY, CHANGED, CON, CONTENT, EMPTY, GET, NON, NOT_FOUND, PUT, RST, TOO_LARGE, UNAVAILABLE, message,
+    read, told,
 )
 from testing.network import Failed, Life, case_list
 from testing.steps import T, TEMP, expect_hit, fetch, max_age, path
@@ -95,6 +96,17 @@ def what_is_too_long_to_send_on_is_refused(stage):
     request = client.request(GET, [T], kind=NON)
     origin.answer(origin.expect_request(GET, [TEMP]), CONTENT, payload=b"x" * 114)
     client.expect_response(request, BAD_GATEWAY)
+
+
+@case("PayloadChanged")
+def datagrams_of_4096_bytes_pass(stage):
+    _, client, origin = stage.mapped("datagram = 4096")
+    # Beside a head and a token there are an option and the marker of the payload.
+    request = client.request(PUT, [T], b"x" * (4096 - 12 - 5 - 1))
+    asked = origin.expect_request(PUT, [TEMP], b"x" * (4096 - 12 - 5 - 1))
+    # A response must have room for a Max-Age of four bytes.
+    origin.answer(asked, CHANGED, payload=b"y" * (4096 - 12 - 6 - 1))
+    client.expect_late(request, CHANGED, payload=b"y" * (4096 - 12 - 6 - 1))
 
 
 def odd(rand, client):
