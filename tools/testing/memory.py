@@ -1,0 +1,288 @@
+"""What must hold where the program is refused memory: the nth request for it, for each n until none is refused.
+
+The program takes memory from the C library alone (`malloc`, `realloc`). A small library is loaded before that, which
+refuses one request when it is told to (`refusing.c`).
+"""
+
+import atexit
+import functools
+import mmap
+import os
+import shutil
+import subprocess
+import tempfile
+import threading
+import time
+
+from testing import worked
+from testing.coap import ACK, CON, CONTENT, DELETED, EMPTY, GET, NON, message, read
+from testing.network import (
+    PATIENCE, Came, Failed, Life, Skipped, case_list, check_response, expect, expect_between,
+)
+from testing.steps import path
+
+CASES, case = case_list()
+SOURCE = os.path.join(os.path.dirname(os.path.abspath(__file__)), "refusing.c")
+START, ORIGIN = b"coap-proxyd: out of memory\n", b"127.0.0.1:5690"
+# More requests for memory than a run makes.
+MANY = 1 << 40
+# The worked runs that are played, and what each must write where an answer isn't stored for want of memory, which
+# ends nothing: it was worked out by hand, one text for each answer that isn't.
+RUNS = {
+    "first_answer": (),
+    "hit_aged": (
+        b"""0 127.0.0.1:5690 480100010000000000000001B474656D70
+0 127.0.0.1:40001 50450002D1010AFF3231
+""",
+    ),
+    "confirmable_client": (),
+    "joined": (
+        b"""0 127.0.0.1:5690 480100010000000000000001B474656D70
+2000 127.0.0.1:5690 480100010000000000000001B474656D70
+3000 127.0.0.1:5690 480100020000000000000002B474656D704171
+4000 127.0.0.1:40003 51450003CCD1010AFF3231
+4000 127.0.0.1:40001 51450004AAD1010AFF3231
+4900 127.0.0.1:40002 51450005BBD10109FF3231
+4900 127.0.0.1:40004 50450006D10109FF3231
+""",
+    ),
+    "overtaken_answer": (),
+    "validation": (
+        b"""0 127.0.0.1:5690 480100010000000000000001B474656D70
+0 127.0.0.1:40001 5045000241ABA10AFF3231
+10001 127.0.0.1:5690 480100030000000000000002B474656D70
+10010 127.0.0.1:40001 50A20004
+10010 127.0.0.1:40002 50A20005
+""",
+    ),
+    "eviction_while_validating": (
+        b"""0 127.0.0.1:5690 480100010000000000000001B474656D70
+0 127.0.0.1:40001 5045000241ABA10AFF3231
+10001 127.0.0.1:5690 480100030000000000000002B474656D70
+10001 127.0.0.1:5690 480100040000000000000003B474656D700178
+10001 127.0.0.1:40002 50450005D1013CFF32
+10001 127.0.0.1:40001 50A20006
+""",
+        b"""0 127.0.0.1:5690 480100010000000000000001B474656D70
+0 127.0.0.1:40001 5045000241ABA10AFF3231
+10001 127.0.0.1:5690 48010003000000000000000241AB7474656D70
+10001 127.0.0.1:5690 480100040000000000000003B474656D700178
+10001 127.0.0.1:40002 50450005D1013CFF32
+10001 127.0.0.1:40001 5045000641ABA13CFF3231
+""",
+    ),
+    "full_tables": (),
+}
+
+LIBRARY, LOCK = [], threading.Lock()
+
+
+def library():
+    """The path of the library that refuses requests, which is compiled once."""
+    with LOCK:
+        if not LIBRARY:
+            compiler = next((it for it in ("cc", "gcc", "clang") if shutil.which(it)), None)
+            if compiler is None:
+                raise Skipped("there is no C compiler")
+            folder = tempfile.mkdtemp(prefix="coap-proxyd-test-")
+            atexit.register(shutil.rmtree, folder)
+            path = os.path.join(folder, "refusing.so")
+            subprocess.run([compiler, "-O1", "-shared", "-fPIC", "-o", path, SOURCE], check=True)
+            LIBRARY.append(path)
+        return LIBRARY[0]
+
+
+class Refusals:
+    """A program that is refused requests for memory: how many requests are left until one is, or 0 for none, and how
+    many were refused."""
+
+    def __init__(self, folder, program):
+        name = os.path.join(folder, "refusals")
+        with open(name, "w+b") as file:
+            file.write(bytes(16))
+            file.flush()
+            self.map = mmap.mmap(file.fileno(), 16)
+        self.numbers = memoryview(self.map).cast("Q")
+        # A stand-in, which starts the program, isn't refused anything.
+        refused = os.path.realpath(program[-1])
+        settings = f"REFUSED={refused}", f"REFUSALS={name}", f"LD_PRELOAD={library()}"
+        self.program = ["env", *settings, *program]
+
+    def refuse(self, request):
+        """Has this request from now on be refused."""
+        self.numbers[0], self.numbers[1] = request, 0
+
+    def refused(self):
+        """Whether a request was refused since."""
+        return self.numbers[1] > 0
+
+
+# Replays
+
+
+def cut(run, count):
+    """A run of the first lines of another."""
+    return run._replace(events=b"".join(run.events.splitlines(True)[:count]))
+
+
+def check_line(program, run, came):
+    """Has a replay that was refused memory at a line have written what the lines before it send. If the line is a
+    tick, it must be about to send a client its answer in a Confirmable message."""
+    number = int(came[2].split(b":")[0].split(b" ")[1])
+    before, after = (worked.play(program, cut(run, count))[1] for count in (number - 1, number))
+    expect("what stands", (1, before, b"line %d: out of memory\n" % number), came)
+    if run.events.splitlines()[number - 1].endswith(b" tick"):
+        _, to, data = after[len(before) :].split() or (b"", ORIGIN, b"")
+        expect("whether this tick takes memory", (True, b"4"), (to != ORIGIN, data[:1]))
+
+
+def check_refused(program, run, came):
+    """Has a replay that was refused memory once end as it must."""
+    if came[2] == START:
+        expect("what stands", (1, b"", START), came)
+    elif came[2]:
+        check_line(program, run, came)
+    else:
+        expect("status", 0, came[0])
+        if came[1] not in (run.output, *RUNS[run.name]):
+            raise Failed(f"a run without a stored answer wrote {came[1]!r}")
+
+
+def requests_of_start(refusals, run):
+    """How many requests for memory a run without events makes."""
+    refusals.refuse(MANY)
+    worked.play(refusals.program, cut(run, 0))
+    return MANY - refusals.numbers[0]
+
+
+def check_replay(program, run, with_start):
+    """Refuses a worked run each of its requests for memory, or each but those of the start, and then none."""
+    with tempfile.TemporaryDirectory(prefix="coap-proxyd-test-") as folder:
+        refusals, texts = Refusals(folder, program), set()
+        request = 0 if with_start else requests_of_start(refusals, run)
+        while True:
+            request += 1
+            refusals.refuse(request)
+            came = worked.play(refusals.program, run)
+            if not refusals.refused():
+                break
+            check_refused(program, run, came)
+            texts.add(came[2])
+        worked.check(run, came)
+        # At least a request, an answer of the origin, and what ends nothing.
+        expect_between("how many texts there were", 3, 100, len(texts))
+
+
+# Over a socket
+
+
+class Sequence:
+    """A client and an origin of a program that is refused memory."""
+
+    def __init__(self, stage):
+        self.refusals = Refusals(stage.folder, stage.program)
+        stage.program = self.refusals.program
+        _, self.client, self.origin = stage.mapped()
+
+    def effect(self, act, peer, what):
+        """Does something that must bring this peer a message, which is returned. If nothing comes, and memory was
+        refused, the same is done again."""
+        act()
+        until = time.monotonic() + PATIENCE
+        came = None
+        while came is None and not self.refusals.refused() and time.monotonic() < until:
+            came = peer.poll(0.02)
+        came = came or peer.poll(0.15)
+        if came is not None:
+            return Came(read(came[0]), *came)
+        if self.refusals.refused():
+            act()
+        return peer.receive(what)
+
+    def ask(self, name, kind):
+        """A GET for what the origin must be asked for, and what that gets. Both are returned."""
+        data = message(kind, GET, self.client.new_id(), b"\xaa", path("t", name))
+        request = Came(read(data), data, self.client.to, time.time())
+        send = functools.partial(self.client.send, data)
+        if kind == CON:
+            came = self.effect(send, self.client, "an acknowledgement")
+            expect("the acknowledgement", message(ACK, EMPTY, request.message.message_id), came.data)
+            asked = self.origin.receive("a request")
+        else:
+            asked = self.effect(send, self.origin, "a request")
+        it = asked.message
+        expect("the request", (CON, GET, path("temp", name), b""), (it.kind, it.code, it.options, it.payload))
+        return request, asked
+
+    def fetch(self, name, kind):
+        """A GET that is forwarded, and its answer. Returns the life of that."""
+        request, asked = self.ask(name, kind)
+        answer = message(ACK, CONTENT, asked.message.message_id, asked.message.token, [], b"21")
+        life = Life(60, time.time())
+        send = functools.partial(self.origin.send, answer, asked.source)
+        came = self.effect(send, self.client, "an answer")
+        check_response(came, kind, request, CONTENT, [], b"21", life)
+        if kind == CON:
+            self.client.acknowledge(came)
+        return life._replace(seen=came.at)
+
+    def hit(self, name, life):
+        """A GET that the cache must answer."""
+        data = message(CON, GET, self.client.new_id(), b"\xaa", path("t", name))
+        request = Came(read(data), data, self.client.to, time.time())
+        came = self.effect(functools.partial(self.client.send, data), self.client, "an answer from the cache")
+        check_response(came, ACK, request, CONTENT, [], b"21", life)
+
+    def is_kept(self, name):
+        """Whether the cache has an answer, which is asked for in a Non-confirmable message. Otherwise the origin is
+        asked, and its answer is Deleted, so that nothing is stored."""
+        self.client.request(GET, path("t", name), kind=NON)
+        if self.client.poll(0.1) is not None:
+            return True
+        self.origin.answer(self.origin.receive("a request"), DELETED)
+        self.client.receive("the answer")
+        return False
+
+    def refuse_all(self, play):
+        """Plays something with a name again and again, and has a further request for memory be refused each time,
+        until none is. Returns the names with which one was."""
+        for number in range(1, 1000):
+            self.refusals.refuse(number)
+            play(f"{number}")
+            if not self.refusals.refused():
+                expect_between("how many requests for memory there were", 1, 999, number - 1)
+                return [f"{number}" for number in range(1, number)]
+        raise Failed("there is no end of requests for memory")
+
+    def expect_silence(self):
+        """Has nothing be sent again, or twice."""
+        self.refusals.refuse(0)
+        self.client.expect_silence("at the client", 3.2)
+        self.origin.expect_silence("at the origin", 0.1)
+
+
+@case("PayloadChanged")
+def a_first_answer_comes_where_memory_is_refused(stage):
+    sequence = Sequence(stage)
+    names = sequence.refuse_all(lambda name: sequence.fetch(name, NON))
+    sequence.refusals.refuse(0)
+    kept = [name for name in names if sequence.is_kept(name)]
+    # An answer isn't kept where the cache was refused memory for it, and nowhere else.
+    expect_between("how many answers are kept", 1, len(names) - 1, len(kept))
+    sequence.expect_silence()
+
+
+@case("MaxAgeKept")
+def the_cache_answers_where_memory_is_refused(stage):
+    sequence = Sequence(stage)
+    lives = {f"{n}": sequence.fetch(f"{n}", NON) for n in range(1, 30)}
+    time.sleep(1.2)
+    sequence.refuse_all(lambda name: sequence.hit(name, lives[name]))
+    sequence.expect_silence()
+
+
+@case("CodeChanged")
+def a_confirmable_client_is_answered_where_memory_is_refused(stage):
+    sequence = Sequence(stage)
+    sequence.refuse_all(lambda name: sequence.fetch(name, CON))
+    sequence.expect_silence()
