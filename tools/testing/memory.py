@@ -192,7 +192,7 @@ class Sequence:
         came = None
         while came is None and not self.refusals.refused() and time.monotonic() < until:
             came = peer.poll(0.02)
-        came = came or peer.poll(0.15)
+        came = came or peer.poll(0.3)
         if came is not None:
             return Came(read(came[0]), *came)
         if self.refusals.refused():
@@ -237,11 +237,16 @@ class Sequence:
         """Whether the cache has an answer, which is asked for in a Non-confirmable message. Otherwise the origin is
         asked, and its answer is Deleted, so that nothing is stored."""
         self.client.request(GET, path("t", name), kind=NON)
-        if self.client.poll(0.1) is not None:
-            return True
-        self.origin.answer(self.origin.receive("a request"), DELETED)
-        self.client.receive("the answer")
-        return False
+        until = time.monotonic() + PATIENCE
+        while time.monotonic() < until:
+            if self.client.poll(0.02) is not None:
+                return True
+            came = self.origin.poll(0.02)
+            if came is not None:
+                self.origin.answer(Came(read(came[0]), *came), DELETED)
+                self.client.receive("the answer")
+                return False
+        raise Failed("expected an answer or a request, got neither")
 
     def refuse_all(self, play):
         """Plays something with a name again and again, and has a further request for memory be refused each time,
