@@ -9,7 +9,7 @@ import threading
 from testing import worked
 from testing.coap import (
     ACCEPT, ACK, BAD_GATEWAY, BAD_OPTION, CHANGED, CON, CONTENT, CONTENT_FORMAT, EMPTY, ETAG, GET,
-    MAX_AGE, NON, NOT_FOUND, POST, PROXY_URI, PUT, RST, TOO_LARGE, UNAVAILABLE, URI_HOST, URI_PATH,
+    NON, NOT_FOUND, POST, PROXY_URI, PUT, RST, TOO_LARGE, UNAVAILABLE, URI_HOST, URI_PATH,
     URI_QUERY, VALID, message, number_bytes,
 )
 from testing.network import Broken, Failed, left
@@ -282,7 +282,7 @@ def answered(script, moment, origin, code, there, client):
 
 @case
 def all_of_64_maps_256_hosts_and_64_names_are_known():
-    script, message_id = Script(), 0
+    script = Script()
     maps = [(f"m{n}", f"10.1.0.{n}:{6000 + n}", f"o{n}") for n in range(64)]
     hosts = [(f"h{n}.test", f"10.2.0.{n}") for n in range(256)]
     names = [f"n{n}.test" for n in range(64)]
