@@ -27,7 +27,7 @@ START, ORIGIN = b"coap-proxyd: out of memory\n", b"127.0.0.1:5690"
 # More requests for memory than a run makes.
 MANY = 1 << 40
 # The worked runs that are played, and what each must write where an answer isn't stored for want of memory, which
-# ends nothing: it was worked out by hand, one text for each answer that isn't.
+# ends nothing: one text for each such answer that shows. They came from the program and were checked by hand.
 RUNS = {
     "first_answer": (),
     "hit_aged": (
