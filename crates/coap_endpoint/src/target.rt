@@ -10,11 +10,17 @@ use coap_message::{OutOfMemory, Pieces, Seq};
 use std::hash::{Hash, Hasher};
 
 /// A resource on an origin server: the host name that it is requested by, or none for an address;
-/// the endpoint; and the segments of its path and the parts of its query, decoded.
+/// the endpoint that its requests are sent to; and the segments of its path and the parts of its
+/// query, decoded.
+///
+/// If its requests are sent to another proxy, that is the endpoint; then `port` is the port of the
+/// resource's URI, and `host` is its host, a name or an address as text. `port` is `None` for all
+/// other targets.
 #[derive(Clone)]
 pub struct Target {
     pub host: Option<Seq<u8>>,
     pub at: Endpoint,
+    pub port: Option<u16>,
     pub path: Pieces,
     pub query: Pieces,
 }
@@ -24,6 +30,7 @@ impl Drop for Target {
         let Target {
             host: _,
             at: _,
+            port: _,
             path: _,
             query: _,
         } = self;
@@ -58,6 +65,7 @@ impl PartialEq for Target {
     fn eq(&self, other: &Target) -> bool {
         self.host == other.host
             && self.at == other.at
+            && self.port == other.port
             && self.path == other.path
             && self.query == other.query
     }
@@ -73,6 +81,7 @@ impl Target {
     {
         copy_host(&self.host, &mut target.host)?;
         target.at = self.at;
+        target.port = self.port;
         target.path.clear();
         target.path.append(&self.path.iter())?;
         target.query.clear();
@@ -90,7 +99,8 @@ impl Target {
     }
 }
 
-/// The endpoint, the sizes of the runs of bytes, and then each run in one write.
+/// The endpoint, the port if there is one, the sizes of the runs of bytes, and then each run in one
+/// write.
 impl Hash for Target {
     ghost hash_input = { fed_target };
 
@@ -98,6 +108,9 @@ impl Hash for Target {
 
     fn hash<H: Hasher>(&self, state: &mut H) {
         self.at.hash(state);
+        if let Some(port) = self.port {
+            state.write_u64(u64::from(port));
+        }
         match &self.host {
             Some(host) => {
                 state.write_u64(sizes_word(host.len(), self.path.size(), self.query.size()));
