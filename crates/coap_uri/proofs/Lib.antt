@@ -1,6 +1,8 @@
+pub mod AddressTexts
 pub mod Addresses
 pub mod Cutting
 pub mod Digits
+pub mod EightGroups
 pub mod Escapes
 pub mod Kept
 pub mod PlainUrls

@@ -17,7 +17,7 @@ use Rattle.coap_uri.specs.declared.uri.HostPart.TheVariants.{Name, Addr}
 use Rattle.coap_uri.specs.declared.uri.UriParts.{UriParts}
 use Rattle.coap_uri.specs.declared.error.UriError.{UriError}
 use Rattle.coap_uri.specs.declared.error.UriError.TheVariants.{Bad, Scheme}
-use Rattle.coap_uri.specs.Address.{ipv4_of, ip_of}
+use Rattle.coap_uri.specs.Address.{address_text, bytes, ipv4_of, ip_of}
 
 -- the parts of a text between separators, if there is a text
 abbrev pub parts_left : ℕ → Option (List ℕ) → List (List ℕ)
@@ -48,8 +48,8 @@ name_or None text = Name (percent_decode (map to_ascii_lowercase text))
 
 abbrev pub host_part : Host (List ℕ) → HostPart
 host_part (Domain text) = name_or (ipv4_of text) text
-host_part (Ipv4 address) = Addr (V4 (ipv4_octets address))
-host_part (Ipv6 address) = Addr (V6 (ipv6_octets address))
+host_part (Ipv4 address) = Addr (V4 (bytes 4 (ipv4_octets address)))
+host_part (Ipv6 address) = Addr (V6 (bytes 16 (ipv6_octets address)))
 
 -- a host on its own, as in Uri-Host (RFC 7252, 5.10.1), in ASCII lower case: an address, or
 -- otherwise a name, which isn't decoded
@@ -59,6 +59,15 @@ host_or None lower = Name lower
 
 abbrev pub host_of : List ℕ → HostPart
 host_of text = let lower : List ℕ = map to_ascii_lowercase text in host_or (ip_of lower) lower
+
+-- a host as text, as Uri-Host has it: a name, or an address (RFC 7252, 5.10.1)
+abbrev pub host_text : HostPart → List ℕ
+host_text (Name name) = name
+host_text (Addr ip) = address_text ip
+
+-- a port is a number from 1 to 65,535
+abbrev pub is_port : ℕ → Bool
+is_port port = nat_le 1 port && nat_le port 65535
 
 -- hosts, path segments and query parts have at most 255 bytes (RFC 7252, 5.10)
 abbrev pub is_short : List ℕ → Bool
@@ -95,7 +104,7 @@ abbrev pub with_host : Parts → Option (Host (List ℕ)) → Result UriParts Ur
 with_host url None = Err Bad
 with_host url (Some host) =
     let uri : UriParts = parts_of url host in
-    if is_plain url && (not (uri.port == 0) && are_short uri) then Ok uri else Err Bad
+    if is_plain url && (is_port uri.port && are_short uri) then Ok uri else Err Bad
 
 -- what `url` rejects isn't a URI
 abbrev pub url_or_bad : Result Parts ParseError → Result Parts UriError

@@ -1,10 +1,12 @@
 //! Addresses written as text (RFC 3986, 3.2.2).
-ghost use Rattle.std.specs.Prelude.{◌≡◌, None, IfOk, ok_or};
+ghost use Rattle.std.specs.Prelude.{◌≡◌, None, IfOk, ok_or, string_bytes};
+ghost use Rattle.std.specs.Net.Addr.{ipv4_octets, ipv6_octets};
+ghost use Rattle.std.specs.Net.Text.{ipv4_text};
 ghost use Rattle.std.specs.List.{list_all};
 ghost use Rattle.std.specs.Option.{option_map, option_copied};
 ghost use Rattle.url.specs.Host.{borrowed_host};
 ghost use Rattle.url.specs.Parser.{parse_url};
-ghost use Rattle.coap_uri.specs.Address.{ipv4_of, is_address_byte, inner_of, ipv6_host, ipv6_read, ipv6_between, bracketed_uri, ip_of};
+ghost use Rattle.coap_uri.specs.Address.{address_text, bytes, eight_groups, four_groups, ipv4_of, is_address_byte, inner_of, ipv6_host, ipv6_read, ipv6_between, bracketed_uri, ip_of};
 ghost use Rattle.coap_uri.specs.Answer.{Answers};
 ghost use Rattle.coap_endpoint.specs.declared.endpoint.Ip.TheVariants.{V4, V6};
 ghost use Rattle.coap_uri.specs.Uri.{host_of, url_or_bad};
@@ -15,7 +17,7 @@ use crate::uri::HostPart;
 use coap_endpoint::Ip;
 use coap_message::{OutOfMemory, Seq};
 use std::alloc::Global;
-use std::net::Ipv4Addr;
+use std::net::{Ipv4Addr, Ipv6Addr};
 use url::{Host, ParseError, Url};
 
 /// Parses a text as a URL.
@@ -64,12 +66,26 @@ fn inner(text: &[u8]) -> Option<&[u8]>
     }
 }
 
+/// The bytes of an IPv4 address.
+pub(crate) fn bytes_of_ipv4(address: Ipv4Addr) -> Ip
+    ensures { result ≡ V4 (bytes 4 (ipv4_octets address)) }
+{
+    Ip::V4(address.octets())
+}
+
+/// The bytes of an IPv6 address.
+pub(crate) fn bytes_of_ipv6(address: Ipv6Addr) -> Ip
+    ensures { result ≡ V6 (bytes 16 (ipv6_octets address)) }
+{
+    Ip::V6(address.octets())
+}
+
 /// The IPv6 address of a host that is one.
 fn ipv6_host(host: Option<Host<&str>>) -> Option<Ip>
     ensures { result ≡ option_map V6 (ipv6_host (option_map borrowed_host host.entry)) }
 {
     match host {
-        Some(Host::Ipv6(address)) => Some(Ip::V6(address.octets())),
+        Some(Host::Ipv6(address)) => Some(bytes_of_ipv6(address)),
         _ => None,
     }
 }
@@ -143,4 +159,51 @@ pub fn read_host(alloc: Global, text: &[u8]) -> Result<HostPart, OutOfMemory>
         Some(ip) => Ok(HostPart::Addr(ip)),
         None => Ok(HostPart::Name(Seq::from_vec(lower))),
     }
+}
+
+/// Four numbers with dots between them.
+fn ipv4_text(alloc: Global, octets: [u8; 4]) -> Result<String, OutOfMemory>
+    ensures { IfOk result (λ text. string_bytes text ≡ ipv4_text octets) }
+{
+    let [a, b, c, d] = octets;
+    Ok(format!(in alloc; "{a}.{b}.{c}.{d}")?)
+}
+
+/// Four groups with colons between them, in lower case without leading zeros.
+fn four_groups(alloc: Global, a: u16, b: u16, c: u16, d: u16) -> Result<String, OutOfMemory>
+    ensures { IfOk result (λ text. string_bytes text ≡ four_groups a b c d) }
+{
+    Ok(format!(in alloc; "{a:x}:{b:x}:{c:x}:{d:x}")?)
+}
+
+/// Eight groups in brackets, with colons between them.
+fn groups_text(alloc: Global, segments: [u16; 8]) -> Result<String, OutOfMemory>
+    ensures { IfOk result (λ text. string_bytes text ≡ eight_groups segments) }
+{
+    let [a, b, c, d, e, f, g, h] = segments;
+    let front = four_groups(alloc, a, b, c, d)?;
+    let back = four_groups(alloc, e, f, g, h)?;
+    Ok(format!(in alloc; "[{front}:{back}]")?)
+}
+
+/// The text of an IPv6 address: eight groups in brackets, in lower case without leading zeros.
+fn ipv6_text(alloc: Global, octets: [u8; 16]) -> Result<String, OutOfMemory>
+    ensures { IfOk result (λ text. string_bytes text ≡ address_text (V6 octets)) }
+{
+    groups_text(alloc, Ipv6Addr::from_octets(octets).segments())
+}
+
+/// The text of an address: four numbers with dots between them, or eight groups in brackets, in
+/// lower case without leading zeros.
+///
+/// # Errors
+/// Out of memory.
+pub fn address_text(alloc: Global, ip: Ip) -> Result<Seq<u8>, OutOfMemory>
+    ensures { IfOk result (λ text. text ≡ address_text ip) }
+{
+    let text = match ip {
+        Ip::V4(octets) => ipv4_text(alloc, octets)?,
+        Ip::V6(octets) => ipv6_text(alloc, octets)?,
+    };
+    Ok(Seq::from_vec(text.into_bytes()))
 }

@@ -16,7 +16,7 @@ mod parts;
 mod plain;
 mod uri;
 
-pub use address::{read_address, read_host, read_ip, read_ipv4};
+pub use address::{address_text, read_address, read_host, read_ip, read_ipv4};
 pub use error::UriError;
 pub use parts::{LONGEST, first_part};
 pub use uri::{DEFAULT_PORT, HostPart, UriParts, path_parts, split_uri};

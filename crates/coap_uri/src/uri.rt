@@ -11,7 +11,7 @@ ghost use Rattle.coap_uri.specs.Plain.{url_of};
 ghost use Rattle.coap_uri.specs.Uri as spec;
 ghost use Rattle.coap_uri.specs.declared.error.UriError.TheVariants as errors;
 
-use crate::address::{read_ipv4, read_url};
+use crate::address::{bytes_of_ipv4, bytes_of_ipv6, read_ipv4, read_url};
 use crate::error::UriError;
 use crate::parts::{LONGEST, all_short, decoded, split_decoded};
 use crate::plain::{Plain, read_plain};
@@ -133,8 +133,8 @@ fn host_part(alloc: Global, host: Host<&str>) -> Result<HostPart, OutOfMemory>
 {
     match host {
         Host::Domain(text) => named(alloc, text.as_bytes()),
-        Host::Ipv4(address) => Ok(HostPart::Addr(Ip::V4(address.octets()))),
-        Host::Ipv6(address) => Ok(HostPart::Addr(Ip::V6(address.octets()))),
+        Host::Ipv4(address) => Ok(HostPart::Addr(bytes_of_ipv4(address))),
+        Host::Ipv6(address) => Ok(HostPart::Addr(bytes_of_ipv6(address))),
     }
 }
 
