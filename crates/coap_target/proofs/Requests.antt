@@ -1,13 +1,14 @@
 -- The target of a request is a target: its parts fit into options.
-use Rattle.std.proofs.Common.{◌≡◌, ◌==◌, ◌&&◌, ℕ, ◌≤◌, Bool, true, false, cond, List, [], ◌∷◌, length, map, Option, Some, None, option_map, Result, Ok, Err, ok_or, refl, sym, subst}
+use Rattle.std.proofs.Common.{◌≡◌, ℕ, ◌≤◌, nat_le, Bool, true, false, cond, List, [], ◌∷◌, length, map, Option, Some, None, option_map, Result, Ok, Err, ok_or, refl, sym, ap, subst}
 use Rattle.std.specs.Char.{to_ascii_lowercase}
 use Rattle.std.specs.List.{AllByRecursion}
 use Rattle.std.specs.Str.{is_utf8}
-use Rattle.std.proofs.lemmas.Bool.{and_parts, le-leb}
+use Rattle.std.proofs.lemmas.Bool.{and_parts, le-leb, leb-true}
 use Rattle.std.proofs.lemmas.List.{length-map}
 use Rattle.coap_message.specs.Message.{Message}
 use Rattle.coap_option.specs.declared.side.Side.TheVariants.{Request}
 use Rattle.coap_option.specs.Screening.{first_refused}
+use Rattle.coap_endpoint.specs.declared.endpoint.Endpoint.{Endpoint}
 use Rattle.coap_endpoint.specs.declared.endpoint.Ip.{Ip}
 use Rattle.coap_target.specs.declared.error.TargetError.{TargetError}
 use Rattle.coap_target.specs.declared.error.TargetError.TheVariants.{BadUri, NotProxied, NotFound}
@@ -17,15 +18,16 @@ use Rattle.coap_target.specs.declared.map.Map.{Map}
 use Rattle.coap_target.specs.declared.routes.Routes.{Routes}
 use Rattle.coap_endpoint.specs.declared.target.Target.{Target}
 use Rattle.coap_uri.specs.declared.uri.HostPart.{HostPart}
+use Rattle.coap_uri.specs.declared.uri.HostPart.TheVariants.{Addr}
 use Rattle.coap_uri.specs.declared.uri.UriParts.{UriParts}
-use Rattle.coap_uri.specs.Address.{ip_of}
+use Rattle.coap_uri.specs.Address.{IsIp, ip_of}
+use Rattle.coap_uri.proofs.AddressTexts.{ip_of-is}
 use Rattle.coap_target.specs.Hosts.{is_own}
-use Rattle.coap_target.specs.Request.{value_of, port_of, local, remote, resolved, of_uri, by_uri, composed, is_coap, by_scheme, if_any, by_options, request_target}
+use Rattle.coap_target.specs.Request.{value_of, port_of, local, through, beyond, resolved, of_uri, by_uri, composed, is_coap, by_scheme, if_any, by_options, request_target}
 use Rattle.coap_target.specs.Routes.{path_of, query_of, map_of, mapped, mapped_target, AreRoutes}
 use Rattle.coap_endpoint.specs.Target.{IsShort, IsTarget}
-use Rattle.coap_uri.specs.Uri.{is_short, is_short_host, are_short, host_or, host_of, uri_of}
-use Rattle.std.specs.List.{list_all}
-use Rattle.coap_target.proofs.Origins.{All-list_all, uri_of-short, target_at_host-is}
+use Rattle.coap_uri.specs.Uri.{is_port, is_short_host, host_or, host_of, uri_of}
+use Rattle.coap_target.proofs.Origins.{Fits, host_text-short, remote-is, uri_of-fits}
 use Rattle.coap_target.proofs.Screened.{path_of-short, uri_host-short, query_of-short}
 use Rattle.coap_target.proofs.Targets.{All-map_of, mapped-is}
 
@@ -40,20 +42,24 @@ module _ (routes : Routes) (are : AreRoutes routes) (t : Target) where
           let same : mapped path query n ≡ t = cc in
           subst IsTarget same (mapped-is path query n (All-map_of (λ k. IsTarget k.origin) routes.maps path n are found) of_path of_query)
 
-  -- what a URI with short parts leads to
-  resolved-is : (uri : UriParts) → is_short_host uri.host ≡ true → AllByRecursion IsShort uri.path → AllByRecursion IsShort uri.query → resolved routes uri ≡ Ok t → IsTarget t
-  resolved-is uri host path query e = go (is_own routes.names uri.host) e
+  -- what a URI whose parts fit leads to, if its host isn't one of the proxy's own names
+  beyond-is : (next : Option Endpoint) (uri : UriParts) → Fits uri → beyond next routes.hosts uri ≡ Ok t → IsTarget t
+  beyond-is None uri fits e = remote-is routes.hosts uri t fits e
+  beyond-is (Some next) uri fits e =
+      let same : through next uri ≡ t = cc in
+      subst IsTarget same (record { host = fits.text; port = fits.port; path = fits.path; query = fits.query })
+
+  -- what a URI whose parts fit leads to
+  resolved-is : (uri : UriParts) → Fits uri → resolved routes uri ≡ Ok t → IsTarget t
+  resolved-is uri fits e = go (is_own routes.names uri.host) e
     where
-      go : (b : Bool) → cond b (local routes uri.path uri.query) (remote routes.hosts uri) ≡ Ok t → IsTarget t
-      go true f = local-is uri.path uri.query path query f
-      go false f = target_at_host-is routes.hosts uri t path query uri.host host f
+      go : (b : Bool) → cond b (local routes uri.path uri.query) (beyond routes.next routes.hosts uri) ≡ Ok t → IsTarget t
+      go true f = local-is uri.path uri.query fits.path fits.query f
+      go false f = beyond-is routes.next uri fits f
 
   -- what a URI that was read leads to
-  of_uri-is : (r : Result UriParts UriError) → ((uri : UriParts) → r ≡ Ok uri → are_short uri ≡ true) → of_uri routes r ≡ Ok t → IsTarget t
-  of_uri-is (Ok uri) short e =
-      let host = and_parts (is_short_host uri.host) (list_all is_short uri.path && list_all is_short uri.query) (short uri refl) in
-      let rest = and_parts (list_all is_short uri.path) (list_all is_short uri.query) host.1 in
-      resolved-is uri host.0 (All-list_all uri.path rest.0) (All-list_all uri.query rest.1) e
+  of_uri-is : (r : Result UriParts UriError) → ((uri : UriParts) → r ≡ Ok uri → Fits uri) → of_uri routes r ≡ Ok t → IsTarget t
+  of_uri-is (Ok uri) fits e = resolved-is uri (fits uri refl) e
   of_uri-is (Err uri_error.Bad) short e = absurd cc
   of_uri-is (Err uri_error.Scheme) short e = absurd cc
   of_uri-is (Err uri_error.OutOfMemory) short e = absurd cc
@@ -64,7 +70,7 @@ module _ (routes : Routes) (are : AreRoutes routes) (t : Target) where
   by_uri-is text e = go (is_utf8 text) e
     where
       go : (b : Bool) → cond b (of_uri routes (uri_of text)) (Err BadUri) ≡ Ok t → IsTarget t
-      go true f = of_uri-is (uri_of text) (uri_of-short text) f
+      go true f = of_uri-is (uri_of text) (uri_of-fits text) f
       go false f = absurd cc
 
   -- a host on its own is as long as it is written
@@ -72,24 +78,40 @@ module _ (routes : Routes) (are : AreRoutes routes) (t : Target) where
   host_or-short None lower short = le-leb (length lower) 255 short
   host_or-short (Some ip) lower short = refl
 
+  -- or it is an address
+  host_or-is : (ip : Option Ip) (lower : List ℕ) → ((read : Ip) → ip ≡ Some read → IsIp read) → (read : Ip) → host_or ip lower ≡ Addr read → IsIp read
+  host_or-is None lower are read is = absurd cc
+  host_or-is (Some ip) lower are read is =
+      let same : ip ≡ read = cc in
+      are read (ap Some same)
+
   module _ (m : Message) (screened : first_refused Request m.options ≡ None) where
     -- what the Uri options lead to
-    composed-is : (host : Option (List ℕ)) → value_of 3 m ≡ host → composed routes m host ≡ Ok t → IsTarget t
-    composed-is None at e = local-is (path_of m) (query_of m) (path_of-short m screened) (query_of-short m screened) e
-    composed-is (Some host) at e =
+    composed-is : (host : Option (List ℕ)) → value_of 3 m ≡ host → is_port (port_of m) ≡ true → composed routes m host ≡ Ok t → IsTarget t
+    composed-is None at port e = local-is (path_of m) (query_of m) (path_of-short m screened) (query_of-short m screened) e
+    composed-is (Some host) at port e =
         let lower : List ℕ = map to_ascii_lowercase host in
-        let short : length lower ≤ 255 = rw length-map (uri_host-short m host screened (sym at)) in
-        resolved-is (record { host = host_of host; port = port_of m; path = path_of m; query = query_of m }) (host_or-short (ip_of lower) lower short) (path_of-short m screened) (query_of-short m screened) e
+        let length-lower : length lower ≤ 255 = rw length-map (uri_host-short m host screened (sym at)) in
+        let short = host_or-short (ip_of lower) lower length-lower in
+        resolved-is (record { host = host_of host; port = port_of m; path = path_of m; query = query_of m })
+        (record {
+          host = short;
+          text = host_text-short (host_of host) short (host_or-is (ip_of lower) lower (ip_of-is lower));
+          port = leb-true (port_of m) 65535 (and_parts (nat_le 1 (port_of m)) (nat_le (port_of m) 65535) port).1;
+          path = path_of-short m screened;
+          query = query_of-short m screened;
+        })
+        e
 
     -- what a Proxy-Scheme leads to
     by_scheme-is : (scheme : List ℕ) → by_scheme routes m scheme ≡ Ok t → IsTarget t
     unfolding by_scheme
-    by_scheme-is scheme e = go (is_coap scheme) (port_of m == 0) e
+    by_scheme-is scheme e = go (is_coap scheme) (is_port (port_of m)) refl e
       where
-        go : (b z : Bool) → cond b (cond z (Err BadUri) (composed routes m (value_of 3 m))) (Err NotProxied) ≡ Ok t → IsTarget t
-        go true true f = absurd cc
-        go true false f = composed-is (value_of 3 m) refl f
-        go false z f = absurd cc
+        go : (b z : Bool) → is_port (port_of m) ≡ z → cond b (cond z (composed routes m (value_of 3 m)) (Err BadUri)) (Err NotProxied) ≡ Ok t → IsTarget t
+        go true true port f = composed-is (value_of 3 m) refl port f
+        go true false port f = absurd cc
+        go false z port f = absurd cc
 
     -- a target that `if_any` gives is the one that it was given
     if_any-ok : (names : List HostPart) (r : Result Target TargetError) → if_any names r ≡ Ok t → r ≡ Ok t

@@ -34,6 +34,7 @@ All-map_of P (n ∷ maps) path m all found = go (λ later e. All-map_of P maps p
 pub mapped-is : (path query : List (List ℕ)) (m : Map) → IsTarget m.origin → AllByRecursion IsShort path → AllByRecursion IsShort query → IsTarget (mapped path query m)
 mapped-is path query m is of_path of_query = record {
   host = is.host;
+  port = tt;
   path = All-append IsShort m.origin.path (drop (length m.prefix) path) is.path (All-drop IsShort (length m.prefix) path of_path);
   query = of_query;
 }

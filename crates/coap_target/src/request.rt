@@ -4,6 +4,7 @@ ghost use Rattle.std.specs.Option.{option_copied};
 ghost use Rattle.coap_option.specs.declared.side.Side.{Side};
 ghost use Rattle.coap_option.specs.Screening.{first_refused};
 ghost use Rattle.coap_uri.specs.Answer.{Answers};
+ghost use Rattle.coap_uri.specs.Uri.{host_text};
 ghost use Rattle.coap_target.specs.Hosts as names;
 ghost use Rattle.coap_target.specs.Request as spec;
 ghost use Rattle.coap_target.specs.MappedTarget.{seen};
@@ -19,7 +20,7 @@ use crate::segment::{Segments, copies, joined, skip};
 use coap_endpoint::{Endpoint, Ip, Target, copy_host};
 use coap_message::{Message, MessageRef, Options, OutOfMemory, Seq, uint};
 use coap_option::numbers;
-use coap_uri::{DEFAULT_PORT, HostPart, UriError, UriParts, read_host, split_uri};
+use coap_uri::{DEFAULT_PORT, HostPart, UriError, UriParts, address_text, read_host, split_uri};
 use std::alloc::Global;
 
 /// The value of the first option with a number.
@@ -55,6 +56,7 @@ fn mapped<'a, P: Segments<'a>>(
     Ok(Target {
         host: copy_of(alloc, &origin.host)?,
         at: origin.at,
+        port: None,
         path: joined(alloc, &origin.path, rest)?,
         query: copies(alloc, query)?,
     })
@@ -77,6 +79,7 @@ impl MappedTarget<'_, '_> {
     {
         copy_host(&self.origin.host, &mut target.host)?;
         target.at = self.origin.at;
+        target.port = None;
         target.path.clear();
         target.path.append(&self.origin.path.iter())?;
         self.rest.clone().append_to(&mut target.path)?;
@@ -126,6 +129,36 @@ pub(crate) fn remote(hosts: &[KnownHost], uri: UriParts) -> Result<Target, Targe
     Ok(Target {
         host,
         at: Endpoint { ip, port },
+        port: None,
+        path,
+        query,
+    })
+}
+
+/// A host as text.
+fn host_text(alloc: Global, host: HostPart) -> Result<Seq<u8>, OutOfMemory>
+    ensures { IfOk result (λ text. text ≡ host_text host) }
+{
+    match host {
+        HostPart::Name(name) => Ok(name),
+        HostPart::Addr(ip) => address_text(alloc, ip),
+    }
+}
+
+/// The target of a URI whose requests are sent to another proxy.
+fn through(alloc: Global, next: Endpoint, uri: UriParts) -> Result<Target, OutOfMemory>
+    ensures { IfOk result (λ target. target ≡ spec.through next uri) }
+{
+    let UriParts {
+        host,
+        port,
+        path,
+        query,
+    } = uri;
+    Ok(Target {
+        host: Some(host_text(alloc, host)?),
+        at: next,
+        port: Some(port),
         path,
         query,
     })
@@ -213,6 +246,18 @@ impl Routes {
         self.names.as_slice().iter().any(|name| *name == *host)
     }
 
+    /// The target of a request for a URI whose host isn't one of the proxy's own names: requests
+    /// are sent to the next proxy, if there is one, and otherwise to the host itself.
+    fn beyond(&self, alloc: Global, uri: UriParts) -> Result<Target, TargetError>
+        ensures { Answers errors.OutOfMemory result
+            (spec.beyond self.now.next self.now.hosts uri) }
+    {
+        match self.next {
+            Some(next) => Ok(through(alloc, next, uri)?),
+            None => remote(self.hosts.as_slice(), uri),
+        }
+    }
+
     /// The target of a request for a URI.
     fn resolved(&self, alloc: Global, uri: UriParts) -> Result<Target, TargetError>
         ensures { Answers errors.OutOfMemory result (spec.resolved self.now uri) }
@@ -220,7 +265,7 @@ impl Routes {
         if self.is_own(&uri.host) {
             self.local(alloc, uri.path.iter(), uri.query.iter())
         } else {
-            remote(self.hosts.as_slice(), uri)
+            self.beyond(alloc, uri)
         }
     }
 

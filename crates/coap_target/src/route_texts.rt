@@ -11,7 +11,7 @@ use crate::error::RouteError;
 use crate::map::{KnownHost, Map};
 use crate::request::remote;
 use crate::routes::Routes;
-use coap_endpoint::Target;
+use coap_endpoint::{Endpoint, Target};
 use coap_message::{Pieces, Seq};
 use coap_uri::{HostPart, LONGEST, UriError, path_parts, read_address, read_host, split_uri};
 use std::alloc::Global;
@@ -266,6 +266,9 @@ impl Routes {
     /// begins with a slash and contains neither `?` nor `#`. An origin is a URI without a query,
     /// whose host is an address or one of the hosts.
     ///
+    /// If there is a next proxy, requests for hosts that aren't own names are sent to it, and the
+    /// hosts are only those of origins.
+    ///
     /// # Errors
     /// `Unreadable` if a text is none of these, or a host occurs twice; otherwise `TooMany` if
     /// there are more than 64 names, 256 hosts or 64 maps. Running out of memory may be reported
@@ -276,10 +279,11 @@ impl Routes {
         names: &[String],
         hosts: &[(String, String)],
         maps: &[(String, String)],
+        next: Option<Endpoint>,
     ) -> Result<Routes, RouteError>
         ensures { Answers errors.OutOfMemory result
             (spec.routes_of (map string_bytes names.now) (map spec.pair_of hosts.now)
-            (map spec.pair_of maps.now)) }
+            (map spec.pair_of maps.now) next) }
     {
         let own = read_names(alloc, names)?;
         let known = read_hosts(alloc, hosts)?;
@@ -291,6 +295,7 @@ impl Routes {
             names: own,
             hosts: known,
             maps: mapped,
+            next,
         })
     }
 }

@@ -13,12 +13,14 @@ use std::alloc::Global;
 use std::marker::Model;
 
 /// The routes of a proxy: its own names, the addresses of hosts, and its maps, each list in the
-/// order in which it was passed in. A contract sees the three lists. The origins of the maps are
-/// targets: host, path segments and query parts have at most 255 bytes each.
+/// order in which it was passed in, and the next proxy, if there is one. A contract sees all four.
+/// The origins of the maps are targets: host, path segments and query parts have at most 255 bytes
+/// each.
 pub struct Routes {
     pub(crate) names: Seq<HostPart>,
     pub(crate) hosts: Seq<KnownHost>,
     pub(crate) maps: Seq<Map>,
+    pub(crate) next: Option<Endpoint>,
 }
 
 impl Drop for Routes {
@@ -27,6 +29,7 @@ impl Drop for Routes {
             names: _,
             hosts: _,
             maps: _,
+            next: _,
         } = self;
     }
 }
@@ -74,6 +77,7 @@ impl Routes {
         let origin = Target {
             host: None,
             at,
+            port: None,
             path,
             query: Pieces::new(alloc),
         };
@@ -83,6 +87,7 @@ impl Routes {
             names: Seq::new(alloc),
             hosts: Seq::new(alloc),
             maps,
+            next: None,
         })
     }
 }

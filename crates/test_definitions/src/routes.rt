@@ -7,10 +7,10 @@ ghost use Rattle.coap_target.specs.declared.error.TargetError.{TargetError};
 ghost use Rattle.coap_uri.specs.declared.error.UriError.TheVariants.{Bad, Scheme};
 ghost use Rattle.coap_uri.specs.declared.uri.HostPart.TheVariants.{Name};
 ghost use Rattle.coap_uri.specs.Address.{bracketed_uri, inner_of, ipv4_of, is_address_byte};
-ghost use Rattle.test_definitions.specs.Routes.{at, at_known_address, everything, get, known, named, numbered, numbered_target, other, own, plain_url, sensor, temperature, uri, with_maps, without_names};
+ghost use Rattle.test_definitions.specs.Routes.{at, at_known_address, beyond, everything, get, known, named, next, numbered, numbered_6, numbered_target, other, own, plain_url, sensor, temperature, uri, with_maps, with_next, without_names};
 ghost use Rattle.coap_target.specs.Request.{by_uri, of_uri, request_target, resolved};
 ghost use Rattle.coap_target.specs.RouteTexts.{are_few, hosts_of, is_name, is_name_byte, origin_at, prefix_of, without_query};
-ghost use Rattle.coap_uri.specs.Uri.{are_short, is_short, name_or, path_parts, query_parts, uri_read};
+ghost use Rattle.coap_uri.specs.Uri.{are_short, host_text, is_port, is_short, name_or, path_parts, query_parts, uri_read};
 
 /// The targets of requests without proxy options: the longest prefix wins, and then the earlier
 /// map, whatever Uri-Host and Uri-Port are.
@@ -66,6 +66,62 @@ pub fn proxied()
     ensures no_names { request_target (without_names (temperature ∷ []))
         (get (option_of 11 (codes "t") ∷ option_of 39 (codes "coap") ∷ []))
         ≡ Err TargetError.NotProxied }
+{}
+
+/// The targets of requests that are sent to a next proxy: known hosts aren't looked up, own names
+/// are still mapped, and without own names nothing is forwarded.
+pub fn beyond_the_next_proxy()
+    ensures unknown { request_target with_next
+        (get (option_of 3 (codes "nowhere") ∷ option_of 39 (codes "coap") ∷ []))
+        ≡ Ok (beyond (codes "nowhere") 5683 [] []) }
+    ensures port { request_target with_next
+        (get
+        (option_of 3 (codes "nowhere") ∷ option_of 7 (0x16 ∷ 0x34 ∷ []) ∷ option_of 11 (codes "x")
+        ∷ option_of 15 (codes "q") ∷ option_of 39 (codes "coap") ∷ []))
+        ≡ Ok (beyond (codes "nowhere") 5684 (codes "x" ∷ []) (codes "q" ∷ [])) }
+    ensures last_port { request_target with_next
+        (get
+        (option_of 3 (codes "nowhere") ∷ option_of 7 (0xFF ∷ 0xFF ∷ [])
+        ∷ option_of 39 (codes "coap") ∷ []))
+        ≡ Ok (beyond (codes "nowhere") 65535 [] []) }
+    ensures port_0 { request_target with_next
+        (get
+        (option_of 3 (codes "nowhere") ∷ option_of 7 (0 ∷ 0 ∷ []) ∷ option_of 39 (codes "coap")
+        ∷ []))
+        ≡ Err TargetError.BadUri }
+    ensures known { request_target with_next
+        (get (option_of 3 (codes "SENSOR.test") ∷ option_of 39 (codes "coap") ∷ []))
+        ≡ Ok (beyond (codes "sensor.test") 5683 [] []) }
+    ensures address { request_target with_next
+        (get (option_of 3 (codes "192.0.2.7") ∷ option_of 39 (codes "coap") ∷ []))
+        ≡ Ok (beyond (codes "192.0.2.7") 5683 [] []) }
+    ensures own { request_target with_next
+        (get
+        (option_of 3 (codes "Proxy.test") ∷ option_of 11 (codes "t")
+        ∷ option_of 39 (codes "coap") ∷ []))
+        ≡ Ok (at 5690 (codes "temp" ∷ []) []) }
+    ensures without_host { request_target with_next
+        (get (option_of 11 (codes "t") ∷ option_of 39 (codes "coap") ∷ []))
+        ≡ Ok (at 5690 (codes "temp" ∷ []) []) }
+    ensures mapped { request_target with_next (get (option_of 11 (codes "t") ∷ []))
+        ≡ Ok (at 5690 (codes "temp" ∷ []) []) }
+    ensures scheme { request_target with_next
+        (get (option_of 3 (codes "nowhere") ∷ option_of 39 (codes "coaps") ∷ []))
+        ≡ Err TargetError.NotProxied }
+    ensures no_names { request_target (record with_next { names = [] })
+        (get (option_of 3 (codes "nowhere") ∷ option_of 39 (codes "coap") ∷ []))
+        ≡ Err TargetError.NotProxied }
+    ensures of_a_uri { resolved with_next (uri named 5684 (codes "a" ∷ []) [])
+        ≡ Ok (beyond (codes "h") 5684 (codes "a" ∷ []) []) }
+    ensures of_an_ipv6_uri { resolved with_next (uri numbered_6 5683 [] [])
+        ≡ Ok (beyond (codes "[2001:db8:0:0:0:0:abcd:1]") 5683 [] []) }
+    ensures by_uri { by_uri with_next (codes "coap://nowhere/")
+        ≡ Ok (beyond (codes "nowhere") 5683 [] []) }
+    ensures text { host_text numbered ≡ codes "192.0.2.7" }
+    ensures least_port { is_port 1 ≡ true }
+    ensures no_port { is_port 0 ≡ false }
+    ensures greatest_port { is_port 65535 ≡ true }
+    ensures too_great { is_port 65536 ≡ false }
 {}
 
 /// How texts are split and decoded.
