@@ -1,5 +1,5 @@
 -- The request that is sent on: which options go on, and that they are in order.
-use Rattle.std.proofs.Common.{◌≡◌, ℕ, ◌<◌, ◌≤◌, Bool, true, false, cond, eqb, leb, List, [], ◌∷◌, ◌++◌, length, Option, Some, None, refl, sym, ap, subst, ◌∙◌, arith}
+use Rattle.std.proofs.Common.{◌≡◌, ℕ, ◌<◌, ◌≤◌, Bool, true, false, cond, eqb, leb, List, [], ◌∷◌, ◌++◌, length, Option, Some, None, refl, sym, ap, subst, ◌∙◌, arith, lit≤}
 use Rattle.std.specs.Prelude.{◌&&◌, ◌||◌, ◌==◌, not, map, filter, find, option_map, IfSome}
 use Rattle.std.specs.List.{AllByRecursion, list_any, list_all}
 use Rattle.std.proofs.lemmas.Bool.{leb-true, leb-false, eqb-true, and_parts}
@@ -11,6 +11,7 @@ use Rattle.coap_message.specs.Codes.{is_code}
 use Rattle.coap_message.specs.Options.{AreOptions, option_of}
 use Rattle.coap_message.specs.Message.{Message}
 use Rattle.coap_message.specs.Spelling.{IsMessage, spelling, with_id}
+use Rattle.coap_message.proofs.Uints.{uint_spelling-four}
 use Rattle.coap_option.specs.declared.side.Side.TheVariants.{Request}
 use Rattle.coap_option.specs.Classes.{is_unsafe, is_no_cache_key}
 use Rattle.coap_option.specs.Places.{PlacedOption, places, places_behind, is_recognised_at}
@@ -18,10 +19,10 @@ use Rattle.coap_option.specs.Recognition.{is_recognised}
 use Rattle.coap_option.specs.Screening.{is_refused, first_refused}
 use Rattle.coap_option.specs.Selection.{used_up, is_tag_of_get, stays, sent_on, is_key, key_of}
 use Rattle.coap_endpoint.specs.declared.target.Target.{Target}
-use Rattle.coap_endpoint.specs.Target.{IsShort, IsTarget}
+use Rattle.coap_endpoint.specs.Target.{IsPort, IsShort, IsTarget}
 use Rattle.coap_endpoint.proofs.Lists.{All-weaken}
 use Rattle.coap_store.proofs.Picked.{AreOptions-filter, AreOptions-weaken}
-use Rattle.coap_forward.specs.Forms.{is_used_up, goes_on, host_options, put_in, merged, target_options, tagged, forwarded}
+use Rattle.coap_forward.specs.Forms.{is_used_up, goes_on, host_options, port_options, scheme_options, put_in, merged, target_options, tagged, forwarded}
 use Rattle.coap_forward.specs.Messages.{is_method}
 
 -- ---- which options are sent on, by the option alone
@@ -178,20 +179,53 @@ AreOptions-map : (low number : ℕ) (values : List (List ℕ)) (os : List Opt) �
 AreOptions-map low number [] os le small short are = AreOptions-weaken low number os le are
 AreOptions-map low number (v ∷ values) os le small short are = (le, small, omega (arith, short.0), AreOptions-map number number values os (omega arith) small short.1 are)
 
+-- what holds of each number that a target has options of holds of all its options
+pub All-target : (P : ℕ → Type 0) → P 3 → P 7 → P 11 → P 15 → P 39 → (t : Target) → AllByRecursion (λ o. P o.number) (target_options t)
+unfolding target_options
+All-target P of_host of_port of_path of_query of_scheme t = host t.host
+  where
+    values : (number : ℕ) → P number → (vs : List (List ℕ)) (os : List Opt) → AllByRecursion (λ o. P o.number) os → AllByRecursion (λ o. P o.number) (map (option_of number) vs ++ os)
+    values number is [] os rest = rest
+    values number is (v ∷ vs) os rest = (is, values number is vs os rest)
+
+    scheme : (port : Option ℕ) → AllByRecursion (λ o. P o.number) (scheme_options port)
+    scheme None = tt
+    scheme (Some n) = (of_scheme, tt)
+
+    path : AllByRecursion (λ o. P o.number) (map (option_of 11) t.path ++ (map (option_of 15) t.query ++ scheme_options t.port))
+    path = values 11 of_path t.path (map (option_of 15) t.query ++ scheme_options t.port) (values 15 of_query t.query (scheme_options t.port) (scheme t.port))
+
+    port : (of : Option ℕ) → AllByRecursion (λ o. P o.number) (port_options of ++ (map (option_of 11) t.path ++ (map (option_of 15) t.query ++ scheme_options t.port)))
+    port None = path
+    port (Some n) = (of_port, path)
+
+    host : (of : Option (List ℕ)) → AllByRecursion (λ o. P o.number) (host_options of ++ (port_options t.port ++ (map (option_of 11) t.path ++ (map (option_of 15) t.query ++ scheme_options t.port))))
+    host None = port t.port
+    host (Some h) = (of_host, port t.port)
+
+-- the scheme is in order
+scheme-options : (low : ℕ) (port : Option ℕ) → low ≤ 39 → AreOptions low (scheme_options port)
+scheme-options low None le = tt
+scheme-options low (Some port) le = (le, omega arith, lit≤ tt, tt)
+
 -- the options of a target are in order and fit
 pub target-options : (t : Target) → IsTarget t → AreOptions 0 (target_options t)
 unfolding target_options
-target-options t is = go t.host is.host
+target-options t is = host t.host is.host
   where
-    query : AreOptions 11 (map (option_of 15) t.query)
-    query = subst (AreOptions 11) (append-nil (map (option_of 15) t.query)) (AreOptions-map 11 15 t.query [] (omega arith) (omega arith) is.query tt)
+    query : AreOptions 11 (map (option_of 15) t.query ++ scheme_options t.port)
+    query = AreOptions-map 11 15 t.query (scheme_options t.port) (omega arith) (omega arith) is.query (scheme-options 15 t.port (omega arith))
 
-    path : (low : ℕ) → low ≤ 11 → AreOptions low (map (option_of 11) t.path ++ map (option_of 15) t.query)
-    path low le = AreOptions-map low 11 t.path (map (option_of 15) t.query) le (omega arith) is.path query
+    path : (low : ℕ) → low ≤ 11 → AreOptions low (map (option_of 11) t.path ++ (map (option_of 15) t.query ++ scheme_options t.port))
+    path low le = AreOptions-map low 11 t.path (map (option_of 15) t.query ++ scheme_options t.port) le (omega arith) is.path query
 
-    go : (host : Option (List ℕ)) → IfSome host IsShort → AreOptions 0 (host_options host ++ (map (option_of 11) t.path ++ map (option_of 15) t.query))
-    go None short = path 0 (omega arith)
-    go (Some h) short = (omega arith, omega arith, omega (arith, short), path 3 (omega arith))
+    port : (low : ℕ) → low ≤ 7 → (of : Option ℕ) → IfSome of IsPort → AreOptions low (port_options of ++ (map (option_of 11) t.path ++ (map (option_of 15) t.query ++ scheme_options t.port)))
+    port low le None within = path low (omega arith)
+    port low le (Some n) within = (le, omega arith, omega (arith, uint_spelling-four n (omega arith)), path 7 (omega arith))
+
+    host : (of : Option (List ℕ)) → IfSome of IsShort → AreOptions 0 (host_options of ++ (port_options t.port ++ (map (option_of 11) t.path ++ (map (option_of 15) t.query ++ scheme_options t.port))))
+    host None short = port 0 (omega arith) t.port is.port
+    host (Some h) short = (omega arith, omega arith, omega (arith, short), port 3 (omega arith) t.port is.port)
 
 -- what is sent on is in order
 pub sent-options : (m : Message) → AreOptions 0 m.options → first_refused Request m.options ≡ None → AreOptions 0 (sent_on m)

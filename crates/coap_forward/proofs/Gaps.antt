@@ -1,6 +1,6 @@
 -- The request that is sent on, as it is written: its head, then its options, part by part.
-use Rattle.std.proofs.Common.{◌≡◌, ℕ, ◌<◌, ◌≤◌, Bool, true, false, cond, ltb, leb, List, [], ◌∷◌, ◌++◌, length, map, filter, Option, Some, None, Result, Ok, Err, refl, sym, ap, ◌∙◌, subst, append_assoc, arith, Bor}
-use Rattle.std.specs.Prelude.{◌&&◌, IfSome, IfOk, option_map}
+use Rattle.std.proofs.Common.{◌≡◌, ℕ, ◌<◌, ◌≤◌, Bool, true, false, cond, ltb, leb, List, [], ◌∷◌, ◌++◌, length, codes, map, filter, Option, Some, None, Result, Ok, Err, refl, sym, ap, ◌∙◌, subst, append_assoc, arith, lit≤, Bor}
+use Rattle.std.specs.Prelude.{◌&&◌, IfSome, IfOk, option_map, unwrap_or}
 use Rattle.std.specs.List.{AllByRecursion}
 use Rattle.std.proofs.lemmas.Bool.{lt-leb, le-leb, leb-false, ltb-true, ltb-false, le-ltb}
 use Rattle.std.proofs.lemmas.List.{append-nil, length-append}
@@ -14,18 +14,20 @@ use Rattle.coap_message.specs.Spelling.{options_spelling}
 use Rattle.coap_message.proofs.Appending.{Appends-full, Appends-behind}
 use Rattle.coap_message.proofs.Counting.{last_number-append}
 use Rattle.coap_message.proofs.OptionSpellings.{options_spelling-append}
+use Rattle.coap_message.proofs.Uints.{uint_spelling-four}
+use Rattle.coap_message.specs.Uint.{uint_spelling}
 use Rattle.coap_option.specs.declared.side.Side.TheVariants.{Request}
 use Rattle.coap_option.specs.Screening.{first_refused}
 use Rattle.coap_option.specs.Selection.{sent_on}
 use Rattle.coap_endpoint.specs.declared.target.Target.{Target}
-use Rattle.coap_endpoint.specs.Target.{IsShort, IsTarget}
+use Rattle.coap_endpoint.specs.Target.{IsPort, IsShort, IsTarget}
 use Rattle.coap_store.specs.Renewing.{below, above}
 use Rattle.coap_store.proofs.Picked.{AreOptions-above, AreOptions-weaken}
-use Rattle.coap_forward.specs.Forms.{is_used_up, goes_on, put_in, merged, host_options, target_options, tagged}
+use Rattle.coap_forward.specs.Forms.{is_used_up, goes_on, put_in, merged, host_options, port_options, scheme_options, target_options, tagged}
 use Rattle.coap_forward.proofs.Forms.{AreUnused, IsShortTag, AreOptions-merged, filter-put_in, sent-screened, sent-unused, sent-options, tagged-options, tagged-unused}
 use Rattle.coap_forward.specs.declared.form.Gap.{Gap}
-use Rattle.coap_forward.specs.declared.form.Gap.TheVariants.{BeforeHost, BeforePath, BeforeQuery, Last}
-use Rattle.coap_forward.specs.Gaps.{given, is_in, floor_of, end_of, others_in, part_of}
+use Rattle.coap_forward.specs.declared.form.Gap.TheVariants.{BeforeHost, BeforePort, BeforePath, BeforeQuery, BeforeScheme, Last}
+use Rattle.coap_forward.specs.Gaps.{given, is_in, floor_of, end_of, others_in, part_of, port_value, scheme_value, tag_options, front_options, back_options}
 
 -- ---- writing
 
@@ -63,25 +65,24 @@ ok-both before last xs ys (Err e) is more = tt
 
 -- ---- options in gaps
 
--- an option in a gap has no lower number than what may stand before it
-in-gap : (gap : Gap) (number : ℕ) → is_in gap number ≡ true → floor_of gap ≤ number
-in-gap BeforeHost number is = omega arith
-in-gap BeforePath number is = go (ltb 3 number) refl is
-  where
-    go : (b : Bool) → ltb 3 number ≡ b → (b && ltb number 11) ≡ true → 4 ≤ number
-    go true e f = let lt = ltb-true 3 number e in omega arith
-    go false e f = absurd cc
-in-gap BeforeQuery number is = go (ltb 11 number) refl is
-  where
-    go : (b : Bool) → ltb 11 number ≡ b → (b && ltb number 15) ≡ true → 11 ≤ number
-    go true e f = let lt = ltb-true 11 number e in omega arith
-    go false e f = absurd cc
-in-gap Last number is = let lt = ltb-true 15 number is in omega arith
-
 -- the first of two tests that hold
 first-holds : (a b : Bool) → (a && b) ≡ true → a ≡ true
 first-holds true b e = refl
 first-holds false b e = absurd cc
+
+-- and the second
+second-holds : (a b : Bool) → (a && b) ≡ true → b ≡ true
+second-holds true b e = e
+second-holds false b e = absurd cc
+
+-- an option in a gap has no lower number than what may stand before it
+in-gap : (gap : Gap) (number : ℕ) → is_in gap number ≡ true → floor_of gap ≤ number
+in-gap BeforeHost number is = omega arith
+in-gap BeforePort number is = let lt = ltb-true 3 number (first-holds (ltb 3 number) (ltb number 7) is) in omega arith
+in-gap BeforePath number is = let lt = ltb-true 7 number (first-holds (ltb 7 number) (ltb number 11) is) in omega arith
+in-gap BeforeQuery number is = let lt = ltb-true 11 number (first-holds (ltb 11 number) (ltb number 15) is) in omega arith
+in-gap BeforeScheme number is = let lt = ltb-true 15 number (first-holds (ltb 15 number) (ltb number 39) is) in omega arith
+in-gap Last number is = let lt = ltb-true 39 number is in omega arith
 
 -- the others in a gap are in order after what may stand before it
 pub AreOptions-others : (code : Code) (gap : Gap) (before : ℕ) (os : List Opt) → before ≤ floor_of gap → AreOptions 0 os → AreOptions before (others_in code gap os)
@@ -91,16 +92,10 @@ AreOptions-others code gap before os le are =
 -- an option in a gap has a number below the one that it ends at
 below-end : (gap : Gap) (number : ℕ) → number < 65536 → is_in gap number ≡ true → number ≤ end_of gap
 below-end BeforeHost number small is = let lt = ltb-true number 3 is in omega arith
-below-end BeforePath number small is = go (ltb 3 number) is
-  where
-    go : (b : Bool) → (b && ltb number 11) ≡ true → number ≤ 11
-    go true f = let lt = ltb-true number 11 f in omega arith
-    go false f = absurd cc
-below-end BeforeQuery number small is = go (ltb 11 number) is
-  where
-    go : (b : Bool) → (b && ltb number 15) ≡ true → number ≤ 15
-    go true f = let lt = ltb-true number 15 f in omega arith
-    go false f = absurd cc
+below-end BeforePort number small is = let lt = ltb-true number 7 (second-holds (ltb 3 number) (ltb number 7) is) in omega arith
+below-end BeforePath number small is = let lt = ltb-true number 11 (second-holds (ltb 7 number) (ltb number 11) is) in omega arith
+below-end BeforeQuery number small is = let lt = ltb-true number 15 (second-holds (ltb 11 number) (ltb number 15) is) in omega arith
+below-end BeforeScheme number small is = let lt = ltb-true number 39 (second-holds (ltb 15 number) (ltb number 39) is) in omega arith
 below-end Last number small is = omega arith
 
 -- so the last number of the others in a gap is at most that
@@ -109,8 +104,10 @@ last-others code gap before os are le = go 0 os before are (within gap le)
   where
     within : (g : Gap) → before ≤ floor_of g → before ≤ end_of g
     within BeforeHost le' = omega arith
+    within BeforePort le' = omega arith
     within BeforePath le' = omega arith
     within BeforeQuery le' = omega arith
+    within BeforeScheme le' = omega arith
     within Last le' = omega arith
 
     go : (low : ℕ) (rest : List Opt) (at : ℕ) → AreOptions low rest → at ≤ end_of gap → last_number at (others_in code gap rest) ≤ end_of gap
@@ -227,16 +224,21 @@ fuse-both p q g os = fuse (λ o. p o && q o) g os ∙ flip (filter g os)
         pick true false e rest = rw (e, rest) refl
         pick false b e rest = rest
 
-module _ (t : Target) (is : IsTarget t) (os : List Opt) (are : AreOptions 0 os) (none : AreUnused os) where
-  abbrev hosts : List Opt
-  hosts = host_options t.host
+-- one part of a target: its values stand between the others that are below its number and those
+-- above it
+part : (low n : ℕ) (values : List (List ℕ)) (rest os : List Opt) → low ≤ n → n < 65536 → is_used_up n ≡ true → AllByRecursion IsShort values → AreOptions n rest → AreOptions low os → AreUnused os
+    → merged (map (option_of n) values ++ rest) os ≡ below n os ++ (map (option_of n) values ++ merged rest (above n os))
+part low n values rest os le small used short are in_order none =
+    let behind = AreOptions-above (λ o. ltb n o.number) n low os (λ o e. let lt = ltb-true n o.number e in omega arith) in_order in
+    ap (merged (map (option_of n) values ++ rest)) (split-at n low os used in_order none)
+    ∙ merged-past n n (map (option_of n) values ++ rest) (below n os) (above n os) (omega arith) (all-in-order values short) (below-all n os)
+    ∙ ap (λ (l : List Opt). below n os ++ l) (values-front n values rest (above n os) small short (AreOptions-merged n rest (above n os) are behind))
+  where
+    all-in-order : (vs : List (List ℕ)) → AllByRecursion IsShort vs → AreOptions n (map (option_of n) vs ++ rest)
+    all-in-order [] short' = are
+    all-in-order (w ∷ vs) short' = (omega arith, small, omega (arith, short'.0), all-in-order vs short'.1)
 
-  abbrev paths : List Opt
-  paths = map (option_of 11) t.path
-
-  abbrev queries : List Opt
-  queries = map (option_of 15) t.query
-
+module _ (os : List Opt) (are : AreOptions 0 os) (none : AreUnused os) where
   abbrev behind : ℕ → List Opt
   behind n = above n os
 
@@ -246,73 +248,68 @@ module _ (t : Target) (is : IsTarget t) (os : List Opt) (are : AreOptions 0 os) 
   behind-unused : (n : ℕ) → AreUnused (above n os)
   behind-unused n = unused-filter (λ o. ltb n o.number) os none
 
-  queries-in_order : AreOptions 15 queries
-  queries-in_order = go t.query is.query
-    where
-      go : (vs : List (List ℕ)) → AllByRecursion (λ v. length v ≤ 255) vs → AreOptions 15 (map (option_of 15) vs)
-      go [] short = tt
-      go (v ∷ vs) short = (omega arith, omega arith, omega (arith, short.0), go vs short.1)
+  -- one part of a target, after one with a lower number
+  next-part : (low n : ℕ) (values : List (List ℕ)) (rest : List Opt) → low ≤ n → n < 65536 → is_used_up n ≡ true → AllByRecursion IsShort values → AreOptions n rest
+      → merged (map (option_of n) values ++ rest) (behind low) ≡ below n (behind low) ++ (map (option_of n) values ++ merged rest (behind n))
+  next-part low n values rest le small used short in_order =
+      part low n values rest (behind low) le small used short in_order (behind-in_order low) (behind-unused low)
+      ∙ ap (λ (l : List Opt). below n (behind low) ++ (map (option_of n) values ++ merged rest l)) (above-above low n os le)
 
-  paths-in_order : AreOptions 11 (paths ++ queries)
-  paths-in_order = go t.path is.path
-    where
-      go : (vs : List (List ℕ)) → AllByRecursion (λ v. length v ≤ 255) vs → AreOptions 11 (map (option_of 11) vs ++ queries)
-      go [] short = AreOptions-weaken 11 15 queries (omega arith) queries-in_order
-      go (v ∷ vs) short = (omega arith, omega arith, omega (arith, short.0), go vs short.1)
+  -- all parts
+  module _ (host port : List (List ℕ)) (path query : List (List ℕ)) (scheme : List (List ℕ)) (of_host : AllByRecursion IsShort host) (of_port : AllByRecursion IsShort port) (of_path : AllByRecursion IsShort path) (of_query : AllByRecursion IsShort query) (of_scheme : AllByRecursion IsShort scheme) where
+    abbrev from-scheme : List Opt
+    from-scheme = map (option_of 39) scheme ++ []
 
-  -- after Uri-Path the queries stand between the others
-  from-queries : merged queries (behind 11) ≡ below 15 (behind 11) ++ (queries ++ behind 15)
-  from-queries =
-      let split = split-at 15 11 (behind 11) refl (behind-in_order 11) (behind-unused 11) in
-      let rest : above 15 (behind 11) ≡ behind 15 = above-above 11 15 os (omega arith) in
-      let parts : behind 11 ≡ below 15 (behind 11) ++ behind 15 = split ∙ ap (λ (l : List Opt). below 15 (behind 11) ++ l) rest in
-      let nil : queries ++ [] ≡ queries = append-nil queries in
-      let front : merged (queries ++ []) (behind 15) ≡ queries ++ behind 15 = values-front 15 t.query [] (behind 15) (omega arith) is.query (behind-in_order 15) in
-      ap (merged queries) parts
-      ∙ merged-past 15 15 queries (below 15 (behind 11)) (behind 15) (omega arith) queries-in_order (below-all 15 (behind 11))
-      ∙ ap (λ (l : List Opt). below 15 (behind 11) ++ l) (sym (ap (λ (l : List Opt). merged l (behind 15)) nil) ∙ front)
+    abbrev from-query : List Opt
+    from-query = map (option_of 15) query ++ from-scheme
 
-  -- after Uri-Host the segments do too
-  from-paths : merged (paths ++ queries) (behind 3) ≡ below 11 (behind 3) ++ (paths ++ (below 15 (behind 11) ++ (queries ++ behind 15)))
-  from-paths =
-      let split = split-at 11 3 (behind 3) refl (behind-in_order 3) (behind-unused 3) in
-      let rest : above 11 (behind 3) ≡ behind 11 = above-above 3 11 os (omega arith) in
-      let parts : behind 3 ≡ below 11 (behind 3) ++ behind 11 = split ∙ ap (λ (l : List Opt). below 11 (behind 3) ++ l) rest in
-      let in_order : AreOptions 11 (merged queries (behind 11)) = AreOptions-merged 11 queries (behind 11) (AreOptions-weaken 11 15 queries (omega arith) queries-in_order) (behind-in_order 11) in
-      ap (merged (paths ++ queries)) parts
-      ∙ merged-past 11 11 (paths ++ queries) (below 11 (behind 3)) (behind 11) (omega arith) paths-in_order (below-all 11 (behind 3))
-      ∙ ap (λ (l : List Opt). below 11 (behind 3) ++ l) (values-front 11 t.path queries (behind 11) (omega arith) is.path in_order ∙ ap (λ (l : List Opt). paths ++ l) from-queries)
+    abbrev from-path : List Opt
+    from-path = map (option_of 11) path ++ from-query
 
-  -- and so does the host
-  all-parts : merged (target_options t) os ≡ below 3 os ++ (hosts ++ (below 11 (behind 3) ++ (paths ++ (below 15 (behind 11) ++ (queries ++ behind 15)))))
-  unfolding target_options
-  all-parts = host t.host is.host
-    where
-      split : os ≡ below 3 os ++ behind 3
-      split = split-at 3 0 os refl are none
+    abbrev from-port : List Opt
+    from-port = map (option_of 7) port ++ from-path
 
-      in_order : AreOptions 3 (merged (paths ++ queries) (behind 3))
-      in_order = AreOptions-merged 3 (paths ++ queries) (behind 3) (AreOptions-weaken 3 11 (paths ++ queries) (omega arith) paths-in_order) (behind-in_order 3)
+    values-in-order : (low n : ℕ) (values : List (List ℕ)) (rest : List Opt) → low ≤ n → n < 65536 → AllByRecursion IsShort values → AreOptions n rest → AreOptions low (map (option_of n) values ++ rest)
+    values-in-order low n [] rest le small short in_order = AreOptions-weaken low n rest le in_order
+    values-in-order low n (v ∷ values) rest le small short in_order = (le, small, omega (arith, short.0), values-in-order n n values rest (omega arith) small short.1 in_order)
 
-      host : (h : Option (List ℕ)) → IfSome h (λ v. length v ≤ 255) → merged (host_options h ++ (paths ++ queries)) os ≡ below 3 os ++ (host_options h ++ (below 11 (behind 3) ++ (paths ++ (below 15 (behind 11) ++ (queries ++ behind 15)))))
-      host None short =
-          ap (merged (paths ++ queries)) split
-          ∙ merged-past 3 11 (paths ++ queries) (below 3 os) (behind 3) (omega arith) paths-in_order (below-all 3 os)
-          ∙ ap (λ (l : List Opt). below 3 os ++ l) from-paths
-      host (Some h) short =
-          let named : AreOptions 3 (option_of 3 h ∷ (paths ++ queries)) = (omega arith, omega arith, omega (arith, short), AreOptions-weaken 3 11 (paths ++ queries) (omega arith) paths-in_order) in
-          ap (merged (option_of 3 h ∷ (paths ++ queries))) split
-          ∙ merged-past 3 3 (option_of 3 h ∷ (paths ++ queries)) (below 3 os) (behind 3) (omega arith) named (below-all 3 os)
-          ∙ ap (λ (l : List Opt). below 3 os ++ l) (put_in-front (option_of 3 h) (merged (paths ++ queries) (behind 3)) in_order ∙ ap (λ (l : List Opt). option_of 3 h ∷ l) from-paths)
+    scheme-in-order : AreOptions 15 from-scheme
+    scheme-in-order = values-in-order 15 39 scheme [] (omega arith) (omega arith) of_scheme tt
 
--- the values of a host are its options
-hosts-are : (host : Option (List ℕ)) → map (option_of 3) (given host) ≡ host_options host
-hosts-are None = refl
-hosts-are (Some h) = refl
+    query-in-order : AreOptions 11 from-query
+    query-in-order = values-in-order 11 15 query from-scheme (omega arith) (omega arith) of_query scheme-in-order
 
--- the options of a tag
-abbrev pub tag_options : Option (List ℕ) → List Opt
-tag_options tag = map (option_of 4) (given tag)
+    path-in-order : AreOptions 7 from-path
+    path-in-order = values-in-order 7 11 path from-query (omega arith) (omega arith) of_path query-in-order
+
+    port-in-order : AreOptions 3 from-port
+    port-in-order = values-in-order 3 7 port from-path (omega arith) (omega arith) of_port path-in-order
+
+    all-parts : merged (map (option_of 3) host ++ from-port) os
+        ≡ below 3 os ++ (map (option_of 3) host ++ (below 7 (behind 3) ++ (map (option_of 7) port ++ (below 11 (behind 7) ++ (map (option_of 11) path ++ (below 15 (behind 11) ++ (map (option_of 15) query ++ (below 39 (behind 15) ++ (map (option_of 39) scheme ++ behind 39)))))))))
+    all-parts =
+        part 0 3 host from-port os (omega arith) (omega arith) refl of_host port-in-order are none
+        ∙ ap (λ (l : List Opt). below 3 os ++ (map (option_of 3) host ++ l)) (next-part 3 7 port from-path (omega arith) (omega arith) refl of_port path-in-order
+        ∙ ap (λ (l : List Opt). below 7 (behind 3) ++ (map (option_of 7) port ++ l)) (next-part 7 11 path from-query (omega arith) (omega arith) refl of_path query-in-order
+        ∙ ap (λ (l : List Opt). below 11 (behind 7) ++ (map (option_of 11) path ++ l)) (next-part 11 15 query from-scheme (omega arith) (omega arith) refl of_query scheme-in-order
+        ∙ ap (λ (l : List Opt). below 15 (behind 11) ++ (map (option_of 15) query ++ l)) (next-part 15 39 scheme [] (omega arith) (omega arith) refl of_scheme tt))))
+
+-- the values of a target are its options
+pub target-values : (t : Target) → map (option_of 3) (given t.host) ++ (map (option_of 7) (given (port_value t.port)) ++ (map (option_of 11) t.path ++ (map (option_of 15) t.query ++ (map (option_of 39) (given (scheme_value t.port)) ++ [])))) ≡ target_options t
+unfolding target_options
+target-values t = rw (hosts t.host, ports t.port, schemes t.port) refl
+  where
+    hosts : (host : Option (List ℕ)) → map (option_of 3) (given host) ≡ host_options host
+    hosts None = refl
+    hosts (Some h) = refl
+
+    ports : (port : Option ℕ) → map (option_of 7) (given (port_value port)) ≡ port_options port
+    ports None = refl
+    ports (Some n) = refl
+
+    schemes : (port : Option ℕ) → map (option_of 39) (given (scheme_value port)) ++ [] ≡ scheme_options port
+    schemes None = refl
+    schemes (Some n) = refl
 
 -- with the tag those below a number up to it are what they were
 below-tagged : (n : ℕ) (tag : Option (List ℕ)) (os : List Opt) → n ≤ 4 → below n (tagged tag os) ≡ below n os
@@ -337,14 +334,33 @@ first-tagged (Some v) (p ∷ ps) = go (leb 4 p.number) refl (first-tagged (Some 
         let out : ltb 3 p.number ≡ false = le-ltb 3 p.number (omega arith) in
         rw out rest
 
--- so of those after it that are below the segments
-between-tagged : (tag : Option (List ℕ)) (os : List Opt) → below 11 (above 3 (tagged tag os)) ≡ tag_options tag ++ below 11 (above 3 os)
+-- so of those after it that are below the port
+between-tagged : (tag : Option (List ℕ)) (os : List Opt) → below 7 (above 3 (tagged tag os)) ≡ tag_options tag ++ below 7 (above 3 os)
 between-tagged None os = refl
-between-tagged (Some v) os = ap (below 11) (first-tagged (Some v) os)
+between-tagged (Some v) os = ap (below 7) (first-tagged (Some v) os)
+
+-- what is short is short as a value
+pub given-short : (value : Option (List ℕ)) → IfSome value IsShort → AllByRecursion IsShort (given value)
+given-short None short = tt
+given-short (Some v) short = (short, tt)
+
+-- a port has at most two bytes, and a scheme four
+pub port-short : (port : Option ℕ) → IfSome port IsPort → AllByRecursion IsShort (given (port_value port))
+port-short None within = tt
+port-short (Some n) within = (omega (arith, uint_spelling-four n (omega arith)), tt)
+
+pub scheme-short : (port : Option ℕ) → AllByRecursion IsShort (given (scheme_value port))
+scheme-short None = tt
+scheme-short (Some n) = (lit≤ tt, tt)
+
+-- the bytes of a port are those of its value
+pub port-bytes : (port : Option ℕ) → option_map (λ n. uint_spelling (unwrap_or port 0)) port ≡ port_value port
+port-bytes None = refl
+port-bytes (Some n) = refl
 
 -- the options of the request that is sent on, part by part
 pub form-options : (t : Target) (tag : Option (List ℕ)) (m : Message) → IsTarget t → IsShortTag tag → AreOptions 0 m.options → first_refused Request m.options ≡ None
-    → part_of m BeforeHost (given t.host) ++ (tag_options tag ++ (part_of m BeforePath t.path ++ (part_of m BeforeQuery t.query ++ others_in m.code Last m.options))) ≡ merged (target_options t) (tagged tag (sent_on m))
+    → front_options t tag m ++ back_options t m ≡ merged (target_options t) (tagged tag (sent_on m))
 form-options t tag m is short are screened =
     let os = sent_on m in
     let with = tagged tag os in
@@ -352,36 +368,34 @@ form-options t tag m is short are screened =
     let before_host : others_in m.code BeforeHost m.options ≡ below 3 with =
     fuse (λ o. ltb o.number 3) (goes_on m.code) m.options ∙ ap (below 3) (sym sent) ∙ sym (below-tagged 3 tag os (omega arith))
     in
-    let before_path : tag_options tag ++ others_in m.code BeforePath m.options ≡ below 11 (above 3 with) =
-    ap (λ (l : List Opt). tag_options tag ++ l) (fuse-both (λ o. ltb 3 o.number) (λ o. ltb o.number 11) (goes_on m.code) m.options ∙ ap (λ (l : List Opt). below 11 (above 3 l)) (sym sent))
+    let before_port : tag_options tag ++ others_in m.code BeforePort m.options ≡ below 7 (above 3 with) =
+    ap (λ (l : List Opt). tag_options tag ++ l) (fuse-both (λ o. ltb 3 o.number) (λ o. ltb o.number 7) (goes_on m.code) m.options ∙ ap (λ (l : List Opt). below 7 (above 3 l)) (sym sent))
     ∙ sym (between-tagged tag os)
     in
-    let before_query : others_in m.code BeforeQuery m.options ≡ below 15 (above 11 with) =
-    fuse-both (λ o. ltb 11 o.number) (λ o. ltb o.number 15) (goes_on m.code) m.options ∙ ap (λ (l : List Opt). below 15 (above 11 l)) (sym sent) ∙ ap (below 15) (sym (above-tagged 11 tag os (omega arith)))
+    let between = λ (low high : ℕ) (le : 4 ≤ low).
+    fuse-both (λ o. ltb low o.number) (λ o. ltb o.number high) (goes_on m.code) m.options ∙ ap (λ (l : List Opt). below high (above low l)) (sym sent) ∙ ap (below high) (sym (above-tagged low tag os le))
     in
-    let last : others_in m.code Last m.options ≡ above 15 with =
-    fuse (λ o. ltb 15 o.number) (goes_on m.code) m.options ∙ ap (above 15) (sym sent) ∙ sym (above-tagged 15 tag os (omega arith))
+    let before_path : others_in m.code BeforePath m.options ≡ below 11 (above 7 with) = between 7 11 (omega arith) in
+    let before_query : others_in m.code BeforeQuery m.options ≡ below 15 (above 11 with) = between 11 15 (omega arith) in
+    let before_scheme : others_in m.code BeforeScheme m.options ≡ below 39 (above 15 with) = between 15 39 (omega arith) in
+    let last : others_in m.code Last m.options ≡ above 39 with =
+    fuse (λ o. ltb 39 o.number) (goes_on m.code) m.options ∙ ap (above 39) (sym sent) ∙ sym (above-tagged 39 tag os (omega arith))
     in
-    pairs (others_in m.code BeforeHost m.options) (map (option_of 3) (given t.host)) (tag_options tag) (others_in m.code BeforePath m.options) (map (option_of 11) t.path) (others_in m.code BeforeQuery m.options) (map (option_of 15) t.query) (others_in m.code Last m.options)
-    ∙ rw (before_host, before_path, before_query, last, hosts-are t.host) (sym (all-parts t is with (tagged-options tag os short (sent-options m are screened)) (tagged-unused tag os (sent-unused m screened))))
+    in_pairs (others_in m.code BeforeHost m.options) (map (option_of 3) (given t.host)) (tag_options tag) (others_in m.code BeforePort m.options) (map (option_of 7) (given (port_value t.port)))
+    (others_in m.code BeforePath m.options) (map (option_of 11) t.path) (others_in m.code BeforeQuery m.options) (map (option_of 15) t.query) (others_in m.code BeforeScheme m.options) (map (option_of 39) (given (scheme_value t.port))) (others_in m.code Last m.options)
+    ∙ rw (before_host, before_port, before_path, before_query, before_scheme, last) (sym (all-parts with (tagged-options tag os short (sent-options m are screened)) (tagged-unused tag os (sent-unused m screened))
+    (given t.host) (given (port_value t.port)) t.path t.query (given (scheme_value t.port)) (given-short t.host is.host) (port-short t.port is.port) is.path is.query (scheme-short t.port)))
+    ∙ ap (λ (l : List Opt). merged l with) (target-values t)
   where
     -- parts in pairs are parts in a row, the tag with what stands behind it
-    pairs : (a b x c d e f g : List Opt) → (a ++ b) ++ (x ++ ((c ++ d) ++ ((e ++ f) ++ g))) ≡ a ++ (b ++ ((x ++ c) ++ (d ++ (e ++ (f ++ g)))))
-    pairs a b x c d e f g =
-        append_assoc a b _
-        ∙ ap (λ (l : List Opt). a ++ (b ++ (x ++ l))) (append_assoc c d _ ∙ ap (λ (l : List Opt). c ++ (d ++ l)) (append_assoc e f g))
-        ∙ ap (λ (l : List Opt). a ++ (b ++ l)) (sym (append_assoc x c _))
+    in_pairs : (a b x c d e f g h i j k : List Opt) → ((a ++ b) ++ (x ++ (c ++ d))) ++ ((e ++ f) ++ ((g ++ h) ++ ((i ++ j) ++ k))) ≡ a ++ (b ++ ((x ++ c) ++ (d ++ (e ++ (f ++ (g ++ (h ++ (i ++ (j ++ k)))))))))
+    in_pairs a b x c d e f g h i j k = simp append_assoc refl
 
--- what is written part by part is written of all options
+-- what is written of the front, and then of what comes after it, is written of all options
 pub of-all : (t : Target) (tag : Option (List ℕ)) (m : Message) → IsTarget t → IsShortTag tag → AreOptions 0 m.options → first_refused Request m.options ≡ None
-    → (old new : Datagram) (room : ℕ) (r : Result (Unit {0}) Full) → Appends old new room (options_spelling 0 (part_of m BeforeHost (given t.host) ++ (tag_options tag ++ (part_of m BeforePath t.path ++ (part_of m BeforeQuery t.query ++ others_in m.code Last m.options))))) r
+    → (old new : Datagram) (room : ℕ) (r : Result (Unit {0}) Full) → Appends old new room (options_spelling 0 (front_options t tag m ++ back_options t m)) r
     → Appends old new room (options_spelling 0 (merged (target_options t) (tagged tag (sent_on m)))) r
 of-all t tag m is short are screened old new room r a = subst (λ (l : List Opt). Appends old new room (options_spelling 0 l) r) (form-options t tag m is short are screened) a
-
--- what is short is short as a value
-pub given-short : (value : Option (List ℕ)) → IfSome value IsShort → AllByRecursion IsShort (given value)
-given-short None short = tt
-given-short (Some v) short = (short, tt)
 
 -- as a lent tag is
 pub tag-given : (tag : Option (Bor (List ℕ))) → IfSome tag (λ v. length v.now ≤ 8) → IsShortTag (option_map (λ v. v.now) tag)

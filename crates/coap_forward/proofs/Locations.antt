@@ -44,7 +44,7 @@ queries-short len before is = leb-true len 255 (and_parts (nat_le 0 len) (nat_le
 
 -- a target with another path and query is one
 located-is : (t : Target) (path query : List (List ℕ)) → IsTarget t → AllByRecursion IsShort path → AllByRecursion IsShort query → IsTarget (located t path query)
-located-is t path query is path_short query_short = record { host = is.host; path = own path path_short; query = query_short }
+located-is t path query is path_short query_short = record { host = is.host; port = is.port; path = own path path_short; query = query_short }
   where
     own : (segments : List (List ℕ)) → AllByRecursion IsShort segments → AllByRecursion IsShort (path_at t.path segments)
     own [] short = is.path

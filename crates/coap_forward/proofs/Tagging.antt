@@ -27,7 +27,7 @@ use Rattle.coap_store.specs.Showing.{is_content}
 use Rattle.coap_forward.specs.Forms.{is_used_up, goes_on, host_options, put_in, merged, target_options, tagged, forwarded, form_fits, tag_if_fits, tag_to_send, tag_for}
 use Rattle.coap_forward.specs.Gaps.{given}
 use Rattle.coap_forward.specs.Messages.{is_get}
-use Rattle.coap_forward.proofs.Forms.{IsTag, IsShortTag, filter-put_in, in_key, sent-screened}
+use Rattle.coap_forward.proofs.Forms.{All-target, IsTag, IsShortTag, filter-put_in, in_key, sent-screened}
 use Rattle.coap_forward.proofs.Values.{counts, values-placed}
 
 -- ---- tags are recognised
@@ -143,19 +143,7 @@ module _ (o p : Opt) (differ : eqb p.number o.number ≡ false) where
 
 -- no option of a target has the number of a tag
 target-untagged : (t : Target) → AllByRecursion (λ o. eqb o.number 4 ≡ false) (target_options t)
-unfolding target_options
-target-untagged t = host t.host
-  where
-    values : (number : ℕ) → eqb number 4 ≡ false → (vs : List (List ℕ)) (os : List Opt) → AllByRecursion (λ o. eqb o.number 4 ≡ false) os → AllByRecursion (λ o. eqb o.number 4 ≡ false) (map (option_of number) vs ++ os)
-    values number other [] os rest = rest
-    values number other (v ∷ vs) os rest = (other, values number other vs os rest)
-
-    query : AllByRecursion (λ o. eqb o.number 4 ≡ false) (map (option_of 15) t.query)
-    query = subst (AllByRecursion (λ o. eqb o.number 4 ≡ false)) (append-nil (map (option_of 15) t.query)) (values 15 refl t.query [] tt)
-
-    host : (h : Option (List ℕ)) → AllByRecursion (λ o. eqb o.number 4 ≡ false) (host_options h ++ (map (option_of 11) t.path ++ map (option_of 15) t.query))
-    host None = values 11 refl t.path (map (option_of 15) t.query) query
-    host (Some h) = (refl, values 11 refl t.path (map (option_of 15) t.query) query)
+target-untagged t = All-target (λ n. eqb n 4 ≡ false) refl refl refl refl refl t
 
 -- so the tag may be put in last
 pub merged-tagged : (t : Target) (tag : Option (List ℕ)) (others : List Opt) → merged (target_options t) (tagged tag others) ≡ tagged tag (merged (target_options t) others)

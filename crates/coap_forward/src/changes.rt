@@ -50,6 +50,7 @@ fn located(target: &Target, path: Pieces, query: Pieces) -> Result<Target, OutOf
     Ok(Target {
         host: target.host.clone()?,
         at: target.at,
+        port: target.port,
         path,
         query,
     })

@@ -13,14 +13,15 @@ ghost use Rattle.coap_option.specs.Selection.{sent_on};
 ghost use Rattle.coap_endpoint.specs.Target.{IsTarget, IsShort};
 ghost use Rattle.coap_endpoint.specs.declared.target.Target.{Target};
 ghost use Rattle.coap_forward.specs.Forms.{merged, target_options, tagged, forwarded, goes_on, payload_sent, tag_if_fits, tag_to_send};
-ghost use Rattle.coap_forward.specs.Gaps.{end_of, floor_of, is_in, others_in, part_of, values_left};
+ghost use Rattle.coap_forward.specs.Gaps.{back_options, end_of, floor_of, front_options, is_in, others_in, part_of, values_left};
 ghost use Rattle.coap_forward.specs.Messages.{is_method};
+ghost use Rattle.coap_forward.specs.declared.form.Gap.TheVariants as TheGap;
 
-use crate::part::{PartValues, host_of};
+use crate::part::{PartValues, host_of, port_of, scheme_of};
 use coap_endpoint::Target;
 use coap_message::{
     Code, Datagram, Full, Head, Kind, Message, MessageRef, OptRef, Token, put_head, put_option,
-    put_payload,
+    put_payload, without_zeros,
 };
 use coap_option::{Side, numbers, recognised};
 use coap_store::tag_of;
@@ -30,10 +31,14 @@ use coap_store::tag_of;
 pub(crate) enum Gap {
     /// Before the Uri-Host.
     BeforeHost,
-    /// After the Uri-Host, before any Uri-Path.
+    /// After the Uri-Host, before the Uri-Port.
+    BeforePort,
+    /// After the Uri-Port, before any Uri-Path.
     BeforePath,
     /// After the Uri-Paths, before any Uri-Query.
     BeforeQuery,
+    /// After the Uri-Queries, before the Proxy-Scheme.
+    BeforeScheme,
     /// After all of them.
     Last,
 }
@@ -45,9 +50,11 @@ impl Gap {
     {
         match self {
             Gap::BeforeHost => number < numbers::URI_HOST,
-            Gap::BeforePath => numbers::URI_HOST < number && number < numbers::URI_PATH,
+            Gap::BeforePort => numbers::URI_HOST < number && number < numbers::URI_PORT,
+            Gap::BeforePath => numbers::URI_PORT < number && number < numbers::URI_PATH,
             Gap::BeforeQuery => numbers::URI_PATH < number && number < numbers::URI_QUERY,
-            Gap::Last => numbers::URI_QUERY < number,
+            Gap::BeforeScheme => numbers::URI_QUERY < number && number < numbers::PROXY_SCHEME,
+            Gap::Last => numbers::PROXY_SCHEME < number,
         }
     }
 
@@ -57,8 +64,10 @@ impl Gap {
     {
         match self {
             Gap::BeforeHost => numbers::URI_HOST,
+            Gap::BeforePort => numbers::URI_PORT,
             Gap::BeforePath => numbers::URI_PATH,
             Gap::BeforeQuery => numbers::URI_QUERY,
+            Gap::BeforeScheme => numbers::PROXY_SCHEME,
             Gap::Last => u16::MAX,
         }
     }
@@ -169,8 +178,61 @@ fn put_part(
     put_values(out, room, last, gap.end(), part)
 }
 
-/// Adds all options that are forwarded, and the tag after the Uri-Host, so that it comes before
-/// other ETags.
+/// Adds the options up to the Uri-Port, and the tag right after the Uri-Host, so that it comes
+/// before other ETags.
+fn put_front(
+    out: &mut Datagram,
+    room: usize,
+    request: &MessageRef<'_>,
+    target: &Target,
+    tag: Option<&[u8]>,
+) -> Result<u16, Full>
+    requires room { room ≤ out.old.room }
+    requires held { length out.old.bytes ≤ room }
+    requires target { IsTarget target.now }
+    requires short { IfSome tag (λ tag. length tag.now ≤ 8) }
+    ensures written { Appends out.old out.new room
+        (options_spelling 0
+        (front_options target.now (option_map (λ tag. tag.now) tag.entry) request.now))
+        (unit_of result) }
+    ensures last { IfOk result (λ last.
+        last
+        ≡ last_number 0
+        (front_options target.now (option_map (λ tag. tag.now) tag.entry) request.now)) }
+    ensures below { IfOk result (λ last. last ≤ floor_of TheGap.BeforePath) }
+    ensures in_order { AreOptions 0 request.now.options }
+{
+    let last = put_part(out, room, 0, request, Gap::BeforeHost, host_of(target))?;
+    let last = put_values(out, room, last, numbers::ETAG, PartValues::Given(tag))?;
+    let bytes = u64::from(target.port.unwrap_or(0)).to_be_bytes();
+    let port = port_of(target.port, without_zeros(&bytes));
+    put_part(out, room, last, request, Gap::BeforePort, port)
+}
+
+/// Adds the options after the Uri-Port.
+fn put_back(
+    out: &mut Datagram,
+    room: usize,
+    before: u16,
+    request: &MessageRef<'_>,
+    target: &Target,
+) -> Result<u16, Full>
+    requires room { room ≤ out.old.room }
+    requires held { length out.old.bytes ≤ room }
+    requires above { before ≤ floor_of TheGap.BeforePath }
+    requires target { IsTarget target.now }
+    ensures { Appends out.old out.new room
+        (options_spelling before (back_options target.now request.now)) (unit_of result) }
+{
+    let path = PartValues::Kept(target.path.iter());
+    let last = put_part(out, room, before, request, Gap::BeforePath, path)?;
+    let query = PartValues::Kept(target.query.iter());
+    let last = put_part(out, room, last, request, Gap::BeforeQuery, query)?;
+    let last = put_part(out, room, last, request, Gap::BeforeScheme, scheme_of(target))?;
+    put_others(out, room, last, request, Gap::Last)
+}
+
+/// Adds all options that are forwarded.
 fn put_form_options(
     out: &mut Datagram,
     room: usize,
@@ -189,13 +251,8 @@ fn put_form_options(
         (tagged (option_map (λ tag. tag.now) tag.entry) (sent_on request.now))))
         result }
 {
-    let last = put_part(out, room, 0, request, Gap::BeforeHost, host_of(target))?;
-    let last = put_values(out, room, last, numbers::ETAG, PartValues::Given(tag))?;
-    let path = PartValues::Kept(target.path.iter());
-    let last = put_part(out, room, last, request, Gap::BeforePath, path)?;
-    let query = PartValues::Kept(target.query.iter());
-    let last = put_part(out, room, last, request, Gap::BeforeQuery, query)?;
-    put_others(out, room, last, request, Gap::Last)?;
+    let last = put_front(out, room, request, target, tag)?;
+    put_back(out, room, last, request, target)?;
     Ok(())
 }
 

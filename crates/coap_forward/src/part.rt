@@ -1,5 +1,5 @@
 //! Option values that are written one after the other.
-ghost use Rattle.std.specs.Prelude.{◌≡◌, ◌∷◌, [], MatchOption};
+ghost use Rattle.std.specs.Prelude.{◌≡◌, ◌∷◌, [], MatchOption, codes, option_map};
 ghost use Rattle.coap_forward.specs.Gaps.{given, values_left};
 
 use coap_endpoint::Target;
@@ -33,6 +33,26 @@ pub(crate) fn host_of(target: &Target) -> PartValues<'_>
 {
     match &target.host {
         Some(host) => PartValues::Given(Some(host.as_slice())),
+        None => PartValues::Given(None),
+    }
+}
+
+/// The value of the Uri-Port, which is written as these bytes, if the target has a port.
+pub(crate) fn port_of(port: Option<u16>, bytes: &[u8]) -> PartValues<'_>
+    ensures { values_left result ≡ given (option_map (λ port. bytes.now) port) }
+{
+    match port {
+        Some(_) => PartValues::Given(Some(bytes)),
+        None => PartValues::Given(None),
+    }
+}
+
+/// The value of the Proxy-Scheme, if requests for the target are sent to another proxy.
+pub(crate) fn scheme_of(target: &Target) -> PartValues<'_>
+    ensures { values_left result ≡ given (option_map (λ port. codes "coap") target.now.port) }
+{
+    match target.port {
+        Some(_) => PartValues::Given(Some(b"coap")),
         None => PartValues::Given(None),
     }
 }
