@@ -25,4 +25,4 @@ key-kept setting past d f m routes spells =
     let kept = kept_for key f.former in
     let tag = tag_for setting.limits.datagram key.target request kept in
     let same = one_message d.entry.bytes m (forwarded token key.target tag request f.id) spells f.tells.spells in
-    ap (key_sent key.target.at) same ∙ key-forwarded token key.target tag request f.id may.screened (tag_for-is setting.limits.datagram key.target request kept) (tag_for-other setting.limits.datagram key.target request kept) ∙ sym may.key_is
+    ap (key_sent key.target.at) same ∙ key-forwarded token key.target tag request f.id may.sound may.screened (tag_for-is setting.limits.datagram key.target request kept) (tag_for-other setting.limits.datagram key.target request kept) ∙ sym may.key_is

@@ -123,7 +123,7 @@ keeps_forwarding w history c now draw at number x onward turn queued early =
           asking = p;
           was_asked = inl refl;
           asks = record { sends = record { act = refl; outcome = refl; to = x.key.target.at; sent = refl; message = request; spells = spells; token = refl }; first = state.never_sent };
-          asked_key = key-forwarded token x.key.target tag asked id may.screened tag_is (tag_for-other w.setting.limits.datagram x.key.target asked kept) ∙ sym may.key_is;
+          asked_key = key-forwarded token x.key.target tag asked id may.sound may.screened tag_is (tag_for-other w.setting.limits.datagram x.key.target asked kept) ∙ sym may.key_is;
           to = refl;
           id_is = refl;
           number = c.clock.events;

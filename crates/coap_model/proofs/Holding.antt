@@ -1,8 +1,8 @@
 -- The bytes that a proxy holds are within the bound.
-use Rattle.std.proofs.Common.{◌≡◌, ℕ, ◌+◌, ◌*◌, ◌/◌, ◌≤◌, Bool, true, false, cond, leb, ltb, List, [], ◌∷◌, ◌++◌, map, length, Option, Some, None, refl, sym, ap, ◌∙◌, subst, arith}
-use Rattle.std.specs.Prelude.{◌&&◌, ◌==◌, filter, is_some, option_map, IfSome}
+use Rattle.std.proofs.Common.{◌≡◌, ℕ, ◌+◌, ◌*◌, ◌/◌, ◌≤◌, Bool, true, false, cond, leb, ltb, List, [], ◌∷◌, ◌++◌, map, length, eqb, Option, Some, None, refl, sym, ap, ◌∙◌, subst, arith}
+use Rattle.std.specs.Prelude.{◌&&◌, ◌||◌, ◌==◌, not, filter, is_some, option_map, IfSome}
 use Rattle.std.specs.List.{AllByRecursion, sum_by}
-use Rattle.std.proofs.lemmas.Bool.{eqb-true, leb-true, ltb-true, and_parts}
+use Rattle.std.proofs.lemmas.Bool.{eqb-true, le-leb, leb-true, ltb-true, and_parts}
 use Rattle.std.proofs.Math.Nat.{add-mul}
 use Rattle.std.proofs.lemmas.Nat.{mul-le}
 use Rattle.std.proofs.lemmas.List.{append-nil}
@@ -34,20 +34,21 @@ use Rattle.coap_option.specs.Selection.{sent_on, is_of}
 use Rattle.coap_option.specs.Screening.{first_refused}
 use Rattle.coap_option.specs.Side.{side_of}
 use Rattle.coap_target.specs.Routes.{AreRoutes}
-use Rattle.coap_forward.specs.Forms.{host_options, target_options, merged, tagged, forwarded, tag_for}
-use Rattle.coap_model.specs.Keys.{request_key, says_target}
+use Rattle.coap_forward.specs.Forms.{is_used_up, host_options, port_options, scheme_options, target_options, put_in, merged, tagged, forwarded, tag_for}
+use Rattle.coap_model.specs.Keys.{request_key}
 use Rattle.coap_model.specs.Cached.{kept_for}
 use Rattle.coap_store.specs.declared.stored.Stored.{Stored}
 use Rattle.coap_model.specs.World.{World}
 use Rattle.coap_model.specs.History.{Deed}
 use Rattle.coap_model.specs.Carries.{form_id, copy_for, IsState, IsExchangeOf, IsWaiterIn, IsWaiterOf, Bears}
 use Rattle.coap_endpoint.specs.Target.{IsShort, IsTarget}
-use Rattle.coap_forward.proofs.Forms.{AreUnused, IsTag, in_key, short-tag, sent-unused, tagged-options, tagged-unused, AreOptions-merged, target-options, sent-options, with_id-forwarded, length-with_id}
+use Rattle.coap_forward.proofs.Forms.{AreUnused, IsTag, filter-put_in, in_key, short-tag, sent-unused, tagged-options, tagged-unused, AreOptions-merged, target-options, sent-options, with_id-forwarded, length-with_id}
 use Rattle.coap_forward.proofs.Tagging.{tag_for-is, tag_for-other}
 use Rattle.coap_forward.specs.Messages.{is_get, token_of}
-use Rattle.coap_model.proofs.Keys.{all-say, target-kept, others-kept, key-among}
+use Rattle.coap_store.proofs.Picked.{AreOptions-weaken}
+use Rattle.coap_model.proofs.Keys.{beside-kept, key-among, said-kept, unused-beside}
 use Rattle.coap_model.proofs.Verdicts.{IsAskable, askable}
-use Rattle.coap_model.proofs.OptionLengths.{filter-length, plain_length, small-numbers, says-small, both-apart}
+use Rattle.coap_model.proofs.OptionLengths.{IsOfTarget, host, path, query, of-target, filter-length, plain_length, small-numbers, says_here, says-small, both-apart}
 use Rattle.coap_model.proofs.Showing.{IsHoldable, holdable-short}
 use Rattle.coap_model.proofs.Endings.{kept-holdable, cache-holdable, ending-holdable}
 use Rattle.coap_store.specs.Entries.{entry_size}
@@ -74,31 +75,145 @@ pieces-short before number [] os n are more = omega (arith, more before)
 pieces-short before number (v ∷ values) os n are more =
     omega (arith, pieces-short number number values os n are.1 more, pieces-length v values, short-length (length v) are.0)
 
--- a target takes no more bytes than its options
-target-short : (before : ℕ) (t : Target) → IsTarget t → target_bytes t ≤ options_length before (target_options t)
+-- the part of a target that counts, without its port
+abbrev here : Target → Target
+here t = record t { port = None }
+
+-- it takes no more bytes than its options
+target-short : (before : ℕ) (t : Target) → IsTarget t → target_bytes t ≤ options_length before (target_options (here t))
 unfolding target_options
 target-short before t is = go t.host
   where
-    query : (low : ℕ) → length (pieces_spelling t.query) ≤ options_length low (map (option_of 15) t.query)
-    query low =
-        let spelled = pieces-short low 15 t.query [] 0 is.query (λ _. omega arith) in
-        omega (arith, spelled, ap (options_length low) (append-nil (map (option_of 15) t.query)))
+    query : (low : ℕ) → length (pieces_spelling t.query) ≤ options_length low (map (option_of 15) t.query ++ [])
+    query low = omega (arith, pieces-short low 15 t.query [] 0 is.query (λ _. omega arith))
 
-    path : (low : ℕ) → length (pieces_spelling t.path) + length (pieces_spelling t.query) ≤ options_length low (map (option_of 11) t.path ++ map (option_of 15) t.query)
-    path low = pieces-short low 11 t.path (map (option_of 15) t.query) (length (pieces_spelling t.query)) is.path query
+    path : (low : ℕ) → length (pieces_spelling t.path) + length (pieces_spelling t.query) ≤ options_length low (map (option_of 11) t.path ++ (map (option_of 15) t.query ++ []))
+    path low = pieces-short low 11 t.path (map (option_of 15) t.query ++ []) (length (pieces_spelling t.query)) is.path query
 
-    go : (host : Option (List ℕ)) → host_bytes host + (length (pieces_spelling t.path) + length (pieces_spelling t.query)) ≤ options_length before (host_options host ++ (map (option_of 11) t.path ++ map (option_of 15) t.query))
+    go : (host : Option (List ℕ)) → host_bytes host + (length (pieces_spelling t.path) + length (pieces_spelling t.query)) ≤ options_length before (host_options host ++ (map (option_of 11) t.path ++ (map (option_of 15) t.query ++ [])))
     go None = omega (arith, path before)
     go (Some h) = omega (arith, path 3)
+
+-- its options have the numbers that count
+all-here : (t : Target) → AllByRecursion (λ o. says_here o.number ≡ true) (target_options (here t))
+unfolding target_options
+all-here t = host t.host
+  where
+    values : (number : ℕ) → says_here number ≡ true → (vs : List (List ℕ)) (os : List Opt) → AllByRecursion (λ o. says_here o.number ≡ true) os → AllByRecursion (λ o. says_here o.number ≡ true) (map (option_of number) vs ++ os)
+    values number says [] os rest = rest
+    values number says (v ∷ vs) os rest = (says, values number says vs os rest)
+
+    path : AllByRecursion (λ o. says_here o.number ≡ true) (map (option_of 11) t.path ++ (map (option_of 15) t.query ++ []))
+    path = values 11 refl t.path (map (option_of 15) t.query ++ []) (values 15 refl t.query [] tt)
+
+    host : (h : Option (List ℕ)) → AllByRecursion (λ o. says_here o.number ≡ true) (host_options h ++ (map (option_of 11) t.path ++ (map (option_of 15) t.query ++ [])))
+    host None = path
+    host (Some h) = (refl, path)
+
+-- these numbers are used up
+of : {n : ℕ} → IsOfTarget n → is_used_up n ≡ true
+of host = refl
+of path = refl
+of query = refl
+
+here-used : (number : ℕ) → says_here number ≡ true → is_used_up number ≡ true
+here-used number says = of (of-target number says)
+
+-- so the part of a target that counts, and the other options, take little more than a request that
+-- has both
+here-short : (t : Target) (others : List Opt) → IsTarget t → AreOptions 0 others → AreUnused others → target_bytes t + options_length 0 others ≤ options_length 0 (merged (target_options (here t)) others) + 4
+here-short t others is are none =
+    let os = target_options (here t) in
+    let ordered = target-options (here t) (record { host = is.host; port = tt; path = is.path; query = is.query }) in
+    let whole : List Opt = merged os others in
+    let in_order = AreOptions-merged 0 os others ordered are in
+    let small = All-weaken (λ o. says_here o.number ≡ true) (λ o. o.number ≤ 15) os (λ o says. says-small o.number says) (all-here t) in
+    let said = small-numbers 0 os ordered small in
+    omega (arith, target-short 0 t is, said, both-apart whole in_order, ap (options_length 0) (beside-kept says_here here-used os others (all-here t) none), ap plain_length (said-kept says_here here-used os others ordered (all-here t) none))
+
+-- ---- the port and the scheme take room too
+
+-- an option of another number is left where it was
+abbrev stays_here : Opt → Bool
+stays_here o = not ((o.number == 7) || (o.number == 39))
+
+-- what stays of options with one more is what stays of them, with it
+filter-put_in-in_order : (keep : Opt → Bool) (o : Opt) (low : ℕ) (os : List Opt) → AreOptions low os → keep o ≡ true → filter keep (put_in o os) ≡ put_in o (filter keep os)
+filter-put_in-in_order keep o low [] are kept = rw kept refl
+filter-put_in-in_order keep o low (p ∷ ps) are kept = go (leb o.number p.number) refl (keep p) refl (filter-put_in-in_order keep o p.number ps are.3 kept)
+  where
+    -- it stands in front of those that don't have lower numbers
+    front : (above : ℕ) (rest : List Opt) → o.number ≤ above → AreOptions above rest → put_in o (filter keep rest) ≡ o ∷ filter keep rest
+    front above [] le are' = refl
+    front above (q ∷ rest) le are' = pick (keep q) (front q.number rest (omega (arith, le, are'.0)) are'.3)
+      where
+        pick : (k : Bool) → put_in o (filter keep rest) ≡ o ∷ filter keep rest → put_in o (cond k (q ∷ filter keep rest) (filter keep rest)) ≡ o ∷ cond k (q ∷ filter keep rest) (filter keep rest)
+        pick true more = rw (le-leb o.number q.number (omega (arith, le, are'.0))) refl
+        pick false more = more
+
+    go : (b : Bool) → leb o.number p.number ≡ b → (k : Bool) → keep p ≡ k → filter keep (put_in o ps) ≡ put_in o (filter keep ps) → filter keep (cond b (o ∷ p ∷ ps) (p ∷ put_in o ps)) ≡ put_in o (cond k (p ∷ filter keep ps) (filter keep ps))
+    go true e true f rest = rw (kept, f, e) refl
+    go true e false f rest = rw (kept, f) (sym (front p.number ps (leb-true o.number p.number e) are.3))
+    go false e true f rest = rw (f, e) (ap (λ (l : List Opt). p ∷ l) rest)
+    go false e false f rest = rw f rest
+
+-- what stays of two merged lists is what stays of both, merged
+filter-both : (keep : Opt → Bool) (low : ℕ) (os others : List Opt) → AreOptions low os → AreOptions low others → filter keep (merged os others) ≡ merged (filter keep os) (filter keep others)
+filter-both keep low [] others are rest = refl
+filter-both keep low (o ∷ os) others are rest = go (keep o) refl (filter-both keep low os others (AreOptions-weaken low o.number os are.0 are.3) rest)
+  where
+    go : (k : Bool) → keep o ≡ k → filter keep (merged os others) ≡ merged (filter keep os) (filter keep others) → filter keep (put_in o (merged os others)) ≡ merged (cond k (o ∷ filter keep os) (filter keep os)) (filter keep others)
+    go true e more = filter-put_in-in_order keep o low (merged os others) (AreOptions-merged low os others (AreOptions-weaken low o.number os are.0 are.3) rest) e ∙ ap (put_in o) more
+    go false e more = filter-put_in keep o (merged os others) e ∙ more
+
+-- of a target's options those of the part that counts stay
+target-stays : (t : Target) → filter stays_here (target_options t) ≡ target_options (here t)
+unfolding target_options
+target-stays t = host t.host
+  where
+    values : (number : ℕ) → stays_here (option_of number []) ≡ true → (vs : List (List ℕ)) (os : List Opt) → filter stays_here (map (option_of number) vs ++ os) ≡ map (option_of number) vs ++ filter stays_here os
+    values number stays [] os = refl
+    values number stays (v ∷ vs) os = rw stays (ap (λ (l : List Opt). option_of number v ∷ l) (values number stays vs os))
+
+    scheme : (port : Option ℕ) → filter stays_here (scheme_options port) ≡ []
+    scheme None = refl
+    scheme (Some n) = refl
+
+    path : filter stays_here (map (option_of 11) t.path ++ (map (option_of 15) t.query ++ scheme_options t.port)) ≡ map (option_of 11) t.path ++ (map (option_of 15) t.query ++ [])
+    path =
+        values 11 refl t.path (map (option_of 15) t.query ++ scheme_options t.port)
+        ∙ ap (λ (l : List Opt). map (option_of 11) t.path ++ l) (values 15 refl t.query (scheme_options t.port) ∙ ap (λ (l : List Opt). map (option_of 15) t.query ++ l) (scheme t.port))
+
+    port : (of : Option ℕ) → filter stays_here (port_options of ++ (map (option_of 11) t.path ++ (map (option_of 15) t.query ++ scheme_options t.port))) ≡ map (option_of 11) t.path ++ (map (option_of 15) t.query ++ [])
+    port None = path
+    port (Some n) = path
+
+    host : (of : Option (List ℕ)) → filter stays_here (host_options of ++ (port_options t.port ++ (map (option_of 11) t.path ++ (map (option_of 15) t.query ++ scheme_options t.port)))) ≡ host_options of ++ (map (option_of 11) t.path ++ (map (option_of 15) t.query ++ []))
+    host None = port t.port
+    host (Some h) = ap (λ (l : List Opt). option_of 3 h ∷ l) (port t.port)
+
+-- and so do all that aren't used up
+unused-stay : (os : List Opt) → AreUnused os → filter stays_here os ≡ os
+unused-stay os none = unused-beside (λ n. (n == 7) || (n == 39)) used os none
+  where
+    used : (number : ℕ) → ((number == 7) || (number == 39)) ≡ true → is_used_up number ≡ true
+    used number says = go (eqb number 7) refl (eqb number 39) refl says
+      where
+        go : (a : Bool) → eqb number 7 ≡ a → (b : Bool) → eqb number 39 ≡ b → (a || b) ≡ true → is_used_up number ≡ true
+        go true e b f s = subst (λ (k : ℕ). is_used_up k ≡ true) (sym (eqb-true number 7 e)) refl
+        go false e true f s = subst (λ (k : ℕ). is_used_up k ≡ true) (sym (eqb-true number 39 f)) refl
+        go false e false f s = absurd cc
 
 -- so a target and the other options take little more than the request that has both
 both-short : (t : Target) (others : List Opt) → IsTarget t → AreOptions 0 others → AreUnused others → target_bytes t + options_length 0 others ≤ options_length 0 (merged (target_options t) others) + 4
 both-short t others is are none =
-    let whole : List Opt = merged (target_options t) others in
-    let in_order = AreOptions-merged 0 (target_options t) others (target-options t is) are in
-    let small = All-weaken (λ o. says_target o.number ≡ true) (λ o. o.number ≤ 15) (target_options t) (λ o says. says-small o.number says) (all-say t) in
-    let said = small-numbers 0 (target_options t) (target-options t is) small in
-    omega (arith, target-short 0 t is, said, both-apart whole in_order, ap (options_length 0) (others-kept t others none), ap plain_length (target-kept t others is none))
+    let os = target_options t in
+    let ordered = target-options t is in
+    let stay : filter stays_here (merged os others) ≡ merged (target_options (here t)) others =
+    filter-both stays_here 0 os others ordered are ∙ ap (λ (l : List Opt). merged l (filter stays_here others)) (target-stays t) ∙ ap (merged (target_options (here t))) (unused-stay others none)
+    in
+    let fewer = filter-length stays_here 0 (merged os others) (AreOptions-merged 0 os others ordered are) in
+    omega (arith, here-short t others is are none, fewer, ap (options_length 0) stay)
 
 -- ---- the key takes no more bytes than the form
 

@@ -1,13 +1,12 @@
 -- How many bytes lists of options take: with one more option they aren't shorter.
 use Rattle.std.proofs.Common.{◌≡◌, ◌≢◌, ℕ, ◌+◌, ◌-◌, ◌<◌, ◌≤◌, Bool, true, false, cond, eqb, leb, ltb, List, [], ◌∷◌, length, refl, sym, ap, subst, arith}
-use Rattle.std.specs.Prelude.{◌||◌, not, filter}
+use Rattle.std.specs.Prelude.{◌||◌, ◌==◌, not, filter}
 use Rattle.std.specs.List.{AllByRecursion}
 use Rattle.std.proofs.lemmas.Bool.{eqb-true, eqb-false, eq-eqb, leb-true, leb-false, ltb-true, ltb-false, lt-ltb}
 use Rattle.coap_message.specs.declared.options.Opt.{Opt}
 use Rattle.coap_message.specs.Options.{AreOptions}
 use Rattle.coap_message.specs.Spelling.{more_length, options_length}
 use Rattle.coap_store.proofs.Picked.{AreOptions-filter}
-use Rattle.coap_model.specs.Keys.{says_target}
 
 -- the bytes that extend a sum are at most one more than those that extend both parts
 more-sum : (a b : ℕ) → more_length (a + b) ≤ 1 + more_length a + more_length b
@@ -73,6 +72,10 @@ more-small a b small = go (ltb (a + b) 13) refl (ltb (a + b) 269) refl (ltb a 13
     go false e false f false g true = omega arith
     go false e false f false g false = omega arith
 
+-- an option with this number is a part of a target that counts: its host, its path or its query
+abbrev pub says_here : ℕ → Bool
+says_here number = (number == 3) || ((number == 11) || (number == 15))
+
 -- how many of the numbers of target options are still to come
 abbrev ahead : ℕ → ℕ
 ahead low = cond (ltb low 3) 1 0 + cond (ltb low 11) 1 0 + cond (ltb low 15) 1 0
@@ -87,12 +90,12 @@ ahead-fewer low n le = omega (arith, one 3 (ltb n 3) refl (ltb low 3) refl, one 
     one k false e b f = omega arith
 
 -- an option of a target has one of three numbers
-data IsOfTarget : ℕ → Type 0 where
+pub data IsOfTarget : ℕ → Type 0 where
   host : IsOfTarget 3
   path : IsOfTarget 11
   query : IsOfTarget 15
 
-of-target : (n : ℕ) → says_target n ≡ true → IsOfTarget n
+pub of-target : (n : ℕ) → says_here n ≡ true → IsOfTarget n
 of-target n says = go (eqb n 3) refl (eqb n 11) refl (eqb n 15) refl says
   where
     go : (a : Bool) → eqb n 3 ≡ a → (b : Bool) → eqb n 11 ≡ b → (c : Bool) → eqb n 15 ≡ c → (a || (b || c)) ≡ true → IsOfTarget n
@@ -107,7 +110,7 @@ of-target-small _ host = omega arith
 of-target-small _ path = omega arith
 of-target-small _ query = omega arith
 
-pub says-small : (n : ℕ) → says_target n ≡ true → n ≤ 15
+pub says-small : (n : ℕ) → says_here n ≡ true → n ≤ 15
 says-small n says = of-target-small n (of-target n says)
 
 -- and after it there is one fewer to come
@@ -122,15 +125,15 @@ unequal n other = absurd (other (refl {a = n}))
 
 -- Separately, the options of a target and the others take little more than together.
 apart : (behind low : ℕ) (os : List Opt) → behind ≤ low → (behind ≢ low → low ≤ 15) → AreOptions low os
-    → options_length behind (filter (λ o. not (says_target o.number)) os) + plain_length (filter (λ o. says_target o.number) os) ≤ options_length low os + cond (eqb behind low) 0 1 + ahead low
+    → options_length behind (filter (λ o. not (says_here o.number)) os) + plain_length (filter (λ o. says_here o.number) os) ≤ options_length low os + cond (eqb behind low) 0 1 + ahead low
 apart behind low [] le near are = omega arith
-apart behind low (o ∷ os) le near are = go (says_target o.number) refl (eqb behind low) refl (eqb low o.number) refl (λ small. apart behind o.number os (omega (arith, are.0)) (λ other. small) are.3) (apart o.number o.number os (omega arith) (λ other. unequal o.number other) are.3)
+apart behind low (o ∷ os) le near are = go (says_here o.number) refl (eqb behind low) refl (eqb low o.number) refl (λ small. apart behind o.number os (omega (arith, are.0)) (λ other. small) are.3) (apart o.number o.number os (omega arith) (λ other. unequal o.number other) are.3)
   where
     others : List Opt
-    others = filter (λ p. not (says_target p.number)) os
+    others = filter (λ p. not (says_here p.number)) os
 
     said : List Opt
-    said = filter (λ p. says_target p.number) os
+    said = filter (λ p. says_here p.number) os
 
     -- another number, if it isn't one of a target option
     moved : (a : Bool) → eqb behind low ≡ a → more_length (o.number - behind) ≤ more_length (o.number - low) + cond a 0 1
@@ -149,7 +152,7 @@ apart behind low (o ∷ os) le near are = go (says_target o.number) refl (eqb be
         most true = omega arith
         most false = omega arith
 
-    go : (s : Bool) → says_target o.number ≡ s → (a : Bool) → eqb behind low ≡ a → (b : Bool) → eqb low o.number ≡ b
+    go : (s : Bool) → says_here o.number ≡ s → (a : Bool) → eqb behind low ≡ a → (b : Bool) → eqb low o.number ≡ b
         → (o.number ≤ 15 → options_length behind others + plain_length said ≤ options_length o.number os + cond (eqb behind o.number) 0 1 + ahead o.number)
         → options_length o.number others + plain_length said ≤ options_length o.number os + cond (eqb o.number o.number) 0 1 + ahead o.number
         → options_length behind (cond (not s) (o ∷ others) others) + plain_length (cond s (o ∷ said) said) ≤ options_length low (o ∷ os) + cond a 0 1 + ahead low
@@ -161,5 +164,5 @@ apart behind low (o ∷ os) le near are = go (says_target o.number) refl (eqb be
         omega (arith, rest, here, moved a e, ahead-fewer low o.number are.0)
 
 -- so those of a message take at most three more bytes
-pub both-apart : (os : List Opt) → AreOptions 0 os → options_length 0 (filter (λ o. not (says_target o.number)) os) + plain_length (filter (λ o. says_target o.number) os) ≤ options_length 0 os + 3
+pub both-apart : (os : List Opt) → AreOptions 0 os → options_length 0 (filter (λ o. not (says_here o.number)) os) + plain_length (filter (λ o. says_here o.number) os) ≤ options_length 0 os + 3
 both-apart os are = omega (arith, apart 0 0 os (omega arith) (λ other. unequal 0 other) are)

@@ -32,6 +32,7 @@ ghost use Rattle.coap_model.specs.ReliableExamples.{hasty_proxy, patient_proxy, 
 ghost use Rattle.coap_model.specs.ResponseExamples as responses;
 ghost use Rattle.coap_model.specs.ResponseExamples.{empty_ack, empty_reset, con_got, non_got, acked_as, comes, becomes, taken, ignored, acknowledged_until, silence_after, of_others, of_others_sent, reset_by_origin, reset_by_origin_sent, reset_after, reset_after_sent, con_response, con_response_sent, non_response, non_response_sent, before_acknowledgement, before_acknowledgement_sent, block_in_separate, block_in_separate_sent, of_impostors, of_impostors_sent, after_giving_up, after_giving_up_sent, no_room, no_room_sent, no_room_needed, no_room_needed_sent, lets_go, lets_go_sent, response, request, is_awaited, queued_turns, sent_turns, acked_turns, answered_turns, opened_acting, sent_acting, acked_acting, reset_acting, got_acting, served_acting, non_acting, record_of_response};
 ghost use Rattle.coap_model.specs.ClientExamples as clients;
+ghost use Rattle.coap_model.specs.NextProxyExamples as beyond;
 ghost use Rattle.coap_model.specs.JoiningExamples as joining;
 ghost use Rattle.coap_model.specs.ConfirmableExamples as confirmable;
 ghost use Rattle.coap_model.specs.ChangeExamples as changes;
@@ -244,6 +245,30 @@ pub fn options()
     ensures refused { play forward_proxy refused_targets ≡ refused_targets_sent }
     ensures no_map { play narrow_proxy long_without_map ≡ long_without_map_sent }
     ensures to_sensor { play forward_proxy to_sensor ≡ to_sensor_sent }
+{}
+
+/// A proxy in front of another one, computed: what the next proxy is sent, which requests are the
+/// same, what isn't sent there, and the key that is read back from what was sent.
+pub fn next_proxies()
+    ensures nowhere { play beyond.proxy beyond.nowhere ≡ beyond.nowhere_sent }
+    ensures other_ports { play beyond.proxy beyond.other_ports ≡ beyond.other_ports_sent }
+    ensures shared { play beyond.proxy beyond.shared ≡ beyond.shared_sent }
+    ensures of_an_address { play beyond.proxy beyond.of_an_address ≡ beyond.of_an_address_sent }
+    ensures of_a_known_host { play beyond.proxy beyond.of_a_known_host
+        ≡ beyond.of_a_known_host_sent }
+    ensures local { play beyond.proxy beyond.local ≡ beyond.local_sent }
+    ensures refused { play beyond.proxy beyond.refused ≡ beyond.refused_sent }
+    ensures without_names { play beyond.nameless beyond.without_names
+        ≡ beyond.without_names_sent }
+    ensures impostor { play beyond.proxy beyond.impostor ≡ beyond.impostor_sent }
+    ensures validated { play beyond.proxy beyond.validated ≡ beyond.validated_sent }
+    ensures changed { play beyond.proxy beyond.changed ≡ beyond.changed_sent }
+    ensures form { spelling (forwarded eight_zeros beyond.beyond None beyond.put_with_others 7)
+        ≡ beyond.beyond_form }
+    ensures read_back { key_in beyond.next beyond.beyond_form ≡ Some beyond.key_beyond }
+    ensures of_client { request_key beyond.beyond beyond.put_with_others ≡ beyond.key_beyond }
+    ensures port_alone { target_in beyond.next beyond.port_alone ≡ Some beyond.at_no_port }
+    ensures held { target_bytes beyond.beyond ≡ 6 }
 {}
 
 /// Duplicates and Confirmable requests, computed: how long a request of each type is remembered,
