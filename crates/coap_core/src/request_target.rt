@@ -75,6 +75,7 @@ impl CacheQuery {
         let target = Target {
             host: None,
             at: nowhere,
+            port: None,
             path: Pieces::new(alloc),
             query: Pieces::new(alloc),
         };
