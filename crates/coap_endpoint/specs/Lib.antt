@@ -3,3 +3,4 @@ pub mod Equality
 pub mod Target
 pub mod Hashing
 pub mod Alike
+pub mod Seeding

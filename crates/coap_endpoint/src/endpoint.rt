@@ -34,7 +34,7 @@ impl PartialEq for Endpoint {
     }
 }
 
-/// In whole words of 8 bytes, which a hasher processes fastest.
+/// In words of 8 bytes, which a hasher processes fastest, and which `Seeded` asks for.
 impl Hash for Endpoint {
     ghost hash_input = { fed_endpoint };
 
@@ -47,8 +47,10 @@ impl Hash for Endpoint {
                 state.write_u64(u64::from(u32::from_be_bytes(address)) * 0x1_0000 + port);
             }
             Ip::V6(address) => {
+                let address = u128::from_be_bytes(address);
                 state.write_u64(0x1_0000_0000_0000 + port);
-                state.write_u128(u128::from_be_bytes(address));
+                state.write_u64((address % (1 << 64)) as u64);
+                state.write_u64((address / (1 << 64)) as u64);
             }
         }
     }

@@ -18,5 +18,5 @@ mod seeded;
 mod target;
 
 pub use endpoint::{Endpoint, Ip};
-pub use seeded::Seeded;
+pub use seeded::{Seeded, SeededHasher};
 pub use target::{Target, copy_host};
