@@ -107,7 +107,7 @@ impl<S: Store + Drop> World<S> {
     {
         let (bytes, entries) = (limits.values().cache_bytes, limits.values().cache_entries);
         let store = S::with_limits(alloc, seed, bytes, entries as usize)?;
-        let (con_records, non_records) = new_records(alloc, &limits)?;
+        let (con_records, non_records) = new_records(alloc, &limits, salt)?;
         let (exchanges, waiters) = new_tables(alloc, &limits, salt)?;
         let room = new_room(alloc, &limits, &routes)?;
         Ok(World {
@@ -275,20 +275,20 @@ fn new_tables(
 }
 
 /// Empty records, with room for as many as the limits say.
-fn new_records(alloc: Global, limits: &Limits) -> Result<(Records, Records), OutOfMemory>
+fn new_records(alloc: Global, limits: &Limits, seed: u64) -> Result<(Records, Records), OutOfMemory>
     ensures con { IfOk result (λ made. made.0 ≡ no_con_records limits.now) }
     ensures non { IfOk result (λ made. made.1 ≡ no_non_records limits.now) }
 {
     let (all, per_client) = (
-        limits.values().con_records,
-        limits.values().client_con_records,
+        limits.values().con_records as usize,
+        limits.values().client_con_records as usize,
     );
-    let con_records = Records::new(alloc, all as usize, per_client as usize, EXCHANGE_LIFETIME)?;
+    let con_records = Records::seeded(alloc, all, per_client, EXCHANGE_LIFETIME, seed)?;
     let (all, per_client) = (
-        limits.values().non_records,
-        limits.values().client_non_records,
+        limits.values().non_records as usize,
+        limits.values().client_non_records as usize,
     );
-    let non_records = Records::new(alloc, all as usize, per_client as usize, NON_LIFETIME)?;
+    let non_records = Records::seeded(alloc, all, per_client, NON_LIFETIME, seed)?;
     Ok((con_records, non_records))
 }
 

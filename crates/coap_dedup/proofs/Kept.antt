@@ -54,6 +54,11 @@ pub succeeds : {A E : Type 0} (r : Result A E) (P Q : Type 0) → (IsOk r ↔ P)
 succeeds (Ok a) P Q iff then_is p = then_is
 succeeds (Err e) P Q iff then_is p = let no : false ≡ true = iff.1 p in absurd cc
 
+-- what holds if it succeeds holds, since it does
+pub of_ok : {A E : Type 0} (r : Result A E) (Q : Type 0) → IsOk r → OnOk r Q → Q
+of_ok (Ok a) Q is so = so
+of_ok (Err e) Q is so = let no : false ≡ true = is in absurd cc
+
 -- the records in a ring, whose limit is its capacity
 abbrev pub in_ring : Buffer Record → ℕ → ℕ → Records
 in_ring b per_client lifetime =

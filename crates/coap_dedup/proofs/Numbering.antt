@@ -1,15 +1,14 @@
 -- The numbers of records: which record has which one, and how they change as records come and go.
-use Rattle.std.proofs.Common.{◌≡◌, ℕ, ◌+◌, ◌-◌, ◌%◌, ◌^◌, ◌<◌, Bool, true, false, cond, List, [], ◌∷◌, ◌++◌, length, zero, suc, Option, Some, None, drop, refl, sym, ap, subst, ◌∙◌, arith, slice_get}
-use Rattle.std.specs.BTreeMap.{BTreeMap, get}
+use Rattle.std.proofs.Common.{◌≡◌, ℕ, ◌+◌, ◌-◌, ◌%◌, ◌^◌, ◌<◌, Bool, true, false, cond, List, [], ◌∷◌, ◌++◌, length, zero, suc, Option, Some, None, refl, sym, ap, subst, ◌∙◌, arith, slice_get}
+use Rattle.indexmap.specs.IndexMap.{get}
 use Rattle.std.specs.Option.{option_or}
-use Rattle.std.specs.Ordering.{is_eq}
 use Rattle.coap_dedup.specs.declared.key.Key.{Key}
 use Rattle.coap_dedup.specs.declared.record.Record.{Record}
-use Rattle.coap_dedup.specs.Indexing.{AreNumbered, key_cmp, number_of}
+use Rattle.coap_dedup.specs.Indexing.{AreNumbered, Index, number_of}
 use Rattle.coap_dedup.specs.Keys.{key_of, same_key}
 use Rattle.coap_dedup.specs.Lists.{is_of, record_of, AreApart}
-use Rattle.coap_dedup.proofs.Apart.{apart-rest, not-first, record_of-others}
-use Rattle.coap_dedup.proofs.Orders.{same_key-only, same_key-flips, is_eq-key_cmp}
+use Rattle.coap_dedup.proofs.Apart.{apart-rest, not-first}
+use Rattle.coap_dedup.proofs.Orders.{same_key-only}
 
 -- a message without a record has no number
 pub number_of-none : (n : ℕ) (k : Key) (rs : List Record) → record_of k.from k.id rs ≡ None → number_of n k rs ≡ None
@@ -65,7 +64,7 @@ record_of-unnumbered n k (r ∷ rs) none = go (is_of k.from k.id r) (number_of (
 -- ---- the index
 
 -- a record is found by its number and that of the first
-pub found-at : (first : ℕ) (index : BTreeMap Key ℕ) (rs : List Record) (k : Key) (m : ℕ) → AreApart rs → AreNumbered first index rs → length rs < 2 ^ 63 → get key_cmp index k ≡ Some m
+pub found-at : (first : ℕ) (index : Index) (rs : List Record) (k : Key) (m : ℕ) → AreApart rs → AreNumbered first index rs → length rs < 2 ^ 63 → get same_key index k ≡ Some m
     → slice_get rs ((m + (2 ^ 64 - first)) % 2 ^ 64) ≡ record_of k.from k.id rs
 found-at first index rs k m apart are few number =
     let (i, within, place, at) = number_of-place are.origin k rs m apart (sym (are.numbered k) ∙ number) in
@@ -74,23 +73,11 @@ found-at first index rs k m apart are few number =
     ap (slice_get rs) here ∙ at
 
 -- an index with the same numbers serves as well
-pub AreNumbered-kept : (first : ℕ) (old new : BTreeMap Key ℕ) (rs : List Record) → ((k : Key) → get key_cmp new k ≡ get key_cmp old k) → AreNumbered first old rs → AreNumbered first new rs
+pub AreNumbered-kept : (first : ℕ) (old new : Index) (rs : List Record) → ((k : Key) → get same_key new k ≡ get same_key old k) → AreNumbered first old rs → AreNumbered first new rs
 AreNumbered-kept first old new rs same are = record { origin = are.origin; is_first = are.is_first; numbered = λ k. same k ∙ are.numbered k }
 
--- keys are equal in the order of the index if they are the same
-pub put-by_key : (old new : BTreeMap Key ℕ) (key : Key) (w : Option ℕ) → ((k : Key) → get key_cmp new k ≡ cond (is_eq (key_cmp key k)) w (get key_cmp old k)) → (k : Key) → get key_cmp new k ≡ cond (same_key key k) w (get key_cmp old k)
-put-by_key old new key w puts k = puts k ∙ ap (λ b. cond b w (get key_cmp old k)) (is_eq-key_cmp key k)
-
--- a number that was given and taken back leaves the index as it was
-pub given-back : (old given new : BTreeMap Key ℕ) (key : Key) (number : ℕ) (was : Option ℕ) → was ≡ get key_cmp old key → ((k : Key) → get key_cmp given k ≡ cond (is_eq (key_cmp key k)) (Some number) (get key_cmp old k)) → ((k : Key) → get key_cmp new k ≡ cond (same_key key k) was (get key_cmp given k)) → (k : Key) → get key_cmp new k ≡ get key_cmp old k
-given-back old given new key number was is gives takes k = takes k ∙ go (same_key key k) refl
-  where
-    go : (b : Bool) → same_key key k ≡ b → cond b was (get key_cmp given k) ≡ get key_cmp old k
-    go true same = is ∙ ap (get key_cmp old) (same_key-only key k same)
-    go false other = put-by_key old given key (Some number) gives k ∙ rw other refl
-
 -- one more record gets the next number
-pub AreNumbered-push : (first : ℕ) (index new : BTreeMap Key ℕ) (rs : List Record) (x : Record) (next : ℕ) → AreNumbered first index rs → next ≡ (first + length rs) % 2 ^ 64 → ((k : Key) → get key_cmp new k ≡ cond (same_key (key_of x) k) (Some next) (get key_cmp index k)) → AreNumbered first new (rs ++ x ∷ [])
+pub AreNumbered-push : (first : ℕ) (index new : Index) (rs : List Record) (x : Record) (next : ℕ) → AreNumbered first index rs → next ≡ (first + length rs) % 2 ^ 64 → ((k : Key) → get same_key new k ≡ cond (same_key (key_of x) k) (Some next) (get same_key index k)) → AreNumbered first new (rs ++ x ∷ [])
 AreNumbered-push first index new rs x next are is_next puts = record {
   origin = are.origin;
   is_first = are.is_first;
@@ -100,62 +87,16 @@ AreNumbered-push first index new rs x next are is_next puts = record {
     same : next ≡ (are.origin + length rs) % 2 ^ 64
     same = let value = are.is_first in omega arith
 
--- the same, with keys compared by their order
-pub AreNumbered-insert : (first : ℕ) (index new : BTreeMap Key ℕ) (rs : List Record) (x : Record) (next : ℕ) → AreNumbered first index rs → next ≡ (first + length rs) % 2 ^ 64 → ((k : Key) → get key_cmp new k ≡ cond (is_eq (key_cmp (key_of x) k)) (Some next) (get key_cmp index k)) → AreNumbered first new (rs ++ x ∷ [])
-AreNumbered-insert first index new rs x next are is_next puts = AreNumbered-push first index new rs x next are is_next (λ k. puts k ∙ ap (λ b. cond b (Some next) (get key_cmp index k)) (is_eq-key_cmp (key_of x) k))
-
 -- the numbers of a list, without its first record
-module _ (first : ℕ) (index new : BTreeMap Key ℕ) (r : Record) (rs : List Record) where
+module _ (first : ℕ) (index new : Index) (r : Record) (rs : List Record) where
   -- the number of the first record is removed, if none of the others is of the same message
-  pub AreNumbered-rest : record_of r.from r.id rs ≡ None → ((k : Key) → get key_cmp new k ≡ cond (same_key (key_of r) k) None (get key_cmp index k)) → AreNumbered first index (r ∷ rs) → AreNumbered ((first + 1) % 2 ^ 64) new rs
+  pub AreNumbered-rest : record_of r.from r.id rs ≡ None → ((k : Key) → get same_key new k ≡ cond (same_key (key_of r) k) None (get same_key index k)) → AreNumbered first index (r ∷ rs) → AreNumbered ((first + 1) % 2 ^ 64) new rs
   AreNumbered-rest none takes are = record { origin = are.origin + 1; is_first = (let value = are.is_first in omega arith); numbered = λ k. takes k ∙ go k (same_key (key_of r) k) refl }
     where
-      go : (k : Key) (b : Bool) → same_key (key_of r) k ≡ b → cond b None (get key_cmp index k) ≡ number_of (are.origin + 1) k rs
+      go : (k : Key) (b : Bool) → same_key (key_of r) k ≡ b → cond b None (get same_key index k) ≡ number_of (are.origin + 1) k rs
       go k true same = sym (number_of-none (are.origin + 1) k rs (subst (λ (j : Key). record_of j.from j.id rs ≡ None) (same_key-only (key_of r) k same) none))
       go k false other = are.numbered k ∙ rw other (last (number_of (are.origin + 1) k rs))
         where
           last : (o : Option ℕ) → option_or o None ≡ o
           last None = refl
           last (Some m) = refl
-
--- The first record is released, and a new one has its number already. The number of the first is
--- removed, unless the new one is of the same message.
-module _ (first : ℕ) (index : BTreeMap Key ℕ) (rs : List Record) (r x : Record) (apart : AreApart rs) (at : Some r ≡ slice_get rs 0) (are : AreNumbered first index (rs ++ x ∷ [])) where
-  -- of another message: the number of the first is removed
-  pub first-goes : (new : BTreeMap Key ℕ) → same_key (key_of r) (key_of x) ≡ false → ((k : Key) → get key_cmp new k ≡ cond (is_eq (key_cmp (key_of r) k)) None (get key_cmp index k)) → AreNumbered ((first + 1) % 2 ^ 64) new (drop 1 rs ++ x ∷ [])
-  first-goes new other takes = go rs apart at are
-    where
-      go : (ss : List Record) → AreApart ss → Some r ≡ slice_get ss 0 → AreNumbered first index (ss ++ x ∷ []) → AreNumbered ((first + 1) % 2 ^ 64) new (drop 1 ss ++ x ∷ [])
-      go [] apt is nums = absurd cc
-      go (s ∷ ss) apt is nums =
-          let same : s ≡ r = cc in
-          let none : record_of r.from r.id ss ≡ None = subst (λ (y : Record). record_of y.from y.id ss ≡ None) same apt.0 in
-          let left : record_of r.from r.id (ss ++ x ∷ []) ≡ None = record_of-others r.from r.id ss x (same_key-flips (key_of x) (key_of r) ∙ other) ∙ none in
-          let all : AreNumbered first index (r ∷ (ss ++ x ∷ [])) = subst (λ y. AreNumbered first index (y ∷ (ss ++ x ∷ []))) same nums in
-          AreNumbered-rest first index new r (ss ++ x ∷ []) left (λ k. takes k ∙ ap (λ b. cond b None (get key_cmp index k)) (is_eq-key_cmp (key_of r) k)) all
-
-  -- of the same message: the index stays as it is
-  pub first-stays : same_key (key_of r) (key_of x) ≡ true → AreNumbered ((first + 1) % 2 ^ 64) index (drop 1 rs ++ x ∷ [])
-  first-stays same_message = go rs at are
-    where
-      go : (ss : List Record) → Some r ≡ slice_get ss 0 → AreNumbered first index (ss ++ x ∷ []) → AreNumbered ((first + 1) % 2 ^ 64) index (drop 1 ss ++ x ∷ [])
-      go [] is nums = absurd cc
-      go (s ∷ ss) is nums = record { origin = nums.origin + 1; is_first = (let value = nums.is_first in omega arith); numbered = λ k. nums.numbered k ∙ skips k (is_of k.from k.id x) refl }
-        where
-          same : s ≡ r
-          same = cc
-
-          key : key_of s ≡ key_of x
-          key = ap key_of same ∙ same_key-only (key_of r) (key_of x) same_message
-
-          skips : (k : Key) (b : Bool) → is_of k.from k.id x ≡ b → number_of nums.origin k (s ∷ (ss ++ x ∷ [])) ≡ number_of (nums.origin + 1) k (ss ++ x ∷ [])
-          skips k true of = later (number_of (nums.origin + 1) k (ss ++ x ∷ [])) (cond (is_of k.from k.id s) (Some (nums.origin % 2 ^ 64)) None) ((nums.origin + 1 + length ss) % 2 ^ 64) (number_of-push (nums.origin + 1) k ss x ∙ rw of refl)
-            where
-              later : (o p : Option ℕ) (m : ℕ) → o ≡ Some m → option_or o p ≡ o
-              later None p m e = absurd cc
-              later (Some l) p m e = refl
-          skips k false of = rw (ap (λ j. same_key j k) key ∙ of) (only (number_of (nums.origin + 1) k (ss ++ x ∷ [])))
-            where
-              only : (o : Option ℕ) → option_or o None ≡ o
-              only None = refl
-              only (Some l) = refl

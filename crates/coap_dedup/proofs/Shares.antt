@@ -1,13 +1,15 @@
 -- The records of one endpoint among all.
-use Rattle.std.proofs.Common.{◌≡◌, ◌==◌, ℕ, ◌+◌, ◌-◌, ◌%◌, ◌^◌, ◌<◌, ◌≤◌, Bool, true, false, cond, eqb, List, [], ◌∷◌, ◌++◌, length, zero, suc, Option, Some, None, refl, sym, ap, ◌∙◌, arith, get_or, slice_get}
+use Rattle.std.proofs.Common.{◌≡◌, ◌==◌, ℕ, ◌+◌, ◌%◌, ◌^◌, ◌<◌, ◌≤◌, Bool, true, false, cond, eqb, List, [], ◌∷◌, ◌++◌, length, zero, suc, Option, Some, None, IfSome, inl, inr, refl, sym, ap, subst, ◌∙◌, arith, slice_get}
 use Rattle.std.specs.List.{AllByRecursion}
 use Rattle.std.specs.Option.{option_map_or}
 use Rattle.std.proofs.lemmas.Bool.{eq-eqb, eqb-false, eqb-true, ne_eqb}
-use Rattle.std.proofs.lemmas.Option.{slice_get_read}
 use Rattle.coap_endpoint.specs.declared.endpoint.Endpoint.{Endpoint}
 use Rattle.coap_dedup.specs.declared.record.Record.{Record}
 use Rattle.coap_dedup.specs.Lists.{count_from, is_from, is_living, living, records_from, AreInOrder}
-use Rattle.coap_dedup.specs.Sources.{numbers_from, unless_none}
+use Rattle.coap_dedup.specs.declared.sources.Share.{Share}
+use Rattle.coap_dedup.specs.Sources.{AreLinked, last_of, numbers_from, place_of, share_of}
+use Rattle.std.proofs.lemmas.Option.{slice_get_cases}
+use Rattle.coap_dedup.proofs.Sourcing.{linked-at}
 use Rattle.coap_dedup.proofs.Aging.{length-living, living-from_place, living-past_place}
 
 -- one if it is so
@@ -66,29 +68,33 @@ module _ (from : Endpoint) where
       go true (suc k) is rest = later k (rest k is)
       go false k is rest = later k (rest k is)
 
-  -- past the last number there is no record of theirs
-  pub numbered-none : (n : ℕ) (rs : List Record) (j : ℕ) → slice_get (numbers_from n from rs) j ≡ None → slice_get (records_from from rs) j ≡ None
-  numbered-none n [] j at = refl
-  numbered-none n (r ∷ rs) j at = go (is_from from r) j at (numbered-none (n + 1) rs)
-    where
-      go : (b : Bool) (k : ℕ) → slice_get (cond b (n % 2 ^ 64 ∷ numbers_from (n + 1) from rs) (numbers_from (n + 1) from rs)) k ≡ None → ((l : ℕ) → slice_get (numbers_from (n + 1) from rs) l ≡ None → slice_get (records_from from rs) l ≡ None) → slice_get (cond b (r ∷ records_from from rs) (records_from from rs)) k ≡ None
-      go true zero is rest = absurd cc
-      go true (suc k) is rest = rest k is
-      go false k is rest = rest k is
-
   -- so it is found by its number and that of the first
-  pub found-numbered : (first : ℕ) (rs : List Record) (j m : ℕ) → first < 2 ^ 64 → length rs < 2 ^ 63 → slice_get (numbers_from first from rs) j ≡ Some m → slice_get rs ((m + (2 ^ 64 - first)) % 2 ^ 64) ≡ slice_get (records_from from rs) j
+  pub found-numbered : (first : ℕ) (rs : List Record) (j m : ℕ) → first < 2 ^ 64 → length rs < 2 ^ 63 → slice_get (numbers_from first from rs) j ≡ Some m → slice_get rs (place_of first m) ≡ slice_get (records_from from rs) j
   found-numbered first rs j m fits few at =
       let (i, within, number, there) = numbered-at first rs j m at in
-      let here : (m + (2 ^ 64 - first)) % 2 ^ 64 ≡ i = omega arith in
+      let here : place_of first m ≡ i = omega arith in
       ap (slice_get rs) here ∙ there
 
   -- whether it is live is told by its number
-  pub lives-numbered : (lifetime now first : ℕ) (rs : List Record) (numbers : List ℕ) (j number : ℕ) (lives : Bool) → first < 2 ^ 64 → length rs < 2 ^ 63 → numbers ≡ numbers_from first from rs → j < length numbers → number ≡ get_or numbers j number
-      → lives ≡ option_map_or (is_living lifetime now) (slice_get rs ((number + (2 ^ 64 - first)) % 2 ^ 64)) false → lives ≡ option_map_or (is_living lifetime now) (slice_get (records_from from rs) j) false
-  lives-numbered lifetime now first rs numbers j number lives fits few are within is told =
-      let at : slice_get numbers j ≡ Some number = slice_get_read numbers (length numbers) j number refl within is in
-      told ∙ ap (λ (o : Option Record). option_map_or (is_living lifetime now) o false) (found-numbered first rs j number fits few (ap (λ (ns : List ℕ). slice_get ns j) (sym are) ∙ at))
+  pub lives-numbered : (lifetime now first : ℕ) (rs : List Record) (j number : ℕ) (lives : Bool) → first < 2 ^ 64 → length rs < 2 ^ 63 → slice_get (numbers_from first from rs) j ≡ Some number
+      → lives ≡ option_map_or (is_living lifetime now) (slice_get rs (place_of first number)) false → lives ≡ option_map_or (is_living lifetime now) (slice_get (records_from from rs) j) false
+  lives-numbered lifetime now first rs j number lives fits few at told =
+      told ∙ ap (λ (o : Option Record). option_map_or (is_living lifetime now) o false) (found-numbered first rs j number fits few at)
+
+  -- and its link leads to the next number
+  pub next-numbered : (first : ℕ) (nexts : List ℕ) (rs : List Record) (j number next : ℕ) → first < 2 ^ 64 → length rs < 2 ^ 63 → AreLinked first nexts rs → slice_get (numbers_from first from rs) j ≡ Some number → j + 1 < length (numbers_from first from rs)
+      → IfSome (slice_get nexts (place_of first number)) (λ k. next ≡ k) → slice_get (numbers_from first from rs) (j + 1) ≡ Some next
+  next-numbered first nexts rs j number next fits few are at within leads = elim (slice_get_cases (numbers_from first from rs) (j + 1)).1 [
+    | inl (k, inside, there, same) ↦
+        let (i, short, is, link) = linked-at from first nexts rs j number k are at (subst (λ (l : ℕ). slice_get (numbers_from first from rs) l ≡ Some k) further there) in
+        let here : place_of first number ≡ i = omega arith in
+        let found : slice_get nexts (place_of first number) ≡ Some k = ap (slice_get nexts) here ∙ link in
+        there ∙ ap Some (sym (subst (λ (o : Option ℕ). IfSome o (λ l. next ≡ l)) found leads))
+    | inr (past, none) ↦ absurd (omega (arith, past, within))
+  ]
+    where
+      further : j + 1 ≡ suc j
+      further = omega arith
 
   -- those that live are the same, whether one looks at the endpoint first or last
   pub records_from-living : (lifetime now : ℕ) (rs : List Record) → records_from from (living lifetime now rs) ≡ living lifetime now (records_from from rs)
@@ -148,12 +154,19 @@ module _ (from : Endpoint) where
       go true is = sym (eq-eqb (count_from from (living lifetime now rs)) limit (omega (arith, eqb-true limit 0 is, few)))
       go false is = sym (ne_eqb (count_from from (living lifetime now rs)) limit (λ e. eqb-false limit 0 is (omega (arith, few))))
 
--- what is listed for an endpoint are the numbers of its records, at least one
-pub entry-some : (ns ms : List ℕ) → Some ns ≡ unless_none ms → (ns ≡ ms) × (0 < length ms)
-entry-some ns [] is = absurd cc
-entry-some ns (m ∷ ms) is = (cc, omega arith)
+-- a share tells how many numbers an endpoint has, at least one, and the first of them
+pub share-some : (s : Share) (ms : List ℕ) → Some s ≡ share_of ms → (s.count ≡ length ms) × (0 < length ms) × (slice_get ms 0 ≡ Some s.first)
+share-some s [] is = absurd cc
+share-some s (m ∷ ms) is =
+    let same : s ≡ record { count = length (m ∷ ms); first = m; last = last_of m ms } = cc in
+    (ap (λ (t : Share). t.count) same, omega arith, ap (λ (t : Share). Some t.first) (sym same))
 
--- and if nothing is, it has none
-pub entry-none : (ms : List ℕ) → None ≡ unless_none ms → length ms ≡ 0
-entry-none [] is = refl
-entry-none (m ∷ ms) is = absurd cc
+-- so if these are few, its count is small
+pub share-few : (o : Option Share) (ms : List ℕ) → o ≡ share_of ms → length ms < 2 ^ 63 → IfSome o (λ s. s.count < 2 ^ 63)
+share-few None ms is few = tt
+share-few (Some s) ms is few = let some = share-some s ms is in omega (arith, some.0, few)
+
+-- and without one it has none
+pub share-none : (ms : List ℕ) → None ≡ share_of ms → length ms ≡ 0
+share-none [] is = refl
+share-none (m ∷ ms) is = absurd cc

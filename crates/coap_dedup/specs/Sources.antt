@@ -1,45 +1,20 @@
--- The numbers of records by the endpoint that their messages came from.
-use Rattle.std.specs.Prelude.{◌≡◌, ℕ, ◌+◌, ◌%◌, ◌^◌, ◌==◌, ◌&&◌, Bool, if◌then◌else◌, List, [], ◌∷◌, Option, Some, None}
-use Rattle.std.specs.declared.cmp.Ordering.{Ordering}
-use Rattle.std.specs.BTreeMap.{BTreeMap, get}
-use Rattle.std.specs.Option.{option_map, option_map_or}
-use Rattle.std.specs.declared.collections.VecDeque.{VecDeque}
+-- Which records are of messages from which endpoint.
+use Rattle.std.specs.Prelude.{◌≡◌, ℕ, ◌+◌, ◌-◌, ◌%◌, ◌^◌, if◌then◌else◌, nat_lt, List, [], ◌∷◌, length, Option, Some, None}
+use Rattle.indexmap.specs.IndexMap.{IndexMap, get}
 use Rattle.coap_endpoint.specs.declared.endpoint.Endpoint.{Endpoint}
+use Rattle.coap_endpoint.specs.declared.seeded.Seeded.{Seeded}
 use Rattle.coap_endpoint.specs.Endpoint.{same_endpoint}
 use Rattle.coap_dedup.specs.declared.record.Record.{Record}
-use Rattle.coap_dedup.specs.declared.source.Source.{Source}
-use Rattle.coap_dedup.specs.contracts.source.SourceOrd.TheImpl as order
+use Rattle.coap_dedup.specs.declared.sources.Share.{Share}
+use Rattle.coap_dedup.specs.declared.sources.Sources.{Sources}
 use Rattle.coap_dedup.specs.Lists.{is_from}
 
--- the same endpoint
-abbrev pub same_source : Source → Source → Bool
-same_source a b = same_endpoint a.from b.from && (a.port == b.port)
+abbrev pub Shares : Type 0
+Shares = IndexMap Endpoint Share Seeded
 
-abbrev pub source_of : Endpoint → Source
-source_of from = record { port = from.port; from = from }
-
--- the order of the sources
-abbrev pub source_cmp : Source → Source → Ordering
-source_cmp = (order.ghosts).cmp
-
--- the numbers of each source's records
-abbrev pub Sources : Type 0 → Type 0
-Sources A = BTreeMap Source (VecDeque ℕ A)
-
--- those of an endpoint, if it has an entry
-abbrev pub entry_of : {A : Type 0} → Sources A → Endpoint → Option (List ℕ)
-entry_of sources from =
-    option_map (λ numbers. numbers.items) (get source_cmp sources (source_of from))
-
--- the same, none without an entry
-abbrev pub listed : {A : Type 0} → Sources A → Endpoint → List ℕ
-listed sources from =
-    option_map_or (λ numbers. numbers.items) (get source_cmp sources (source_of from)) []
-
--- an entry only for some numbers
-abbrev pub unless_none : List ℕ → Option (List ℕ)
-unless_none [] = None
-unless_none (n ∷ ns) = Some (n ∷ ns)
+-- the share of an endpoint, if it has one
+abbrev pub share_in : Shares → Endpoint → Option Share
+share_in shares from = get same_endpoint shares from
 
 -- the numbers of an endpoint's records, if the first record has this number and each further one
 -- has the next, modulo 2^64
@@ -49,7 +24,49 @@ numbers_from n from (r ∷ rs) =
     let rest = numbers_from (n + 1) from rs in
     if is_from from r then n % 2 ^ 64 ∷ rest else rest
 
--- each endpoint that has records has an entry, with their numbers in order; no other has
-abbrev pub AreSourced : {A : Type 0} → ℕ → Sources A → List Record → Type 0
-AreSourced first sources records =
-    (from : Endpoint) → entry_of sources from ≡ unless_none (numbers_from first from records)
+-- the last of some numbers, the first of which is given apart
+abbrev pub last_of : ℕ → List ℕ → ℕ
+last_of n [] = n
+last_of n (m ∷ ms) = last_of m ms
+
+-- the share of an endpoint whose records have these numbers, if there are any
+abbrev pub share_of : List ℕ → Option Share
+share_of [] = None
+share_of (n ∷ ns) = Some (record { count = length (n ∷ ns); first = n; last = last_of n ns })
+
+-- with one more record, which has this number
+abbrev pub grown : Option Share → ℕ → Share
+grown None number = record { count = 1; first = number; last = number }
+grown (Some share) number =
+    record { count = share.count + 1; first = share.first; last = number }
+
+-- without the first record, where this number is that of the next
+abbrev pub shrunk : Option Share → ℕ → Option Share
+shrunk None next = None
+shrunk (Some share) next =
+    if nat_lt 1 share.count then
+    Some (record { count = share.count - 1; first = next; last = share.last })
+    else None
+
+-- how far after the record with the number `first` the one with this number comes
+abbrev pub place_of : ℕ → ℕ → ℕ
+place_of first number = (number + (2 ^ 64 - first)) % 2 ^ 64
+
+-- a number is the first of these, if there are any
+abbrev pub IsNext : ℕ → List ℕ → Type 0
+IsNext next [] = Unit {0}
+IsNext next (n ∷ ns) = next ≡ n
+
+-- for each record, the first of which has this number, the number of the next one of the same
+-- endpoint, if there is one
+abbrev pub AreLinked : ℕ → List ℕ → List Record → Type 0
+AreLinked n nexts [] = nexts ≡ []
+AreLinked n [] (r ∷ rs) = ⊥
+AreLinked n (next ∷ nexts) (r ∷ rs) =
+    IsNext next (numbers_from (n + 1) r.from rs) × AreLinked (n + 1) nexts rs
+
+-- exactly the endpoints that have records have a share, and their records are linked
+pub record AreSourced (first : ℕ) (sources : Sources) (records : List Record) : Type 0 where
+  pub shared :
+      (from : Endpoint) → share_in sources.shares from ≡ share_of (numbers_from first from records)
+  pub linked : AreLinked first sources.nexts.items records

@@ -19,7 +19,6 @@ mod numbers;
 mod record;
 mod records;
 mod seen;
-mod source;
 mod sources;
 
 pub use error::Refused;

@@ -1,81 +1,88 @@
 //! The numbers of records, by message and by source.
-ghost use Rattle.std.specs.Prelude.{◌≡◌, ◌≢◌, ◌++◌, ◌∷◌, [], List, None, length, OnOk, OnErr, if◌then◌else◌};
-ghost use Rattle.std.specs.BTreeMap.{get};
-ghost use Rattle.coap_dedup.specs.declared.key.Key.{Key};
+ghost use Rattle.std.specs.Prelude.{◌≡◌, ◌<◌, ◌++◌, ◌∷◌, [], List, length, IfOk, OnOk};
 ghost use Rattle.coap_dedup.specs.declared.record.Record.{Record};
-ghost use Rattle.coap_dedup.specs.Indexing.{key_cmp, AreNumbersOf};
-ghost use Rattle.coap_dedup.specs.Keys.{same_key};
+ghost use Rattle.coap_dedup.specs.Indexing.{AreNumbersOf, CanAdd};
+ghost use Rattle.coap_dedup.specs.Lists.{AreApart};
 
 use crate::key::Key;
 use crate::record::Record;
-use crate::sources::{Sources, note};
+use crate::sources::Sources;
+use circular_buffer::HeapCircularBuffer;
+use coap_endpoint::Seeded;
 use coap_message::OutOfMemory;
+use indexmap::IndexMap;
 use std::alloc::Global;
-use std::collections::BTreeMap;
 
 /// The numbers of records: each has one more than the record before it, wrapping around to 0 after
 /// the greatest.
 #[derive(Drop)]
 pub(crate) struct Numbers {
-    pub(crate) by_message: BTreeMap<Key, u64>,
+    pub(crate) by_message: IndexMap<Key, u64, Seeded>,
     pub(crate) by_source: Sources,
     /// The number of the first record, or of the next one if there is none.
     pub(crate) first: u64,
-    alloc: Global,
 }
 
 impl Numbers {
-    /// No numbers.
-    pub(crate) fn new(alloc: Global) -> Numbers
-        ensures { AreNumbersOf result [] }
-    {
-        Numbers {
-            by_message: BTreeMap::new(alloc),
-            by_source: BTreeMap::new(alloc),
-            first: 0,
-            alloc,
-        }
-    }
-
-    /// Gives a number to a record that comes after `count` others.
+    /// No numbers, with room for `limit`. Where the maps put a key depends on `seed`.
     ///
     /// # Errors
-    /// Out of memory. The numbers stay as they are then.
-    pub(crate) fn add(&mut self, new: &Record, count: usize) -> Result<(), OutOfMemory>
-        ensures ok { OnOk result ((records : List Record)
-            → length records ≡ count
-            → AreNumbersOf self.old records
-            → AreNumbersOf self.new (records ++ new.now ∷ [])) }
-        ensures err { OnErr result ((records : List Record)
-            → AreNumbersOf self.old records
-            → AreNumbersOf self.new records) }
+    /// Out of memory.
+    pub(crate) fn new(alloc: Global, limit: usize, seed: u64) -> Result<Numbers, OutOfMemory>
+        ensures none { IfOk result (λ numbers. AreNumbersOf numbers []) }
+        ensures capacity { IfOk result (λ numbers. numbers.by_source.nexts.capacity ≡ limit) }
     {
-        let number = self.first.wrapping_add(count as u64);
-        let key = new.key();
-        let was = self.by_message.insert(key, number)?;
-        let noted = note(&mut self.by_source, self.alloc, new.from, number);
-        if noted.is_err() {
-            restore(&mut self.by_message, key, was);
-        }
-        noted
+        let room = limit.saturating_mul(2);
+        Ok(Numbers {
+            by_message: IndexMap::with_capacity_and_hasher(alloc, room, Seeded::new(seed))?,
+            by_source: Sources::new(alloc, limit, seed)?,
+            first: 0,
+        })
     }
-}
 
-/// Gives back to a message the number that it had, or none. Doesn't allocate.
-fn restore(by_message: &mut BTreeMap<Key, u64>, key: Key, was: Option<u64>)
-    requires { get key_cmp by_message.old key ≢ None }
-    ensures { (k : Key)
-        → get key_cmp by_message.new k
-        ≡ (if same_key key k then was else get key_cmp by_message.old k) }
-{
-    match was {
-        Some(number) => {
-            if let Some(place) = by_message.get_mut(&key) {
-                *place = number;
-            }
-        }
-        None => {
-            by_message.remove(&key);
-        }
+    /// Makes room for the numbers of one more record, so that `add` doesn't allocate.
+    ///
+    /// # Errors
+    /// Out of memory. The numbers stay as they are.
+    pub(crate) fn reserve(&mut self) -> Result<(), OutOfMemory>
+        ensures room { OnOk result (CanAdd self.new) }
+        ensures numbered { (records : List Record)
+            → AreNumbersOf self.old records
+            → AreNumbersOf self.new records }
+        ensures capacity { self.new.by_source.nexts.capacity
+            ≡ self.old.by_source.nexts.capacity }
+    {
+        self.by_message.reserve(1)?;
+        self.by_source.shares.reserve(1)?;
+        Ok(())
+    }
+
+    /// Gives a number to a record that comes after those of the ring. Doesn't allocate.
+    pub(crate) fn add(&mut self, ring: &HeapCircularBuffer<Record>, new: &Record)
+        requires can { CanAdd self.old }
+        requires room { length ring.now.items < self.old.by_source.nexts.capacity }
+        requires numbered { AreNumbersOf self.old ring.now.items }
+        ensures numbered { AreNumbersOf self.new (ring.now.items ++ new.now ∷ []) }
+        ensures capacity { self.new.by_source.nexts.capacity
+            ≡ self.old.by_source.nexts.capacity }
+    {
+        let number = self.first.wrapping_add(ring.len() as u64);
+        let _ = self.by_message.insert(new.key(), number);
+        self.by_source.add(new.from, number, self.first);
+    }
+
+    /// Takes back the number of the first record. Doesn't allocate.
+    pub(crate) fn release_first(&mut self, first: &Record)
+        ensures numbered { (records : List Record)
+            → AreApart (first.now ∷ records)
+            → AreNumbersOf self.old (first.now ∷ records)
+            → AreNumbersOf self.new records }
+        ensures room { CanAdd self.old → CanAdd self.new }
+        ensures capacity { self.new.by_source.nexts.capacity
+            ≡ self.old.by_source.nexts.capacity }
+    {
+        self.first = self.first.wrapping_add(1);
+        self.by_source.release_first(first.from);
+        self.by_message.swap_remove(&first.key());
     }
 }

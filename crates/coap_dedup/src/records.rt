@@ -1,33 +1,32 @@
 //! Records of messages of one type.
-ghost use Rattle.std.specs.Prelude.{◌≡◌, ◌↔◌, ◌==◌, ◌+◌, ◌-◌, ◌%◌, ◌^◌, ◌<◌, ◌++◌, ◌∷◌, [], None, length, drop, slice_get, not, option_map, false, IfOk, IfErr, OnOk, OnErr};
+ghost use Rattle.std.specs.Prelude.{◌≡◌, ◌↔◌, ◌==◌, ◌+◌, ◌-◌, ◌^◌, ◌<◌, None, length, drop, slice_get, not, option_map, false, IfOk, IfErr, OnOk, OnErr};
 ghost use Rattle.std.specs.Option.{option_copied, option_map_or};
 ghost use Rattle.circular_buffer.specs.Buffer.{buffer};
 ghost use Rattle.coap_dedup.specs.declared.error.Refused.TheVariants.{ClientFull, Full};
-ghost use Rattle.coap_dedup.specs.Indexing.{AreNumbersOf};
+ghost use Rattle.coap_dedup.specs.Indexing.{AreNumbersOf, CanAdd};
 ghost use Rattle.coap_endpoint.specs.declared.endpoint.Endpoint.{Endpoint};
-ghost use Rattle.coap_dedup.specs.Lists.{AreApart, AreInOrder, AreUpTo, count_from, is_living, living, record_of, records_from};
+ghost use Rattle.coap_dedup.specs.Lists.{AreApart, AreInOrder, AreUpTo, count_from, is_living, living, record_of};
 ghost use Rattle.coap_dedup.specs.Records.{AreRecords, living_at, living_of, no_records, with_kept};
 ghost use Rattle.coap_dedup.specs.Seen.{told};
-ghost use Rattle.coap_dedup.specs.Sources.{numbers_from};
+ghost use Rattle.coap_dedup.specs.Sources.{numbers_from, place_of, share_of, AreLinked};
 
 use crate::error::Refused;
 use crate::key::Key;
 use crate::numbers::Numbers;
 use crate::record::Record;
 use crate::seen::Seen;
-use crate::sources::{forget_first, numbers_of};
+use crate::sources::Share;
 use circular_buffer::HeapCircularBuffer;
 use coap_endpoint::Endpoint;
 use coap_message::{OutOfMemory, Seq};
 use std::alloc::Global;
-use std::collections::VecDeque;
 use std::marker::Model;
 
 /// Records of messages of one type, in the order in which they were kept. A contract sees them as a
 /// list, with its limits and their lifetime. Times are in milliseconds and never decrease.
 ///
-/// A lookup and a `keep` cost as much as lookups by message and by source, whatever keys a peer
-/// chooses; in addition, each record is released once.
+/// A lookup and a `keep` cost as much as lookups by message and by source, which are hashed with a
+/// seed, since peers choose both; in addition, each record is released once.
 pub struct Records {
     /// The records, in a buffer whose capacity is the limit.
     ring: HeapCircularBuffer<Record>,
@@ -89,9 +88,26 @@ impl Records {
     ) -> Result<Records, OutOfMemory>
         ensures empty { IfOk result (λ records. records ≡ no_records limit per_client lifetime) }
     {
+        Records::seeded(alloc, limit, per_client, lifetime, 0)
+    }
+
+    /// No records, like those of `new`. Where their maps put a message or an endpoint depends on
+    /// `seed`, so that whoever doesn't know it can't choose which of them meet there.
+    ///
+    /// # Errors
+    /// Out of memory.
+    pub fn seeded(
+        alloc: Global,
+        limit: usize,
+        per_client: usize,
+        lifetime: u64,
+        seed: u64,
+    ) -> Result<Records, OutOfMemory>
+        ensures empty { IfOk result (λ records. records ≡ no_records limit per_client lifetime) }
+    {
         Ok(Records {
             ring: HeapCircularBuffer::with_capacity(alloc, limit)?,
-            numbers: Numbers::new(alloc),
+            numbers: Numbers::new(alloc, limit, seed)?,
             per_client,
             lifetime,
         })
@@ -129,10 +145,9 @@ impl Records {
         ensures exact { result ≡ living_of from now self.now }
     {
         let _few = self.ring.len();
-        match numbers_of(&self.numbers.by_source, from) {
-            Some(numbers) => {
-                let first = self.numbers.first;
-                numbers.len() - count_dead_of(&self.ring, numbers, first, self.lifetime, now)
+        match self.numbers.by_source.share_of(from) {
+            Some(share) => {
+                share.count - count_dead_of(&self.ring, &self.numbers, share, self.lifetime, now)
             }
             None => 0,
         }
@@ -146,11 +161,11 @@ impl Records {
         if self.ring.len() < self.per_client {
             return false;
         }
-        match numbers_of(&self.numbers.by_source, from) {
-            Some(numbers) => {
+        match self.numbers.by_source.share_of(from) {
+            Some(share) => {
                 let first = self.numbers.first;
-                numbers.len() == self.per_client
-                    && is_first_living(&self.ring, numbers, first, self.lifetime, now)
+                share.count == self.per_client
+                    && lives_numbered(&self.ring, share.first, first, self.lifetime, now)
             }
             None => self.per_client == 0,
         }
@@ -192,9 +207,10 @@ impl Records {
         if self.is_client_full(from, now) {
             return Err(Refused::ClientFull);
         }
+        self.numbers.reserve()?;
+        release_dead(&mut self.ring, &mut self.numbers, self.lifetime, now);
         let record = Record::new(from, id, now, reply);
-        self.numbers.add(&record, self.ring.len())?;
-        release_dead(&mut self.ring, &mut self.numbers, self.lifetime, &record);
+        self.numbers.add(&self.ring, &record);
         let _ = self.ring.try_push_back(record);
         Ok(())
     }
@@ -252,53 +268,36 @@ fn lives_numbered(
     ensures { result
         ≡ option_map_or
         (is_living lifetime now)
-        (slice_get ring.now.items ((number + (2 ^ 64 - first)) % 2 ^ 64))
+        (slice_get ring.now.items (place_of first number))
         false }
 {
     lives_at(ring, number.wrapping_sub(first) as usize, lifetime, now)
 }
 
-/// Whether the first of the records of an endpoint is live, whose numbers are these.
-fn is_first_living(
-    ring: &HeapCircularBuffer<Record>,
-    numbers: &VecDeque<u64>,
-    first: u64,
-    lifetime: u64,
-    now: u64,
-) -> bool
-    requires few { length ring.now.items < 2 ^ 63 }
-    ensures { (from : Endpoint)
-        → numbers.now.items ≡ numbers_from first from ring.now.items
-        → result
-        ≡ option_map_or (is_living lifetime now) (slice_get (records_from from ring.now.items) 0)
-        false }
-{
-    match numbers.front() {
-        Some(number) => lives_numbered(ring, *number, first, lifetime, now),
-        None => false,
-    }
-}
-
-/// The number of expired ones among the records of an endpoint, whose numbers are these.
+/// The number of expired ones among the records of an endpoint, whose share is this.
 fn count_dead_of(
     ring: &HeapCircularBuffer<Record>,
-    numbers: &VecDeque<u64>,
-    first: u64,
+    numbers: &Numbers,
+    share: Share,
     lifetime: u64,
     now: u64,
 ) -> usize
     requires few { length ring.now.items < 2 ^ 63 }
     requires in_order { AreInOrder ring.now.items }
+    requires linked { AreLinked numbers.now.first numbers.now.by_source.nexts.items ring.now.items }
     ensures { (from : Endpoint)
-        → numbers.now.items ≡ numbers_from first from ring.now.items
-        → result + count_from from (living lifetime now ring.now.items)
-        ≡ length numbers.now.items }
+        → Some share ≡ share_of (numbers_from numbers.now.first from ring.now.items)
+        → result + count_from from (living lifetime now ring.now.items) ≡ share.count }
 {
     let mut dead = 0;
-    'dead: while let Some(number) = numbers.get(dead) {
-        if lives_numbered(ring, *number, first, lifetime, now) {
+    let mut number = share.first;
+    'dead: while dead < share.count {
+        if lives_numbered(ring, number, numbers.first, lifetime, now) {
             break;
         }
+        number = numbers
+            .by_source
+            .next(number.wrapping_sub(numbers.first) as usize);
         dead += 1;
     }
     dead
@@ -315,39 +314,25 @@ fn is_first_dead(ring: &HeapCircularBuffer<Record>, lifetime: u64, now: u64) -> 
     }
 }
 
-/// Releases the records that have expired when the new one is kept, which has its number already.
+/// Releases the records that have expired.
 fn release_dead(
     ring: &mut HeapCircularBuffer<Record>,
     numbers: &mut Numbers,
     lifetime: u64,
-    new: &Record,
+    now: u64,
 )
     requires in_order { AreInOrder ring.old.items }
     requires apart { AreApart ring.old.items }
-    requires numbered { AreNumbersOf numbers.old (ring.old.items ++ new.now ∷ []) }
-    ensures left { ring.new
-        ≡ buffer (living lifetime new.now.at ring.old.items) ring.old.capacity }
-    ensures numbered { AreNumbersOf numbers.new (ring.new.items ++ new.now ∷ []) }
+    requires numbered { AreNumbersOf numbers.old ring.old.items }
+    ensures left { ring.new ≡ buffer (living lifetime now ring.old.items) ring.old.capacity }
+    ensures numbered { AreNumbersOf numbers.new ring.new.items }
+    ensures room { CanAdd numbers.old → CanAdd numbers.new }
+    ensures capacity { numbers.new.by_source.nexts.capacity
+        ≡ numbers.old.by_source.nexts.capacity }
 {
-    'dead: while is_first_dead(ring, lifetime, new.at) {
-        release_first(ring, numbers, new);
-    }
-}
-
-/// Releases the first record with its numbers, but for the number of its message if the new record
-/// is of the same one.
-fn release_first(ring: &mut HeapCircularBuffer<Record>, numbers: &mut Numbers, new: &Record)
-    requires apart { AreApart ring.old.items }
-    requires numbered { AreNumbersOf numbers.old (ring.old.items ++ new.now ∷ []) }
-    ensures left { ring.new ≡ buffer (drop 1 ring.old.items) ring.old.capacity }
-    ensures numbered { AreNumbersOf numbers.new (ring.new.items ++ new.now ∷ []) }
-{
-    if let Some(record) = ring.pop_front() {
-        numbers.first = numbers.first.wrapping_add(1);
-        forget_first(&mut numbers.by_source, record.from);
-        let key = record.key();
-        if key != new.key() {
-            numbers.by_message.remove(&key);
+    'dead: while is_first_dead(ring, lifetime, now) {
+        if let Some(record) = ring.pop_front() {
+            numbers.release_first(&record);
         }
     }
 }

@@ -1,105 +1,193 @@
-//! The numbers of records by the endpoint that their messages came from.
-ghost use Rattle.std.specs.Prelude.{◌≡◌, ◌++◌, ◌∷◌, [], Some, None, false, drop, IsTrue, IsFalse, if◌then◌else◌, OnOk, OnErr};
-ghost use Rattle.std.specs.Option.{option_copied, option_map};
+//! Which records are of messages from which endpoint.
+ghost use Rattle.std.specs.Prelude.{◌≡◌, ◌≤◌, ◌<◌, ◌^◌, ◌++◌, ◌∷◌, [], Some, None, false, length, drop, slice_get, slice_set, IfOk, IfSome, IsTrue, IsFalse, if◌then◌else◌};
+ghost use Rattle.std.specs.Option.{option_map, option_map_or};
+ghost use Rattle.indexmap.specs.IndexMap.{spare};
+ghost use Rattle.circular_buffer.specs.Buffer.{buffer};
 ghost use Rattle.coap_endpoint.specs.declared.endpoint.Endpoint.{Endpoint};
 ghost use Rattle.coap_endpoint.specs.Endpoint.{same_endpoint};
-ghost use Rattle.coap_dedup.specs.Sources.{entry_of, listed, unless_none};
+ghost use Rattle.coap_dedup.specs.Sources.{AreSourced, grown, place_of, share_in, shrunk};
 
-use crate::source::Source;
-use coap_endpoint::Endpoint;
+use circular_buffer::HeapCircularBuffer;
+use coap_endpoint::{Endpoint, Seeded};
 use coap_message::OutOfMemory;
+use indexmap::IndexMap;
 use std::alloc::Global;
-use std::collections::{BTreeMap, VecDeque};
 
-/// By source, the numbers of its records in the order in which they were kept. A source without
-/// records has no entry.
-pub(crate) type Sources = BTreeMap<Source, VecDeque<u64>>;
-
-/// The numbers of the records of an endpoint, if it has any.
-pub(crate) fn numbers_of(sources: &Sources, from: Endpoint) -> Option<&VecDeque<u64>>
-    ensures { option_map (λ numbers. numbers.items) (option_copied result)
-        ≡ entry_of sources.now from }
-{
-    sources.get(&Source::of(from))
+/// What an endpoint has of the records.
+#[derive(Clone, Copy)]
+pub(crate) struct Share {
+    /// How many they are.
+    pub(crate) count: usize,
+    /// The number of the first of them.
+    pub(crate) first: u64,
+    /// The number of the last of them.
+    pub(crate) last: u64,
 }
 
-/// Adds a number to those of an endpoint, after the others.
-///
-/// # Errors
-/// Out of memory. Nothing is changed then.
-pub(crate) fn note(
-    sources: &mut Sources,
-    alloc: Global,
-    from: Endpoint,
-    number: u64,
-) -> Result<(), OutOfMemory>
-    ensures ok { OnOk result ((e : Endpoint)
-        → entry_of sources.new e
-        ≡ (if same_endpoint from e then
-        Some (listed sources.old e ++ number ∷ [])
-        else
-        entry_of sources.old e)) }
-    ensures err { OnErr result ((e : Endpoint) → entry_of sources.new e ≡ entry_of sources.old e) }
-{
-    match sources.get_mut(&Source::of(from)) {
-        Some(numbers) => {
-            numbers.push_back(number)?;
-            Ok(())
+/// The share of each endpoint that has records.
+pub(crate) type Shares = IndexMap<Endpoint, Share, Seeded>;
+
+/// Which records are of messages from which endpoint.
+#[derive(Drop)]
+pub(crate) struct Sources {
+    pub(crate) shares: Shares,
+    /// For each record in turn, the number of the next one of the same endpoint, if there is one.
+    pub(crate) nexts: HeapCircularBuffer<u64>,
+}
+
+impl Sources {
+    /// Those of no records, with room for `limit`. The map has room for twice as many: at most
+    /// half full, it makes room within itself where removals left none, and doesn't grow.
+    ///
+    /// # Errors
+    /// Out of memory.
+    pub(crate) fn new(alloc: Global, limit: usize, seed: u64) -> Result<Sources, OutOfMemory>
+        ensures none { IfOk result (λ sources. AreSourced 0 sources []) }
+        ensures capacity { IfOk result (λ sources. sources.nexts.capacity ≡ limit) }
+    {
+        let room = limit.saturating_mul(2);
+        Ok(Sources {
+            shares: IndexMap::with_capacity_and_hasher(alloc, room, Seeded::new(seed))?,
+            nexts: HeapCircularBuffer::with_capacity(alloc, limit)?,
+        })
+    }
+
+    /// The share of an endpoint, if it has one.
+    pub(crate) fn share_of(&self, from: Endpoint) -> Option<Share>
+        ensures { result ≡ share_in self.now.shares from }
+    {
+        match self.shares.get(&from) {
+            Some(share) => Some(*share),
+            None => None,
         }
-        None => note_first(sources, alloc, from, number),
+    }
+
+    /// The number of the record that is the next one of the same endpoint after the one at this
+    /// place.
+    pub(crate) fn next(&self, place: usize) -> u64
+        ensures { IfSome (slice_get self.now.nexts.items place) (λ next. result ≡ next) }
+    {
+        match self.nexts.get(place) {
+            Some(next) => *next,
+            None => 0,
+        }
+    }
+
+    /// Adds a record with this number after the others, the first of which has the number `first`.
+    /// Doesn't allocate.
+    pub(crate) fn add(&mut self, from: Endpoint, number: u64, first: u64)
+        requires room { 0 < spare self.old.shares }
+        requires within { length self.old.nexts.items < self.old.nexts.capacity }
+        requires few { IfSome (share_in self.old.shares from) (λ share. share.count < 2 ^ 63) }
+        ensures shares { (e : Endpoint)
+            → share_in self.new.shares e
+            ≡ (if same_endpoint from e then
+            Some (grown (share_in self.old.shares from) number)
+            else
+            share_in self.old.shares e) }
+        ensures nexts { self.new.nexts
+            ≡ buffer
+            (option_map_or
+            (λ share. slice_set self.old.nexts.items (place_of first share.last) number)
+            (share_in self.old.shares from)
+            self.old.nexts.items
+            ++ number ∷ [])
+            self.old.nexts.capacity }
+    {
+        if let Some(last) = grow(&mut self.shares, from, number) {
+            link(&mut self.nexts, last.wrapping_sub(first) as usize, number);
+        }
+        let _ = self.nexts.try_push_back(number);
+    }
+
+    /// Removes the first record, which is of this endpoint, and with its last one its share.
+    /// Doesn't allocate.
+    pub(crate) fn release_first(&mut self, from: Endpoint)
+        ensures shares { IfSome (slice_get self.old.nexts.items 0) (λ next.
+            (e : Endpoint)
+            → share_in self.new.shares e
+            ≡ (if same_endpoint from e then
+            shrunk (share_in self.old.shares from) next
+            else
+            share_in self.old.shares e)) }
+        ensures nexts { self.new.nexts
+            ≡ buffer (drop 1 self.old.nexts.items) self.old.nexts.capacity }
+        ensures room { spare self.old.shares ≤ spare self.new.shares }
+    {
+        if let Some(next) = self.nexts.pop_front() {
+            if shrink(&mut self.shares, from, next) {
+                self.shares.swap_remove(&from);
+            }
+        }
     }
 }
 
-/// Makes an entry with the first number of an endpoint.
-///
-/// # Errors
-/// Out of memory. Nothing is changed then.
-fn note_first(
-    sources: &mut Sources,
-    alloc: Global,
-    from: Endpoint,
-    number: u64,
-) -> Result<(), OutOfMemory>
-    ensures ok { OnOk result ((e : Endpoint)
-        → entry_of sources.new e
-        ≡ (if same_endpoint from e then Some (number ∷ []) else entry_of sources.old e)) }
-    ensures err { OnErr result ((e : Endpoint) → entry_of sources.new e ≡ entry_of sources.old e) }
-{
-    let mut numbers = VecDeque::new(alloc);
-    numbers.push_back(number)?;
-    sources.insert(Source::of(from), numbers)?;
-    Ok(())
-}
-
-/// Removes the first of the numbers of an endpoint, and with the last one its entry. Doesn't
-/// allocate.
-pub(crate) fn forget_first(sources: &mut Sources, from: Endpoint)
-    ensures { (e : Endpoint)
-        → entry_of sources.new e
+/// Adds a record with this number to the share of an endpoint, and returns the number of the one
+/// that was its last.
+fn grow(shares: &mut Shares, from: Endpoint, number: u64) -> Option<u64>
+    requires room { 0 < spare shares.old }
+    requires few { IfSome (share_in shares.old from) (λ share. share.count < 2 ^ 63) }
+    ensures last { result ≡ option_map (λ share. share.last) (share_in shares.old from) }
+    ensures grown { (e : Endpoint)
+        → share_in shares.new e
         ≡ (if same_endpoint from e then
-        unless_none (drop 1 (listed sources.old e))
+        Some (grown (share_in shares.old from) number)
         else
-        entry_of sources.old e) }
+        share_in shares.old e) }
 {
-    if take_first(sources, from) {
-        sources.remove(&Source::of(from));
+    match shares.get_mut(&from) {
+        Some(share) => {
+            let last = share.last;
+            share.count += 1;
+            share.last = number;
+            Some(last)
+        }
+        None => {
+            let share = Share {
+                count: 1,
+                first: number,
+                last: number,
+            };
+            let _ = shares.insert(from, share);
+            None
+        }
     }
 }
 
-/// Removes the first of the numbers of an endpoint, and returns whether no other is left; if so,
-/// its entry is to be removed. Doesn't allocate.
-fn take_first(sources: &mut Sources, from: Endpoint) -> bool
+/// Notes the number of the next record of the same endpoint after the one at this place.
+fn link(nexts: &mut HeapCircularBuffer<u64>, place: usize, number: u64)
+    ensures { nexts.new
+        ≡ buffer (slice_set nexts.old.items place number) nexts.old.capacity }
+{
+    if let Some(next) = nexts.get_mut(place) {
+        *next = number;
+    }
+}
+
+/// Takes the first record off the share of an endpoint, whose next one has this number. Returns
+/// whether there is no next one; if so, the share is to be removed.
+fn shrink(shares: &mut Shares, from: Endpoint, next: u64) -> bool
     ensures left { IsFalse result
-        → entry_of sources.new from ≡ unless_none (drop 1 (listed sources.old from)) }
-    ensures last { IsTrue result → drop 1 (listed sources.old from) ≡ [] }
+        → (e : Endpoint)
+        → share_in shares.new e
+        ≡ (if same_endpoint from e then
+        shrunk (share_in shares.old from) next
+        else
+        share_in shares.old e) }
+    ensures last { IsTrue result → shrunk (share_in shares.old from) next ≡ None }
     ensures others { (e : Endpoint)
         → same_endpoint from e ≡ false
-        → entry_of sources.new e ≡ entry_of sources.old e }
+        → share_in shares.new e ≡ share_in shares.old e }
+    ensures room { spare shares.new ≡ spare shares.old }
 {
-    match sources.get_mut(&Source::of(from)) {
-        Some(numbers) => {
-            let _first = numbers.pop_front();
-            numbers.is_empty()
+    match shares.get_mut(&from) {
+        Some(share) => {
+            if share.count <= 1 {
+                return true;
+            }
+            share.count -= 1;
+            share.first = next;
+            false
         }
         None => false,
     }
