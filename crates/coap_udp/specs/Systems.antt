@@ -136,13 +136,12 @@ IsFrom a e = IsEndpoint (socket_ip a) e.ip × (e.port ≡ socket_port a)
 abbrev pub IsTo : Bool → Endpoint → SocketAddr → Type 0
 IsTo is_ipv6 e a = IsAddress is_ipv6 e.ip (socket_ip a) × (socket_port a ≡ e.port)
 
--- The event of a read, for a buffer with this room: a datagram from its source, or a tick where the
--- error is transient.
-abbrev pub IsEvent : ℕ → Result (List ℕ × SocketAddr) ErrorKind → Event → Type 0
-IsEvent room (Ok d) (arrival from bytes) = IsFrom d.1 from × (bytes ≡ take room d.0)
-IsEvent room (Ok d) tick = ⊥
-IsEvent room (Err k) (arrival from bytes) = ⊥
-IsEvent room (Err k) tick = passes k ≡ true
+-- The event of a read: a datagram from its source, or a tick where the error is transient.
+abbrev pub IsEvent : Result (List ℕ × SocketAddr) ErrorKind → Event → Type 0
+IsEvent (Ok d) (arrival from bytes) = IsFrom d.1 from × (bytes ≡ d.0)
+IsEvent (Ok d) tick = ⊥
+IsEvent (Err k) (arrival from bytes) = ⊥
+IsEvent (Err k) tick = passes k ≡ true
 
 -- whether a read ends a port
 abbrev pub ends : Result (List ℕ × SocketAddr) ErrorKind → Bool

@@ -1,5 +1,5 @@
 -- What is known about a port over a socket.
-use Rattle.std.specs.Prelude.{◌≡◌, ◌≤◌, ◌+◌, ◌^◌, ◌==◌, ◌&&◌, ⊤, ℕ, take, List, Bool, true, false, Option, Result, Ok, Err}
+use Rattle.std.specs.Prelude.{◌≡◌, ◌≤◌, ◌+◌, ◌^◌, ◌==◌, ◌&&◌, ⊤, ℕ, List, [], Bool, true, false, Option, Result, Ok, Err}
 use Rattle.std.specs.IoError.{error_kind}
 use Rattle.std.specs.declared.io.Error.{Error}
 use Rattle.std.specs.declared.io.ErrorKind.{ErrorKind}
@@ -12,13 +12,12 @@ use Rattle.coap_endpoint.specs.declared.endpoint.Ip.TheVariants.{V4, V6}
 use Rattle.coap_udp.specs.Systems.{IsEvent, IsFrom, IsTo, ReadsBy, SendsWhole, ends}
 use Rattle.coap_udp.specs.Values.{draw_of, moment_after, read_waits, rest_of, silent_after}
 
--- its socket, clock and generator, whether the calls of the socket wait, how many bytes of a
--- datagram it reads at most, whether its socket is an IPv6 socket, how many turns in a row were
--- silent, its last moment in milliseconds, and how often it failed
+-- its socket, clock and generator, whether the calls of the socket wait, whether its socket is an
+-- IPv6 socket, how many turns in a row were silent, its last moment in milliseconds, and how often
+-- it failed
 pub record Udp (S : Type 0) : Type 0 where
   pub system : S
   pub waiting : Bool
-  pub room : ℕ
   pub is_ipv6 : Bool
   pub silent : ℕ
   pub last : ℕ
@@ -28,12 +27,11 @@ abbrev pub is_of_ipv6 : Ip → Bool
 is_of_ipv6 (V4 octets) = false
 is_of_ipv6 (V6 octets) = true
 
--- a new port, which has room for any datagram
+-- a new port
 abbrev pub port_over : {S : Type 0} → S → Bool → Udp S
 port_over system is_ipv6 = record {
   system = system;
   waiting = true;
-  room = 65536;
   is_ipv6 = is_ipv6;
   silent = 0;
   last = 0;
@@ -44,13 +42,13 @@ port_over system is_ipv6 = record {
 abbrev pub new_port : {S : Type 0} → S → Endpoint → Udp S
 new_port system local = port_over system (is_of_ipv6 local.ip)
 
--- what a read puts into a buffer with this room, and the source that it gives
-abbrev pub IsPut : ℕ → Result (List ℕ × SocketAddr) ErrorKind → Result Endpoint Error → List ℕ
+-- what a buffer holds after a read, and the source that the read gives
+abbrev pub IsRead : Result (List ℕ × SocketAddr) ErrorKind → Result Endpoint Error → List ℕ
     → Type 0
-IsPut room (Ok d) (Ok from) bytes = IsFrom d.1 from × (bytes ≡ take room d.0)
-IsPut room (Ok d) (Err e) bytes = ⊥
-IsPut room (Err k) (Ok from) bytes = ⊥
-IsPut room (Err k) (Err e) bytes = error_kind e ≡ k
+IsRead (Ok d) (Ok from) bytes = IsFrom d.1 from × (bytes ≡ d.0)
+IsRead (Ok d) (Err e) bytes = ⊥
+IsRead (Err k) (Ok from) bytes = ⊥
+IsRead (Err k) (Err e) bytes = (error_kind e ≡ k) × (bytes ≡ [])
 
 abbrev pub is_tick : Event → Bool
 is_tick (arrival from bytes) = false
@@ -59,20 +57,20 @@ is_tick tick = true
 module _ {S : Type 0} (sets : S → Bool → Result ⊤ ErrorKind → S → Type 0)
     (receives : S → ℕ → Result (List ℕ × SocketAddr) ErrorKind → S → Type 0)
     (awaits : S → ℕ → Result Bool ErrorKind → S → Type 0) where
-  -- what a read does that was asked to wait this many milliseconds: what it reads, its system, and
-  -- whether its socket waits from then on
-  abbrev pub ReadsFor : Udp S → ℕ → Result (List ℕ × SocketAddr) ErrorKind → S → Bool → Type 0
-  ReadsFor p wait r t now = ReadsBy sets receives awaits p.system p.waiting (read_waits wait) p.room
-      (rest_of wait p.silent) r t now
+  -- what a read into this much room does that was asked to wait this many milliseconds: what it
+  -- reads, its system, and whether its socket waits from then on
+  abbrev pub ReadsFor : ℕ → Udp S → ℕ → Result (List ℕ × SocketAddr) ErrorKind → S → Bool → Type 0
+  ReadsFor room p wait r t now = ReadsBy sets receives awaits p.system p.waiting (read_waits wait)
+      room (rest_of wait p.silent) r t now
 
-  abbrev pub ReadsInto : Udp S → ℕ → ℕ → Result Endpoint Error → List ℕ → Udp S → Type 0
-  ReadsInto p room wait result bytes q = (r : Result (List ℕ × SocketAddr) ErrorKind)
-      × ReadsFor p wait r q.system q.waiting × IsPut room r result bytes
+  abbrev pub ReadsInto : ℕ → Udp S → ℕ → Result Endpoint Error → List ℕ → Udp S → Type 0
+  ReadsInto room p wait result bytes q = (r : Result (List ℕ × SocketAddr) ErrorKind)
+      × ReadsFor room p wait r q.system q.waiting × IsRead r result bytes
 
-  -- it ended, by a read that failed for good
-  pub record EndsBy (p : Udp S) (wait : ℕ) (q : Udp S) : Type 0 where
+  -- it ended, by a read into this much room that failed for good
+  pub record EndsBy (room : ℕ) (p : Udp S) (wait : ℕ) (q : Udp S) : Type 0 where
     pub read : Result (List ℕ × SocketAddr) ErrorKind
-    pub reads : ReadsFor p wait read q.system q.waiting
+    pub reads : ReadsFor room p wait read q.system q.waiting
     pub ends : ends read ≡ true
     pub left : q
         ≡ record p { system = q.system; waiting = q.waiting; failures = p.failures + 1 }
@@ -88,8 +86,8 @@ module _ {S : Type 0} (sets : S → Bool → Result ⊤ ErrorKind → S → Type
   -- a read for a buffer with this room led to this event
   pub record Arrives (room : ℕ) (p : Udp S) (wait : ℕ) (event : Event) (q : Udp S) : Type 0 where
     pub read : Result (List ℕ × SocketAddr) ErrorKind
-    pub reads : ReadsFor p wait read q.system q.waiting
-    pub given : IsEvent room read event
+    pub reads : ReadsFor room p wait read q.system q.waiting
+    pub given : IsEvent read event
     pub left : q ≡ after_read p wait event q.system q.waiting
 
 module _ {S : Type 0} (shows : S → Option ℕ → S → Type 0) (draws : S → ℕ → S → Type 0) where

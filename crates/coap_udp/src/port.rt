@@ -1,8 +1,8 @@
 //! The port over a UDP socket.
-ghost use Rattle.std.specs.Prelude.{◌≡◌, ◌≤◌, ◌<◌, ◌+◌, ◌^◌, [], None, IfOk, IsOk, OnErr, OnOk};
+ghost use Rattle.std.specs.Prelude.{◌≡◌, ◌≤◌, ◌<◌, ◌+◌, ◌^◌, None, IfOk, IsOk, OnErr, OnOk};
 ghost use Rattle.coap_port.specs.Given.{IsOnward, event_given, given_by};
-ghost use Rattle.coap_udp.specs.Systems.{IsTo};
-ghost use Rattle.coap_udp.specs.Udp.{Arrives, EndsBy, IsTimed, ReadsInto, is_of_ipv6, new_port, port_over};
+ghost use Rattle.coap_udp.specs.Systems.{IsTo, read_of};
+ghost use Rattle.coap_udp.specs.Udp.{Arrives, EndsBy, IsRead, IsTimed, ReadsInto, is_of_ipv6, new_port, port_over};
 
 use crate::address::{address_of, endpoint_of};
 use crate::exchanging::{read_by, send_whole};
@@ -15,12 +15,9 @@ use coap_port::{Port, PortFault, Turn};
 use std::alloc::Global;
 use std::io;
 use std::marker::Model;
-use std::net::Net;
+use std::net::{Net, SocketAddr};
 use std::random::RandomSource;
 use std::time::Clock;
-
-/// The room for what is read: more than any UDP datagram has.
-const ROOM: usize = 1 << 16;
 
 /// A port over one UDP socket.
 ///
@@ -28,18 +25,18 @@ const ROOM: usize = 1 << 16;
 /// read. Its draws come from a generator that is seeded from the system's random source. The
 /// contracts say which calls it makes to the system, and not what the system gives.
 ///
-/// A read takes one system call while datagrams come, and so does a send. If nothing is there, the
-/// port waits for as long as it was asked to, which takes up to five more. With a wait of one
-/// millisecond it only looks, since something may be due already; after 32 turns in a row in which
-/// nothing came and nothing was handed over it waits. A send that finds no room to send waits for
-/// some, at most 50 ms, and is tried once more.
+/// A datagram is read straight into the buffer that the port is handed, and the system cuts it to
+/// the room there. A read takes one system call while datagrams come, and so does a send. If
+/// nothing is there, the port waits for as long as it was asked to, which takes up to five more.
+/// With a wait of one millisecond it only looks, since something may be due already; after 32 turns
+/// in a row in which nothing came and nothing was handed over it waits. A send that finds no room
+/// to send waits for some, at most 50 ms, and is tried once more.
 ///
 /// An IPv6 socket uses IPv4-mapped addresses, `::ffff:a.b.c.d`, for IPv4 endpoints.
 #[derive(Drop)]
 pub struct UdpPort<S> {
     system: S,
     waiting: bool,
-    room: Vec<u8>,
     is_ipv6: bool,
     silent: u64,
     last: u64,
@@ -47,7 +44,7 @@ pub struct UdpPort<S> {
 }
 
 impl<S> Model for UdpPort<S> {
-    ghost use Rattle.std.specs.Prelude.{◌≤◌, ◌^◌, vec_len};
+    ghost use Rattle.std.specs.Prelude.{◌≤◌, ◌^◌};
     ghost use Rattle.coap_udp.specs.Udp.{Udp};
 
     ghost Value = { Udp S };
@@ -56,7 +53,6 @@ impl<S> Model for UdpPort<S> {
         record {
           system = p.system;
           waiting = p.waiting;
-          room = vec_len p.room;
           is_ipv6 = p.is_ipv6;
           silent = p.silent;
           last = p.last;
@@ -66,46 +62,66 @@ impl<S> Model for UdpPort<S> {
     ghost invariant = { λ p. p.last ≤ 2 ^ 62 };
 }
 
+/// Has a buffer, all of whose places were read into, hold what was read, or nothing after an error.
+/// Returns the source.
+fn source_of(read: io::Result<(usize, SocketAddr)>, into: &mut Datagram) -> io::Result<Endpoint>
+    ensures read { IsRead (read_of read into.old.bytes) result into.new.bytes }
+    ensures room { into.new.room ≡ into.old.room }
+{
+    match read {
+        Ok((count, from)) => {
+            into.truncate(count);
+            Ok(endpoint_of(from))
+        }
+        Err(error) => {
+            into.clear();
+            Err(error)
+        }
+    }
+}
+
 impl<'a, R: Net + Clock + RandomSource> UdpPort<Host<'a, R>> {
     /// A port at a local address.
     ///
     /// # Errors
     /// The address or its port isn't available, the system has no random bytes or no descriptor
-    /// left, the clock can't be read, or there is no memory for the buffer.
+    /// left, the clock can't be read, or there is no memory.
     pub fn bind(rt: &'a R, alloc: Global, local: Endpoint) -> io::Result<UdpPort<Host<'a, R>>>
         ensures new { IfOk result (λ port. port ≡ new_port port.system local) }
         ensures bound { IfOk result (λ port. IsTo (is_of_ipv6 local.ip) local port.system.local) }
     {
         let is_ipv6 = matches!(local.ip, Ip::V6(_));
         let system = Host::bind(rt, alloc, address_of(local, is_ipv6))?;
-        UdpPort::over(system, alloc, is_ipv6)
+        Ok(UdpPort::over(system, is_ipv6))
     }
 }
 
 impl<S: System + Drop> UdpPort<S> {
     /// A port over a system whose socket is new, for addresses of this family.
-    ///
-    /// # Errors
-    /// There is no memory for the buffer.
-    pub fn over(system: S, alloc: Global, is_ipv6: bool) -> io::Result<UdpPort<S>>
-        ensures { IfOk result (λ port. port ≡ port_over system is_ipv6) }
+    pub fn over(system: S, is_ipv6: bool) -> UdpPort<S>
+        ensures { result ≡ port_over system is_ipv6 }
     {
-        Ok(UdpPort {
+        UdpPort {
             system,
             waiting: true,
-            room: vec![in alloc; 0; ROOM]?,
             is_ipv6,
             silent: 0,
             last: 0,
             failures: 0,
-        })
+        }
     }
 
-    /// Reads a datagram, if one is there or comes within `wait` milliseconds, into an empty buffer.
-    /// Returns its source.
+    /// The system under it.
+    pub fn system(&self) -> &S
+        ensures { result.now ≡ self.now.system }
+    {
+        &self.system
+    }
+
+    /// Reads a datagram, if one is there or comes within `wait` milliseconds, into the places of a
+    /// buffer, which is empty after an error. Returns its source.
     fn read(&mut self, wait: u64, into: &mut Datagram) -> io::Result<Endpoint>
-        requires empty { into.old.bytes ≡ [] }
-        ensures reads { ReadsInto S.sets S.receives S.awaits self.old into.old.room wait result
+        ensures reads { ReadsInto S.sets S.receives S.awaits into.old.room self.old wait result
             into.new.bytes self.new }
         ensures same { self.new
             ≡ record self.old { system = self.new.system; waiting = self.new.waiting } }
@@ -113,15 +129,14 @@ impl<S: System + Drop> UdpPort<S> {
     {
         let rest = rest_of(wait, self.silent);
         let waits = read_waits(wait);
-        let (count, from) = read_by(
+        let read = read_by(
             &mut self.system,
             &mut self.waiting,
             waits,
-            &mut self.room,
+            into.places(),
             rest,
-        )?;
-        into.put(&self.room[..count]);
-        Ok(endpoint_of(from))
+        );
+        source_of(read, into)
     }
 
     /// Reads a datagram, and notes how silent the turn is. Returns its source, or none for a tick.
@@ -129,12 +144,11 @@ impl<S: System + Drop> UdpPort<S> {
     /// # Errors
     /// The socket can't be read any more. The failure is counted.
     fn arrival(&mut self, wait: u64, into: &mut Datagram) -> Result<Option<Endpoint>, PortFault>
-        requires empty { into.old.bytes ≡ [] }
         requires few { self.old.failures < 2 ^ 63 }
         ensures arrives { IfOk result (λ from. Arrives S.sets S.receives S.awaits into.old.room
             self.old wait (event_given from into.new.bytes) self.new) }
         ensures ended { OnErr result
-            (EndsBy S.sets S.receives S.awaits self.old wait self.new) }
+            (EndsBy S.sets S.receives S.awaits into.old.room self.old wait self.new) }
         ensures room { into.new.room ≡ into.old.room }
     {
         let looks = rest_of(wait, self.silent) == 0;
@@ -200,10 +214,10 @@ impl<S: System + Drop> Port for UdpPort<S> {
         ensures works { OnOk result (self.new.failures ≡ self.old.failures) }
         ensures fails { OnErr result (self.new.failures ≡ self.old.failures + 1) }
         ensures ended { OnErr result
-            (EndsBy S.sets S.receives S.awaits self.old wait self.new) }
+            (EndsBy S.sets S.receives S.awaits into.old.room self.old wait self.new) }
     {
-        into.clear();
         if wait == 0 {
+            into.clear();
             return Ok(self.turn(None));
         }
         let from = self.arrival(wait, into)?;
