@@ -1,5 +1,6 @@
 pub mod Cuts
 pub mod LocalOptions
 pub mod Numbers
+pub mod Ports
 pub mod Reading
 pub mod Taking

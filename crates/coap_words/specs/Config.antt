@@ -230,13 +230,13 @@ table_said members =
     after (maps_said (get_member (codes "map") members)) (λ maps.
     Ok (record { limits = limits; names = names; hosts = hosts; maps = maps })))))))
 
--- then the texts must make up routes
+-- then the texts must make up routes, whether there is a next proxy or not
 abbrev pub if_routes : Said → Result RouteLists RouteError → Result Said ConfigError
 if_routes said (Ok routes) = Ok said
 if_routes said (Err e) = Err (Routes e)
 
 abbrev pub routes_checked : Said → Result Said ConfigError
-routes_checked said = if_routes said (routes_of said.names said.hosts said.maps)
+routes_checked said = if_routes said (routes_of said.names said.hosts said.maps None)
 
 -- a text that isn't UTF-8, or isn't TOML, has a fault that comes before all these
 abbrev pub document_of : Text → Result Members ConfigError

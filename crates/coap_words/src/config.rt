@@ -127,6 +127,7 @@ fn check_routes(alloc: Global, config: &Config) -> Result<(), ConfigError>
         config.names.as_slice(),
         config.hosts.as_slice(),
         config.maps.as_slice(),
+        None,
     ) {
         Ok(_routes) => Ok(()),
         Err(RouteError::OutOfMemory) => Err(ConfigError::OutOfMemory),

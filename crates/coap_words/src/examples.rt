@@ -12,7 +12,9 @@ ghost use Rattle.coap_words.specs.Examples.{greatest, least, list, nothing, noth
 ghost use Rattle.coap_words.specs.LocalAddress.{local_address_of};
 ghost use Rattle.coap_words.specs.MapOption.{map_option_of};
 ghost use Rattle.coap_words.specs.OptionTable.{option_table};
-ghost use Rattle.coap_words.specs.ProxyOption.{few, proxy_option_of};
+ghost use Rattle.coap_target.specs.Examples.{loopback};
+ghost use Rattle.coap_words.specs.ProxyOption.{few, port_after, proxy_option_of, right_bracket};
+ghost use Rattle.coap_words.specs.Texts.{cut_at};
 ghost use Rattle.coap_words.specs.Settings.{is_given, status_of};
 ghost use Rattle.coap_words.specs.declared.config_error.ConfigError.TheVariants as config_errors;
 ghost use Rattle.coap_words.specs.declared.error.MapOptionError.TheVariants as map_errors;
@@ -26,8 +28,47 @@ pub fn proxy_options()
         ≡ Ok (record { next = None; names = codes "proxy.test" ∷ codes "[2001:db8::1]" ∷ [] }) }
     ensures no_comma { proxy_option_of (codes "proxy.test") ≡ Err proxy_errors.NoComma }
     ensures nothing { proxy_option_of [] ≡ Err proxy_errors.NoComma }
-    ensures next { proxy_option_of (codes "coap://h:,x") ≡ Err proxy_errors.NextProxy }
+    ensures next { proxy_option_of (codes "coap://127.0.0.1:5700,proxy.test")
+        ≡ Ok (record { next = Some (loopback 5700); names = codes "proxy.test" ∷ [] }) }
+    ensures next_without_port { proxy_option_of (codes "coap://127.0.0.1,a,b")
+        ≡ Ok (record { next = Some (loopback 5683); names = codes "a" ∷ codes "b" ∷ [] }) }
+    ensures next_port_1 { proxy_option_of (codes "coap://127.0.0.1:1,a")
+        ≡ Ok (record { next = Some (loopback 1); names = codes "a" ∷ [] }) }
+    ensures next_last_port { proxy_option_of (codes "coap://127.0.0.1:65535,a")
+        ≡ Ok (record { next = Some (loopback 65535); names = codes "a" ∷ [] }) }
+    ensures next_of_a_name { proxy_option_of (codes "coap://a.test,x")
+        ≡ Err proxy_errors.NextProxy }
+    ensures next_of_another_scheme { proxy_option_of (codes "coaps://127.0.0.1,x")
+        ≡ Err proxy_errors.NextProxy }
+    ensures next_port_0 { proxy_option_of (codes "coap://127.0.0.1:0,x")
+        ≡ Err proxy_errors.NextProxy }
+    ensures next_great_port { proxy_option_of (codes "coap://127.0.0.1:65536,x")
+        ≡ Err proxy_errors.NextProxy }
+    ensures next_port_with_zero { proxy_option_of (codes "coap://127.0.0.1:05683,x")
+        ≡ Err proxy_errors.NextProxy }
+    ensures next_no_port { proxy_option_of (codes "coap://127.0.0.1:,x")
+        ≡ Err proxy_errors.NextProxy }
+    ensures next_odd_port { proxy_option_of (codes "coap://127.0.0.1:+1,x")
+        ≡ Err proxy_errors.NextProxy }
+    ensures next_with_a_path { proxy_option_of (codes "coap://127.0.0.1:5700/,x")
+        ≡ Err proxy_errors.NextProxy }
+    ensures next_with_a_root { proxy_option_of (codes "coap://127.0.0.1/,x")
+        ≡ Err proxy_errors.NextProxy }
+    ensures next_without_scheme { proxy_option_of (codes "127.0.0.1:5700,x")
+        ≡ Err proxy_errors.NextProxy }
+    ensures next_with_nothing { proxy_option_of (codes "coap://,x") ≡ Err proxy_errors.NextProxy }
+    ensures next_space { proxy_option_of (codes " coap://127.0.0.1,x")
+        ≡ Err proxy_errors.NextProxy }
     ensures next_before_names { proxy_option_of (codes "coap://h,") ≡ Err proxy_errors.NextProxy }
+    ensures next_without_names { proxy_option_of (codes "coap://127.0.0.1,")
+        ≡ Err proxy_errors.BadName }
+    ensures next_without_comma { proxy_option_of (codes "coap://127.0.0.1")
+        ≡ Err proxy_errors.NoComma }
+    ensures ipv6_cut { cut_at right_bracket (codes "[2001:db8::1]:5700")
+        ≡ Some (codes "[2001:db8::1", codes ":5700") }
+    ensures ipv6_alone { cut_at right_bracket (codes "[::1]") ≡ Some (codes "[::1", []) }
+    ensures ipv6_port { port_after (codes ":5700") ≡ Some 5700 }
+    ensures behind_a_bracket { port_after (codes "5700") ≡ None }
     ensures no_name { proxy_option_of (codes ",") ≡ Err proxy_errors.BadName }
     ensures empty_name { proxy_option_of (codes ",a,,b") ≡ Err proxy_errors.BadName }
     ensures last_is_empty { proxy_option_of (codes ",a,") ≡ Err proxy_errors.BadName }
