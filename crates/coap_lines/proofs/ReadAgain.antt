@@ -12,8 +12,10 @@ use Rattle.hex.proofs.HexLemmas.{decode_of-encode_upper, length-encode_with}
 use Rattle.coap_message.specs.Uint.{IsBytes}
 use Rattle.coap_endpoint.specs.declared.endpoint.Ip.{Ip}
 use Rattle.coap_endpoint.specs.declared.endpoint.Ip.TheVariants.{V4, V6}
+use Rattle.coap_uri.specs.Address.{IsIp, address_text}
+use Rattle.coap_uri.proofs.AddressTexts.{four_digits}
 use Rattle.coap_lines.specs.Datagrams.{bytes_read, hex_text}
-use Rattle.coap_lines.specs.Endpoints.{IsAddress, IsIp, address_text, endpoint_at, endpoint_of, endpoint_text}
+use Rattle.coap_lines.specs.Endpoints.{IsAddress, endpoint_at, endpoint_of, endpoint_text}
 use Rattle.coap_lines.proofs.HexTexts.{bytes_read-written}
 use Rattle.coap_lines.proofs.EndpointTexts.{endpoint_of-written}
 
@@ -23,26 +25,6 @@ bytes_again [] are = bytes_read-written (codes "-") [] (inl (refl, refl))
 bytes_again (b ∷ bytes) are =
     let count = length-encode_with upper_digits (b ∷ bytes) in
     bytes_read-written (hex_text (b ∷ bytes)) (b ∷ bytes) (inr (omega arith, decode_of-encode_upper (b ∷ bytes) are))
-
--- a number below 16 times a bound has at most one more digit than one below the bound
-digit_more : (turns few bound n : ℕ) (acc : List ℕ) → ((m : ℕ) (acc : List ℕ) → 0 < m → m < bound → length (digits_onto turns 16 false m acc) ≤ few + length acc) → n < 16 * bound → length (digits_onto (suc turns) 16 false n acc) ≤ suc few + length acc
-digit_more turns few bound n acc shorter below = go (n / 16 == 0) refl
-  where
-    go : (b : Bool) → (n / 16 == 0) ≡ b → length (cond b (digit_glyph false (n % 16) ∷ acc) (digits_onto turns 16 false (n / 16) (digit_glyph false (n % 16) ∷ acc))) ≤ suc few + length acc
-    go true is = omega arith
-    go false is =
-        let some = eqb-false (n / 16) 0 is in
-        let rest = shorter (n / 16) (digit_glyph false (n % 16) ∷ acc) (omega arith) (omega arith) in
-        omega arith
-
--- a group has at most four digits
-four_digits : (n : ℕ) → n < 65536 → length (digits 16 false n) ≤ 4
-unfolding digits
-four_digits n below =
-    digit_more 63 3 4096 n [] (λ m acc some less.
-    digit_more 62 2 256 m acc (λ m acc some less.
-    digit_more 61 1 16 m acc (λ m acc some less.
-    digit_more 60 0 1 m acc (λ m acc some less. absurd (omega arith)) (omega arith)) (omega arith)) (omega arith)) (omega arith)
 
 -- a number of 16 bits is written as a group
 group_again : (n : ℕ) → n < 65536 → IsGroup (digits 16 false n) n

@@ -9,7 +9,7 @@ use Rattle.std.specs.Net.Text.{ipv4_text}
 use Rattle.coap_endpoint.specs.declared.endpoint.Endpoint.{Endpoint}
 use Rattle.coap_endpoint.specs.declared.endpoint.Ip.{Ip}
 use Rattle.coap_endpoint.specs.declared.endpoint.Ip.TheVariants.{V4, V6}
-use Rattle.coap_uri.specs.Address.{ipv4_of}
+use Rattle.coap_uri.specs.Address.{address_text, ipv4_of}
 use Rattle.coap_target.specs.RouteTexts.{all_of}
 use Rattle.coap_message.specs.Reading.{◌>>=◌}
 use Rattle.coap_lines.specs.Texts.{colon, cut, left_bracket, right_bracket}
@@ -66,34 +66,10 @@ abbrev pub endpoint_of : List ℕ → Option Endpoint
 endpoint_of [] = None
 endpoint_of (b ∷ text) = if b == left_bracket then v6_endpoint text else v4_endpoint (b ∷ text)
 
--- an address has four bytes, or sixteen
-abbrev pub IsIp : Ip → Type 0
-IsIp (V4 octets) = (length octets ≡ 4) × AllByRecursion (λ b. b < 256) octets
-IsIp (V6 octets) = (length octets ≡ 16) × AllByRecursion (λ b. b < 256) octets
-
 -- the last three hexadecimal digits of a number, in lower case
 abbrev pub three_digits : ℕ → List ℕ
 three_digits n =
     digit_glyph false (n / 256) ∷ digit_glyph false (n / 16 % 16) ∷ digit_glyph false (n % 16) ∷ []
-
--- the text of a group, in lower case without leading zeros
-abbrev pub group_text : ℕ → List ℕ
-group_text n = digits 16 false n
-
--- the texts of four groups, with colons between them
-abbrev pub four_groups : ℕ → ℕ → ℕ → ℕ → List ℕ
-four_groups a b c d =
-    group_text a ++ codes ":" ++ group_text b ++ codes ":"
-    ++ group_text c ++ codes ":" ++ group_text d
-
--- the groups in brackets
-abbrev pub groups_text : List ℕ → List ℕ
-groups_text segments = codes "[" ++ join_with_byte colon (map group_text segments) ++ codes "]"
-
--- the text of an address: groups in lower case without leading zeros
-abbrev pub address_text : Ip → List ℕ
-address_text (V4 octets) = ipv4_text octets
-address_text (V6 octets) = groups_text (segments_of octets)
 
 -- the text of an endpoint
 abbrev pub endpoint_text : Endpoint → List ℕ

@@ -1,7 +1,8 @@
 //! Endpoints as they are written.
 ghost use Rattle.std.specs.Prelude.{◌≡◌, length};
 ghost use Rattle.std.specs.Net.Text.{ipv4_text};
-ghost use Rattle.coap_lines.specs.Endpoints.{address_text, endpoint_text, four_groups, groups_text};
+ghost use Rattle.coap_uri.specs.Address.{address_text, four_groups, groups_text};
+ghost use Rattle.coap_lines.specs.Endpoints.{endpoint_text};
 ghost use Rattle.coap_lines.specs.Room.{Adds, HasRoom};
 
 use crate::room::put;
