@@ -1,13 +1,15 @@
 //! Examples, computed on the definitions.
-ghost use Rattle.std.specs.Prelude.{◌≡◌, ◌∷◌, [], None, Some, Ok, codes};
+ghost use Rattle.std.specs.Prelude.{◌≡◌, ◌∷◌, [], None, Some, Ok, Err, codes};
 ghost use Rattle.coap_endpoint.specs.declared.endpoint.Ip.TheVariants.{V4};
 ghost use Rattle.coap_proxyd.specs.Examples.{named, no_settings};
 ghost use Rattle.coap_proxyd.specs.Faults.{fault_text, status_of};
-ghost use Rattle.coap_proxyd.specs.Planning.{with_names};
+ghost use Rattle.coap_proxyd.specs.Planning.{routes_said, with_names};
 ghost use Rattle.coap_proxyd.specs.Serving.{turns_of};
-ghost use Rattle.coap_proxyd.specs.Words.{local_of};
+ghost use Rattle.coap_proxyd.specs.Words.{local_of, names_said};
 ghost use Rattle.coap_proxyd.specs.declared.fault.Fault.TheVariants as faults;
 ghost use Rattle.coap_proxyd.specs.declared.planning.Plan.{Plan};
+ghost use Rattle.coap_target.specs.Examples.{loopback};
+ghost use Rattle.coap_uri.specs.declared.uri.HostPart.TheVariants.{Name};
 ghost use Rattle.coap_words.specs.declared.config_error.ConfigError.TheVariants as config_errors;
 
 /// The exit status of each fault: 2 if the program was given input that it can't use, 1 if
@@ -49,6 +51,18 @@ pub fn names()
         ≡ named (codes "b" ∷ []) }
     ensures no_name { with_names (named (codes "a" ∷ [])) (Some []) ≡ named [] }
     ensures not_given { with_names (named (codes "a" ∷ [])) None ≡ named (codes "a" ∷ []) }
+{}
+
+/// The next proxy, which stands before the own names and is that of the routes.
+pub fn next_proxies()
+    ensures given { names_said (Some (codes "coap://127.0.0.1:5700,a"))
+        ≡ Ok (record { next = Some (loopback 5700); names = Some (codes "a" ∷ []) }) }
+    ensures names_alone { names_said (Some (codes ",a"))
+        ≡ Ok (record { next = None; names = Some (codes "a" ∷ []) }) }
+    ensures not_given { names_said None ≡ Ok (record { next = None; names = None }) }
+    ensures refused { names_said (Some (codes "coap://a,b")) ≡ Err faults.ProxyOption }
+    ensures routes { routes_said (Some (loopback 5700)) (named (codes "a" ∷ []))
+        ≡ Ok (record { names = Name (codes "a") ∷ []; hosts = []; maps = []; next = Some (loopback 5700) }) }
 {}
 
 /// The number of turns that are done: 2^63 - 1 if none is given, and never more.

@@ -47,13 +47,14 @@ pub fn read_plan(alloc: Global, wanted: Wanted, file: Option<&[u8]>) -> Result<P
 {
     let Wanted {
         local,
+        next,
         names,
         settings,
     } = wanted;
     let config = config_of(alloc, file)?;
     let config = with_names(config, names);
     let config = with_map(alloc, config, &settings.map)?;
-    let routes = routes_of(alloc, &config)?;
+    let routes = routes_of(alloc, &config, next)?;
     Ok(Plan {
         local,
         limits: config.limits,
@@ -124,15 +125,16 @@ fn add_map(config: Config, map: (String, String)) -> Result<Config, Fault>
 
 /// The routes of a configuration. Those of its file were checked before, and the names in `-P` are
 /// valid; so if the texts don't make up routes, the map option is at fault.
-fn routes_of(alloc: Global, config: &Config) -> Result<Routes, Fault>
+fn routes_of(alloc: Global, config: &Config, next: Option<Endpoint>) -> Result<Routes, Fault>
     ensures { Says (λ routes. routes) faults.OutOfMemory result
-        (spec.routes_said (view.seen config.now)) }
+        (spec.routes_said next (view.seen config.now)) }
 {
     match Routes::new(
         alloc,
         config.names.as_slice(),
         config.hosts.as_slice(),
         config.maps.as_slice(),
+        next,
     ) {
         Ok(routes) => Ok(routes),
         Err(RouteError::OutOfMemory) => Err(Fault::OutOfMemory),

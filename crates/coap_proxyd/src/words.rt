@@ -18,6 +18,8 @@ const PORT: u16 = 5683;
 pub struct Wanted {
     /// Where to listen.
     pub local: Endpoint,
+    /// The next proxy.
+    pub next: Option<Endpoint>,
     /// Own names that replace those of the configuration.
     pub names: Option<Vec<String>>,
     /// The other options.
@@ -40,10 +42,11 @@ fn read_settings(alloc: Global, settings: Settings) -> Result<Wanted, Fault>
     ensures { Says spec.seen faults.OutOfMemory result (spec.wanted_of settings) }
 {
     let local = local(alloc, &settings)?;
-    let names = own_names(alloc, &settings)?;
+    let named = read_names(alloc, &settings)?;
     Ok(Wanted {
         local,
-        names,
+        next: named.next,
+        names: named.names,
         settings,
     })
 }
@@ -60,12 +63,28 @@ fn local(alloc: Global, settings: &Settings) -> Result<Endpoint, Fault>
     Ok(Endpoint { ip, port })
 }
 
-/// Own names, if `-P` is given.
-fn own_names(alloc: Global, settings: &Settings) -> Result<Option<Vec<String>>, Fault>
-    ensures { Says (option_map bytes_of) faults.OutOfMemory result (spec.names_of settings.now) }
+/// A next proxy, and own names.
+#[derive(Drop)]
+struct Named {
+    next: Option<Endpoint>,
+    names: Option<Vec<String>>,
+}
+
+/// The next proxy and the own names, if `-P` is given.
+fn read_names(alloc: Global, settings: &Settings) -> Result<Named, Fault>
+    ensures { Says spec.named_seen faults.OutOfMemory result (spec.names_of settings.now) }
 {
     match &settings.names {
-        Some(text) => Ok(Some(parse_proxy_option(alloc, text.as_str())?.names)),
-        None => Ok(None),
+        Some(text) => {
+            let option = parse_proxy_option(alloc, text.as_str())?;
+            Ok(Named {
+                next: option.next,
+                names: Some(option.names),
+            })
+        }
+        None => Ok(Named {
+            next: None,
+            names: None,
+        }),
     }
 }

@@ -19,6 +19,7 @@ fn target(alloc: Global, segment: &[u8]) -> Result<Target, OutOfMemory> {
     Ok(Target {
         host: None,
         at,
+        port: None,
         path,
         query: Pieces::new(alloc),
     })
