@@ -88,3 +88,13 @@ def a_server_that_was_stopped_is_answered_for(stage):
 def its_client_names_the_proxy(stage):
     server, proxy = serve(stage), stage.proxy("-P", ",proxy.test")
     expect_welcome(stage, server, client(stage, server, "", "-P", f"coap://{proxy[0]}:{proxy[1]}"))
+
+
+@case("TokenChanged")
+def its_client_asks_through_two_proxies(stage):
+    server = serve(stage)
+    parent = stage.proxy(config=f'names = ["parent.test"]\n[hosts]\n"server.test" = "{server[0]}"\n')
+    edge = stage.proxy("-P", f"coap://{parent[0]}:{parent[1]},edge.test")
+    for host in ("server.test", server[0]):
+        came = client(stage, (host, server[1]), "", "-P", f"coap://{edge[0]}:{edge[1]}")
+        expect_welcome(stage, server, came)

@@ -23,8 +23,9 @@ SO_TIMESTAMPNS, TIMESPEC = 35, struct.Struct("@ll")
 
 # A message that was sent or came: as a message and as bytes, the other address, and the moment on the system's clock.
 Came = namedtuple("Came", "message data source at")
-# A response of an origin: its Max-Age, a moment before the proxy got it, and one after that, if there is one yet.
-Life = namedtuple("Life", "max_age sent seen", defaults=(None,))
+# A response of an origin: its Max-Age, a moment before the proxy got it, one after that, if there is one yet, and how
+# many proxies it passes.
+Life = namedtuple("Life", "max_age sent seen proxies", defaults=(None, 1))
 
 # What must hold: a name, a function that tries it on a stage, and the stand-ins that it must find wrong.
 Case = namedtuple("Case", "name function stand_ins")
@@ -76,11 +77,12 @@ def left(max_age, age):
 
 def expect_age(life, asked, came):
     """Fails where a response that came at some moment to a request of an earlier one doesn't have the Max-Age that is
-    left of this life. The proxy's clock may differ by a millisecond or two."""
+    left of this life. The proxy's clock may differ by a millisecond or two, and each proxy rounds up an age."""
     values = [value for option, value in came.message.options if option == MAX_AGE]
     expect("how many Max-Age it has", 1, len(values))
     shortest = 0 if life.seen is None else asked - life.seen
-    least, most = left(life.max_age, came.at - life.sent + 0.002), left(life.max_age, shortest - 0.002)
+    least = left(life.max_age - life.proxies + 1, came.at - life.sent + 0.002)
+    most = left(life.max_age, shortest - 0.002)
     expect_between("Max-Age", least, most, number(values[0]))
     expect("the bytes of Max-Age", number_bytes(number(values[0])), values[0])
 

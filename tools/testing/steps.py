@@ -24,12 +24,12 @@ def expect_wait(first, then):
     expect("what was sent again", first.data, then.data)
 
 
-def fetch(client, origin, payload=b"21", seconds=60, tags=(), kind=CON, here=(T,), there=(TEMP,)):
-    """A GET that the origin must be asked for and answers. Returns the life of its answer."""
+def fetch(client, origin, payload=b"21", seconds=60, tags=(), kind=CON, here=(T,), there=(TEMP,), proxies=1):
+    """A GET that the origin must be asked for and answers, through so many proxies. Returns the life of its answer."""
     request = client.request(GET, here, kind=kind)
     asked = origin.expect_request(GET, there)
     answer = origin.answer(asked, CONTENT, [max_age(seconds), *tags], payload)
-    life = Life(seconds, answer.at)
+    life = Life(seconds, answer.at, proxies=proxies)
     return life._replace(seen=client.expect_late(request, CONTENT, tags, payload, life=life).at)
 
 
