@@ -2,7 +2,7 @@
 
 from checking import configuration, toml_lines
 from checking.configuration import Finding, check_map, faults, maps, slips
-from checking.routes import Origin, Route, host_of, ipv4_of, ipv6_of, is_name, name_of, origin_of
+from checking.routes import Origin, Route, host_of, ipv4_of, ipv6_of, is_name, name_of, next_proxy_of, origin_of
 from checking.toml_lines import NotRead, Value
 
 
@@ -19,13 +19,16 @@ def local_address(words):
 
 
 def check_names(words):
-    """What is wrong with the own names of the words."""
+    """What is wrong with the next proxy and the own names of the words."""
     if words.names is None:
         return
     before, comma, names = words.names.partition(",")
     names = names.split(",")
-    if not comma or before:
-        yield Finding(None, f"-P {words.names} doesn't begin with a comma", "proxy option")
+    if not comma:
+        yield Finding(None, f"-P {words.names} has no comma before the names", "proxy option")
+    elif before and next_proxy_of(before) is None:
+        text = f"-P {words.names}: {before} isn't a next proxy, such as coap://192.0.2.2:5683"
+        yield Finding(None, text, "proxy option")
     elif len(names) > configuration.MOST["names"] or not all(map(is_name, names)):
         yield Finding(None, f"-P {words.names} isn't 1 to 64 names between commas", "proxy option")
 
@@ -47,24 +50,31 @@ def check_word_map(words, table, known):
             yield Finding(None, "--map is map 65: there may be 64", "map option")
 
 
+def places(words, table, known):
+    """Where requests are sent: a line, what leads there, and the place."""
+    for route in [*maps(table), *map_of_words(words)]:
+        origin = origin_of(route.origin.value, known)
+        if isinstance(origin, Origin):
+            yield route.origin.line, f"map {route.number}" if route.number else "--map", origin
+    next_proxy = next_proxy_of((words.names or "").partition(",")[0])
+    if next_proxy is not None:
+        yield None, "-P", next_proxy
+
+
 def slips_of_places(words, table, known):
-    """Maps to the proxy itself, or to where its socket can't send, if it is known where it listens."""
+    """What leads to the proxy itself, or to where its socket can't send, if it is known where it listens."""
     here = local_address(words)
     if here is None or (words.address is None and words.port is None):
         return
-    for route in [*maps(table), *map_of_words(words)]:
-        origin = origin_of(route.origin.value, known)
-        if not isinstance(origin, Origin):
-            continue
-        where = f"map {route.number}" if route.number else "--map"
-        there = origin.address
+    for line, what, place in places(words, table, known):
+        there = place.address
         if there == here or (here.is_unspecified and (there.is_loopback or there.is_unspecified)):
-            if origin.port == (words.port or 5683):
-                yield Finding(route.origin.line, f"{where} leads to the proxy itself")
+            if place.port == (words.port or 5683):
+                yield Finding(line, f"{what} leads to the proxy itself")
         elif there.version != here.version and not (here.version == 6 and here.is_unspecified):
-            yield Finding(route.origin.line, f"{where}: from {here} no IPv{there.version} address is reached")
+            yield Finding(line, f"{what}: from {here} no IPv{there.version} address is reached")
         elif here.is_loopback and not there.is_loopback:
-            yield Finding(route.origin.line, f"{where}: from {here} no other host is reached")
+            yield Finding(line, f"{what}: from {here} no other host is reached")
 
 
 def hosts_of(table):

@@ -9,7 +9,7 @@ from checking.toml_lines import NotRead
 
 # A map: its number (0 for that of the words), and its texts with their lines.
 Route = namedtuple("Route", "number prefix origin")
-# Where a map leads: an address, a port and a path as text.
+# Where a map leads, or a next proxy is: an address, a port and a path as text.
 Origin = namedtuple("Origin", "address port path")
 
 LONGEST = 255
@@ -40,6 +40,13 @@ def ipv6_of(text):
 def host_of(text):
     """The address that a text is: IPv4, or IPv6 in brackets."""
     return ipv6_of(text[1:-1]) if text.startswith("[") and text.endswith("]") else ipv4_of(text)
+
+
+def next_proxy_of(text):
+    """Where a next proxy is, with no path, or nothing if the text isn't one."""
+    found = re.fullmatch(r"coap://([^\[\]:]*|\[[^\[\]]*\])(?::([1-9][0-9]{0,4}))?", text)
+    address, port = (host_of(found[1]), int(found[2] or "5683")) if found else (None, 0)
+    return Origin(address, port, "") if address is not None and port < 65_536 else None
 
 
 def is_name(text):

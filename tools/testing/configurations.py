@@ -74,6 +74,34 @@ SAID = (
         ],
     ),
     Said(
+        "a_next_proxy_that_is_the_proxy_itself",
+        ["-A", "192.0.2.1", "-P", "coap://192.0.2.1,proxy.test"],
+        "version = 1\n",
+        ["warning: -P leads to the proxy itself", "accepted"],
+    ),
+    Said(
+        "a_next_proxy_that_the_socket_does_not_reach",
+        ["-A", "192.0.2.1", "-P", "coap://[2001:db8::2]:5700,proxy.test"],
+        "version = 1\n",
+        ["warning: -P: from 192.0.2.1 no IPv6 address is reached", "accepted"],
+    ),
+    Said(
+        "names_without_a_comma",
+        ["-P", "coap://192.0.2.2"],
+        "version = 1\n",
+        ["error: -P coap://192.0.2.2 has no comma before the names", "refused: proxy option"],
+    ),
+    Said(
+        "a_port_with_a_leading_zero",
+        ["-P", "coap://192.0.2.2:05683,proxy.test"],
+        "version = 1\n",
+        [
+            "error: -P coap://192.0.2.2:05683,proxy.test: coap://192.0.2.2:05683 isn't a next proxy, such as "
+            "coap://192.0.2.2:5683",
+            "refused: proxy option",
+        ],
+    ),
+    Said(
         "origins_that_the_socket_does_not_reach",
         ["-A", "127.0.0.1"],
         'version = 1\n[hosts]\na = "192.0.2.7"\n' + MAP.format("/a", "coap://a/") + MAP.format("/b", "coap://[::1]/"),
