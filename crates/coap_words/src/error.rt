@@ -14,8 +14,8 @@ pub enum ProxyOptionError {
     /// There is no comma.
     #[error("no comma")]
     NoComma,
-    /// There is text before the first comma: a next proxy isn't supported yet.
-    #[error("a next proxy")]
+    /// The text before the first comma isn't a next proxy.
+    #[error("no next proxy")]
     NextProxy,
     /// One of the texts between the commas isn't a name, or there are more than 64.
     #[error("no names")]

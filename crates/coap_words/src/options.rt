@@ -51,13 +51,14 @@ fn port<'a>(alloc: Global) -> Arg<'a>
     by_letter(alloc, "port", 'p', "PORT", help).value_parser(value_parser!(u16).range(1..=65535))
 }
 
-/// `-P`: own names.
+/// `-P`: a next proxy and own names.
 fn names<'a>(alloc: Global) -> Arg<'a>
     ensures { rule_of result ≡ spec.names_rule }
 {
-    let help = "Own names after a comma, between commas, 1 to 64, in place of those in the file \
-[default: the file's]";
-    by_letter(alloc, "names", 'P', ",NAMES", help)
+    let help = "Own names after a comma, between commas, 1 to 64, in place of those in the file; \
+before the first comma perhaps a next proxy, coap://ADDRESS[:PORT] [default: the file's names, no \
+next proxy]";
+    by_letter(alloc, "names", 'P', "[NEXT],NAMES", help)
 }
 
 /// `--config`: the configuration.
