@@ -1,9 +1,13 @@
-//! Tests of ports: a core over one in memory, which ends and refuses, and a port over a socket.
-//! Also how long a port is asked to wait and what is counted, computed on the definitions.
+//! Tests of ports: a core over one in memory, which ends and refuses, and a port over a socket and
+//! over a system in memory. Also how long a port is asked to wait and what is counted, computed on
+//! the definitions.
 #![tactic(auto)]
 
+#[cfg(test)]
+mod asked;
 pub mod computed;
 #[cfg(test)]
 mod ports;
 #[cfg(test)]
 mod sockets;
+pub mod systems;

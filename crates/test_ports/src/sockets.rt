@@ -8,7 +8,7 @@ use coap_udp::UdpPort;
 use std::net::UdpSocket;
 use std::process::Abort;
 use std::test::*;
-use std::time::{Duration, Instant};
+use std::time::{Clock, Duration, Instant};
 
 /// Takes a turn, and checks where its datagram came from and what was read of it.
 fn check<P: Port>(
@@ -35,13 +35,20 @@ fn at(port: u16) -> Endpoint {
     Endpoint { ip, port }
 }
 
-/// The moments of two turns that are asked to wait 20 ms and in which nothing comes.
-fn two_moments<P: Port>(port: &mut P, into: &mut Datagram) -> Result<(u64, u64), PortFault>
+/// The moment of a turn that is asked to wait 20 ms and in which nothing comes, and how long it
+/// took, in milliseconds.
+fn timed<P: Port>(
+    rt: &(impl Abort + Clock),
+    port: &mut P,
+    into: &mut Datagram,
+) -> Result<(u64, u128), Fail>
     requires { P.failures port.old < 2 ^ 63 }
+    ensures { OnOk result (P.failures port.new ≡ P.failures port.old) }
 {
-    let first = port.next(20, into)?;
-    let second = port.next(20, into)?;
-    Ok((first.now, second.now))
+    let start = Instant::now(rt)?;
+    let turn = port.next(20, into)?;
+    assert!(rt; turn.from.is_none());
+    Ok((turn.now, start.elapsed(rt)?.as_millis()))
 }
 
 /// Three draws.
@@ -100,11 +107,12 @@ fn the_address_is_the_one_that_was_asked_for(rt: HostRuntime) -> Result<(), Fail
 fn waits_are_as_long_as_asked_for_and_the_clock_moves(rt: HostRuntime) -> Result<(), Fail> {
     let mut port = UdpPort::bind(&rt, rt.alloc(), at(0))?;
     let mut into = Datagram::new(rt.alloc(), 5)?;
-    let start = Instant::now(&rt)?;
-    let (first, second) = two_moments(&mut port, &mut into)?;
-    let took = start.elapsed(&rt)?;
-    assert!(rt; took >= Duration::from_millis(40));
-    assert!(rt; took < Duration::from_secs(2));
+    let (first, took) = timed(&rt, &mut port, &mut into)?;
+    let (second, again) = timed(&rt, &mut port, &mut into)?;
+    let (_, once_more) = timed(&rt, &mut port, &mut into)?;
+    // a busy host may hold up some of them
+    let shortest = took.min(again).min(once_more);
+    assert!(rt; (20..30).contains(&shortest));
     let between = second.saturating_sub(first);
     assert!(rt; (19..2000).contains(&between));
     Ok(())
