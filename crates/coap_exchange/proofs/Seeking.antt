@@ -160,7 +160,7 @@ module _ {A : Type 0} (owner_of : A → Option ℕ) where
           inr (subst (λ (q : Option Pair). IsIn q (Rows xs)) (ap (λ (q : Option ℕ). as_due p.1 q) found.2) (row-in p.1 xs found.0 found.1))
 
       from : (x : Option Pair) → IsIn x (Rows xs) → (x ≡ None) ⊎ Tells roll.pairs x
-      from x i = let row = in-row 0 xs x r i in told x row.0 row.1 row.2 row.3 (owner_of row.1) refl
+      from x i = let found = in-row 0 xs x r i in told x found.0 found.1 found.2 found.3 (owner_of found.1) refl
         where
           told : (y : Option Pair) (n : ℕ) (a : A) → item_at n xs ≡ Some a → y ≡ as_due n (owner_of a) → (p : Option ℕ) → owner_of a ≡ p → (y ≡ None) ⊎ Tells roll.pairs y
           told y n a at e None f = inl (e ∙ ap (λ (q : Option ℕ). as_due n q) f)

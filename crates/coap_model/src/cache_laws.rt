@@ -151,7 +151,8 @@ pub fn forged_hits_are_refused()
     ensures as_received { ¬ IsHit setting asked_past (reply 25 10) }
     ensures from_cache { IsFromCache setting asked_past (reply 25 9).entry }
     ensures not_from_cache { ¬ IsFromCache setting changed_past (reply 25 9).entry }
-    ensures but_for_the_change { Unchanged setting key_of_temp.target first_entry.asking changed_past
+    ensures but_for_the_change { Unchanged setting key_of_temp.target first_entry.asking
+        changed_past
         → IsFromCache setting changed_past (reply 25 9).entry }
     ensures overtaken { ¬ IsKept setting overtaken_past keeps_overtaken }
     ensures two_exchanges { (w : World)

@@ -225,7 +225,8 @@ pub fn memory()
 /// of a client's request, clients with tags, Observe, options that aren't recognised, what fits a
 /// datagram with a tag, and targets by a Proxy-Scheme.
 pub fn options()
-    ensures form { spelling (forwarded eight_zeros named None get_with_others 7) ≡ form_with_others }
+    ensures form { spelling (forwarded eight_zeros named None get_with_others 7)
+        ≡ form_with_others }
     ensures read_back { key_in origin form_with_others ≡ Some key_of_others }
     ensures own_tag { key_in origin form_with_tag ≡ Some key_of_temp }
     ensures odd_form { key_in origin odd_form ≡ Some odd_key }

@@ -62,7 +62,12 @@ pub fn next_proxies()
     ensures not_given { names_said None ≡ Ok (record { next = None; names = None }) }
     ensures refused { names_said (Some (codes "coap://a,b")) ≡ Err faults.ProxyOption }
     ensures routes { routes_said (Some (loopback 5700)) (named (codes "a" ∷ []))
-        ≡ Ok (record { names = Name (codes "a") ∷ []; hosts = []; maps = []; next = Some (loopback 5700) }) }
+        ≡ Ok (record {
+          names = Name (codes "a") ∷ [];
+          hosts = [];
+          maps = [];
+          next = Some (loopback 5700);
+        }) }
 {}
 
 /// The number of turns that are done: 2^63 - 1 if none is given, and never more.
