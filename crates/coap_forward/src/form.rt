@@ -228,7 +228,14 @@ fn put_back(
     let last = put_part(out, room, before, request, Gap::BeforePath, path)?;
     let query = PartValues::Kept(target.query.iter());
     let last = put_part(out, room, last, request, Gap::BeforeQuery, query)?;
-    let last = put_part(out, room, last, request, Gap::BeforeScheme, scheme_of(target))?;
+    let last = put_part(
+        out,
+        room,
+        last,
+        request,
+        Gap::BeforeScheme,
+        scheme_of(target),
+    )?;
     put_others(out, room, last, request, Gap::Last)
 }
 
