@@ -1,4 +1,4 @@
-"""The worked runs: what the program writes for the words, the configuration and the events of each."""
+"""The worked runs: what the program writes for the words, the configuration and the events of each (docs/REPLAY.md)."""
 
 import os
 import subprocess
@@ -10,32 +10,35 @@ from testing.network import Failed
 Run = namedtuple("Run", "name words config events output")
 
 
-def outputs(path):
-    """What is written for each run, by its name: the bytes after a line `== NAME`."""
-    with open(path, "rb") as file:
-        parts = (b"\n" + file.read()).split(b"\n== ")[1:]
-    ended = [part + b"\n" for part in parts[:-1]] + parts[-1:]
-    return {name.decode(): text for name, text in (part.split(b"\n", 1) for part in ended)}
-
-
 def after(lines, mark):
     """What follows a mark in the lines that begin with it."""
     return [line[len(mark) :] for line in lines if line.startswith(mark)]
 
 
+def output_of(lines):
+    """What a run's lines `# > ..` say that is written: the datagrams, each at the moment of the event above it, and
+    then `status N: TEXT` if it stops with a fault."""
+    text, moment, stops = b"", b"", False
+    for line in lines:
+        if line.startswith(b"# >"):
+            said = line[len(b"# > ") :]
+            stops = stops or said.startswith(b"status ")
+            text += (b"" if stops else moment + b" ") + said + b"\n"
+        elif line and not line.startswith(b"#"):
+            moment = line.split(b" ")[0]
+    return text
+
+
 def runs(folder):
     """All worked runs of the crate in this folder."""
-    written = outputs(os.path.join(folder, "stdout"))
-    names = sorted(name[:-7] for name in os.listdir(os.path.join(folder, "data")) if name.endswith(".events"))
-    if names != sorted(written):
-        raise Failed(f"files and outputs of worked runs differ: {set(names) ^ set(written)}")
-    for name in names:
-        with open(os.path.join(folder, "data", f"{name}.events"), "rb") as file:
+    data = os.path.join(folder, "data")
+    for name in sorted(file[:-7] for file in os.listdir(data) if file.endswith(".events")):
+        with open(os.path.join(data, f"{name}.events"), "rb") as file:
             events = file.read()
         lines = events.split(b"\n")
         words = after(lines, b"# words:")[0].decode().split()
         config = b"".join(line + b"\n" for line in after(lines, b"# config: "))
-        yield Run(name, words, config, events, written[name])
+        yield Run(name, words, config, events, output_of(lines))
 
 
 def expected(output):
