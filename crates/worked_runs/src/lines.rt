@@ -7,6 +7,8 @@ use std::alloc::{AllocError, Global};
 const WORDS: &[u8] = b"# words:";
 /// The mark of a line of a configuration: `# config: LINE`.
 const CONFIG: &[u8] = b"# config: ";
+/// The mark of a line of what must be written: `# > LINE`, or `# >` where that is empty.
+const EXPECTED: &[u8] = b"# >";
 
 /// What follows the mark at the front of a line, if the line has the mark.
 fn after<'a>(line: &'a [u8], mark: &[u8]) -> Option<&'a [u8]>
@@ -18,6 +20,12 @@ fn after<'a>(line: &'a [u8], mark: &[u8]) -> Option<&'a [u8]>
 /// The words that a line gives, if it gives some.
 pub(crate) fn words_of(line: &[u8]) -> Option<&[u8]> {
     after(line, WORDS)
+}
+
+/// The line of what must be written that a line gives, if it gives one.
+pub(crate) fn said_by(line: &[u8]) -> Option<&[u8]> {
+    let said = after(line, EXPECTED)?;
+    Some(said.strip_prefix(b" ").unwrap_or(said))
 }
 
 /// The words of a text, which are separated by spaces. A word that isn't UTF-8 is left out.

@@ -1,13 +1,13 @@
-//! The worked runs. Each file `NAME.events` in the current folder is one: comments that say what it
-//! shows and give the program's words, with the lines of a configuration or none, then events. They
-//! are replayed in order of name, over both stores, which must write the same. What is written
-//! follows a line with the run's name; if the program would stop before it is done, a line gives
-//! the status and the text.
+//! The worked runs. Each file `NAME.events` in the current folder is one, as `docs/REPLAY.md`
+//! describes: the program's words, a configuration or none, events, and what must be written for
+//! them. Each is played over both stores, and what is written is compared with that.
 //!
-//! The runs are in `data`, and what all of them must write is in `stdout`. To add one, add its file
-//! and its lines, and compare: `cd data && ../out/worked_runs | diff - ../stdout`.
+//! For a run that doesn't agree with its file, its name and the first line that differs are
+//! printed, for each store in which it doesn't. The last line says how many runs agree in both
+//! stores. The status is 1 if not all do. `cd data && ../out/worked_runs` plays the runs in `data`.
 #![tactic(auto)]
 
+mod expected;
 mod files;
 mod lines;
 mod run;
@@ -15,42 +15,58 @@ mod run;
 use coap_cache::{ListStore, LruStore, Store};
 use std::hash::RandomState;
 use std::io::Write;
+use std::process::ExitCode;
 use std::{fs, io};
 
-/// What is written for a run, over a store that is made from this seed.
-fn written<S: Store + Drop>(
+/// Plays the run with this name over a store that is made from this seed, and returns whether it
+/// agrees with its file. If not, prints where, with the name of the store.
+fn agrees<S: Store + Drop>(
     rt: &HostRuntime,
     seed: S::Seed,
     name: &str,
+    store: &str,
     events: &[u8],
-) -> io::Result<Vec<u8>>
+) -> io::Result<bool>
 where
     S::Seed: Drop,
 {
-    let mut text = Vec::new(rt.alloc());
-    run::play::<_, S>(rt.alloc(), seed, name, events, &mut text)?;
-    Ok(text)
+    let expected = expected::expected_of(rt.alloc(), events)?;
+    let mut written = Vec::new(rt.alloc());
+    run::play::<_, S>(rt.alloc(), seed, events, &mut written)?;
+    let Some((wanted, came)) = expected::first_difference(&expected, &written) else {
+        return Ok(true);
+    };
+    let mut output = io::writer(rt);
+    write!(output, "{name}, over {store}:\nexpected ")?;
+    output.write_all(wanted)?;
+    output.write_all(b"written  ")?;
+    output.write_all(came)?;
+    Ok(false)
 }
 
 /// Plays the run with this name, whose file is in the current folder, over a list and over a
-/// recency map. What is written over the latter is written too, if it differs.
-fn play(rt: &HostRuntime, name: &str) -> io::Result<()> {
+/// recency map. Returns whether both write what is expected.
+fn play(rt: &HostRuntime, name: &str) -> io::Result<bool> {
     let file = files::file_of(rt.alloc(), name)?;
     let events = fs::read(rt, file.as_str())?;
-    let listed = written::<ListStore>(rt, (), name, &events)?;
-    let mapped = written::<LruStore<RandomState>>(rt, RandomState::new(rt)?, name, &events)?;
-    let mut output = io::writer(rt);
-    output.write_all(&listed)?;
-    if mapped != listed {
-        output.write_all(b"over a recency map:\n")?;
-        output.write_all(&mapped)?;
-    }
-    Ok(())
+    let seed = RandomState::new(rt)?;
+    let listed = agrees::<ListStore>(rt, (), name, "a list", &events)?;
+    let mapped = agrees::<LruStore<RandomState>>(rt, seed, name, "a recency map", &events)?;
+    Ok(listed && mapped)
 }
 
-fn main(rt: HostRuntime) -> io::Result<()> {
-    for name in files::run_names(&rt, ".")?.iter() {
-        play(&rt, name.as_str())?;
+fn main(rt: HostRuntime) -> io::Result<ExitCode> {
+    let names = files::run_names(&rt, ".")?;
+    let mut agreeing = 0;
+    for name in names.iter() {
+        if play(&rt, name.as_str())? {
+            agreeing += 1;
+        }
     }
-    Ok(())
+    println!(rt; "{agreeing} runs agree in both stores")?;
+    Ok(if agreeing == names.len() {
+        ExitCode::SUCCESS
+    } else {
+        ExitCode::FAILURE
+    })
 }

@@ -49,22 +49,20 @@ fn write_fault<W: Write>(output: &mut W, fault: Fault) -> io::Result<()> {
     writeln!(output, "status {status}: {fault}")
 }
 
-/// Writes a line with the name of a run, what the program writes for its words and events over a
-/// store that is made from this seed, and the fault with which it stops, if there is one.
+/// Writes what the program writes for the words and the events of a run over a store that is made
+/// from this seed, and the fault with which it stops, if there is one.
 ///
 /// # Errors
 /// `InvalidData` if no line of the run begins with `# words:`.
 pub(crate) fn play<W: Write, S: Store + Drop>(
     alloc: Global,
     seed: S::Seed,
-    name: &str,
     events: &[u8],
     output: &mut W,
 ) -> io::Result<()>
 where
     S::Seed: Drop,
 {
-    writeln!(output, "== {name}")?;
     match serve_run::<_, S>(alloc, seed, events, output)? {
         Ok(()) => Ok(()),
         Err(fault) => write_fault(output, fault),
