@@ -28,6 +28,7 @@ fn key(alloc: Global) -> Result<CacheKey, OutOfMemory> {
         target: Target {
             host: None,
             at: client(5690),
+            port: None,
             path,
             query: Pieces::new(alloc),
         },
