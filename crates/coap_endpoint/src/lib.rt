@@ -7,7 +7,7 @@
 //! let mut path = Pieces::new(alloc);
 //! path.push(b"temp")?;
 //! let at = Endpoint { ip: Ip::V4([192, 0, 2, 1]), port: 5683 };
-//! let temp = Target { host: None, at, path, query: Pieces::new(alloc) };
+//! let temp = Target { host: None, at, port: None, path, query: Pieces::new(alloc) };
 //! assert!(temp == temp.copied()?);
 //! ```
 #![tactic(auto)]

@@ -1,4 +1,4 @@
-//! The value of `-P`: the own names of the proxy.
+//! The value of `-P`: the next proxy, if it begins with one, and the own names of this one.
 ghost use Rattle.std.specs.Prelude.{◌≡◌, ◌<◌, ◌∷◌, IfOk, IfSome, length, ok_or, string_bytes};
 ghost use Rattle.std.specs.Char.{is_ascii_digit};
 ghost use Rattle.std.specs.List.{list_all};
@@ -31,9 +31,9 @@ pub struct ProxyOption {
 
 /// The next proxy and the own names in the value of `-P`. A next proxy comes before the first
 /// comma: `coap://`, an address (IPv4, or IPv6 in brackets), and perhaps a colon and a port from 1
-/// to 65,535 without leading zeros; without a port it is 5683. The names, in lower case, are the texts after the first
-/// comma, between commas. Each is a name of 1 to 255 visible ASCII characters other than a comma,
-/// and there are at most 64.
+/// to 65,535 without leading zeros; without a port it is 5683. The names, in lower case, are the
+/// texts after the first comma, between commas. Each is a name of 1 to 255 visible ASCII characters
+/// other than a comma, and there are at most 64.
 ///
 /// # Errors
 /// The first variant of `ProxyOptionError` that applies, in their order; `OutOfMemory` may be
