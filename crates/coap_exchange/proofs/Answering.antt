@@ -150,7 +150,7 @@ module _ (t : Table Waiter) (r : Roll) (is : IsTable t) (roll : IsRollOf awaited
 -- ---- the first of all
 
 -- who is due for an answer waits for its exchange
-answered-waits : (exchanges : List (Numbered Exchange)) (w : Waiter) (at : ℕ) → answered_of exchanges w ≡ Some at → (e : ℕ) × (awaited_of w ≡ Some e) × (got_in e exchanges ≡ Some at)
+pub answered-waits : (exchanges : List (Numbered Exchange)) (w : Waiter) (at : ℕ) → answered_of exchanges w ≡ Some at → (e : ℕ) × (awaited_of w ≡ Some e) × (got_in e exchanges ≡ Some at)
 answered-waits exchanges w at h = go w.state h
   where
     go : (s : WaiterState) → answered_in exchanges s ≡ Some at → (e : ℕ) × (exchange_of s ≡ Some e) × (got_in e exchanges ≡ Some at)
@@ -158,7 +158,7 @@ answered-waits exchanges w at h = go w.state h
     go (Delivering bytes id timer) g = absurd cc
 
 -- what is answered for one that waits is its exchange's
-waits-answered : (exchanges : List (Numbered Exchange)) (w : Waiter) (e : ℕ) → awaited_of w ≡ Some e → answered_of exchanges w ≡ got_in e exchanges
+pub waits-answered : (exchanges : List (Numbered Exchange)) (w : Waiter) (e : ℕ) → awaited_of w ≡ Some e → answered_of exchanges w ≡ got_in e exchanges
 waits-answered exchanges w e h = go w.state h
   where
     go : (s : WaiterState) → exchange_of s ≡ Some e → answered_in exchanges s ≡ got_in e exchanges

@@ -40,7 +40,7 @@ module _ {A : Type 0} where
       go None e = record { others = λ q f. refl; counts = λ test. refl }
       go (Some a) e = moves-without t.admitted t is
 
-  changed-others : (n q : ℕ) (f : A → A) (xs : List (Numbered A)) → eqb q n ≡ false → item_at q (changed_at n f xs) ≡ item_at q xs
+  pub changed-others : (n q : ℕ) (f : A → A) (xs : List (Numbered A)) → eqb q n ≡ false → item_at q (changed_at n f xs) ≡ item_at q xs
   changed-others n q f [] e = refl
   changed-others n q f (x ∷ xs) e = go (eqb x.0 n) refl (changed-others n q f xs e)
     where
@@ -70,11 +70,11 @@ module _ {A : Type 0} where
     counts = λ test. (let counted = count-moved test n 0 f t.items is.rising in let now : one_if (passes test (item_at n (changed_at n f t.items))) ≡ one_if (passes (λ a. test (f a)) (item_at n t.items)) = ap (λ (o : Option A). one_if (passes test o)) (changed-at n f t.items) ∙ ap one_if (passes-map test f (item_at n t.items)) in omega arith);
   }
 
-  push-others : (n q : ℕ) (xs : List (Numbered A)) (a : A) → eqb q n ≡ false → item_at q (xs ++ (n, a) ∷ []) ≡ item_at q xs
+  pub push-others : (n q : ℕ) (xs : List (Numbered A)) (a : A) → eqb q n ≡ false → item_at q (xs ++ (n, a) ∷ []) ≡ item_at q xs
   push-others n q [] a e = rw e refl
   push-others n q (x ∷ xs) a e = ap (λ (o : Option A). cond (eqb q x.0) (Some x.1) o) (push-others n q xs a e)
 
-  none-above : (most : ℕ) (xs : List (Numbered A)) → AllByRecursion (λ x. x.0 ≤ most) xs → item_at (most + 1) xs ≡ None
+  pub none-above : (most : ℕ) (xs : List (Numbered A)) → AllByRecursion (λ x. x.0 ≤ most) xs → item_at (most + 1) xs ≡ None
   none-above most [] below = refl
   none-above most (x ∷ xs) below =
       let other : eqb (most + 1) x.0 ≡ false = ne_eqb (most + 1) x.0 (λ e. let le = below.0 in omega arith) in

@@ -121,7 +121,7 @@ after-none p [] all = refl
 after-none p (x ∷ xs) all = rw (before_other p x all.0) (after-none p xs all.1)
 
 -- what is there is as all are
-all-in : (P : Pair → Type 0) (q : Pair) (xs : List Pair) → AllByRecursion P xs → is_in q xs ≡ true → P q
+pub all-in : (P : Pair → Type 0) (q : Pair) (xs : List Pair) → AllByRecursion P xs → is_in q xs ≡ true → P q
 all-in P q [] all e = absurd cc
 all-in P q (x ∷ xs) all e = go (is_pair q x) refl e (λ f. all-in P q xs all.1 f)
   where

@@ -34,6 +34,7 @@ mod table;
 mod tally;
 mod timer;
 mod turns;
+mod under_way;
 mod waiter;
 mod waiters;
 
@@ -43,5 +44,6 @@ pub use exchanges::Exchanges;
 pub use ids::Ids;
 pub use table::AdmitError;
 pub use timer::{Fire, Timer};
+pub use under_way::UnderWay;
 pub use waiter::{Waiter, WaiterState};
 pub use waiters::Waiters;

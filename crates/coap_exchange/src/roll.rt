@@ -51,6 +51,13 @@ impl Roll {
         }
     }
 
+    // Does nothing: it lets a proof conclude that no pair is there twice.
+    pub(crate) fn rises(&self)
+        ensures { AreRising self.now.pairs }
+    {
+        let _ = &self.row;
+    }
+
     /// The least number of this owner that is greater than `after`.
     pub(crate) fn next_of(&self, owner: u64, after: u64) -> Option<u64>
         ensures exact { IsNextOf owner after self.now.pairs result }

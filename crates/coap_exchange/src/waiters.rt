@@ -11,7 +11,7 @@ ghost use Rattle.coap_endpoint.specs.declared.endpoint.Endpoint.{Endpoint};
 ghost use Rattle.coap_exchange.specs.Clients.{count_of, AreWithin};
 ghost use Rattle.coap_exchange.specs.Due.{due_row, first_due};
 ghost use Rattle.coap_exchange.specs.Lines.{one_if_at};
-ghost use Rattle.coap_exchange.specs.Marks.{answered_of, marks_at};
+ghost use Rattle.coap_exchange.specs.Marks.{answered_of, end_of, marks_at};
 ghost use Rattle.coap_exchange.specs.Table.{empty_table, item_at, admitted_to, without, withdrawn, changed_at, count, first_that, passes, IsTable};
 ghost use Rattle.coap_exchange.specs.Tally.{tally, AreTallied};
 ghost use Rattle.coap_exchange.specs.Waiters.{awaited_by, changed_by, delivered, due_after, fire_at, fired_waiter, is_of, is_waiting, waits_for, was_sent_as, CanChange, IsDue};
@@ -185,13 +185,52 @@ impl Waiters {
         }
     }
 
+    // Does nothing: it lets a proof conclude that waiters are in order of number.
+    pub(crate) fn stand(&self)
+        ensures { IsTable self.now }
+    {
+        let _ = &self.table;
+    }
+
+    /// The number of the first waiter that waits for the exchange numbered `exchange`.
+    pub(crate) fn first_waiting(&self, exchange: u64) -> Option<u64>
+        ensures exact { result ≡ first_that (waits_for exchange) self.now.items }
+    {
+        self.index.awaited.next_of(exchange, 0)
+    }
+
+    /// The exchange that the waiter numbered `number` waits for, if there is one and it does.
+    pub(crate) fn awaited(&self, number: u64) -> Option<u64>
+        ensures exact { result ≡ awaited_by (item_at number self.now.items) }
+        ensures sound { IsTable self.now }
+    {
+        awaited_by(self.get(number))
+    }
+
+    /// When the first timeout of those that were sent their response ends, in milliseconds, and the
+    /// waiter's number.
+    pub(crate) fn first_end(&self) -> Option<(u64, u64)>
+        ensures exact { result ≡ first_due end_of self.now.items }
+        ensures sound { IsTable self.now }
+    {
+        let _sound = self.table.is_full();
+        self.index.ends.first()
+    }
+
+    /// The most waiters that it can hold.
+    pub(crate) fn limit(&self) -> usize
+        ensures exact { result ≡ self.now.limit }
+    {
+        self.table.limit()
+    }
+
     /// The moment when the first waiter is due, in milliseconds, and its number. If several are due
     /// at the same moment, the one with the least number. A waiter is due when the answer of its
     /// exchange comes, and, once the response was sent, at the end of the current timeout.
     pub fn due(&self, exchanges: &Exchanges) -> Option<(u64, u64)>
         ensures exact { result ≡ first_due (due_after exchanges.now.items) self.now.items }
     {
-        sooner(self.index.ends.first(), self.first_answered(exchanges))
+        sooner(self.first_end(), self.first_answered(exchanges))
     }
 
     /// Which waiter is due first because an answer has come. Those whose answer came first are
@@ -422,7 +461,7 @@ impl Table<Waiter> {
 }
 
 /// Pairs a number with the moment when it is due, if there is a number.
-fn due_at(moment: u64, number: Option<u64>) -> Option<(u64, u64)>
+pub(crate) fn due_at(moment: u64, number: Option<u64>) -> Option<(u64, u64)>
     ensures exact { result ≡ due_at moment number }
 {
     let number = number?;

@@ -1,0 +1,26 @@
+use Rattle.std.proofs.Common.{◌≡◌, ℕ, refl, ap, Option}
+use Rattle.std.specs.Prelude.{Result, Ok, Err, OnErr, OnOk}
+use Rattle.coap_exchange.specs.declared.exchange.Exchange.{Exchange}
+use Rattle.coap_exchange.specs.declared.table.AdmitError.{AdmitError}
+use Rattle.coap_exchange.specs.Exchanges.{opened}
+use Rattle.coap_exchange.specs.Ready.{ready_of, AreReady, Tables}
+use Rattle.coap_exchange.specs.Table.{Table, admitted_to, first_that}
+use Rattle.coap_exchange.specs.Waiters.{waits_for}
+use Rattle.coap_exchange.proofs.Readying.{got-push, ready-same}
+use Rattle.coap_exchange.proofs.under_way.UnderWay.open.Goals as goal
+
+pub invariant_of-self : goal.invariant_of-self
+invariant_of-self c = go c.admit.result c.admit.ensures.ok c.admit.ensures.err
+  where
+    old : Tables
+    old = record { exchanges = c.self.inside.exchanges; waiters = c.self.inside.waiters }
+
+    come : Exchange
+    come = opened c.args.client c.args.key c.args.is_get c.args.form c.args.copy c.args.now
+
+    stays : (ys : Table Exchange) → ys ≡ admitted_to come c.self.inside.exchanges → AreReady (record old { exchanges = ys }) c.self.inside.ready
+    stays ys is = ready-same old (record old { exchanges = ys }) c.self.inside.ready (λ e. ap (λ (at : Option ℕ). ready_of at (first_that (waits_for e) c.self.inside.waiters.items)) (rw is (got-push c.self.inside.exchanges come e c.admit.ensures.sound refl))) refl c.self.invariant
+
+    go : (r : Result ℕ AdmitError) → OnOk r (c.admit.new.self ≡ admitted_to come c.self.inside.exchanges) → OnErr r (c.admit.new.self ≡ c.self.inside.exchanges) → AreReady (record old { exchanges = c.admit.new.self }) c.self.inside.ready
+    go (Ok n) is none = stays c.admit.new.self is
+    go (Err e) none is = rw is c.self.invariant

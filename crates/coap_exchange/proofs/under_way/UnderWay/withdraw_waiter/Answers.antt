@@ -1,0 +1,29 @@
+use Rattle.coap_exchange.specs.Table.{item_at}
+use Rattle.coap_exchange.proofs.Indexing.{withdrawn-gone}
+use Rattle.coap_exchange.proofs.Tables.{withdrawn-limit}
+use Rattle.coap_exchange.specs.Ready.{Tables}
+use Rattle.coap_exchange.proofs.Readying.{waits-gone, withdrawn-others}
+use Rattle.coap_exchange.proofs.Readying.{waiter-elsewhere, waits-its, ready-free, ready-moved, ready-room}
+use Rattle.coap_exchange.proofs.under_way.UnderWay.withdraw_waiter.Goals as goal
+
+pub replace-requires-clause-free : goal.replace-requires-clause-free
+replace-requires-clause-free c =
+    let old : Tables = record { exchanges = c.self.inside.exchanges; waiters = c.self.inside.waiters } in
+    let new : Tables = record { exchanges = c.self.inside.exchanges; waiters = c.withdraw.new.self } in
+    let stays = waiter-elsewhere c.self.inside.waiters.admitted old c.withdraw.new.self c.awaited-exchange.result c.ready_in-was.ensures.sound c.ready_in-is.ensures.sound (λ q e. rw c.withdraw.ensures.exact (withdrawn-others c.self.inside.waiters q e)) (rw (c.awaited-exchange.ensures.exact, c.admitted.ensures.exact) (waits-its (item_at c.self.inside.waiters.admitted c.self.inside.waiters.items))) (rw c.withdraw.ensures.exact (waits-gone c.awaited-exchange.result _ (withdrawn-gone c.self.inside.waiters))) in
+    rw (c.ready_in-was.ensures.exact, c.ready_in-is.ensures.exact) (ready-free old new c.ready_in-was.ensures.sound c.ready_in-is.ensures.sound c.awaited-exchange.result stays c.self.inside.ready c.self.invariant)
+
+pub replace-requires-clause-room : goal.replace-requires-clause-room
+replace-requires-clause-room c =
+    let old : Tables = record { exchanges = c.self.inside.exchanges; waiters = c.self.inside.waiters } in
+    let new : Tables = record { exchanges = c.self.inside.exchanges; waiters = c.withdraw.new.self } in
+    let stays = waiter-elsewhere c.self.inside.waiters.admitted old c.withdraw.new.self c.awaited-exchange.result c.ready_in-was.ensures.sound c.ready_in-is.ensures.sound (λ q e. rw c.withdraw.ensures.exact (withdrawn-others c.self.inside.waiters q e)) (rw (c.awaited-exchange.ensures.exact, c.admitted.ensures.exact) (waits-its (item_at c.self.inside.waiters.admitted c.self.inside.waiters.items))) (rw c.withdraw.ensures.exact (waits-gone c.awaited-exchange.result _ (withdrawn-gone c.self.inside.waiters))) in
+    rw (c.ready_in-was.ensures.exact, c.ready_in-is.ensures.exact) (ready-room old new c.ready_in-was.ensures.sound c.ready_in-is.ensures.sound c.awaited-exchange.result stays c.self.inside.ready c.self.invariant c.rises.ensures (rw c.withdraw.ensures.exact (withdrawn-limit c.self.inside.waiters)))
+
+pub invariant_of-self : goal.invariant_of-self
+invariant_of-self c =
+    let old : Tables = record { exchanges = c.self.inside.exchanges; waiters = c.self.inside.waiters } in
+    let new : Tables = record { exchanges = c.self.inside.exchanges; waiters = c.withdraw.new.self } in
+    let stays = waiter-elsewhere c.self.inside.waiters.admitted old c.withdraw.new.self c.awaited-exchange.result c.ready_in-was.ensures.sound c.ready_in-is.ensures.sound (λ q e. rw c.withdraw.ensures.exact (withdrawn-others c.self.inside.waiters q e)) (rw (c.awaited-exchange.ensures.exact, c.admitted.ensures.exact) (waits-its (item_at c.self.inside.waiters.admitted c.self.inside.waiters.items))) (rw c.withdraw.ensures.exact (waits-gone c.awaited-exchange.result _ (withdrawn-gone c.self.inside.waiters))) in
+    let replaced = rw (c.ready_in-was.ensures.exact, c.ready_in-is.ensures.exact) at c.replace.ensures.replaced in
+    ready-moved old new c.ready_in-was.ensures.sound c.ready_in-is.ensures.sound c.awaited-exchange.result stays c.self.inside.ready c.self.invariant c.replace.new.self replaced c.replace.ensures.limit (rw c.withdraw.ensures.exact (withdrawn-limit c.self.inside.waiters))

@@ -1,0 +1,368 @@
+//! What is under way: exchanges, and the clients that wait for them.
+ghost use Rattle.std.specs.Prelude.{◌≡◌, ◌+◌, ◌-◌, ◌<◌, ◌≤◌, ◌^◌, ◌↔◌, [], true, false, length, OnOk, OnErr, IfOk, IfErr, IfSome};
+ghost use Rattle.coap_exchange.specs.declared.table.AdmitError.TheVariants.{ClientFull, Full};
+ghost use Rattle.coap_exchange.specs.declared.waiter.WaiterState.TheVariants.{Waiting};
+ghost use Rattle.coap_exchange.specs.Due.{first_due};
+ghost use Rattle.coap_exchange.specs.Exchanges.{acked, answered, fire_at, fired_exchange, is_done, is_opened_by, is_queued, is_sent, opened, sent, tainted_by, IsDue};
+ghost use Rattle.coap_exchange.specs.Ready.{ready_in};
+ghost use Rattle.coap_exchange.specs.Table.{item_at, admitted_to, without, withdrawn, changed_at, all_changed, count, IsTable};
+ghost use Rattle.coap_exchange.specs.Waiters.{delivered, due_after, fired_waiter, is_of, is_waiting};
+ghost use Rattle.coap_exchange.specs.Waiters as waiters;
+
+use crate::due::sooner;
+use crate::exchange::Sending;
+use crate::exchanges::Exchanges;
+use crate::roll::Roll;
+use crate::table::AdmitError;
+use crate::timer::{Fire, Timer};
+use crate::waiters::{Waiters, due_at};
+use coap_endpoint::{Endpoint, Target};
+use coap_message::{Kind, OutOfMemory, Pieces, Seq, Token};
+use coap_store::{Answer, CacheKey, Stored};
+use std::alloc::Global;
+use std::marker::Model;
+
+/// Exchanges, and the clients that wait for them. Its calls are those of the two tables; beside
+/// them it knows which waiting client is to be served first, so that none of those whose answers
+/// have come is looked at for that. A contract sees the two tables.
+pub struct UnderWay {
+    exchanges: Exchanges,
+    waiters: Waiters,
+    /// For each exchange whose answer has come, and that a client waits for: the moment when it
+    /// came, and the first of those clients.
+    ready: Roll,
+}
+
+impl Drop for UnderWay {
+    fn drop(self) {
+        let UnderWay {
+            exchanges: _,
+            waiters: _,
+            ready: _,
+        } = self;
+    }
+}
+
+impl Model for UnderWay {
+    ghost use Rattle.coap_exchange.specs.Ready.{Tables, AreReady};
+
+    ghost Value = { Tables };
+
+    ghost view = { λ u. record { exchanges = u.exchanges; waiters = u.waiters } };
+
+    ghost invariant = { λ u.
+        AreReady (record { exchanges = u.exchanges; waiters = u.waiters }) u.ready };
+}
+
+impl UnderWay {
+    /// Two empty tables. Room for all clients that may wait is allocated here.
+    ///
+    /// # Errors
+    /// Out of memory.
+    pub fn new(
+        alloc: Global,
+        exchanges: Exchanges,
+        waiters: Waiters,
+    ) -> Result<UnderWay, OutOfMemory>
+        requires exchanges { exchanges.items ≡ [] }
+        requires waiters { waiters.items ≡ [] }
+        ensures exact { IfOk result (λ under_way.
+            under_way ≡ record { exchanges = exchanges; waiters = waiters }) }
+    {
+        let ready = Roll::new(alloc, waiters.limit())?;
+        Ok(UnderWay {
+            exchanges,
+            waiters,
+            ready,
+        })
+    }
+
+    /// The exchanges.
+    pub fn exchanges(&self) -> &Exchanges
+        ensures exact { result.now ≡ self.now.exchanges }
+    {
+        &self.exchanges
+    }
+
+    /// The clients that wait for them, and those that are being sent a response.
+    pub fn waiters(&self) -> &Waiters
+        ensures exact { result.now ≡ self.now.waiters }
+    {
+        &self.waiters
+    }
+
+    /// The moment when the first waiter is due, in milliseconds, and its number: that of
+    /// `Waiters::due`.
+    pub fn waiter_due(&self) -> Option<(u64, u64)>
+        ensures exact { result
+            ≡ first_due (due_after self.now.exchanges.items) self.now.waiters.items }
+    {
+        sooner(self.waiters.first_end(), self.ready.first())
+    }
+
+    /// Opens an exchange: `Exchanges::admit`.
+    ///
+    /// # Errors
+    /// Those of `Exchanges::admit`. Nothing is changed then.
+    pub fn open(
+        &mut self,
+        client: Endpoint,
+        key: CacheKey,
+        is_get: bool,
+        form: Seq<u8>,
+        copy: Option<Stored>,
+        now: u64,
+    ) -> Result<u64, AdmitError>
+        requires numbers { self.old.exchanges.admitted < 2 ^ 64 - 1 }
+        requires now { now ≤ 2 ^ 62 }
+        ensures number { IfOk result (λ number. number ≡ self.old.exchanges.admitted + 1) }
+        ensures ok { OnOk result
+            (self.new
+            ≡ record self.old {
+              exchanges =
+                  admitted_to (opened client key is_get form copy now) self.old.exchanges;
+            }) }
+        ensures full { IfErr result (λ error.
+            (error ≡ Full)
+            ↔ (length self.old.exchanges.items ≡ self.old.exchanges.limit)) }
+        ensures client_full { IfErr result (λ error.
+            (error ≡ ClientFull)
+            ↔ ((length self.old.exchanges.items < self.old.exchanges.limit)
+            × (count (is_opened_by client) self.old.exchanges.items
+            ≡ self.old.exchanges.per_client))) }
+        ensures err { OnErr result (self.new ≡ self.old) }
+    {
+        self.exchanges.admit(client, key, is_get, form, copy, now)
+    }
+
+    /// Undoes an `open`: `Exchanges::withdraw`.
+    pub fn withdraw_exchange(&mut self)
+        ensures exact { self.new
+            ≡ record self.old { exchanges = withdrawn self.old.exchanges } }
+    {
+        let number = Some(self.exchanges.admitted());
+        self.ready.rises();
+        let was = ready_in(&self.exchanges, &self.waiters, number);
+        self.exchanges.withdraw();
+        let is = ready_in(&self.exchanges, &self.waiters, number);
+        self.ready.replace(was, is);
+    }
+
+    /// `Exchanges::send`.
+    pub fn send(&mut self, number: u64, sending: Sending)
+        requires queued { IfSome (item_at number self.old.exchanges.items)
+            (λ x. is_queued x ≡ true) }
+        requires short { sending.timer.timeout ≤ 3000 }
+        ensures sent { self.new
+            ≡ record self.old {
+              exchanges =
+                  record self.old.exchanges {
+                    items = changed_at number (sent sending) self.old.exchanges.items;
+                  };
+            } }
+    {
+        self.exchanges.send(number, sending);
+    }
+
+    /// `Exchanges::fire`.
+    pub fn fire(&mut self, number: u64, now: u64) -> Fire
+        requires due { IfSome (item_at number self.old.exchanges.items) (IsDue now) }
+        requires now { now ≤ 2 ^ 62 }
+        ensures exact { result ≡ fire_at now (item_at number self.old.exchanges.items) }
+        ensures fired { self.new
+            ≡ record self.old {
+              exchanges =
+                  record self.old.exchanges {
+                    items = changed_at number (fired_exchange now) self.old.exchanges.items;
+                  };
+            } }
+    {
+        self.exchanges.fire(number, now)
+    }
+
+    /// `Exchanges::acked`.
+    pub fn acked(&mut self, number: u64)
+        requires sent { IfSome (item_at number self.old.exchanges.items) (λ x. is_sent x ≡ true) }
+        ensures acked { self.new
+            ≡ record self.old {
+              exchanges =
+                  record self.old.exchanges {
+                    items = changed_at number acked self.old.exchanges.items;
+                  };
+            } }
+    {
+        self.exchanges.acked(number);
+    }
+
+    /// `Exchanges::answered`. The first client that waits for it is then to be served.
+    pub fn answered(&mut self, number: u64, answer: Answer)
+        requires open { IfSome (item_at number self.old.exchanges.items)
+            (λ x. is_done x ≡ false) }
+        ensures answered { self.new
+            ≡ record self.old {
+              exchanges =
+                  record self.old.exchanges {
+                    items = changed_at number (answered answer) self.old.exchanges.items;
+                  };
+            } }
+    {
+        self.ready.rises();
+        let was = ready_in(&self.exchanges, &self.waiters, Some(number));
+        self.exchanges.answered(number, answer);
+        let is = ready_in(&self.exchanges, &self.waiters, Some(number));
+        self.ready.replace(was, is);
+    }
+
+    /// `Exchanges::taint`.
+    pub fn taint(&mut self, target: &Target)
+        ensures tainted { self.new
+            ≡ record self.old {
+              exchanges =
+                  record self.old.exchanges {
+                    items = all_changed (tainted_by target.now) self.old.exchanges.items;
+                  };
+            } }
+    {
+        self.exchanges.taint(target);
+    }
+
+    /// Removes an exchange: `Exchanges::close`.
+    pub fn close(&mut self, number: u64)
+        ensures closed { self.new
+            ≡ record self.old {
+              exchanges =
+                  record self.old.exchanges {
+                    items = without number self.old.exchanges.items;
+                  };
+            } }
+    {
+        self.ready.rises();
+        let was = ready_in(&self.exchanges, &self.waiters, Some(number));
+        self.exchanges.close(number);
+        let is = ready_in(&self.exchanges, &self.waiters, Some(number));
+        self.ready.replace(was, is);
+    }
+
+    /// Has a client wait for an exchange: `Waiters::admit`.
+    ///
+    /// # Errors
+    /// Those of `Waiters::admit`. Nothing is changed then.
+    pub fn join(
+        &mut self,
+        client: Endpoint,
+        kind: Kind,
+        token: Token,
+        tags: Pieces,
+        exchange: u64,
+    ) -> Result<u64, AdmitError>
+        requires { self.old.waiters.admitted < 2 ^ 64 - 1 }
+        ensures number { IfOk result (λ number. number ≡ self.old.waiters.admitted + 1) }
+        ensures ok { OnOk result
+            (self.new
+            ≡ record self.old {
+              waiters =
+                  admitted_to
+                  (record {
+                    client = client;
+                    kind = kind;
+                    token = token;
+                    tags = tags;
+                    state = Waiting exchange;
+                  })
+                  self.old.waiters;
+            }) }
+        ensures full { IfErr result (λ error.
+            (error ≡ Full) ↔ (length self.old.waiters.items ≡ self.old.waiters.limit)) }
+        ensures client_full { IfErr result (λ error.
+            (error ≡ ClientFull)
+            ↔ ((length self.old.waiters.items < self.old.waiters.limit)
+            × (count (is_of client) self.old.waiters.items ≡ self.old.waiters.per_client))) }
+        ensures err { OnErr result (self.new ≡ self.old) }
+    {
+        self.ready.rises();
+        let was = ready_in(&self.exchanges, &self.waiters, Some(exchange));
+        let number = self.waiters.admit(client, kind, token, tags, exchange)?;
+        let is = ready_in(&self.exchanges, &self.waiters, Some(exchange));
+        self.ready.replace(was, is);
+        Ok(number)
+    }
+
+    /// Undoes a `join`: `Waiters::withdraw`.
+    pub fn withdraw_waiter(&mut self)
+        ensures exact { self.new ≡ record self.old { waiters = withdrawn self.old.waiters } }
+    {
+        let exchange = self.waiters.awaited(self.waiters.admitted());
+        self.ready.rises();
+        let was = ready_in(&self.exchanges, &self.waiters, exchange);
+        self.waiters.withdraw();
+        let is = ready_in(&self.exchanges, &self.waiters, exchange);
+        self.ready.replace(was, is);
+    }
+
+    /// Removes a client: `Waiters::close`.
+    pub fn close_waiter(&mut self, number: u64)
+        ensures closed { self.new
+            ≡ record self.old {
+              waiters =
+                  record self.old.waiters { items = without number self.old.waiters.items };
+            } }
+    {
+        let exchange = self.waiters.awaited(number);
+        self.ready.rises();
+        let was = ready_in(&self.exchanges, &self.waiters, exchange);
+        self.waiters.close(number);
+        let is = ready_in(&self.exchanges, &self.waiters, exchange);
+        self.ready.replace(was, is);
+    }
+
+    /// `Waiters::deliver`.
+    pub fn deliver(&mut self, number: u64, bytes: Seq<u8>, id: u16, timer: Timer)
+        requires waiting { IfSome (item_at number self.old.waiters.items)
+            (λ w. is_waiting w ≡ true) }
+        requires short { timer.timeout ≤ 3000 }
+        ensures delivered { self.new
+            ≡ record self.old {
+              waiters =
+                  record self.old.waiters {
+                    items = changed_at number (delivered bytes id timer) self.old.waiters.items;
+                  };
+            } }
+    {
+        let exchange = self.waiters.awaited(number);
+        self.ready.rises();
+        let was = ready_in(&self.exchanges, &self.waiters, exchange);
+        self.waiters.deliver(number, bytes, id, timer);
+        let is = ready_in(&self.exchanges, &self.waiters, exchange);
+        self.ready.replace(was, is);
+    }
+
+    /// `Waiters::fire`.
+    pub fn fire_waiter(&mut self, number: u64, now: u64) -> Fire
+        requires due { IfSome (item_at number self.old.waiters.items) (waiters.IsDue now) }
+        requires now { now ≤ 2 ^ 62 }
+        ensures exact { result ≡ waiters.fire_at now (item_at number self.old.waiters.items) }
+        ensures fired { self.new
+            ≡ record self.old {
+              waiters =
+                  record self.old.waiters {
+                    items = changed_at number (fired_waiter now) self.old.waiters.items;
+                  };
+            } }
+    {
+        self.waiters.stand();
+        self.waiters.fire(number, now)
+    }
+}
+
+/// The moment when the answer of an exchange came, and the first client that waits for it, if there
+/// is an exchange, an answer and a client.
+fn ready_in(exchanges: &Exchanges, waiters: &Waiters, number: Option<u64>) -> Option<(u64, u64)>
+    ensures exact { result
+        ≡ ready_in (record { exchanges = exchanges.now; waiters = waiters.now }) number }
+    ensures sound { IsTable waiters.now }
+{
+    waiters.stand();
+    let number = number?;
+    let answer = exchanges.answer_of(number)?;
+    due_at(answer.got, waiters.first_waiting(number))
+}
