@@ -24,7 +24,8 @@ impl<S: Store + Drop> World<S> {
             out.old out.new self.new }
     {
         let id = arrival.message.id();
-        match self.exchanges.sent_as(arrival.from, id, arrival.now) {
+        let exchanges = self.under_way.exchanges();
+        match exchanges.sent_as(arrival.from, id, arrival.now) {
             Some(number) => self.on_sent(arrival, number, out),
             None => self.on_client(arrival, out),
         }
@@ -40,7 +41,7 @@ impl<S: Store + Drop> World<S> {
             (item_at number self.old.exchanges))
             result out.old out.new self.new }
     {
-        let Some(exchange) = self.exchanges.get(number) else {
+        let Some(exchange) = self.under_way.exchange(number) else {
             return self.on_client(arrival, out);
         };
         if !exchange.is_sent() {
@@ -59,7 +60,7 @@ impl<S: Store + Drop> World<S> {
         requires sent { IsSentAt number self.old.exchanges }
         ensures { Does (acknowledges self.old now number) result out.old out.new self.new }
     {
-        self.exchanges.acked(number);
+        self.under_way.acked(number);
         out.clear();
         self.pass(now);
         silent(Outcome::Acked)
@@ -72,7 +73,7 @@ impl<S: Store + Drop> World<S> {
         requires sent { IsSentAt number self.old.exchanges }
         ensures { Does (resets self.old now number) result out.old out.new self.new }
     {
-        self.exchanges
+        self.under_way
             .answered(number, bad_gateway(self.alloc, now));
         out.clear();
         self.pass(now);
@@ -88,7 +89,8 @@ impl<S: Store + Drop> World<S> {
             self.new }
     {
         let id = arrival.message.id();
-        match self.waiters.sent_as(arrival.from, id, arrival.now) {
+        let waiters = self.under_way.waiters();
+        match waiters.sent_as(arrival.from, id, arrival.now) {
             Some(number) => self.close_client(arrival.now, number, out),
             None => self.ignore(arrival.now, out),
         }
@@ -99,7 +101,7 @@ impl<S: Store + Drop> World<S> {
         requires { CanGoOn self.old }
         ensures { Does (closes self.old now number) result out.old out.new self.new }
     {
-        self.waiters.close(number);
+        self.under_way.close_waiter(number);
         out.clear();
         self.pass(now);
         silent(Outcome::Acked)

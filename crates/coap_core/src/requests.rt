@@ -238,7 +238,7 @@ impl<S: Store + Drop> World<S> {
             (held_for self.old arrival.entry.message.now asked.now.key)))
             result out.old out.new self.old self.new }
     {
-        match self.exchanges.joinable(&asked.key) {
+        match self.under_way.exchanges().joinable(&asked.key) {
             Some(exchange) => self.on_joinable(arrival, exchange, asked, out),
             None => self.on_wanted(arrival, asked, out),
         }
@@ -419,7 +419,7 @@ impl<S: Store + Drop> World<S> {
             request.now 0)) }
         ensures kept { out.new.room ≡ out.old.room }
     {
-        let token = token_of(self.salt, self.exchanges.admitted() + 1);
+        let token = token_of(self.salt, self.under_way.exchanges().admitted() + 1);
         let room = self.limits.values().datagram as usize;
         put_forwarded(&token, request, target, tag, out, room)
     }
@@ -537,24 +537,24 @@ impl<S: Store + Drop> World<S> {
         let to_get = is_get(arrival.message.code());
         let client = arrival.from;
         let Ok(number) = self
-            .exchanges
-            .admit(client, key, to_get, form, copy, arrival.now)
+            .under_way
+            .open(client, key, to_get, form, copy, arrival.now)
         else {
             return Err(OutOfMemory);
         };
         let (kind, token) = (arrival.message.kind(), Token::new(arrival.message.token()));
         if self
-            .waiters
-            .admit(arrival.from, kind, token, tags, number)
+            .under_way
+            .join(arrival.from, kind, token, tags, number)
             .is_err()
         {
-            self.exchanges.withdraw();
+            self.under_way.withdraw_exchange();
             return Err(OutOfMemory);
         }
         let done = self.take_up_request(arrival, Outcome::Opened, out);
         if done.is_err() {
-            self.waiters.withdraw();
-            self.exchanges.withdraw();
+            self.under_way.withdraw_waiter();
+            self.under_way.withdraw_exchange();
         }
         done
     }
@@ -578,15 +578,15 @@ impl<S: Store + Drop> World<S> {
     {
         let (kind, token) = (arrival.message.kind(), Token::new(arrival.message.token()));
         if self
-            .waiters
-            .admit(arrival.from, kind, token, tags, exchange)
+            .under_way
+            .join(arrival.from, kind, token, tags, exchange)
             .is_err()
         {
             return Err(OutOfMemory);
         }
         let done = self.take_up_request(arrival, Outcome::Joined, out);
         if done.is_err() {
-            self.waiters.withdraw();
+            self.under_way.withdraw_waiter();
         }
         done
     }

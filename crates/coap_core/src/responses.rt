@@ -212,7 +212,7 @@ impl<S: Store + Drop> World<S> {
         ensures open { IfSome result (λ number. IsOpenAt number self.now.exchanges) }
     {
         let number = number_of(self.salt, response.token())?;
-        let exchange = self.exchanges.get(number)?;
+        let exchange = self.under_way.exchange(number)?;
         if awaits(exchange, source, response) {
             Some(number)
         } else {
@@ -240,7 +240,7 @@ impl<S: Store + Drop> World<S> {
         ensures kept { out.new.room ≡ out.old.room }
     {
         self.is_wide();
-        let Some(exchange) = self.exchanges.get(number) else {
+        let Some(exchange) = self.under_way.exchange(number) else {
             return Ok(self.ignore(arrival.now, out));
         };
         let answer = self.answer_made(arrival.now, exchange, arrival.message)?;
@@ -249,7 +249,7 @@ impl<S: Store + Drop> World<S> {
         let send = self.take_up(arrival, out)?;
         self.change_all(&changed);
         let storing = self.keep(entry);
-        self.exchanges.answered(number, answer);
+        self.under_way.answered(number, answer);
         self.pass(arrival.now);
         Ok(Report {
             send,
@@ -347,7 +347,7 @@ impl<S: Store + Drop> World<S> {
         ensures { self.new ≡ with_changed (target.now ∷ []) self.old }
     {
         self.store.mark(target);
-        self.exchanges.taint(target);
+        self.under_way.taint(target);
     }
 
     /// Stores an entry in place of the one with its key, if there is an entry to store.

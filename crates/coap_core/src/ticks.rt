@@ -67,9 +67,10 @@ impl<S: Store + Drop> World<S> {
     {
         let limits = self.limits.values();
         let exchange = self
-            .exchanges
+            .under_way
+            .exchanges()
             .due(limits.nstart as usize, limits.exchange_ms);
-        match (exchange, self.waiters.due(&self.exchanges)) {
+        match (exchange, self.under_way.waiter_due()) {
             (Some((at, number)), Some((other, client))) => {
                 if at <= other {
                     Some(DueItem::OfExchange { at, number })
@@ -110,7 +111,7 @@ impl<S: Store + Drop> World<S> {
         ensures { Does (on_exchange self.old now draw number (item_at number self.old.exchanges))
             result out.old out.new self.new }
     {
-        let Some(exchange) = self.exchanges.get(number) else {
+        let Some(exchange) = self.under_way.exchange(number) else {
             return self.idle(now, out);
         };
         if self.is_late(now, exchange) {
@@ -140,13 +141,13 @@ impl<S: Store + Drop> World<S> {
         requires fits { length (sending_at self.old now draw number).bytes ≤ out.old.room }
         ensures { Does (sending_at self.old now draw number) result out.old out.new self.new }
     {
-        let Some(exchange) = self.exchanges.get(number) else {
+        let Some(exchange) = self.under_way.exchange(number) else {
             return self.idle(now, out);
         };
         let to = exchange.key.target.at;
         let (asked, timer) = (self.events, Timer::start(now, draw));
         let id = self.take_id(now);
-        self.exchanges.send(number, Sending { asked, id, timer });
+        self.under_way.send(number, Sending { asked, id, timer });
         self.put_form(number, out);
         self.pass(now);
         Report {
@@ -163,11 +164,11 @@ impl<S: Store + Drop> World<S> {
         requires fits { length (firing_at self.old now number).bytes ≤ out.old.room }
         ensures { Does (firing_at self.old now number) result out.old out.new self.new }
     {
-        let Some(exchange) = self.exchanges.get(number) else {
+        let Some(exchange) = self.under_way.exchange(number) else {
             return self.idle(now, out);
         };
         let to = exchange.key.target.at;
-        match self.exchanges.fire(number, now) {
+        match self.under_way.fire(number, now) {
             Fire::Again => {
                 self.put_form(number, out);
                 self.pass(now);
@@ -186,7 +187,7 @@ impl<S: Store + Drop> World<S> {
         ensures { out.new ≡ holding out.old (form_at number self.now.exchanges) }
     {
         out.clear();
-        if let Some(exchange) = self.exchanges.get(number) {
+        if let Some(exchange) = self.under_way.exchange(number) {
             out.put(exchange.form.as_slice());
         }
     }
@@ -198,7 +199,7 @@ impl<S: Store + Drop> World<S> {
         requires open { IfSome (item_at number self.old.exchanges) (λ x. is_done x ≡ false) }
         ensures { Does (gives_up self.old now number) result out.old out.new self.new }
     {
-        self.exchanges
+        self.under_way
             .answered(number, gateway_timeout(self.alloc, now));
         out.clear();
         self.pass(now);
@@ -227,7 +228,7 @@ impl<S: Store + Drop> World<S> {
         ensures memory { OnErr result (GivesConfirmable
             (on_waiter self.old now draw number (item_at number self.old.waiters))) }
     {
-        let Some(waiter) = self.waiters.get(number) else {
+        let Some(waiter) = self.under_way.waiter(number) else {
             return Ok(self.idle(now, out));
         };
         match &waiter.state {
@@ -261,10 +262,10 @@ impl<S: Store + Drop> World<S> {
         ensures memory { OnErr result
             (GivesConfirmable (delivery_at self.old now draw number exchange)) }
     {
-        let Some(waiter) = self.waiters.get(number) else {
+        let Some(waiter) = self.under_way.waiter(number) else {
             return Ok(self.idle(now, out));
         };
-        let Some(awaited) = self.exchanges.get(exchange) else {
+        let Some(awaited) = self.under_way.exchange(exchange) else {
             return Ok(self.idle(now, out));
         };
         let Some(answer) = awaited.answer() else {
@@ -308,9 +309,9 @@ impl<S: Store + Drop> World<S> {
             Kind::Con => {
                 let bytes = Seq::from_slice(self.alloc, out.bytes())?;
                 let (id, timer) = (self.next_id(), Timer::start(now, draw));
-                self.waiters.deliver(number, bytes, id, timer);
+                self.under_way.deliver(number, bytes, id, timer);
             }
-            Kind::Non | Kind::Ack | Kind::Rst => self.waiters.close(number),
+            Kind::Non | Kind::Ack | Kind::Rst => self.under_way.close_waiter(number),
         }
         Ok(())
     }
@@ -322,8 +323,8 @@ impl<S: Store + Drop> World<S> {
               exchanges = without_idle exchange self.old.waiters self.old.exchanges;
             } }
     {
-        if self.waiters.waiting_for(exchange) == 0 {
-            self.exchanges.close(exchange);
+        if self.under_way.waiters().waiting_for(exchange) == 0 {
+            self.under_way.close(exchange);
         }
     }
 
@@ -335,11 +336,11 @@ impl<S: Store + Drop> World<S> {
         requires fits { length (unheard_at self.old now number).bytes ≤ out.old.room }
         ensures { Does (unheard_at self.old now number) result out.old out.new self.new }
     {
-        let Some(waiter) = self.waiters.get(number) else {
+        let Some(waiter) = self.under_way.waiter(number) else {
             return self.idle(now, out);
         };
         let client = waiter.client;
-        match self.waiters.fire(number, now) {
+        match self.under_way.fire_waiter(number, now) {
             Fire::GiveUp => self.abandon(now, number, out),
             Fire::Again => {
                 self.put_answer(number, out);
@@ -358,7 +359,7 @@ impl<S: Store + Drop> World<S> {
         ensures { out.new ≡ holding out.old (answer_at number self.now.waiters) }
     {
         out.clear();
-        let Some(waiter) = self.waiters.get(number) else {
+        let Some(waiter) = self.under_way.waiter(number) else {
             return;
         };
         if let WaiterState::Delivering { bytes, .. } = &waiter.state {
@@ -371,7 +372,7 @@ impl<S: Store + Drop> World<S> {
         requires { self.old.events < 2 ^ 63 }
         ensures { Does (abandons self.old now number) result out.old out.new self.new }
     {
-        self.waiters.close(number);
+        self.under_way.close_waiter(number);
         out.clear();
         self.pass(now);
         silent(Outcome::GaveUp)

@@ -10,7 +10,7 @@ ghost use Rattle.coap_core.specs.Steps.{CanGoOn, CanStep};
 use crate::request_target::CacheQuery;
 use coap_dedup::{EXCHANGE_LIFETIME, NON_LIFETIME, Records};
 use coap_endpoint::Endpoint;
-use coap_exchange::{Exchanges, Ids, Waiters};
+use coap_exchange::{Exchanges, Ids, UnderWay, Waiters};
 use coap_message::OutOfMemory;
 use coap_model::{ClientCounts, Counts, Limits, Outcome, Report};
 use coap_store::Store;
@@ -25,8 +25,8 @@ pub(crate) struct World<S: Store> {
     pub(crate) limits: Limits,
     pub(crate) routes: Routes,
     pub(crate) salt: u64,
-    pub(crate) exchanges: Exchanges,
-    pub(crate) waiters: Waiters,
+    /// Exchanges, and the clients that wait for them.
+    pub(crate) under_way: UnderWay,
     pub(crate) store: S,
     /// Room for what the next request asks for, which never grows.
     pub(crate) room: CacheQuery,
@@ -46,8 +46,7 @@ impl<S: Store + Drop> Drop for World<S> {
             limits: _,
             routes: _,
             salt: _,
-            exchanges: _,
-            waiters: _,
+            under_way: _,
             store: _,
             room: _,
             con_records: _,
@@ -71,22 +70,23 @@ impl<S: Store> Model for World<S> {
     ghost view = { λ w.
         record {
           setting = setting_of w.limits w.routes w.first_id w.salt;
-          exchanges = w.exchanges.items;
-          waiters = w.waiters.items;
+          exchanges = w.under_way.exchanges.items;
+          waiters = w.under_way.waiters.items;
           store = S.entries w.store;
           con_records = w.con_records;
           non_records = w.non_records;
-          opened = w.exchanges.admitted;
-          admitted = w.waiters.admitted;
+          opened = w.under_way.exchanges.admitted;
+          admitted = w.under_way.waiters.admitted;
           ids = w.ids;
           last = w.last;
           events = w.events;
         } };
 
     ghost invariant = { λ w.
-        (w.exchanges.limit ≡ w.limits.exchanges) × (w.waiters.limit ≡ w.limits.waiters)
-        × (w.exchanges.per_client ≡ w.limits.client_exchanges)
-        × (w.waiters.per_client ≡ w.limits.client_waiters)
+        (w.under_way.exchanges.limit ≡ w.limits.exchanges)
+        × (w.under_way.waiters.limit ≡ w.limits.waiters)
+        × (w.under_way.exchanges.per_client ≡ w.limits.client_exchanges)
+        × (w.under_way.waiters.per_client ≡ w.limits.client_waiters)
         × AreStoreLimits w.limits (S.limits w.store) };
 }
 
@@ -108,15 +108,14 @@ impl<S: Store + Drop> World<S> {
         let (bytes, entries) = (limits.values().cache_bytes, limits.values().cache_entries);
         let store = S::with_limits(alloc, seed, bytes, entries as usize)?;
         let (con_records, non_records) = new_records(alloc, &limits, salt)?;
-        let (exchanges, waiters) = new_tables(alloc, &limits, salt)?;
+        let under_way = new_tables(alloc, &limits, salt)?;
         let room = new_room(alloc, &limits, &routes)?;
         Ok(World {
             alloc,
             limits,
             routes,
             salt,
-            exchanges,
-            waiters,
+            under_way,
             store,
             room,
             con_records,
@@ -176,7 +175,7 @@ impl<S: Store + Drop> World<S> {
         requires { CanGoOn self.now }
         ensures { result ≡ reserved self.now }
     {
-        self.waiters.waiting() as u64 + self.exchanges.queued() as u64
+        self.under_way.waiters().waiting() as u64 + self.under_way.exchanges().queued() as u64
     }
 
     /// Whether `count` Message IDs are free at this moment.
@@ -192,16 +191,18 @@ impl<S: Store + Drop> World<S> {
     fn has_exchange_room(&self, client: Endpoint) -> bool
         ensures { result ≡ has_exchange_room self.now client }
     {
-        (self.exchanges.len() as u64) < self.limits.values().exchanges
-            && (self.exchanges.count_of(client) as u64) < self.limits.values().client_exchanges
+        (self.under_way.exchanges().len() as u64) < self.limits.values().exchanges
+            && (self.under_way.exchanges().count_of(client) as u64)
+                < self.limits.values().client_exchanges
     }
 
     /// Whether there is room for one more request of this client to wait.
     fn has_waiter_room(&self, client: Endpoint) -> bool
         ensures { result ≡ has_waiter_room self.now client }
     {
-        (self.waiters.len() as u64) < self.limits.values().waiters
-            && (self.waiters.count_of(client) as u64) < self.limits.values().client_waiters
+        (self.under_way.waiters().len() as u64) < self.limits.values().waiters
+            && (self.under_way.waiters().count_of(client) as u64)
+                < self.limits.values().client_waiters
     }
 
     /// Whether this client may wait for an exchange that is in progress.
@@ -227,8 +228,8 @@ impl<S: Store + Drop> World<S> {
         ClientCounts {
             con_records: self.con_records.living_of(client, self.last) as u64,
             non_records: self.non_records.living_of(client, self.last) as u64,
-            exchanges: self.exchanges.count_of(client) as u64,
-            waiters: self.waiters.count_of(client) as u64,
+            exchanges: self.under_way.exchanges().count_of(client) as u64,
+            waiters: self.under_way.waiters().count_of(client) as u64,
         }
     }
 
@@ -241,8 +242,8 @@ impl<S: Store + Drop> World<S> {
             entries: self.store.len() as u64,
             con_records: self.con_records.living(self.last) as u64,
             non_records: self.non_records.living(self.last) as u64,
-            exchanges: self.exchanges.len() as u64,
-            waiters: self.waiters.len() as u64,
+            exchanges: self.under_way.exchanges().len() as u64,
+            waiters: self.under_way.waiters().len() as u64,
         }
     }
 }
@@ -257,21 +258,17 @@ fn new_room(alloc: Global, limits: &Limits, routes: &Routes) -> Result<CacheQuer
 }
 
 /// Empty tables of exchanges and of waiters, with room for as many as the limits say.
-fn new_tables(
-    alloc: Global,
-    limits: &Limits,
-    seed: u64,
-) -> Result<(Exchanges, Waiters), OutOfMemory>
+fn new_tables(alloc: Global, limits: &Limits, seed: u64) -> Result<UnderWay, OutOfMemory>
     ensures exchanges { IfOk result (λ made.
-        made.0 ≡ empty_table limits.now.exchanges limits.now.client_exchanges) }
+        made.exchanges ≡ empty_table limits.now.exchanges limits.now.client_exchanges) }
     ensures waiters { IfOk result (λ made.
-        made.1 ≡ empty_table limits.now.waiters limits.now.client_waiters) }
+        made.waiters ≡ empty_table limits.now.waiters limits.now.client_waiters) }
 {
     let (all, per_client) = (limits.values().exchanges, limits.values().client_exchanges);
     let exchanges = Exchanges::seeded(alloc, all as usize, per_client as usize, seed)?;
     let (all, per_client) = (limits.values().waiters, limits.values().client_waiters);
     let waiters = Waiters::seeded(alloc, all as usize, per_client as usize, seed)?;
-    Ok((exchanges, waiters))
+    UnderWay::new(alloc, exchanges, waiters)
 }
 
 /// Empty records, with room for as many as the limits say.

@@ -2,17 +2,24 @@
 ghost use Rattle.std.specs.Prelude.{◌≡◌};
 ghost use Rattle.coap_exchange.specs.Digests.{digest_of_endpoint, digest_of_key, digest_of_target};
 
-use coap_endpoint::{Endpoint, Target};
+use coap_endpoint::{Endpoint, Ip, Target};
 use coap_store::CacheKey;
 use std::hash::{DefaultHasher, Hash, Hasher};
 
-/// The digest of an endpoint. Equal endpoints have equal digests.
+/// The digest of an endpoint: its IPv4 address and its port as one number, or else what a hasher
+/// makes of them. Equal endpoints have equal digests.
 pub(crate) fn digest_of_endpoint(at: &Endpoint) -> u64
     ensures exact { result ≡ digest_of_endpoint at.now }
 {
-    let mut hasher = DefaultHasher::new();
-    at.hash(&mut hasher);
-    hasher.finish()
+    let port = u64::from(at.port);
+    match at.ip {
+        Ip::V4(octets) => u64::from(u32::from_be_bytes(octets)) * 0x1_0000 + port,
+        Ip::V6(_) => {
+            let mut hasher = DefaultHasher::new();
+            at.hash(&mut hasher);
+            hasher.finish()
+        }
+    }
 }
 
 /// The digest of a cache key. Equal keys have equal digests.

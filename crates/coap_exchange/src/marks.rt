@@ -4,7 +4,6 @@ ghost use Rattle.std.specs.Option.{option_copied};
 ghost use Rattle.coap_exchange.specs.Marks.{marks_at, CanPassMarks, HavePassedMarks};
 ghost use Rattle.coap_exchange.specs.Roll.{empty_roll};
 
-use crate::buckets::Buckets;
 use crate::roll::Roll;
 use crate::waiter::{Waiter, WaiterState};
 use coap_message::OutOfMemory;
@@ -14,9 +13,9 @@ use std::alloc::Global;
 #[derive(Drop)]
 pub(crate) struct WaiterIndex {
     /// Those that wait, by the exchange that they wait for.
-    pub(crate) awaited: Buckets,
+    pub(crate) awaited: Roll,
     /// Those that were sent their response, by its Message ID.
-    pub(crate) ids: Buckets,
+    pub(crate) ids: Roll,
     /// The same, by the end of the current timeout.
     pub(crate) ends: Roll,
 }
@@ -43,8 +42,8 @@ impl WaiterIndex {
         ensures ends { IfOk result (λ index. index.ends ≡ empty_roll limit) }
     {
         Ok(WaiterIndex {
-            awaited: Buckets::new(alloc, limit)?,
-            ids: Buckets::new(alloc, limit)?,
+            awaited: Roll::new(alloc, limit)?,
+            ids: Roll::new(alloc, limit)?,
             ends: Roll::new(alloc, limit)?,
         })
     }

@@ -1,20 +1,24 @@
 //! What is under way: exchanges, and the clients that wait for them.
 ghost use Rattle.std.specs.Prelude.{◌≡◌, ◌+◌, ◌-◌, ◌<◌, ◌≤◌, ◌^◌, ◌↔◌, [], true, false, length, OnOk, OnErr, IfOk, IfErr, IfSome};
+ghost use Rattle.std.specs.Option.{option_copied};
+ghost use Rattle.coap_exchange.specs.declared.exchange.Exchange.{Exchange};
+ghost use Rattle.coap_exchange.specs.declared.waiter.Waiter.{Waiter};
 ghost use Rattle.coap_exchange.specs.declared.table.AdmitError.TheVariants.{ClientFull, Full};
 ghost use Rattle.coap_exchange.specs.declared.waiter.WaiterState.TheVariants.{Waiting};
 ghost use Rattle.coap_exchange.specs.Due.{first_due};
 ghost use Rattle.coap_exchange.specs.Exchanges.{acked, answered, fire_at, fired_exchange, is_done, is_opened_by, is_queued, is_sent, opened, sent, tainted_by, IsDue};
 ghost use Rattle.coap_exchange.specs.Ready.{ready_in};
-ghost use Rattle.coap_exchange.specs.Table.{item_at, admitted_to, without, withdrawn, changed_at, all_changed, count, IsTable};
+ghost use Rattle.coap_exchange.specs.Table.{Table, item_at, admitted_to, without, withdrawn, changed_at, all_changed, count, IsTable};
 ghost use Rattle.coap_exchange.specs.Waiters.{delivered, due_after, fired_waiter, is_of, is_waiting};
 ghost use Rattle.coap_exchange.specs.Waiters as waiters;
 
 use crate::due::sooner;
-use crate::exchange::Sending;
+use crate::exchange::{Exchange, Sending};
 use crate::exchanges::Exchanges;
 use crate::roll::Roll;
 use crate::table::AdmitError;
 use crate::timer::{Fire, Timer};
+use crate::waiter::Waiter;
 use crate::waiters::{Waiters, due_at};
 use coap_endpoint::{Endpoint, Target};
 use coap_message::{Kind, OutOfMemory, Pieces, Seq, Token};
@@ -91,6 +95,22 @@ impl UnderWay {
         &self.waiters
     }
 
+    /// The exchange numbered `number`: `Exchanges::get`.
+    pub fn exchange(&self, number: u64) -> Option<&Exchange>
+        ensures exact { option_copied result ≡ item_at number self.now.exchanges.items }
+        ensures sound { IsTable self.now.exchanges }
+    {
+        self.exchanges.get(number)
+    }
+
+    /// The waiter numbered `number`: `Waiters::get`.
+    pub fn waiter(&self, number: u64) -> Option<&Waiter>
+        ensures exact { option_copied result ≡ item_at number self.now.waiters.items }
+        ensures sound { IsTable self.now.waiters }
+    {
+        self.waiters.get(number)
+    }
+
     /// The moment when the first waiter is due, in milliseconds, and its number: that of
     /// `Waiters::due`.
     pub fn waiter_due(&self) -> Option<(u64, u64)>
@@ -131,6 +151,7 @@ impl UnderWay {
             × (count (is_opened_by client) self.old.exchanges.items
             ≡ self.old.exchanges.per_client))) }
         ensures err { OnErr result (self.new ≡ self.old) }
+        ensures sound { IsTable self.old.exchanges }
     {
         self.exchanges.admit(client, key, is_get, form, copy, now)
     }
@@ -139,6 +160,10 @@ impl UnderWay {
     pub fn withdraw_exchange(&mut self)
         ensures exact { self.new
             ≡ record self.old { exchanges = withdrawn self.old.exchanges } }
+        ensures undone { (before : Table Exchange) (item : Exchange)
+            → IsTable before
+            → self.old.exchanges ≡ admitted_to item before
+            → self.new ≡ record self.old { exchanges = before } }
     {
         let number = Some(self.exchanges.admitted());
         self.ready.rises();
@@ -278,6 +303,7 @@ impl UnderWay {
             ↔ ((length self.old.waiters.items < self.old.waiters.limit)
             × (count (is_of client) self.old.waiters.items ≡ self.old.waiters.per_client))) }
         ensures err { OnErr result (self.new ≡ self.old) }
+        ensures sound { IsTable self.old.waiters }
     {
         self.ready.rises();
         let was = ready_in(&self.exchanges, &self.waiters, Some(exchange));
@@ -290,6 +316,10 @@ impl UnderWay {
     /// Undoes a `join`: `Waiters::withdraw`.
     pub fn withdraw_waiter(&mut self)
         ensures exact { self.new ≡ record self.old { waiters = withdrawn self.old.waiters } }
+        ensures undone { (before : Table Waiter) (item : Waiter)
+            → IsTable before
+            → self.old.waiters ≡ admitted_to item before
+            → self.new ≡ record self.old { waiters = before } }
     {
         let exchange = self.waiters.awaited(self.waiters.admitted());
         self.ready.rises();

@@ -24,10 +24,10 @@ pub returns-in_err-tell-clause-memory : goal.returns-in_err-tell-clause-memory
 returns-in_err-tell-clause-memory g c =
     let w = c.args.self.now in
     let v = c.in-Some.waiter.now in
-    let x = c.in-Some-get.awaited.now in
+    let x = c.in-Some-exchange.awaited.now in
     let a = c.in-Some-answer.answer.now in
     let found : item_at c.args.number w.waiters ≡ Some v = rw (← c.self.view_is) (sym c.in-Some.ensures.exact) in
-    let awaited : item_at c.args.exchange w.exchanges ≡ Some x = rw (← c.self.view_is) (sym c.in-Some-get.ensures.exact) in
+    let awaited : item_at c.args.exchange w.exchanges ≡ Some x = rw (← c.self.view_is) (sym c.in-Some-exchange.ensures.exact) in
     let answer : answer_at x ≡ Some a = sym c.in-Some-answer.ensures.exact in
     let con : is_con v.kind ≡ true = c.in_err-tell.ensures.memory in
     on_err c.from_residual.result (rw (found, awaited, answer) (refl, con-spelled (given_to w c.args.now v x.is_get a) c.is_short.ensures ∙ con))

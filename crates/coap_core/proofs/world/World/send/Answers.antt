@@ -23,7 +23,7 @@ put_form-requires g c =
     let x = c.in-Some.exchange.now in
     let w = c.args.self.now in
     let found : item_at c.args.number w.exchanges ≡ Some x = rw (← c.self.view_is) (sym c.in-Some.ensures.exact) in
-    let items : c.self-2.inside.exchanges.items ≡ w.exchanges = ap (λ (v : World). v.exchanges) (c.self-2.view_is ∙ c.take_id-id.ensures.given) in
+    let items : c.self-2.inside.under_way.exchanges.items ≡ w.exchanges = ap (λ (v : World). v.exchanges) (c.self-2.view_is ∙ c.take_id-id.ensures.given) in
     let s : Sending = record { asked = c.self.inside.events; id = c.take_id-id.result; timer = c.start-timer.result } in
     let form : form_at c.args.number (changed_at c.args.number (sent s) w.exchanges) ≡ (sending_at w c.args.now c.args.draw c.args.number).bytes = sent-form w c.args.now c.args.draw c.args.number s x found c.take_id-id.ensures.id in
     rw (c.send.ensures.sent, items) (subst (λ (b : List ℕ). length b ≤ c.args.out.now.room) (sym form) c.requires.fits)
@@ -34,7 +34,7 @@ returns g c =
     let w = c.args.self.now in
     let v = c.take_id-id.new.self in
     let found : item_at c.args.number w.exchanges ≡ Some x = rw (← c.self.view_is) (sym c.in-Some.ensures.exact) in
-    let items : c.self-2.inside.exchanges.items ≡ w.exchanges = ap (λ (v : World). v.exchanges) (c.self-2.view_is ∙ c.take_id-id.ensures.given) in
+    let items : c.self-2.inside.under_way.exchanges.items ≡ w.exchanges = ap (λ (v : World). v.exchanges) (c.self-2.view_is ∙ c.take_id-id.ensures.given) in
     let s : Sending = record { asked = c.self.inside.events; id = c.take_id-id.result; timer = c.start-timer.result } in
     let asked : c.self.inside.events ≡ w.events = ap (λ (v : World). v.events) c.self.view_is in
     let is : s ≡ record { asked = w.events; id = next_id w; timer = started c.args.now c.args.draw } = λ i. record { asked = asked i; id = c.take_id-id.ensures.id i; timer = c.start-timer.ensures.exact i } in

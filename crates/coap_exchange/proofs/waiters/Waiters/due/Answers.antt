@@ -1,5 +1,4 @@
-use Rattle.std.proofs.Common.{◌≡◌, ◌∙◌, sym}
-use Rattle.coap_exchange.specs.Due.{first_due}
+use Rattle.std.proofs.Common.{◌∙◌, sym}
 use Rattle.coap_exchange.specs.Marks.{answered_of, end_of}
 use Rattle.coap_exchange.specs.Waiters.{due_after}
 use Rattle.coap_exchange.proofs.Dues.{first_due-split}
