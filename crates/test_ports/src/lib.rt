@@ -7,6 +7,10 @@
 mod asked;
 pub mod computed;
 #[cfg(test)]
+mod failing;
+#[cfg(test)]
+mod loopback;
+#[cfg(test)]
 mod ports;
 #[cfg(test)]
 mod sockets;

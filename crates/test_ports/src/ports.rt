@@ -70,13 +70,13 @@ fn failed(stats: Stats) -> Result<Stats, DriveError> {
 }
 
 /// A core that maps `t` to the origin.
-fn core_of(alloc: Global, limits: Limits) -> Result<Core<ListStore>, OutOfMemory> {
+pub(crate) fn core_of(alloc: Global, limits: Limits) -> Result<Core<ListStore>, OutOfMemory> {
     let routes = Routes::fixed(alloc)?;
     Core::new(alloc, (), limits, routes, 1, 0)
 }
 
 /// Drives a core for `turns` turns.
-fn drive_on(
+pub(crate) fn drive_on(
     rt: &impl Abort,
     alloc: Global,
     core: &mut Core<ListStore>,
@@ -100,7 +100,7 @@ fn drive_anew(
 }
 
 /// What was handed over, one line for each datagram.
-fn shown(alloc: Global, handed: &[Handed]) -> Result<String, AllocError> {
+pub(crate) fn shown(alloc: Global, handed: &[Handed]) -> Result<String, AllocError> {
     let mut out = String::new(alloc);
     for datagram in handed {
         write!(out, "{} ", datagram.to.port)?;

@@ -20,14 +20,14 @@ struct Seen {
 
 /// A running core, and the datagram that it writes to.
 #[derive(Drop)]
-struct Run {
+pub(crate) struct Run {
     core: Core<ListStore>,
     out: Datagram,
 }
 
 impl Run {
     /// A core with these limits and the fixed route.
-    fn new(alloc: Global, limits: Limits) -> Result<Run, OutOfMemory> {
+    pub(crate) fn new(alloc: Global, limits: Limits) -> Result<Run, OutOfMemory> {
         let routes = Routes::fixed(alloc)?;
         let core = Core::new(alloc, (), limits, routes, 1, 0)?;
         let out = Datagram::new(alloc, core.datagram())?;
@@ -35,7 +35,12 @@ impl Run {
     }
 
     /// One step.
-    fn step(&mut self, rt: &impl Abort, now: u64, event: Event<'_>) -> Result<Report, OutOfMemory> {
+    pub(crate) fn step(
+        &mut self,
+        rt: &impl Abort,
+        now: u64,
+        event: Event<'_>,
+    ) -> Result<Report, OutOfMemory> {
         assert!(rt; now <= 1 << 62 && self.core.last() <= now);
         assert!(rt; self.core.events() < 1 << 63);
         assert!(rt; self.core.datagram() <= self.out.room());
@@ -43,8 +48,13 @@ impl Run {
     }
 
     /// The bytes that the last step sent.
-    fn sent(&self) -> &[u8] {
+    pub(crate) fn sent(&self) -> &[u8] {
         self.out.bytes()
+    }
+
+    /// How much the core holds.
+    pub(crate) fn counts(&self) -> Counts {
+        self.core.counts()
     }
 
     /// What the core reports about itself.
@@ -134,7 +144,7 @@ fn local(port: u16) -> Endpoint {
 }
 
 /// A datagram from a port of the loopback network.
-fn arrival(port: u16, bytes: &[u8]) -> Event<'_> {
+pub(crate) fn arrival(port: u16, bytes: &[u8]) -> Event<'_> {
     let from = local(port);
     Event::Datagram { from, bytes }
 }
