@@ -1,8 +1,9 @@
 -- Texts that are cut at the first occurrence of a byte.
-use Rattle.std.proofs.Common.{◌≡◌, ◌==◌, ℕ, true, false, List, [], ◌∷◌, ◌++◌, length, drop, Some, None, Option, option_map, refl, sym, ap, ◌∙◌, arith, ⊎_elim, cond, eq-eqb}
+use Rattle.std.proofs.Common.{◌≡◌, ◌==◌, ℕ, true, false, List, [], ◌∷◌, ◌++◌, ◌≤◌, length, drop, Some, None, Option, option_map, refl, sym, ap, ◌∙◌, arith, ⊎_elim, cond, eq-eqb}
 use Rattle.std.specs.List.{All, join_with_byte, slice_split}
 use Rattle.std.specs.Option.{unwrap_or}
 use Rattle.std.proofs.lemmas.Bool.{cases_Bool, eqb-true, or_parts}
+use Rattle.std.proofs.lemmas.List.{length-append}
 use Rattle.std.proofs.lemmas.List.Elements.{All-nil, All-cons}
 use Rattle.std.proofs.lemmas.List.Splits.{join_with_byte-slice_split, length-slice_split, slice_split_at, slice_split_none}
 use Rattle.std.proofs.lemmas.Option.{none-some}
@@ -52,6 +53,12 @@ cut-is byte (b ∷ text) front rest found =
         let before : b ∷ f ≡ front = ap (λ (o : Option (List ℕ × List ℕ)). (unwrap_or {T = List ℕ × List ℕ} o ([], [])).0) made in
         let after : r ≡ rest = ap (λ (o : Option (List ℕ × List ℕ)). (unwrap_or {T = List ℕ × List ℕ} o ([], [])).1) made in
         rw (← before, ← after) (ap (λ t. b ∷ t) split.0, rw miss split.1)
+
+-- what comes after it is no longer than the text
+pub cut-shorter : (byte : ℕ) (text front rest : List ℕ) → Some (front, rest) ≡ cut byte text → length rest ≤ length text
+cut-shorter byte text front rest found =
+    let split = (cut-is byte text front rest (sym found)).0 in
+    omega (arith, ap (λ (l : List ℕ). length l) split, length-append front (byte ∷ rest))
 
 -- each byte of a text without the byte is a different one
 pub All-others : (byte : ℕ) (text : List ℕ) → has byte text ≡ false → All (λ b. (b == byte) ≡ false) text

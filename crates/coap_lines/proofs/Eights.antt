@@ -1,6 +1,6 @@
 -- Eight groups of an IPv6 address as they are written.
 use Rattle.std.proofs.Common.{◌≡◌, ℕ, List, ◌++◌, length, get_or, codes, refl, ap, ◌∙◌, append_assoc}
-use Rattle.coap_uri.specs.Address.{eight_groups, four_groups, groups_text}
+use Rattle.coap_uri.specs.Address.{four_groups, groups_text}
 use Rattle.coap_uri.proofs.EightGroups.{eight_groups-all}
 
 -- eight groups in brackets are written by adding the parts one after the other

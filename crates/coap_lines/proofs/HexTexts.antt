@@ -1,17 +1,16 @@
 -- The bytes of a datagram as a text, and what is read.
-use Rattle.std.proofs.Common.{◌≡◌, ◌==◌, ℕ, ◌+◌, ◌/◌, ◌%◌, ◌<◌, Bool, true, false, ◌&&◌, List, [], ◌∷◌, ◌++◌, length, take, get_or, slice_index, ◌∙◌, codes, Option, Some, None, Result, Ok, Err, refl, sym, ap, arith, cond, inl, inr, leb, le-leb, eq-eqb}
-use Rattle.std.specs.List.{list_all}
-use Rattle.std.specs.Option.{IsSome, unwrap_or}
+use Rattle.std.proofs.Common.{◌≡◌, ℕ, ◌+◌, ◌/◌, ◌%◌, ◌<◌, ◌≤◌, Bool, true, false, List, [], ◌∷◌, ◌++◌, length, take, get_or, slice_index, ◌∙◌, codes, Option, Some, None, Result, Ok, Err, refl, sym, ap, arith, cond, inl, inr, leb, le-leb}
+use Rattle.std.specs.Option.{unwrap_or}
 use Rattle.std.specs.Str.{bytes_eq}
-use Rattle.std.proofs.lemmas.Bool.{and_parts, eqb-true, leb-true}
-use Rattle.std.proofs.lemmas.List.{take_more}
-use Rattle.std.proofs.lemmas.List.Sums.{AllPass-from_list_all, list_all-from_AllPass}
+use Rattle.std.proofs.lemmas.Bool.{leb-true, lt-leb}
+use Rattle.std.proofs.lemmas.List.{append-nil, drop_all, take_all, take_more}
 use Rattle.std.proofs.lemmas.Option.{none-some}
 use Rattle.std.proofs.lemmas.Slice.Eq.{bytes_eq-Decides}
 use Rattle.hex.specs.declared.error.FromHexError.{FromHexError}
-use Rattle.hex.specs.Hex.{decode_of, encode_upper, encode_with, is_hex_digit, upper_digits}
-use Rattle.hex.proofs.HexLemmas.{decode_of-digits, decode_of-ok}
-use Rattle.coap_lines.specs.Datagrams.{IsHex, bytes_read, decoded, is_hex}
+use Rattle.hex.specs.Hex.{decode_of, encode_upper, encode_with, upper_digits}
+use Rattle.coap_message.specs.Datagram.{written_over}
+use Rattle.coap_lines.specs.Datagrams.{IsHex, bytes_at_front, bytes_read, decoded, digits_read}
+use Rattle.coap_lines.specs.Answers.{Finds}
 
 -- the digits of bytes followed by others
 encode_with-append : (table xs ys : List ℕ) → encode_with table (xs ++ ys) ≡ encode_with table xs ++ encode_with table ys
@@ -40,23 +39,27 @@ pub hyphen-read : (text : List ℕ) → bytes_eq text (codes "-") ≡ true → b
 unfolding bytes_read
 hyphen-read text hyphen = rw hyphen refl
 
--- any other text that isn't an even number of digits can't be read
-pub bad-none : (text : List ℕ) → bytes_eq text (codes "-") ≡ false → is_hex text ≡ false → bytes_read text ≡ None
+-- a text of fewer than two bytes that isn't a hyphen can't be read
+pub short-none : (text : List ℕ) → bytes_eq text (codes "-") ≡ false → length text < 2 → bytes_read text ≡ None
 unfolding bytes_read
-bad-none text other bad = rw (other, bad) refl
+short-none text other short = rw (other, lt-leb 2 (length text) short) refl
 
--- digits encode what they decode to
-pub digits-read : (text bytes : List ℕ) → bytes_eq text (codes "-") ≡ false → is_hex text ≡ true → decode_of text ≡ Ok bytes → bytes_read text ≡ Some bytes
+-- a longer one encodes what it decodes to
+long-read : (text : List ℕ) → bytes_eq text (codes "-") ≡ false → 2 ≤ length text → bytes_read text ≡ digits_read text
 unfolding bytes_read
-digits-read text bytes other digits reads = rw (other, digits, reads) refl
+long-read text other long = rw (other, le-leb 2 (length text) long) refl
 
--- so they encode some bytes
-pub digits-some : (text : List ℕ) → bytes_eq text (codes "-") ≡ false → is_hex text ≡ true → IsSome (bytes_read text)
-digits-some text other digits =
-    let parts = and_parts (leb 2 (length text)) ((length text % 2 == 0) && list_all is_hex_digit text) digits in
-    let even = and_parts (length text % 2 == 0) (list_all is_hex_digit text) parts.1 in
-    let reads = decode_of-digits text (eqb-true (length text % 2) 0 even.0) (AllPass-from_list_all is_hex_digit text even.1) in
-    rw (digits-read text reads.0 other digits reads.1) refl
+-- what is written over all of a list replaces it
+whole : (old new : List ℕ) → length new ≡ length old → written_over old new ≡ new
+whole old new same =
+    ap (λ (l : List ℕ). take (length old) (new ++ l)) (drop_all (length new) old (omega (arith, same)))
+    ∙ ap (take (length old)) (append-nil new) ∙ take_all (length old) new (omega (arith, same))
+
+-- so the front of what was written over all places is that of what was written
+pub front-read : (text old new : List ℕ) (r : Option (Unit {0})) → bytes_eq text (codes "-") ≡ false → 2 ≤ length text → length new ≡ length old → Finds (bytes_at_front (length text / 2)) (digits_read text) r new → Finds (λ u bytes. bytes) (bytes_read text) r (take (length text / 2) (written_over old new))
+front-read text old new None other long same found = long-read text other long ∙ found
+front-read text old new (Some u) other long same found =
+    long-read text other long ∙ found ∙ ap (λ (l : List ℕ). Some (take (length text / 2) l)) (sym (whole old new same))
 
 -- a decoding that gave bytes succeeded
 decoded-is : (r : Result (List ℕ) FromHexError) (bytes : List ℕ) → decoded r ≡ Some bytes → r ≡ Ok bytes
@@ -66,22 +69,18 @@ decoded-is (Err e) bytes is = absurd (none-some bytes is)
 -- the bytes that were read are those that the text encodes
 pub bytes_read-is : (text bytes : List ℕ) → bytes_read text ≡ Some bytes → IsHex text bytes
 unfolding bytes_read
-bytes_read-is text bytes found = go (bytes_eq text (codes "-")) refl (is_hex text) refl found
+bytes_read-is text bytes found = go (bytes_eq text (codes "-")) refl (leb 2 (length text)) refl found
   where
-    go : (h : Bool) → bytes_eq text (codes "-") ≡ h → (d : Bool) → is_hex text ≡ d → cond h (Some []) (cond d (decoded (decode_of text)) None) ≡ Some bytes → IsHex text bytes
-    go true hyphen d digits is = inl ((bytes_eq-Decides text (codes "-")).0 hyphen, sym (ap (λ (o : Option (List ℕ)). unwrap_or {T = List ℕ} o []) is))
-    go false hyphen false digits is = absurd (none-some bytes is)
-    go false hyphen true digits is =
-        let parts = and_parts (leb 2 (length text)) ((length text % 2 == 0) && list_all is_hex_digit text) digits in
-        inr (leb-true 2 (length text) parts.0, decoded-is (decode_of text) bytes is)
+    go : (h : Bool) → bytes_eq text (codes "-") ≡ h → (d : Bool) → leb 2 (length text) ≡ d → cond h (Some []) (cond d (digits_read text) None) ≡ Some bytes → IsHex text bytes
+    go true hyphen d long is = inl ((bytes_eq-Decides text (codes "-")).0 hyphen, sym (ap (λ (o : Option (List ℕ)). unwrap_or {T = List ℕ} o []) is))
+    go false hyphen false long is = absurd (none-some bytes is)
+    go false hyphen true long is = inr (leb-true 2 (length text) long, decoded-is (decode_of text) bytes is)
 
 -- the bytes that a text encodes are read
 pub bytes_read-written : (text bytes : List ℕ) → IsHex text bytes → bytes_read text ≡ Some bytes
 bytes_read-written text bytes (inl none) = rw (none.1) (hyphen-read text ((bytes_eq-Decides text (codes "-")).1 none.0))
 bytes_read-written text bytes (inr some) =
-    let ok = decode_of-ok text bytes some.1 in
-    let digits : is_hex text ≡ true = rw (le-leb 2 (length text) some.0, eq-eqb (length text % 2) 0 ok.0, list_all-from_AllPass is_hex_digit text ok.1) refl in
-    digits-read text bytes (not_hyphen (bytes_eq text (codes "-")) refl) digits some.1
+    long-read text (not_hyphen (bytes_eq text (codes "-")) refl) some.0 ∙ ap decoded some.1
   where
     not_hyphen : (h : Bool) → bytes_eq text (codes "-") ≡ h → bytes_eq text (codes "-") ≡ false
     not_hyphen false is = is

@@ -11,5 +11,4 @@ pub mod NextLines
 pub mod Numerals
 pub mod ReadAgain
 pub mod ScriptTurns
-pub mod Ticking
 pub mod TurnTexts

@@ -1,10 +1,8 @@
--- What a call that looks for something returns.
-use Rattle.std.specs.Prelude.{◌≡◌, Option, Some, None, IsSome, Result, Ok, Err}
-use Rattle.coap_lines.specs.declared.error.LineError.{LineError}
-use Rattle.coap_lines.specs.declared.error.LineError.TheVariants.{Bad, OutOfMemory}
+-- What a call returns that looks for something and puts its bytes into a buffer.
+use Rattle.std.specs.Prelude.{◌≡◌, List, ℕ, Option, Some, None}
 
--- It returns what is expected, or `Bad` if nothing is. It only runs out of memory if something is.
-abbrev pub Finds : {A B : Type 0} → (B → A) → Option A → Result B LineError → Type 0
-Finds seen expected (Ok answer) = expected ≡ Some (seen answer)
-Finds seen expected (Err Bad) = expected ≡ None
-Finds seen expected (Err OutOfMemory) = IsSome expected
+-- It returns what is expected, with the bytes that are in the buffer then, or nothing if nothing is
+-- expected.
+abbrev pub Finds : {A B : Type 0} → (A → List ℕ → B) → Option B → Option A → List ℕ → Type 0
+Finds seen expected (Some answer) bytes = expected ≡ Some (seen answer bytes)
+Finds seen expected None bytes = expected ≡ None

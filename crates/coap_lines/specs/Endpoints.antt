@@ -1,11 +1,10 @@
 -- Endpoints as texts: `a.b.c.d:port`, and `[g:g:g:g:g:g:g:g]:port`.
-use Rattle.std.specs.Prelude.{◌≡◌, ◌==◌, ◌<◌, ◌/◌, ◌%◌, ℕ, false, List, [], ◌∷◌, ◌++◌, length, map, codes, Option, Some, None, option_map, if◌then◌else◌}
-use Rattle.std.specs.Fmt.{decimal, digit_glyph, digits}
-use Rattle.std.specs.List.{AllByRecursion, AllZip, join_with_byte, slice_split}
-use Rattle.std.specs.Net.Addr.{octets_of, segments_of}
+use Rattle.std.specs.Prelude.{◌≡◌, ◌==◌, ◌/◌, ◌%◌, ℕ, false, List, [], ◌∷◌, ◌++◌, length, map, codes, Option, Some, None, option_map, if◌then◌else◌}
+use Rattle.std.specs.Fmt.{decimal, digit_glyph}
+use Rattle.std.specs.List.{AllZip, join_with_byte, slice_split}
+use Rattle.std.specs.Net.Addr.{octets_of}
 use Rattle.std.specs.Net.Grammar.{IsDotted, IsGroup}
 use Rattle.std.specs.Net.Reader.{read_byte}
-use Rattle.std.specs.Net.Text.{ipv4_text}
 use Rattle.coap_endpoint.specs.declared.endpoint.Endpoint.{Endpoint}
 use Rattle.coap_endpoint.specs.declared.endpoint.Ip.{Ip}
 use Rattle.coap_endpoint.specs.declared.endpoint.Ip.TheVariants.{V4, V6}

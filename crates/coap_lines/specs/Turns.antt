@@ -4,8 +4,7 @@ use Rattle.std.specs.Str.{bytes_eq}
 use Rattle.coap_model.specs.Events.{Event}
 use Rattle.coap_model.specs.Events.Event.{arrival, tick}
 use Rattle.coap_model.specs.Runs.{Turn}
-use Rattle.coap_lines.specs.declared.reading.turn.OwnedEvent.{OwnedEvent}
-use Rattle.coap_lines.specs.declared.reading.turn.OwnedEvent.TheVariants.{Datagram, Tick}
+use Rattle.coap_endpoint.specs.declared.endpoint.Endpoint.{Endpoint}
 use Rattle.coap_lines.specs.declared.reading.turn.Turn.{Turn as TurnRead}
 use Rattle.coap_message.specs.Reading.{◌>>=◌}
 use Rattle.coap_lines.specs.Texts.{cut, space}
@@ -60,10 +59,10 @@ turn_of last line = do
   event ← event_of second.1
   not_before last (turn_at now draw event)
 
--- what was read, as the model sees it
-abbrev pub event_seen : OwnedEvent → Event
-event_seen (Datagram from bytes) = arrival from bytes
-event_seen Tick = tick
+-- what was read, as the model sees it, with the bytes that were put into the buffer
+abbrev pub event_seen : Option Endpoint → List ℕ → Event
+event_seen None bytes = tick
+event_seen (Some from) bytes = arrival from bytes
 
-abbrev pub turn_seen : TurnRead → Turn
-turn_seen turn = turn_at turn.now turn.draw (event_seen turn.event)
+abbrev pub turn_seen : TurnRead → List ℕ → Turn
+turn_seen turn bytes = turn_at turn.now turn.draw (event_seen turn.from bytes)

@@ -1,5 +1,5 @@
 -- A replay turn by turn: what was done and written so far, and what is still asked for.
-use Rattle.std.proofs.Common.{◌≡◌, inl, inr, ℕ, Bool, ◌+◌, ◌≤◌, ◌<◌, List, [], ◌∷◌, ◌++◌, length, Option, Some, None, Result, Ok, Err, refl, sym, ap, ◌∙◌, subst, append_assoc, arith}
+use Rattle.std.proofs.Common.{◌≡◌, inl, inr, ℕ, Bool, true, ◌+◌, ◌≤◌, ◌<◌, List, [], ◌∷◌, ◌++◌, length, Option, Some, None, Result, Ok, Err, refl, sym, ap, ◌∙◌, subst, append_assoc, arith}
 use Rattle.std.specs.Prelude.{IfSome}
 use Rattle.std.specs.Io.KnownBytes.{Appends}
 use Rattle.std.proofs.KnownBytes.{Appends-trans}
@@ -20,7 +20,7 @@ use Rattle.coap_replay.specs.declared.error.ReplayError.{ReplayError}
 use Rattle.coap_replay.specs.declared.error.ReplayError.TheVariants.{BadEvent, OutOfMemory, Read, Write}
 use Rattle.coap_replay.specs.declared.replays.Asked.{Asked}
 use Rattle.coap_replay.specs.declared.replays.Asked.TheVariants.{End, Skip, Do}
-use Rattle.coap_replay.specs.Replays.{AsksNext, DoesTurn, HasDone, IfDo, IsAtEvent, IsBroken, IsReadTo, IsReplayed, IsThrough, IsUpTo, MayBeDone, MayLack, line_sent, output_of, run_at, script_for, taken, with_turns, world_after}
+use Rattle.coap_replay.specs.Replays.{AsksNext, DoesTurn, HasDone, IfDo, IsAtEvent, IsBroken, IsReadTo, IsReplayed, IsThrough, IsUpTo, MayBeDone, line_sent, output_of, run_at, script_for, taken, takes_some, with_turns, world_after}
 
 -- ---- one more turn
 
@@ -145,7 +145,7 @@ line-more w v v' i rest rest' line turns turns' lines (done, split, cut, len, sc
       goes script,
     )
 
-module _ (w v : World) (input left left' old new : Option (List ℕ)) (lines count most : ℕ) (at : IsAt w v input left old new lines count) (more : count < most) where
+module _ (w v : World) (input left left' old new : Option (List ℕ)) (held : List ℕ) (lines count most : ℕ) (at : IsAt w v input left old new lines count) (more : count < most) where
   -- fewer turns were done than allowed
   fewer : length at.turns < most
   fewer = omega (arith, at.counted, more)
@@ -164,9 +164,9 @@ module _ (w v : World) (input left left' old new : Option (List ℕ)) (lines cou
   up-to i rest s = up-to-next w v i rest at.turns lines at.done.world s
 
   -- a line asks for a turn, and its number is the next one
-  at-event : (i rest : List ℕ) (line : ℕ) (turn : Turn) → StillAsks w i (Some rest) at.turns lines v → line ≡ lines + 1 → AsksFor (lines + 1) v.last v.events (lines_of rest) turn → MayLack v turn → IsAtEvent w i at.turns line
+  at-event : (i rest : List ℕ) (line : ℕ) (turn : Turn) → StillAsks w i (Some rest) at.turns lines v → line ≡ lines + 1 → AsksFor (lines + 1) v.last v.events (lines_of rest) turn → takes_some v turn ≡ true → IsAtEvent w i at.turns line
   at-event i rest line turn s is asks lacks =
-      rw is (lines_of rest, turn, up-to i rest s, subst (λ (u : World). AsksFor (lines + 1) u.last u.events (lines_of rest) turn) at.done.world asks, subst (λ (u : World). MayLack u turn) at.done.world lacks)
+      rw is (lines_of rest, turn, up-to i rest s, subst (λ (u : World). AsksFor (lines + 1) u.last u.events (lines_of rest) turn) at.done.world asks, subst (λ (u : World). takes_some u turn ≡ true) at.done.world lacks)
 
   -- nothing was read of a line
   pub ends-unread : IsReplayed w v most input left old new (Err Read)
@@ -178,32 +178,23 @@ module _ (w v : World) (input left left' old new : Option (List ℕ)) (lines cou
       go (Some i) (Some rest) s = broken w v i rest (Some rest) at.turns lines at.done.world s ([], refl, refl)
 
   -- no line is left
-  ends-done : IfSome left (λ rest. AsksNext (lines + 1) v.last v.events rest left' (Ok End)) → IsReplayed w v most input left' old new (Ok count)
+  ends-done : IfSome left (λ rest. AsksNext (lines + 1) v.last v.events rest left' held (Ok End)) → IsReplayed w v most input left' old new (Ok count)
   ends-done asks =
       record {
         turns = at.turns;
         done = at.done;
-        ends = (at.counted, omega (arith, more), at.written, of-known (λ i. IsThrough w most i left' at.turns) (λ rest. AsksNext (lines + 1) v.last v.events rest left' (Ok End)) asks (λ i rest s a. inl (fewer, s.4 ∙ rw (a, append-nil (turns_of at.turns)) refl)));
+        ends = (at.counted, omega (arith, more), at.written, of-known (λ i. IsThrough w most i left' at.turns) (λ rest. AsksNext (lines + 1) v.last v.events rest left' held (Ok End)) asks (λ i rest s a. inl (fewer, s.4 ∙ rw (a, append-nil (turns_of at.turns)) refl)));
       }
 
   -- a line can't be done, or can't be read
-  pub ends-refused : (e : ReplayError) → IfSome left (λ rest. AsksNext (lines + 1) v.last v.events rest left' (Err e)) → IfDo (MayBeDone v.last v.events) (Err e) → IsReplayed w v most input left' old new (Err e)
+  pub ends-refused : (e : ReplayError) → IfSome left (λ rest. AsksNext (lines + 1) v.last v.events rest left' held (Err e)) → IfDo (MayBeDone v.last v.events) held (Err e) → IsReplayed w v most input left' old new (Err e)
   ends-refused (BadEvent line) asks may =
       record {
         turns = at.turns;
         done = at.done;
-        ends = (fewer, at.written, of-known (λ i. script_for w i ≡ record { turns = turns_of at.turns; bad = Some line }) (λ rest. AsksNext (lines + 1) v.last v.events rest left' (Err (BadEvent line))) asks (λ i rest s a. s.4 ∙ rw (a.1, a.0, append-nil (turns_of at.turns)) refl));
+        ends = (fewer, at.written, of-known (λ i. script_for w i ≡ record { turns = turns_of at.turns; bad = Some line }) (λ rest. AsksNext (lines + 1) v.last v.events rest left' held (Err (BadEvent line))) asks (λ i rest s a. s.4 ∙ rw (a.1, a.0, append-nil (turns_of at.turns)) refl));
       }
-  ends-refused (OutOfMemory line) asks may =
-      record {
-        turns = at.turns;
-        done = at.done;
-        ends = (at.written, inr (fewer, of-known (λ i. IsAtEvent w i at.turns line) (λ rest. AsksNext (lines + 1) v.last v.events rest left' (Err (OutOfMemory line))) asks (λ i rest s a. missing i rest s left' a)));
-      }
-    where
-      missing : (i rest : List ℕ) → StillAsks w i (Some rest) at.turns lines v → (l' : Option (List ℕ)) → AsksNext (lines + 1) v.last v.events rest l' (Err (OutOfMemory line)) → IsAtEvent w i at.turns line
-      missing i rest s None a = absurd a
-      missing i rest s (Some rest') (is, (turn, other, asks)) = at-event i rest line turn s is asks (inl other)
+  ends-refused (OutOfMemory line) asks may = absurd may
   ends-refused Read asks may =
       record {
         turns = at.turns;
@@ -213,20 +204,20 @@ module _ (w v : World) (input left left' old new : Option (List ℕ)) (lines cou
   ends-refused Write asks may = absurd may
 
   -- a line is skipped
-  pub goes-on : IfSome left (λ rest. AsksNext (lines + 1) v.last v.events rest left' (Ok Skip)) → IsAt w v input left' old new (lines + 1) count
+  pub goes-on : IfSome left (λ rest. AsksNext (lines + 1) v.last v.events rest left' held (Ok Skip)) → IsAt w v input left' old new (lines + 1) count
   goes-on asks = record { turns = at.turns; done = at.done; written = at.written; counted = at.counted; asked = go input left at.asked left' asks }
     where
-      go : (o l : Option (List ℕ)) → IfSome o (λ i. StillAsks w i l at.turns lines v) → (l' : Option (List ℕ)) → IfSome l (λ rest. AsksNext (lines + 1) v.last v.events rest l' (Ok Skip)) → IfSome o (λ i. StillAsks w i l' at.turns (lines + 1) v)
+      go : (o l : Option (List ℕ)) → IfSome o (λ i. StillAsks w i l at.turns lines v) → (l' : Option (List ℕ)) → IfSome l (λ rest. AsksNext (lines + 1) v.last v.events rest l' held (Ok Skip)) → IfSome o (λ i. StillAsks w i l' at.turns (lines + 1) v)
       go None l s l' a = tt
       go (Some i) None s l' a = absurd s
       go (Some i) (Some rest) s None a = absurd a
       go (Some i) (Some rest) s (Some more) (line, is, next) =
           line-more w v v i rest more line at.turns at.turns lines s is (λ script. script ∙ ap (with_turns at.turns) next)
 
-  module _ (turn : TurnRead) (asks : IfSome left (λ rest. AsksNext (lines + 1) v.last v.events rest left' (Ok (Do turn)))) (may : MayBeDone v.last v.events (turn_seen turn)) where
+  module _ (turn : TurnRead) (asks : IfSome left (λ rest. AsksNext (lines + 1) v.last v.events rest left' held (Ok (Do turn)))) (may : MayBeDone v.last v.events (turn_seen turn held)) where
     module _ (grown : Bool) where
       abbrev t : Taken
-      t = taken (turn_seen turn) grown
+      t = taken (turn_seen turn held) grown
 
       abbrev turns : List Taken
       turns = at.turns ++ t ∷ []
@@ -260,7 +251,7 @@ module _ (w v : World) (input left left' old new : Option (List ℕ)) (lines cou
           clock : ((step_taken v t).world.last ≡ t.turn.now) × ((step_taken v t).world.events ≡ v.events + 1)
           clock = clock_after v t.turn.now t.turn.draw t.grown t.turn.event may.event
 
-          go : (o l : Option (List ℕ)) → IfSome o (λ i. StillAsks w i l at.turns lines v) → (l' : Option (List ℕ)) → IfSome l (λ rest. AsksNext (lines + 1) v.last v.events rest l' (Ok (Do turn))) → IfSome o (λ i. StillAsks w i l' turns (lines + 1) (step_taken v t).world)
+          go : (o l : Option (List ℕ)) → IfSome o (λ i. StillAsks w i l at.turns lines v) → (l' : Option (List ℕ)) → IfSome l (λ rest. AsksNext (lines + 1) v.last v.events rest l' held (Ok (Do turn))) → IfSome o (λ i. StillAsks w i l' turns (lines + 1) (step_taken v t).world)
           go None l s l' a = tt
           go (Some i) None s l' a = absurd s
           go (Some i) (Some rest) s None a = absurd a
@@ -283,14 +274,14 @@ module _ (w v : World) (input left left' old new : Option (List ℕ)) (lines cou
       read-to : IfSome input (λ i. IsReadTo w i left' turns)
       read-to = go input left at.asked left' asks
         where
-          go : (o l : Option (List ℕ)) → IfSome o (λ i. StillAsks w i l at.turns lines v) → (l' : Option (List ℕ)) → IfSome l (λ rest. AsksNext (lines + 1) v.last v.events rest l' (Ok (Do turn))) → IfSome o (λ i. IsReadTo w i l' turns)
+          go : (o l : Option (List ℕ)) → IfSome o (λ i. StillAsks w i l at.turns lines v) → (l' : Option (List ℕ)) → IfSome l (λ rest. AsksNext (lines + 1) v.last v.events rest l' held (Ok (Do turn))) → IfSome o (λ i. IsReadTo w i l' turns)
           go None l s l' a = tt
           go (Some i) None s l' a = absurd s
           go (Some i) (Some rest) s None a = absurd a
           go (Some i) (Some rest) s (Some after) (text, is, asked) =
               let (before, split, cut, len, script) = s in
               let here : length (lines_of before) + 1 ≡ lines + 1 = omega (arith, len) in
-              let for : AsksFor (lines + 1) v.last v.events (lines_of rest) (turn_seen turn) = subst (λ (ls : List (List ℕ)). AsksFor (lines + 1) v.last v.events ls (turn_seen turn)) (sym is.0) asked in
+              let for : AsksFor (lines + 1) v.last v.events (lines_of rest) (turn_seen turn held) = subst (λ (ls : List (List ℕ)). AsksFor (lines + 1) v.last v.events ls (turn_seen turn held)) (sym is.0) asked in
               inr (
                 at.turns,
                 t,
@@ -303,8 +294,8 @@ module _ (w v : World) (input left left' old new : Option (List ℕ)) (lines cou
                 is,
                 refl,
                 subst (λ (n : ℕ). IsUpTo w i at.turns n (lines_of rest)) (sym here) (up-to i rest s),
-                subst (λ (n : ℕ). AsksFor n (world_after w at.turns).last (world_after w at.turns).events (lines_of rest) (turn_seen turn)) (sym here)
-                    (subst (λ (u : World). AsksFor (lines + 1) u.last u.events (lines_of rest) (turn_seen turn)) at.done.world for),
+                subst (λ (n : ℕ). AsksFor n (world_after w at.turns).last (world_after w at.turns).events (lines_of rest) (turn_seen turn held)) (sym here)
+                    (subst (λ (u : World). AsksFor (lines + 1) u.last u.events (lines_of rest) (turn_seen turn held)) at.done.world for),
               )
 
       -- the event was done and its line written, and no further turn is allowed
@@ -326,7 +317,7 @@ module _ (w v : World) (input left left' old new : Option (List ℕ)) (lines cou
           through (Some i) r = inr (sym count-then ∙ enough, r)
 
     -- the turn failed
-    pub ends-turn : (v' : World) (new' : Option (List ℕ)) (e : ReplayError) → DoesTurn v v' (turn_seen turn) new new' (lines + 1) (Err e) → IsReplayed w v' most input left' old new' (Err e)
+    pub ends-turn : (v' : World) (new' : Option (List ℕ)) (e : ReplayError) → DoesTurn v v' (turn_seen turn held) new new' (lines + 1) (Err e) → IsReplayed w v' most input left' old new' (Err e)
     ends-turn v' new' (BadEvent line) does = absurd does
     ends-turn v' new' Read does = absurd does
     ends-turn v' new' (OutOfMemory line) (is, nothing, same, lacks) = rw same (record { turns = at.turns; done = at.done; ends = (wrote, inr (fewer, go input left at.asked left' asks)) })
@@ -334,12 +325,12 @@ module _ (w v : World) (input left left' old new : Option (List ℕ)) (lines cou
         wrote : Appends old new' (output_of w at.turns)
         wrote = subst (λ (l : List ℕ). Appends old new' l) (append-nil (output_of w at.turns)) (Appends-trans old new new' (output_of w at.turns) [] at.written nothing)
 
-        go : (o l : Option (List ℕ)) → IfSome o (λ i. StillAsks w i l at.turns lines v) → (l' : Option (List ℕ)) → IfSome l (λ rest. AsksNext (lines + 1) v.last v.events rest l' (Ok (Do turn))) → IfSome o (λ i. IsAtEvent w i at.turns line)
+        go : (o l : Option (List ℕ)) → IfSome o (λ i. StillAsks w i l at.turns lines v) → (l' : Option (List ℕ)) → IfSome l (λ rest. AsksNext (lines + 1) v.last v.events rest l' held (Ok (Do turn))) → IfSome o (λ i. IsAtEvent w i at.turns line)
         go None l s l' a = tt
         go (Some i) None s l' a = absurd s
         go (Some i) (Some rest) s None a = absurd a
         go (Some i) (Some rest) s (Some more) (text, read, asks) =
-            at-event i rest line (turn_seen turn) s is (subst (λ (ls : List (List ℕ)). AsksFor (lines + 1) v.last v.events ls (turn_seen turn)) (sym read.0) asks) (inr lacks)
+            at-event i rest line (turn_seen turn held) s is (subst (λ (ls : List (List ℕ)). AsksFor (lines + 1) v.last v.events ls (turn_seen turn held)) (sym read.0) asks) lacks
     ends-turn v' new' Write (grown, is, (front, back, split, some, wrote)) =
         rw is (record {
           turns = turns grown;
@@ -355,21 +346,21 @@ module _ (w v : World) (input left left' old new : Option (List ℕ)) (lines cou
 -- ---- what a line asks for, by the core's clock and count of events
 
 -- what the next line asks for
-pub by-clock : (number : ℕ) (v : World) (left left' : Option (List ℕ)) (r : Result Asked ReplayError) (last events : ℕ) → last ≡ v.last → events ≡ v.events → IfSome left (λ rest. AsksNext number last events rest left' r) → IfSome left (λ rest. AsksNext number v.last v.events rest left' r)
-by-clock number v left left' r last events p q asks =
-    subst (λ (e : ℕ). IfSome left (λ rest. AsksNext number v.last e rest left' r)) q
-    (subst (λ (l : ℕ). IfSome left (λ rest. AsksNext number l events rest left' r)) p asks)
+pub by-clock : (number : ℕ) (v : World) (left left' : Option (List ℕ)) (held : List ℕ) (r : Result Asked ReplayError) (last events : ℕ) → last ≡ v.last → events ≡ v.events → IfSome left (λ rest. AsksNext number last events rest left' held r) → IfSome left (λ rest. AsksNext number v.last v.events rest left' held r)
+by-clock number v left left' held r last events p q asks =
+    subst (λ (e : ℕ). IfSome left (λ rest. AsksNext number v.last e rest left' held r)) q
+    (subst (λ (l : ℕ). IfSome left (λ rest. AsksNext number l events rest left' held r)) p asks)
 
 -- what may be done
-pub may-by-clock : (v : World) (r : Result Asked ReplayError) (last events : ℕ) → last ≡ v.last → events ≡ v.events → IfDo (MayBeDone last events) r → IfDo (MayBeDone v.last v.events) r
-may-by-clock v r last events p q may =
-    subst (λ (e : ℕ). IfDo (MayBeDone v.last e) r) q
-    (subst (λ (l : ℕ). IfDo (MayBeDone l events) r) p may)
+pub may-by-clock : (v : World) (held : List ℕ) (r : Result Asked ReplayError) (last events : ℕ) → last ≡ v.last → events ≡ v.events → IfDo (MayBeDone last events) held r → IfDo (MayBeDone v.last v.events) held r
+may-by-clock v held r last events p q may =
+    subst (λ (e : ℕ). IfDo (MayBeDone v.last e) held r) q
+    (subst (λ (l : ℕ). IfDo (MayBeDone l events) held r) p may)
 
 -- what is asked for, by the value returned
-pub as-asked : (number last events : ℕ) (left left' : Option (List ℕ)) (a b : Asked) → a ≡ b → IfSome left (λ rest. AsksNext number last events rest left' (Ok a)) → IfSome left (λ rest. AsksNext number last events rest left' (Ok b))
-as-asked number last events left left' a b e asks = subst (λ (x : Asked). IfSome left (λ rest. AsksNext number last events rest left' (Ok x))) e asks
+pub as-asked : (number last events : ℕ) (left left' : Option (List ℕ)) (held : List ℕ) (a b : Asked) → a ≡ b → IfSome left (λ rest. AsksNext number last events rest left' held (Ok a)) → IfSome left (λ rest. AsksNext number last events rest left' held (Ok b))
+as-asked number last events left left' held a b e asks = subst (λ (x : Asked). IfSome left (λ rest. AsksNext number last events rest left' held (Ok x))) e asks
 
 -- what may be done, by the value returned
-pub as-may : (last events : ℕ) (a b : Asked) → a ≡ b → IfDo (MayBeDone last events) (Ok a) → IfDo (MayBeDone last events) (Ok b)
-as-may last events a b e may = subst (λ (x : Asked). IfDo (MayBeDone last events) (Ok x)) e may
+pub as-may : (last events : ℕ) (held : List ℕ) (a b : Asked) → a ≡ b → IfDo (MayBeDone last events) held (Ok a) → IfDo (MayBeDone last events) held (Ok b)
+as-may last events held a b e may = subst (λ (x : Asked). IfDo (MayBeDone last events) held (Ok x)) e may

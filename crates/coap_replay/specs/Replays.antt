@@ -6,7 +6,6 @@ use Rattle.coap_endpoint.specs.declared.endpoint.Endpoint.{Endpoint}
 use Rattle.coap_model.specs.World.{World}
 use Rattle.coap_model.specs.History.{Entry}
 use Rattle.coap_model.specs.Events.{IsEvent}
-use Rattle.coap_model.specs.Events.Event.{tick}
 use Rattle.coap_model.specs.Carries.{Carries}
 use Rattle.coap_model.specs.Word.{KeepsItsWord}
 use Rattle.coap_model.specs.Step.{step_of}
@@ -79,21 +78,17 @@ pub record IsUpTo (w : World) (input : List ℕ) (turns : List Taken) (line : �
   pub number : line ≡ length front + 1
   pub asked : script_for w input ≡ with_turns turns (script_after w turns line left)
 
--- whether the step of a turn may allocate
+-- Whether a turn may run out of memory: its step may allocate. So a tick only does when it sends a
+-- client its answer in a Confirmable message.
 abbrev pub takes_some : World → Turn → Bool
 takes_some w t = wants_memory (step_of w t.now t.draw true t.event)
-
--- A turn may run out of memory: for the bytes of its datagram, or in its step. So a tick only does
--- when it sends a client its answer in a Confirmable message.
-abbrev pub MayLack : World → Turn → Type 0
-MayLack w t = (t.event ≢ tick) ⊎ (takes_some w t ≡ true)
 
 -- the line with this number exists, and its event may follow these turns and may run out of memory
 abbrev pub IsAtEvent : World → List ℕ → List Taken → ℕ → Type 0
 IsAtEvent w input turns line = (left : List (List ℕ)) × (turn : Turn)
     × IsUpTo w input turns line left
     × AsksFor line (world_after w turns).last (world_after w turns).events left turn
-    × MayLack (world_after w turns) turn
+    × (takes_some (world_after w turns) turn ≡ true)
 
 -- nothing has been read or done yet, and the line is the first
 abbrev pub IsAtStart : Option (List ℕ) → Option (List ℕ) → List Taken → ℕ → Type 0
@@ -138,8 +133,8 @@ IsThrough w most input left turns = ((length turns < most)
 --   Ok: all lines were done, or as many turns as allowed, and their lines were written.
 --   A bad line: the lines before it were done, and their lines were written.
 --   Out of memory at a line: the lines before it were done, and their lines were written. Its event
---   was not done, and is one that may run out of memory; or nothing was read at all, and the number
---   is 1.
+--   was not done, and its step may run out of memory; or nothing was read at all, and the number is
+--   1.
 --   `Read`: some lines were done, perhaps none, and their lines were written. At most the bytes of
 --   the next one before its line feed were read. It isn't stated that the reader failed.
 --   `Write`: some lines were done, at least one, and their lines were written, except for a suffix
@@ -181,24 +176,24 @@ pub record IsWhollyReplayed (w v : World) (input left old new : Option (List ℕ
 
 -- ---- a line of an input
 
--- what the next line asks for, and what is left
-abbrev pub AsksNext : ℕ → ℕ → ℕ → List ℕ → Option (List ℕ) → Result Asked ReplayError → Type 0
-AsksNext number last events input left (Ok End) =
+-- what the next line asks for, what is left, and the bytes that the line gives
+abbrev pub AsksNext : ℕ → ℕ → ℕ → List ℕ → Option (List ℕ) → List ℕ → Result Asked ReplayError
+    → Type 0
+AsksNext number last events input left bytes (Ok End) =
     script_from number last events (lines_of input) ≡ all_done
-AsksNext number last events input None (Ok Skip) = ⊥
-AsksNext number last events input (Some rest) (Ok Skip) = (line : List ℕ) × IsLine input rest line
-    × (script_from number last events (lines_of input)
+AsksNext number last events input None bytes (Ok Skip) = ⊥
+AsksNext number last events input (Some rest) bytes (Ok Skip) = (line : List ℕ)
+    × IsLine input rest line × (script_from number last events (lines_of input)
     ≡ script_from (number + 1) last events (lines_of rest))
-AsksNext number last events input None (Ok (Do turn)) = ⊥
-AsksNext number last events input (Some rest) (Ok (Do turn)) = (line : List ℕ)
-    × IsLine input rest line × AsksFor number last events (line ∷ lines_of rest) (turn_seen turn)
-AsksNext number last events input left (Err (BadEvent line)) = (line ≡ number)
+AsksNext number last events input None bytes (Ok (Do turn)) = ⊥
+AsksNext number last events input (Some rest) bytes (Ok (Do turn)) = (line : List ℕ)
+    × IsLine input rest line
+    × AsksFor number last events (line ∷ lines_of rest) (turn_seen turn bytes)
+AsksNext number last events input left bytes (Err (BadEvent line)) = (line ≡ number)
     × (script_from number last events (lines_of input) ≡ bad_at number)
-AsksNext number last events input None (Err (OutOfMemory line)) = ⊥
-AsksNext number last events input (Some rest) (Err (OutOfMemory line)) = (line ≡ number)
-    × ((turn : Turn) × (turn.event ≢ tick) × AsksFor number last events (lines_of input) turn)
-AsksNext number last events input left (Err Read) = IsBegun (Some input) left
-AsksNext number last events input left (Err Write) = ⊥
+AsksNext number last events input left bytes (Err (OutOfMemory line)) = ⊥
+AsksNext number last events input left bytes (Err Read) = IsBegun (Some input) left
+AsksNext number last events input left bytes (Err Write) = ⊥
 
 -- what may be done after the moment `last` and `events` events
 pub record MayBeDone (last events : ℕ) (t : Turn) : Type 0 where
@@ -208,14 +203,14 @@ pub record MayBeDone (last events : ℕ) (t : Turn) : Type 0 where
   pub event : IsEvent t.event
   pub few : events < 2 ^ 63
 
-abbrev pub IfDo : (Turn → Type 0) → Result Asked ReplayError → Type 0
-IfDo P (Ok End) = Unit {0}
-IfDo P (Ok Skip) = Unit {0}
-IfDo P (Ok (Do turn)) = P (turn_seen turn)
-IfDo P (Err (BadEvent line)) = Unit {0}
-IfDo P (Err (OutOfMemory line)) = Unit {0}
-IfDo P (Err Read) = Unit {0}
-IfDo P (Err Write) = ⊥
+abbrev pub IfDo : (Turn → Type 0) → List ℕ → Result Asked ReplayError → Type 0
+IfDo P bytes (Ok End) = Unit {0}
+IfDo P bytes (Ok Skip) = Unit {0}
+IfDo P bytes (Ok (Do turn)) = P (turn_seen turn bytes)
+IfDo P bytes (Err (BadEvent line)) = Unit {0}
+IfDo P bytes (Err (OutOfMemory line)) = ⊥
+IfDo P bytes (Err Read) = Unit {0}
+IfDo P bytes (Err Write) = ⊥
 
 -- a turn, and whether there was memory for one more entry of the store
 abbrev pub taken : Turn → Bool → Taken

@@ -10,6 +10,7 @@
 //! ```
 #![tactic(auto)]
 
+mod buffers;
 mod error;
 mod replays;
 mod whole;

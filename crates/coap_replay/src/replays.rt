@@ -1,17 +1,17 @@
 //! Replays: a core handles the events of an input one after the other, and what it sends is
 //! written.
-ghost use Rattle.std.specs.Prelude.{◌≡◌, ◌≤◌, IfSome, length, vec_capacity};
+ghost use Rattle.std.specs.Prelude.{◌≡◌, ◌≤◌, ℕ, IfSome, length, vec_capacity};
 ghost use Rattle.coap_core.specs.Events.{seen};
+ghost use Rattle.coap_replay.specs.Buffers.{HaveRoom};
 ghost use Rattle.coap_replay.specs.Replays.{AsksNext, DoesTurn, IfDo, IsReplayed, MayBeDone, line_for};
 ghost use Rattle.coap_lines.specs.Room.{longest_line};
 ghost use Rattle.coap_lines.specs.Turns.{turn_seen, event_seen};
 
+use crate::buffers::Buffers;
 use crate::error::ReplayError;
 use coap_core::{Core, Event, Report};
-use coap_lines::{
-    LONGEST, LineError, Next, OwnedEvent, Turn, is_skipped, line_buffer, next_line, put_line,
-    read_turn, write_bytes,
-};
+use coap_endpoint::Endpoint;
+use coap_lines::{Next, Turn, is_skipped, next_line, put_line, read_turn, write_bytes};
 use coap_message::Datagram;
 use coap_store::Store;
 use std::alloc::Global;
@@ -24,33 +24,33 @@ const LAST_LINE: u64 = 1 << 62;
 const MOST_EVENTS: u64 = 1 << 63;
 
 /// What comes next in an input.
-#[derive(Drop)]
+#[derive(Clone, Copy)]
 pub(crate) enum Asked {
     /// No line is left.
     End,
     /// A line that is skipped.
     Skip,
-    /// A line with this turn.
+    /// A line with this turn, whose bytes are in the buffer for the datagram that it gives.
     Do(Turn),
 }
 
 /// Reads the line numbered `number`, and its turn, which follows the moment `last`, in
-/// milliseconds, and `events` events.
+/// milliseconds, and `events` events. It takes no memory.
 fn next_asked<R: BufRead>(
-    alloc: Global,
     reader: &mut R,
-    line: &mut Vec<u8>,
+    buffers: &mut Buffers,
     number: u64,
     last: u64,
     events: u64,
 ) -> Result<Asked, ReplayError>
-    requires { 16385 ≤ vec_capacity line.old }
-    ensures asked { IfSome (R.remaining reader.old)
-        (λ input. AsksNext number last events input (R.remaining reader.new) result) }
-    ensures may { IfDo (MayBeDone last events) result }
-    ensures room { vec_capacity line.old ≤ vec_capacity line.new }
+    requires line { 16385 ≤ vec_capacity buffers.old.line }
+    requires input { 8192 ≤ buffers.old.input.room }
+    ensures asked { IfSome (R.remaining reader.old) (λ input. AsksNext number last events input
+        (R.remaining reader.new) buffers.new.input.bytes result) }
+    ensures may { IfDo (MayBeDone last events) buffers.new.input.bytes result }
+    ensures room { (most : ℕ) → HaveRoom most buffers.old → HaveRoom most buffers.new }
 {
-    match next_line(reader, line) {
+    match next_line(reader, &mut buffers.line) {
         Ok(Next::End) => return Ok(Asked::End),
         Ok(Next::TooLong) => return Err(ReplayError::BadEvent { line: number }),
         Ok(Next::Line) => {}
@@ -59,29 +59,25 @@ fn next_asked<R: BufRead>(
     if number > LAST_LINE {
         return Err(ReplayError::BadEvent { line: number });
     }
-    if is_skipped(line) {
+    if is_skipped(&buffers.line) {
         return Ok(Asked::Skip);
     }
     if events >= MOST_EVENTS {
         return Err(ReplayError::BadEvent { line: number });
     }
-    match read_turn(alloc, line, last) {
-        Ok(turn) => Ok(Asked::Do(turn)),
-        Err(LineError::Bad) => Err(ReplayError::BadEvent { line: number }),
-        Err(LineError::OutOfMemory) => Err(ReplayError::OutOfMemory { line: number }),
+    match read_turn(&buffers.line, last, &mut buffers.input) {
+        Some(turn) => Ok(Asked::Do(turn)),
+        None => Err(ReplayError::BadEvent { line: number }),
     }
 }
 
-/// An event as a core takes it, with its bytes borrowed.
-fn event_of(event: &OwnedEvent) -> Event<'_>
-    ensures { seen result ≡ event_seen event.now }
+/// The event of a turn.
+fn event_of(from: Option<Endpoint>, bytes: &[u8]) -> Event<'_>
+    ensures { seen result ≡ event_seen from bytes.now }
 {
-    match event {
-        OwnedEvent::Datagram { from, bytes } => Event::Datagram {
-            from: *from,
-            bytes: bytes.as_slice(),
-        },
-        OwnedEvent::Tick => Event::Tick,
+    match from {
+        Some(from) => Event::Datagram { from, bytes },
+        None => Event::Tick,
     }
 }
 
@@ -98,30 +94,27 @@ fn line_for(text: &mut Vec<u8>, now: u64, report: Report, out: &Datagram)
     }
 }
 
-/// Does a turn, and writes the line of what it sends, for which there is room. If it runs out of
-/// memory, nothing was done.
+/// Does a turn, and writes the line of what it sends. If it runs out of memory, nothing was done.
 fn do_turn<W: Write, S: Store + Drop>(
     writer: &mut W,
     core: &mut Core<S>,
     turn: Turn,
     number: u64,
-    out: &mut Datagram,
-    text: &mut Vec<u8>,
+    buffers: &mut Buffers,
 ) -> Result<(), ReplayError>
-    requires may { MayBeDone core.old.last core.old.events (turn_seen turn) }
-    requires room { core.old.setting.limits.datagram ≤ out.old.room }
-    requires text { longest_line core.old.setting.limits.datagram ≤ vec_capacity text.old }
-    ensures does { DoesTurn core.old core.new (turn_seen turn)
+    requires may { MayBeDone core.old.last core.old.events
+        (turn_seen turn buffers.old.input.bytes) }
+    requires room { HaveRoom core.old.setting.limits.datagram buffers.old }
+    ensures does { DoesTurn core.old core.new (turn_seen turn buffers.old.input.bytes)
         (W.contents writer.old) (W.contents writer.new) number result }
-    ensures kept { out.new.room ≡ out.old.room }
-    ensures text { vec_capacity text.old ≤ vec_capacity text.new }
-    ensures setting { core.new.setting ≡ core.old.setting }
+    ensures room { HaveRoom core.new.setting.limits.datagram buffers.new }
 {
-    let Ok(report) = core.step(turn.now, turn.draw, event_of(&turn.event), out) else {
+    let event = event_of(turn.from, buffers.input.bytes());
+    let Ok(report) = core.step(turn.now, turn.draw, event, &mut buffers.output) else {
         return Err(ReplayError::OutOfMemory { line: number });
     };
-    line_for(text, turn.now, report, out);
-    if write_bytes(writer, text).is_err() {
+    line_for(&mut buffers.text, turn.now, report, &buffers.output);
+    if write_bytes(writer, &buffers.text).is_err() {
         return Err(ReplayError::Write);
     }
     Ok(())
@@ -131,8 +124,8 @@ fn do_turn<W: Write, S: Store + Drop>(
 /// that many are done it ends, and reads nothing after the line of the last one: a bad line after
 /// it goes unnoticed.
 ///
-/// The buffers for a line that is read and for one that is written are allocated before the first
-/// event.
+/// All buffers are allocated before the first line. So a line runs out of memory only where the step
+/// of its event may (`Core::step`).
 ///
 /// # Errors
 /// `BadEvent` with the number of the first bad line; `OutOfMemory` with the number of the line
@@ -152,23 +145,17 @@ pub fn replay_turns<R: BufRead, W: Write, S: Store + Drop>(
     if turns == 0 {
         return Ok(0);
     }
-    let Ok(mut line) = Vec::with_capacity(alloc, LONGEST + 1) else {
-        return Err(ReplayError::OutOfMemory { line: 1 });
-    };
-    let Ok(mut text) = line_buffer(alloc, core.datagram()) else {
-        return Err(ReplayError::OutOfMemory { line: 1 });
-    };
-    let Ok(mut out) = Datagram::new(alloc, core.datagram()) else {
+    let Ok(mut buffers) = Buffers::new(alloc, core.datagram()) else {
         return Err(ReplayError::OutOfMemory { line: 1 });
     };
     let mut count = 0;
     for read in 0..u64::MAX {
         let number = read + 1;
-        match next_asked(alloc, reader, &mut line, number, core.last(), core.events())? {
+        match next_asked(reader, &mut buffers, number, core.last(), core.events())? {
             Asked::End => return Ok(count),
             Asked::Skip => {}
             Asked::Do(turn) => {
-                do_turn(writer, core, turn, number, &mut out, &mut text)?;
+                do_turn(writer, core, turn, number, &mut buffers)?;
                 count += 1;
                 if count == turns {
                     return Ok(count);

@@ -1,48 +1,37 @@
 //! The bytes of a datagram as a text: hexadecimal digits, or a hyphen if there are none.
-ghost use Rattle.std.specs.Prelude.{◌≡◌};
-ghost use Rattle.std.specs.List.{list_all};
-ghost use Rattle.hex.specs.Hex.{is_hex_digit};
+ghost use Rattle.std.specs.Prelude.{◌≡◌, ◌≤◌, ◌/◌, length};
 ghost use Rattle.coap_lines.specs.Answers.{Finds};
-ghost use Rattle.coap_lines.specs.Datagrams.{bytes_read, is_hex};
+ghost use Rattle.coap_lines.specs.Datagrams.{bytes_at_front, bytes_read, digits_read};
 
-use crate::error::LineError;
-use coap_message::Seq;
-use std::alloc::Global;
+use coap_message::Datagram;
 
-/// Whether a byte is a hexadecimal digit, in either case.
-fn is_hex_digit(byte: u8) -> bool
-    ensures { result ≡ is_hex_digit byte }
+/// Writes the bytes of an even number of hexadecimal digits to the front of a slice that has as
+/// many places at least. If the text is anything else, what the slice holds isn't specified.
+fn read_digits(text: &[u8], places: &mut [u8]) -> Option<()>
+    requires { length text.now / 2 ≤ length places.old }
+    ensures read { Finds (bytes_at_front (length text.now / 2)) (digits_read text.now) result
+        places.new }
+    ensures room { length places.new ≡ length places.old }
 {
-    matches!(byte, b'0'..=b'9' | b'A'..=b'F' | b'a'..=b'f')
+    hex::decode_to_slice(text, &mut places[..text.len() / 2]).ok()
 }
 
-/// Whether all bytes are hexadecimal digits.
-fn are_hex_digits(text: &[u8]) -> bool
-    ensures { result ≡ list_all is_hex_digit text.now }
-{
-    text.iter().all(|byte| is_hex_digit(*byte))
-}
-
-/// Whether a text is an even number of hexadecimal digits, at least two.
-fn is_hex(text: &[u8]) -> bool
-    ensures { result ≡ is_hex text.now }
-{
-    text.len() >= 2 && text.len() % 2 == 0 && are_hex_digits(text)
-}
-
-/// The bytes that a text encodes: an even number of hexadecimal digits, at least two, or a hyphen
-/// for none.
-pub(crate) fn read_bytes(alloc: Global, text: &[u8]) -> Result<Seq<u8>, LineError>
-    ensures { Finds (λ bytes. bytes) (bytes_read text.now) result }
+/// Overwrites a buffer with the bytes that a text encodes: an even number of hexadecimal digits, at
+/// least two, or a hyphen for none. The buffer has room for half as many bytes as the text has. If
+/// the text encodes none, what the buffer holds isn't specified.
+pub(crate) fn read_bytes(text: &[u8], into: &mut Datagram) -> Option<()>
+    requires { length text.now / 2 ≤ into.old.room }
+    ensures read { Finds (λ _ bytes. bytes) (bytes_read text.now) result into.new.bytes }
+    ensures room { into.new.room ≡ into.old.room }
 {
     if text == b"-".as_slice() {
-        return Ok(Seq::new(alloc));
+        into.clear();
+        return Some(());
     }
-    if !is_hex(text) {
-        return Err(LineError::Bad);
+    if text.len() < 2 {
+        return None;
     }
-    match hex::decode(alloc, text) {
-        Ok(bytes) => Ok(Seq::from_vec(bytes)),
-        Err(_) => Err(LineError::OutOfMemory),
-    }
+    let read = read_digits(text, into.places());
+    into.truncate(text.len() / 2);
+    read
 }

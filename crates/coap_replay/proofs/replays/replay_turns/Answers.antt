@@ -1,45 +1,55 @@
-use Rattle.std.proofs.Common.{◌+◌, Ok, Err, arith}
+use Rattle.std.proofs.Common.{◌≡◌, ℕ, ◌+◌, [], Ok, Err, arith, subst}
+use Rattle.coap_replay.specs.declared.buffers.Buffers.{Buffers}
+use Rattle.coap_replay.specs.Buffers.{HaveRoom}
 use Rattle.std.proofs.lemmas.Result.{err_from_is_err_and}
 use Rattle.coap_replay.specs.declared.replays.Asked.TheVariants.{Skip, Do}
 use Rattle.coap_replay.proofs.Replaying.{at-start, ends-at-start, ends-none, by-clock, may-by-clock, as-asked, as-may, ends-refused, ends-enough, ends-unread, ends-turn, goes-on, goes-further}
 use Rattle.coap_replay.proofs.replays.replay_turns.Goals.{in-Skip, in-Do+in_ok-do_turn-in-Do+else-count-turns}
 use Rattle.coap_replay.proofs.replays.replay_turns.Goals as goal
 
+-- the room for a limit that is the same number
+same-room : (b : Buffers) (m n : ℕ) → m ≡ n → HaveRoom m b → HaveRoom n b
+same-room b m n same room = subst (λ (k : ℕ). HaveRoom k b) same room
+
 pub loop-read-init : goal.loop-read-init
 loop-read-init g c = record {
   at = at-start _ _ _;
   few = omega (arith, c.if-turns-eq0.false);
-  room = rw (c.in-Ok-new.ensures, c.datagram-2.ensures.exact) (omega arith);
-  line = c.in-Ok.ensures.capacity;
-  text = omega (arith, c.in-Ok-line_buffer.ensures.room, c.datagram.ensures.exact);
+  room = same-room c.in-Ok.buffers _ _ c.datagram.ensures.exact c.in-Ok.ensures;
 }
+
+pub next_asked-requires-clause-line : goal.next_asked-requires-clause-line
+next_asked-requires-clause-line g c = c.loop-read.invariant.room.line
+
+pub next_asked-requires-clause-input : goal.next_asked-requires-clause-input
+next_asked-requires-clause-input g c = c.loop-read.invariant.room.input
 
 pub returns-in_err-next_asked : goal.returns-in_err-next_asked
 returns-in_err-next_asked g c =
     let v = c.loop-read.core in
     let e = c.in_err-next_asked in
     let p = err_from_is_err_and c.from_residual.result c.from_residual.ensures.1 in
-    let asks = by-clock (c.loop-read.read + 1) v _ (g.R.Read.remaining c.next_asked.new.reader) (Err e.field-0.0) c.last.result c.events.result c.last.ensures.exact c.events.ensures.exact e.ensures.asked in
-    let may = may-by-clock v (Err e.field-0.0) c.last.result c.events.result c.last.ensures.exact c.events.ensures.exact e.ensures.may in
-    record { replayed = rw (p.1, p.2) (ends-refused _ _ _ _ (g.R.Read.remaining c.next_asked.new.reader) _ _ _ _ _ c.loop-read.invariant.at c.loop-read.invariant.few e.field-0.0 asks may) }
+    let asks = by-clock (c.loop-read.read + 1) v _ (g.R.Read.remaining c.next_asked.new.reader) c.next_asked.new.buffers.input.bytes (Err e.field-0.0) c.last.result c.events.result c.last.ensures.exact c.events.ensures.exact e.ensures.asked in
+    let may = may-by-clock v c.next_asked.new.buffers.input.bytes (Err e.field-0.0) c.last.result c.events.result c.last.ensures.exact c.events.ensures.exact e.ensures.may in
+    record { replayed = rw (p.1, p.2) (ends-refused _ _ _ _ (g.R.Read.remaining c.next_asked.new.reader) _ _ c.next_asked.new.buffers.input.bytes _ _ _ c.loop-read.invariant.at c.loop-read.invariant.few e.field-0.0 asks may) }
 
 pub returns-in_err-do_turn-in-Do : goal.returns-in_err-do_turn-in-Do
 returns-in_err-do_turn-in-Do g c =
     let v = c.loop-read.core in
     let a = c.in_ok-next_asked in
     let p = err_from_is_err_and c.from_residual-in_err-do_turn-in-Do.result c.from_residual-in_err-do_turn-in-Do.ensures.1 in
-    let asks = as-asked (c.loop-read.read + 1) v.last v.events _ _ a.field-0 (Do c.in-Do.turn) c.in-Do.is (by-clock (c.loop-read.read + 1) v _ _ (Ok a.field-0) c.last.result c.events.result c.last.ensures.exact c.events.ensures.exact a.ensures.asked) in
-    let may = as-may v.last v.events a.field-0 (Do c.in-Do.turn) c.in-Do.is (may-by-clock v (Ok a.field-0) c.last.result c.events.result c.last.ensures.exact c.events.ensures.exact a.ensures.may) in
-    record { replayed = rw (p.1, p.2) (ends-turn _ _ _ _ _ _ _ _ _ _ c.loop-read.invariant.at c.loop-read.invariant.few c.in-Do.turn asks may _ _ c.in_err-do_turn-in-Do.field-0.0 c.in_err-do_turn-in-Do.ensures.does) }
+    let asks = as-asked (c.loop-read.read + 1) v.last v.events _ _ c.next_asked.new.buffers.input.bytes a.field-0 (Do c.in-Do.turn) c.in-Do.is (by-clock (c.loop-read.read + 1) v _ _ c.next_asked.new.buffers.input.bytes (Ok a.field-0) c.last.result c.events.result c.last.ensures.exact c.events.ensures.exact a.ensures.asked) in
+    let may = as-may v.last v.events c.next_asked.new.buffers.input.bytes a.field-0 (Do c.in-Do.turn) c.in-Do.is (may-by-clock v c.next_asked.new.buffers.input.bytes (Ok a.field-0) c.last.result c.events.result c.last.ensures.exact c.events.ensures.exact a.ensures.may) in
+    record { replayed = rw (p.1, p.2) (ends-turn _ _ _ _ _ _ _ c.next_asked.new.buffers.input.bytes _ _ _ c.loop-read.invariant.at c.loop-read.invariant.few c.in-Do.turn asks may _ _ c.in_err-do_turn-in-Do.field-0.0 c.in_err-do_turn-in-Do.ensures.does) }
 
 pub returns-then-count-turns : goal.returns-then-count-turns
 returns-then-count-turns g c =
     let v = c.loop-read.core in
     let a = c.in_ok-next_asked in
-    let asks = as-asked (c.loop-read.read + 1) v.last v.events _ _ a.field-0 (Do c.in-Do.turn) c.in-Do.is (by-clock (c.loop-read.read + 1) v _ _ (Ok a.field-0) c.last.result c.events.result c.last.ensures.exact c.events.ensures.exact a.ensures.asked) in
-    let may = as-may v.last v.events a.field-0 (Do c.in-Do.turn) c.in-Do.is (may-by-clock v (Ok a.field-0) c.last.result c.events.result c.last.ensures.exact c.events.ensures.exact a.ensures.may) in
+    let asks = as-asked (c.loop-read.read + 1) v.last v.events _ _ c.next_asked.new.buffers.input.bytes a.field-0 (Do c.in-Do.turn) c.in-Do.is (by-clock (c.loop-read.read + 1) v _ _ c.next_asked.new.buffers.input.bytes (Ok a.field-0) c.last.result c.events.result c.last.ensures.exact c.events.ensures.exact a.ensures.asked) in
+    let may = as-may v.last v.events c.next_asked.new.buffers.input.bytes a.field-0 (Do c.in-Do.turn) c.in-Do.is (may-by-clock v c.next_asked.new.buffers.input.bytes (Ok a.field-0) c.last.result c.events.result c.last.ensures.exact c.events.ensures.exact a.ensures.may) in
     let does = c.in_ok-do_turn-in-Do.ensures.does in
-    record { replayed = ends-enough _ _ _ _ _ _ _ _ _ _ c.loop-read.invariant.at c.loop-read.invariant.few c.in-Do.turn asks may does.0 _ _ does.1 does.2 c.if-count-turns.true }
+    record { replayed = ends-enough _ _ _ _ _ _ _ c.next_asked.new.buffers.input.bytes _ _ _ c.loop-read.invariant.at c.loop-read.invariant.few c.in-Do.turn asks may does.0 _ _ does.1 does.2 c.if-count-turns.true }
 
 pub loop-read-preserved : goal.loop-read-preserved
 loop-read-preserved g c =
@@ -48,17 +58,17 @@ loop-read-preserved g c =
     let a = c.in_ok-next_asked in
     elim c.match-branch-2.branch [
       | in-Skip w ↦
-          let asks = as-asked (c.loop-read.read + 1) v.last v.events _ _ a.field-0 Skip w.in-Skip.is (by-clock (c.loop-read.read + 1) v _ _ (Ok a.field-0) c.last.result c.events.result c.last.ensures.exact c.events.ensures.exact a.ensures.asked) in
-          rw (w.core-is, w.writer-is, w.count-is, w.out-is, w.text-is) (record { at = goes-on _ _ _ _ _ _ _ _ _ _ i.at i.few asks; few = i.few; room = i.room; line = omega (arith, i.line, c.next_asked.ensures.room); text = i.text })
+          let asks = as-asked (c.loop-read.read + 1) v.last v.events _ _ c.next_asked.new.buffers.input.bytes a.field-0 Skip w.in-Skip.is (by-clock (c.loop-read.read + 1) v _ _ c.next_asked.new.buffers.input.bytes (Ok a.field-0) c.last.result c.events.result c.last.ensures.exact c.events.ensures.exact a.ensures.asked) in
+          rw (w.core-is, w.writer-is, w.count-is, w.buffers-is) (record { at = goes-on _ _ _ _ _ _ _ c.next_asked.new.buffers.input.bytes _ _ _ i.at i.few asks; few = i.few; room = c.next_asked.ensures.room _ i.room })
       | in-Do+in_ok-do_turn-in-Do+else-count-turns w ↦
-          let asks = as-asked (c.loop-read.read + 1) v.last v.events _ _ a.field-0 (Do w.in-Do.turn) w.in-Do.is (by-clock (c.loop-read.read + 1) v _ _ (Ok a.field-0) c.last.result c.events.result c.last.ensures.exact c.events.ensures.exact a.ensures.asked) in
-          let may = as-may v.last v.events a.field-0 (Do w.in-Do.turn) w.in-Do.is (may-by-clock v (Ok a.field-0) c.last.result c.events.result c.last.ensures.exact c.events.ensures.exact a.ensures.may) in
+          let asks = as-asked (c.loop-read.read + 1) v.last v.events _ _ c.next_asked.new.buffers.input.bytes a.field-0 (Do w.in-Do.turn) w.in-Do.is (by-clock (c.loop-read.read + 1) v _ _ c.next_asked.new.buffers.input.bytes (Ok a.field-0) c.last.result c.events.result c.last.ensures.exact c.events.ensures.exact a.ensures.asked) in
+          let may = as-may v.last v.events c.next_asked.new.buffers.input.bytes a.field-0 (Do w.in-Do.turn) w.in-Do.is (may-by-clock v c.next_asked.new.buffers.input.bytes (Ok a.field-0) c.last.result c.events.result c.last.ensures.exact c.events.ensures.exact a.ensures.may) in
           let does = w.in_ok-do_turn-in-Do.ensures.does in
-          rw (w.core-is, w.writer-is, w.count-is, w.out-is, w.text-is) (record { at = goes-further _ _ _ _ _ _ _ _ _ _ i.at i.few w.in-Do.turn asks may does.0 _ _ does.1 does.2; few = omega (arith, i.few, w.if-count-turns.false); room = rw (w.do_turn.ensures.setting, w.do_turn.ensures.kept) i.room; line = omega (arith, i.line, c.next_asked.ensures.room); text = rw w.do_turn.ensures.setting (omega (arith, i.text, w.do_turn.ensures.text)) })
+          rw (w.core-is, w.writer-is, w.count-is, w.buffers-is) (record { at = goes-further _ _ _ _ _ _ _ c.next_asked.new.buffers.input.bytes _ _ _ i.at i.few w.in-Do.turn asks may does.0 _ _ does.1 does.2; few = omega (arith, i.few, w.if-count-turns.false); room = w.do_turn.ensures.room })
     ]
 
 pub returns : goal.returns
-returns g c = record { replayed = ends-unread _ _ _ _ (g.R.Read.remaining c.loop-read.reader) _ _ _ _ _ c.loop-read.invariant.at c.loop-read.invariant.few }
+returns g c = record { replayed = ends-unread _ _ _ _ (g.R.Read.remaining c.loop-read.reader) _ _ [] _ _ _ c.loop-read.invariant.at c.loop-read.invariant.few }
 
 -- nothing is to be done
 pub returns-then-turns-eq0 : goal.returns-then-turns-eq0
@@ -68,8 +78,5 @@ returns-then-turns-eq0 g c = record { replayed = rw c.if-turns-eq0.true (ends-no
 pub returns-in_default : goal.returns-in_default
 returns-in_default g c = record { replayed = ends-at-start _ _ _ _ }
 
-pub returns-in_default-line_buffer : goal.returns-in_default-line_buffer
-returns-in_default-line_buffer g c = record { replayed = ends-at-start _ _ _ _ }
-
-pub returns-in_default-new : goal.returns-in_default-new
-returns-in_default-new g c = record { replayed = ends-at-start _ _ _ _ }
+pub do_turn-requires-clause-room : goal.do_turn-requires-clause-room
+do_turn-requires-clause-room g c = c.next_asked.ensures.room _ c.loop-read.invariant.room

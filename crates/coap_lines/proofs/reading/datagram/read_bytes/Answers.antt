@@ -1,15 +1,13 @@
 use Rattle.std.proofs.Common.{sym, ◌∙◌}
-use Rattle.coap_lines.proofs.HexTexts.{hyphen-read, bad-none, digits-read, digits-some}
+use Rattle.coap_lines.proofs.HexTexts.{hyphen-read, front-read, short-none}
 use Rattle.coap_lines.proofs.reading.datagram.read_bytes.Goals as goal
 
-pub returns-then-eq : goal.returns-then-eq
-returns-then-eq c = rw c.new.ensures (hyphen-read c.args.text.now (sym (rw c.as_slice.ensures at c.eq.ensures) ∙ c.if-eq.true))
+pub returns-then-eq-clause-read : goal.returns-then-eq-clause-read
+returns-then-eq-clause-read c = rw c.clear.ensures (hyphen-read c.args.text.now (sym (rw c.as_slice.ensures at c.eq.ensures) ∙ c.if-eq.true))
 
-pub returns-then-not-is_hex : goal.returns-then-not-is_hex
-returns-then-not-is_hex c = bad-none c.args.text.now (sym (rw c.as_slice.ensures at c.eq.ensures) ∙ c.if-eq.false) (sym c.is_hex.ensures ∙ c.if-not-is_hex.true)
+pub returns-then-text-lt2-clause-read : goal.returns-then-text-lt2-clause-read
+returns-then-text-lt2-clause-read c = short-none c.args.text.now (sym (rw c.as_slice.ensures at c.eq.ensures) ∙ c.if-eq.false) c.if-text-lt2.true
 
-pub returns-in-Ok : goal.returns-in-Ok
-returns-in-Ok c = rw c.from_vec.ensures (digits-read c.args.text.now c.in-Ok.bytes.items (sym (rw c.as_slice.ensures at c.eq.ensures) ∙ c.if-eq.false) (sym c.is_hex.ensures ∙ c.if-not-is_hex.false) c.in-Ok.ensures.ok)
-
-pub returns-in-Err : goal.returns-in-Err
-returns-in-Err c = digits-some c.args.text.now (sym (rw c.as_slice.ensures at c.eq.ensures) ∙ c.if-eq.false) (sym c.is_hex.ensures ∙ c.if-not-is_hex.false)
+pub returns-clause-read : goal.returns-clause-read
+returns-clause-read c =
+    rw c.truncate.ensures (front-read c.args.text.now c.places.result.now c.read_digits-read.new.places c.read_digits-read.result (sym (rw c.as_slice.ensures at c.eq.ensures) ∙ c.if-eq.false) c.if-text-lt2.false c.read_digits-read.ensures.room c.read_digits-read.ensures.read)
