@@ -1,5 +1,6 @@
 -- Endpoints as texts: what is read, and what is written.
-use Rattle.std.proofs.Common.{◌≡◌, ◌==◌, ℕ, ◌≤◌, Bool, true, false, List, [], ◌∷◌, ◌++◌, Option, Some, None, option_map, refl, sym, ap, ◌∙◌, cond, arith, lit≤, lit<, append_assoc}
+use Rattle.std.proofs.Common.{◌≡◌, ◌==◌, ℕ, ◌≤◌, ◌<◌, Bool, true, false, List, [], ◌∷◌, ◌++◌, Option, Some, None, option_map, refl, sym, ap, ◌∙◌, cond, arith, lit≤, lit<, append_assoc}
+use Rattle.std.specs.Char.{digit_value}
 use Rattle.std.specs.Net.Addr.{octets_of}
 use Rattle.std.specs.Net.Grammar.{IsDotted}
 use Rattle.std.specs.Net.Reader.{read_byte}
@@ -124,14 +125,20 @@ endpoint_of-is (b ∷ text) endpoint found = go (b == 91) refl found
     go true is made = let same = eqb-true b 91 is in rw same (v6-is text endpoint made)
     go false is made = v4-is (b ∷ text) endpoint made
 
--- the text of an endpoint contains no space
-pub has-endpoint : (text : List ℕ) (ip : Ip) (n : ℕ) (address port : List ℕ) → text ≡ address ++ 58 ∷ port → IsAddress address ip → IsNumber 65535 port n → has 32 text ≡ false
-has-endpoint text (V4 octets) n address port split is number =
-    let front = has-dotted 32 (λ x low high. ne_eqb x 32 (λ same. omega arith)) address octets is in
-    let digits = has-decimal 32 (λ x low high. ne_eqb x 32 (λ same. omega arith)) n (omega arith) in
-    rw (split, list_any-append, front, number.0, digits) refl
-has-endpoint text (V6 octets) n address port split (inner, segments, spelled, groups, value) number =
-    let inside : has 32 inner ≡ false = rw (groups.1) (has-groups 32 (lit≤ tt) refl groups.0 segments groups.2) in
-    let front : has 32 address ≡ false = rw (spelled, list_any-append, inside) refl in
-    let digits = has-decimal 32 (λ x low high. ne_eqb x 32 (λ same. omega arith)) n (omega arith) in
-    rw (split, list_any-append, front, number.0, digits) refl
+-- the text of an endpoint contains no byte below 46 that isn't a digit
+pub has-endpoint : (byte : ℕ) → byte < 46 → 16 ≤ digit_value byte → (text : List ℕ) (ip : Ip) (n : ℕ) (address port : List ℕ) → text ≡ address ++ 58 ∷ port → IsAddress address ip → IsNumber 65535 port n → has byte text ≡ false
+has-endpoint byte low other text (V4 octets) n address port split is number =
+    let above : (x : ℕ) → 46 ≤ x → (x == byte) ≡ false = λ x high. ne_eqb x byte (λ same. omega arith) in
+    let front = has-dotted byte (λ x from to. above x from) address octets is in
+    let digits = has-decimal byte (λ x from to. above x from) n (omega arith) in
+    let colon = above 58 (lit≤ tt) in
+    rw (split, list_any-append, front, number.0, digits, colon) refl
+has-endpoint byte low other text (V6 octets) n address port split (inner, segments, spelled, groups, value) number =
+    let above : (x : ℕ) → 46 ≤ x → (x == byte) ≡ false = λ x high. ne_eqb x byte (λ same. omega arith) in
+    let colon = above 58 (lit≤ tt) in
+    let opens = above 91 (lit≤ tt) in
+    let closes = above 93 (lit≤ tt) in
+    let inside : has byte inner ≡ false = rw (groups.1) (has-groups byte other colon groups.0 segments groups.2) in
+    let front : has byte address ≡ false = rw (spelled, list_any-append, inside, opens, closes) refl in
+    let digits = has-decimal byte (λ x from to. above x from) n (omega arith) in
+    rw (split, list_any-append, front, number.0, digits, colon) refl

@@ -1,9 +1,11 @@
 -- The bytes of a datagram as a text, and what is read.
-use Rattle.std.proofs.Common.{◌≡◌, ℕ, ◌+◌, ◌/◌, ◌%◌, ◌<◌, ◌≤◌, Bool, true, false, List, [], ◌∷◌, ◌++◌, length, take, get_or, slice_index, ◌∙◌, codes, Option, Some, None, Result, Ok, Err, refl, sym, ap, arith, cond, inl, inr, leb, le-leb}
-use Rattle.std.specs.Option.{unwrap_or}
+use Rattle.std.proofs.Common.{◌≡◌, ℕ, ◌+◌, ◌/◌, ◌%◌, ◌<◌, ◌≤◌, Bool, true, false, List, [], ◌∷◌, ◌++◌, length, take, get_or, slice_index, ◌∙◌, codes, Option, Some, None, Result, Ok, Err, refl, sym, ap, arith, cond, inl, inr, leb, le-leb, ◌≢◌, ◌==◌, ◌&&◌, eq-eqb}
+use Rattle.std.specs.Option.{unwrap_or, IsSome}
 use Rattle.std.specs.Str.{bytes_eq}
-use Rattle.std.proofs.lemmas.Bool.{leb-true, lt-leb}
+use Rattle.std.proofs.lemmas.Bool.{leb-true, lt-leb, and_parts, eqb-true, false≢true, ne_eqb}
 use Rattle.std.proofs.lemmas.List.{append-nil, drop_all, take_all, take_more}
+use Rattle.std.specs.List.{list_all, list_any}
+use Rattle.std.proofs.lemmas.List.Sums.{AllPass-from_list_all, list_all-from_AllPass}
 use Rattle.std.proofs.lemmas.Option.{none-some}
 use Rattle.std.proofs.lemmas.Slice.Eq.{bytes_eq-Decides}
 use Rattle.hex.specs.declared.error.FromHexError.{FromHexError}
@@ -85,3 +87,15 @@ bytes_read-written text bytes (inr some) =
     not_hyphen : (h : Bool) → bytes_eq text (codes "-") ≡ h → bytes_eq text (codes "-") ≡ false
     not_hyphen false is = is
     not_hyphen true is = let short = ap length ((bytes_eq-Decides text (codes "-")).0 is) in absurd (omega (arith, short, some.0))
+
+-- the text of bytes contains neither a byte that isn't a digit nor, unless it is a hyphen, that one
+pub has-hex : (byte : ℕ) → is_hex_digit byte ≡ false → (45 == byte) ≡ false → (text bytes : List ℕ) → IsHex text bytes → list_any (λ b. b == byte) text ≡ false
+has-hex byte other apart text bytes (inl none) = rw (none.0, apart) refl
+has-hex byte other apart text bytes (inr some) = go text (list_all-from_AllPass is_hex_digit text (decode_of-ok text bytes some.1).1)
+  where
+    go : (text : List ℕ) → list_all is_hex_digit text ≡ true → list_any (λ b. b == byte) text ≡ false
+    go [] all = refl
+    go (b ∷ text) all =
+        let parts = and_parts (is_hex_digit b) (list_all is_hex_digit text) all in
+        let differs : b ≢ byte = λ same. false≢true (sym other ∙ rw same at parts.0) in
+        rw (ne_eqb b byte differs, go text parts.1) refl

@@ -7,7 +7,7 @@ use Rattle.coap_lines.proofs.Cuts.{cut-is, none-has}
 use Rattle.coap_lines.proofs.NextLines.{lines_of-feed, lines_of-last}
 
 -- the lines of lines that are each followed by a line feed are those lines
-lines_of-ended : (lines : List (List ℕ)) → AllByRecursion (λ line. has 10 line ≡ false) lines → lines_of (ended lines) ≡ lines
+pub lines_of-ended : (lines : List (List ℕ)) → AllByRecursion (λ line. has 10 line ≡ false) lines → lines_of (ended lines) ≡ lines
 lines_of-ended [] all = refl
 lines_of-ended (line ∷ lines) all = rw append_assoc (lines_of-feed line (ended lines) all.0 ∙ ap (λ rest. line ∷ rest) (lines_of-ended lines all.1))
 

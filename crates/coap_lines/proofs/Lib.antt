@@ -12,3 +12,4 @@ pub mod Numerals
 pub mod ReadAgain
 pub mod ScriptTurns
 pub mod TurnTexts
+pub mod WrittenTurns

@@ -1,5 +1,5 @@
 -- Turns as texts: what is read, and what is written.
-use Rattle.std.proofs.Common.{◌≡◌, ℕ, ◌^◌, ◌<◌, Bool, true, false, List, ◌∷◌, ◌++◌, codes, Option, Some, None, refl, sym, ap, ◌∙◌, cond, arith, lit<, append_assoc, leb, le-leb}
+use Rattle.std.proofs.Common.{◌≡◌, ℕ, ◌^◌, ◌<◌, Bool, true, false, List, ◌∷◌, ◌++◌, codes, Option, Some, None, refl, sym, ap, ◌∙◌, cond, arith, lit<, lit≤, append_assoc, leb, le-leb}
 use Rattle.std.specs.Option.{unwrap_or}
 use Rattle.std.specs.Str.{bytes_eq}
 use Rattle.std.proofs.lemmas.Bool.{false≢true, leb-true, ne_eqb}
@@ -43,7 +43,7 @@ event_of-written : (text : List ℕ) (event : Event) → IsEventText text event 
 unfolding event_of arrival_of
 event_of-written text tick is = rw (is) refl
 event_of-written text (arrival from bytes) (source, hex, split, endpoint, digits) =
-    let clear = has-endpoint source from.ip from.port endpoint.0 endpoint.1 endpoint.2 endpoint.3 endpoint.4 in
+    let clear = has-endpoint 32 (lit< tt) (lit≤ tt) source from.ip from.port endpoint.0 endpoint.1 endpoint.2 endpoint.3 endpoint.4 in
     rw (split, not_tick source hex clear, cut-front 32 source hex clear, endpoint_of-written source from endpoint, bytes_read-written hex bytes digits) refl
 
 -- an event that was read is the one that the text encodes

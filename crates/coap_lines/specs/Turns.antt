@@ -1,16 +1,20 @@
 -- Lines that are events: `MOMENT DRAW FROM HEX`, and `MOMENT DRAW tick`.
-use Rattle.std.specs.Prelude.{◌≡◌, ℕ, ◌^◌, ◌≤◌, nat_le, List, ◌∷◌, ◌++◌, codes, Option, Some, None, if◌then◌else◌}
+use Rattle.std.specs.Prelude.{◌≡◌, ℕ, ◌^◌, ◌≤◌, nat_le, false, List, [], ◌∷◌, ◌++◌, codes, Option, Some, None, if◌then◌else◌}
+use Rattle.std.specs.Fmt.{decimal}
 use Rattle.std.specs.Str.{bytes_eq}
+use Rattle.coap_message.specs.Uint.{IsBytes}
+use Rattle.coap_uri.specs.Address.{IsIp}
 use Rattle.coap_model.specs.Events.{Event}
 use Rattle.coap_model.specs.Events.Event.{arrival, tick}
 use Rattle.coap_model.specs.Runs.{Turn}
 use Rattle.coap_endpoint.specs.declared.endpoint.Endpoint.{Endpoint}
 use Rattle.coap_lines.specs.declared.reading.turn.Turn.{Turn as TurnRead}
 use Rattle.coap_message.specs.Reading.{◌>>=◌}
-use Rattle.coap_lines.specs.Texts.{cut, space}
+use Rattle.coap_lines.specs.Texts.{cut, has, line_feed, space}
 use Rattle.coap_lines.specs.Numbers.{IsNumber, number_of}
-use Rattle.coap_lines.specs.Endpoints.{IsEndpoint, endpoint_of}
-use Rattle.coap_lines.specs.Datagrams.{IsHex, bytes_read}
+use Rattle.coap_lines.specs.Endpoints.{IsEndpoint, endpoint_of, endpoint_text}
+use Rattle.coap_lines.specs.Datagrams.{IsHex, bytes_read, hex_text}
+use Rattle.coap_lines.specs.Lines.{is_skipped, is_too_long}
 
 -- the greatest moment, in milliseconds, and the greatest line number
 abbrev pub greatest : ℕ
@@ -66,3 +70,36 @@ event_seen (Some from) bytes = arrival from bytes
 
 abbrev pub turn_seen : TurnRead → List ℕ → Turn
 turn_seen turn bytes = turn_at turn.now turn.draw (event_seen turn.from bytes)
+
+-- ---- as they are written
+
+abbrev pub event_text : Event → List ℕ
+event_text (arrival from bytes) = endpoint_text from ++ codes " " ++ hex_text bytes
+event_text tick = codes "tick"
+
+-- the line of a turn, without its line feed
+unfoldable pub turn_text : Turn → List ℕ
+turn_text turn =
+    decimal turn.now ++ codes " " ++ decimal turn.draw ++ codes " " ++ event_text turn.event
+
+abbrev pub turn_line : Turn → List ℕ
+turn_line turn = turn_text turn ++ line_feed ∷ []
+
+-- a datagram consists of bytes, and its source has an address and a port
+abbrev pub IsSourced : Event → Type 0
+IsSourced (arrival from bytes) = IsIp from.ip × (from.port ≤ 65535) × IsBytes bytes
+IsSourced tick = Unit {0}
+
+-- a turn that a line can encode after the moment `last`
+pub record IsSayable (last : ℕ) (turn : Turn) : Type 0 where
+  pub onward : last ≤ turn.now
+  pub moment : turn.now ≤ greatest
+  pub draw : turn.draw ≤ 1000
+  pub event : IsSourced turn.event
+
+-- a line of an input that is read as this turn after the moment `last`
+pub record IsReadAs (last : ℕ) (line : List ℕ) (turn : Turn) : Type 0 where
+  pub one : has line_feed line ≡ false
+  pub short : is_too_long line ≡ false
+  pub counts : is_skipped line ≡ false
+  pub says : turn_of last line ≡ Some turn

@@ -5,7 +5,7 @@ ghost use Rattle.coap_lines.specs.Endpoints.{endpoint_of};
 ghost use Rattle.coap_lines.specs.Examples.{eight, get, home, sixth};
 ghost use Rattle.coap_lines.specs.Lines.{is_skipped, line_of, lines_of};
 ghost use Rattle.coap_lines.specs.Scripts.{script_of};
-ghost use Rattle.coap_lines.specs.Turns.{turn_at, turn_of};
+ghost use Rattle.coap_lines.specs.Turns.{turn_at, turn_line, turn_of};
 
 /// Lines that are events.
 pub fn events()
@@ -74,6 +74,15 @@ pub fn lines()
     ensures four { line_of 2000 home get ≡ codes "2000 127.0.0.1:40001 50010007B174\n" }
     ensures groups { line_of 0 sixth (0xAB ∷ []) ≡ codes "0 [2001:db8:0:0:0:0:abcd:ef]:0 AB\n" }
     ensures empty { line_of 1 eight [] ≡ codes "1 [1:2:3:4:5:6:7:8]:5683 -\n" }
+{}
+
+/// Lines of turns, as they are recorded.
+pub fn turns()
+    ensures datagram { turn_line (turn_at 2000 17 (arrival home get))
+        ≡ codes "2000 17 127.0.0.1:40001 50010007B174\n" }
+    ensures nothing { turn_line (turn_at 0 1000 (arrival eight []))
+        ≡ codes "0 1000 [1:2:3:4:5:6:7:8]:5683 -\n" }
+    ensures ticks { turn_line (turn_at 7 0 tick) ≡ codes "7 0 tick\n" }
 {}
 
 /// Which lines are skipped: the empty one, and those that begin with `#`.

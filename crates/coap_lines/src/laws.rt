@@ -1,5 +1,5 @@
 //! Laws of the definitions: public functions that do nothing, whose contracts are the laws.
-ghost use Rattle.std.specs.Prelude.{◌≡◌, ◌+◌, ◌<◌, ◌≤◌, ◌^◌, ℕ, List, None, Some, false, true};
+ghost use Rattle.std.specs.Prelude.{◌≡◌, ◌+◌, ◌<◌, ◌≤◌, ◌^◌, ℕ, List, None, Some, false, length, true};
 ghost use Rattle.std.specs.List.{AllByRecursion};
 ghost use Rattle.coap_message.specs.Uint.{IsBytes};
 ghost use Rattle.coap_endpoint.specs.declared.endpoint.Endpoint.{Endpoint};
@@ -11,7 +11,7 @@ ghost use Rattle.coap_lines.specs.Endpoints.{IsEndpoint, endpoint_at, endpoint_o
 ghost use Rattle.coap_lines.specs.Lines.{AreLines, IsNext, is_skipped, lines_of};
 ghost use Rattle.coap_lines.specs.Numbers.{IsNumber, number_of};
 ghost use Rattle.coap_lines.specs.Scripts.{all_done, bad_at, script_from, script_of, with_turn};
-ghost use Rattle.coap_lines.specs.Turns.{IsTurnLine, greatest, turn_of};
+ghost use Rattle.coap_lines.specs.Turns.{IsReadAs, IsSayable, IsTurnLine, greatest, turn_of, turn_text};
 ghost use Rattle.coap_lines.specs.declared.reading.input.Next.{Next};
 
 /// A text is read as a number exactly if it is the number's decimal form.
@@ -66,6 +66,12 @@ pub fn written_is_read()
         → bytes_read (hex_text bytes) ≡ Some bytes }
     ensures endpoints { (ip : Ip) (port : ℕ) → IsIp ip → port ≤ 65535
         → endpoint_of (endpoint_text (endpoint_at ip port)) ≡ Some (endpoint_at ip port) }
+{}
+
+/// The line of a turn is read back as that turn, if it isn't too long.
+pub fn written_turns_are_read()
+    ensures { (last : ℕ) (turn : Turn) → IsSayable last turn → length (turn_text turn) ≤ 16384
+        → IsReadAs last (turn_text turn) turn }
 {}
 
 /// What an input asks for, starting at a line, depending on what comes next.

@@ -23,3 +23,4 @@ pub use reading::input::{LONGEST, Next, is_skipped, next_line};
 pub use reading::turn::{Turn, read_turn};
 pub use writing::line::{line_buffer, put_line};
 pub use writing::output::write_bytes;
+pub use writing::turn::{put_arrival, put_tick};

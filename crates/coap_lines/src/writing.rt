@@ -4,3 +4,4 @@ mod endpoint;
 pub(crate) mod line;
 mod number;
 pub(crate) mod output;
+pub(crate) mod turn;
