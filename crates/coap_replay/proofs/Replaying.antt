@@ -25,7 +25,7 @@ use Rattle.coap_replay.specs.Replays.{AsksNext, DoesTurn, HasDone, IfDo, IsAtEve
 -- ---- one more turn
 
 -- a run with one more turn
-run-more : (r : Run) (ts : List Taken) (t : Taken) → run_of r (ts ++ t ∷ []) ≡ one_turn (run_of r ts) t
+pub run-more : (r : Run) (ts : List Taken) (t : Taken) → run_of r (ts ++ t ∷ []) ≡ one_turn (run_of r ts) t
 run-more r [] t = refl
 run-more r (u ∷ ts) t = run-more (one_turn r u) ts t
 
@@ -35,7 +35,7 @@ run-apart r q [] e = e
 run-apart r q (t ∷ ts) e = run-apart (one_turn r t) (one_turn q t) ts (ap (λ (w : World). (step_taken w t).world) e)
 
 -- what is written with one more turn
-output-more : (r : Run) (ts : List Taken) (t : Taken) → output_of r.world (ts ++ t ∷ []) ≡ output_of r.world ts ++ line_sent (run_of r ts).world t
+pub output-more : (r : Run) (ts : List Taken) (t : Taken) → output_of r.world (ts ++ t ∷ []) ≡ output_of r.world ts ++ line_sent (run_of r ts).world t
 output-more r [] t = append-nil (line_sent r.world t)
 output-more r (u ∷ ts) t =
     ap (λ (l : List ℕ). line_sent r.world u ++ l) (output-more (one_turn r u) ts t) ∙ sym (append_assoc (line_sent r.world u) (output_of (step_taken r.world u).world ts) (line_sent (run_of (one_turn r u) ts).world t))
@@ -49,7 +49,7 @@ are-more r (u ∷ ts) t are onward event =
     (are.0, are.1, subst (λ (n : ℕ). AreTurns n (turns_of (ts ++ t ∷ []))) last rest)
 
 -- the turns as they were requested, with one more
-turns_of-more : (ts : List Taken) (t : Taken) → turns_of (ts ++ t ∷ []) ≡ turns_of ts ++ t.turn ∷ []
+pub turns_of-more : (ts : List Taken) (t : Taken) → turns_of (ts ++ t ∷ []) ≡ turns_of ts ++ t.turn ∷ []
 turns_of-more [] t = refl
 turns_of-more (u ∷ ts) t = ap (λ (l : List Turn). u.turn ∷ l) (turns_of-more ts t)
 

@@ -1,0 +1,4 @@
+pub mod Adding
+pub mod Recorded
+pub mod Reading
+pub mod Replaying
