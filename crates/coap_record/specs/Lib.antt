@@ -1,2 +1,3 @@
+pub mod Header
 pub mod Recorder
 pub mod Replayable

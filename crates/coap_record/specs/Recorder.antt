@@ -66,7 +66,8 @@ module _ {P W : Type 0} (contents : W → Option (List ℕ)) where
   abbrev pub AddsUnless : Bool → Bool → Recorder P W → Turn → Recorder P W → Type 0
   AddsUnless true long r turn s = s ≡ r
   AddsUnless false true r turn s = s ≡ record r { ended = true }
-  AddsUnless false false r turn s = AddsLine r (longest_turn (size_of turn.event)) (turn_line turn) s
+  AddsUnless false false r turn s =
+      AddsLine r (longest_turn (size_of turn.event)) (turn_line turn) s
 
   -- the line of a turn is added
   abbrev pub AddsTurn : Recorder P W → Turn → Recorder P W → Type 0

@@ -11,8 +11,12 @@
 //! ```
 #![tactic(auto)]
 
+mod error;
+mod header;
 pub mod laws;
 mod recording;
 mod turns;
 
+pub use error::HeaderError;
+pub use header::{Start, header_of};
 pub use recording::Recording;

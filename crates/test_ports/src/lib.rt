@@ -1,6 +1,6 @@
-//! Tests of ports: a core over one in memory, which ends and refuses, and a port over a socket and
-//! over a system in memory. Also how long a port is asked to wait and what is counted, computed on
-//! the definitions.
+//! Tests of ports: a core over one in memory, which ends and refuses, and whose turns are recorded;
+//! and a port over a socket and over a system in memory. Also how long a port is asked to wait and
+//! what is counted, computed on the definitions.
 #![tactic(auto)]
 
 #[cfg(test)]
@@ -12,6 +12,8 @@ mod failing;
 mod loopback;
 #[cfg(test)]
 mod ports;
+#[cfg(test)]
+mod recordings;
 #[cfg(test)]
 mod sockets;
 pub mod systems;

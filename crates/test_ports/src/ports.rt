@@ -11,9 +11,9 @@ use std::process::Abort;
 use std::test::*;
 
 /// A GET of `t` by a client, and the origin's answer.
-const GET: [u8; 6] = [0x50, 0x01, 0x00, 0x07, 0xB1, 0x74];
+pub(crate) const GET: [u8; 6] = [0x50, 0x01, 0x00, 0x07, 0xB1, 0x74];
 
-const ANSWER: [u8; 18] = [
+pub(crate) const ANSWER: [u8; 18] = [
     0x68, 0x45, 0x00, 0x01, 0, 0, 0, 0, 0, 0, 0, 0x01, 0xD1, 0x01, 0x0A, 0xFF, 0x32, 0x31,
 ];
 
@@ -23,7 +23,7 @@ const SENT_ON: &str = "5690 480100010000000000000001B474656D70\n";
 
 const DELIVERED: &str = "40001 50450002D1010AFF3231\n";
 
-const BOTH: &str = "\
+pub(crate) const BOTH: &str = "\
 5690 480100010000000000000001B474656D70
 40001 50450002D1010AFF3231
 ";
@@ -55,7 +55,7 @@ fn port(alloc: Global, given: usize, refused: Option<usize>) -> Result<MemoryPor
 
 /// The counts after `turns` turns in which the port took `sent` datagrams and didn't take
 /// `send_faults`.
-fn stats(turns: u64, sent: u64, send_faults: u64) -> Stats {
+pub(crate) fn stats(turns: u64, sent: u64, send_faults: u64) -> Stats {
     Stats {
         turns,
         sent,

@@ -1,0 +1,201 @@
+//! How a recording begins: comments that say how its run was started.
+ghost use Rattle.std.specs.Prelude.{◌≡◌, ◌<◌, ◌^◌, ◌++◌, ◌∷◌, [], map, string_bytes, true, false, IfOk, OnOk, Err};
+ghost use Rattle.std.specs.Fmt.{decimal};
+ghost use Rattle.std.specs.List.{flat_map, list_any};
+ghost use Rattle.std.specs.Option.{option_copied};
+ghost use Rattle.coap_lines.specs.Lines.{ended, is_too_long, lines_of};
+ghost use Rattle.coap_lines.specs.Texts.{line_feed};
+ghost use Rattle.coap_record.specs.Header as spec;
+ghost use Rattle.coap_record.specs.Replayable.{AreSkipped};
+ghost use Rattle.coap_record.specs.declared.error.HeaderError.TheVariants as errors;
+
+use crate::error::HeaderError;
+use coap_lines::LONGEST;
+use coap_uri::first_part;
+use itoa::{Buffer, Integer};
+use std::alloc::{AllocError, Global};
+
+/// How a run was started: the first Message ID, and the salt of tokens.
+#[derive(Clone, Copy, Debug, PartialEq, Eq)]
+pub struct Start {
+    pub first_id: u16,
+    /// Below 2^63.
+    pub salt: u64,
+}
+
+/// The comments that a recording begins with, each with a line feed: the program with its version
+/// and the words that make a replay the same run (`--replay`, `--id`, `--salt`, and then `words`,
+/// as a shell reads them), and the lines of the configuration after `# config: `. A replay skips
+/// them.
+///
+/// # Errors
+/// `TooLong` if one of them is longer than the 16,384 bytes that a replay reads; `OutOfMemory`.
+pub fn header_of(
+    alloc: Global,
+    version: &str,
+    start: Start,
+    words: &[String],
+    config: &[u8],
+) -> Result<Vec<u8>, HeaderError>
+    ensures ok { IfOk result (λ text. text.items
+        ≡ spec.header_text version.now start (map string_bytes words.now) config.now) }
+    ensures skipped { IfOk result (λ text. AreSkipped
+        (spec.header_lines version.now start (map string_bytes words.now) config.now) text.items) }
+    ensures long { result ≡ Err errors.TooLong → list_any is_too_long
+        (spec.header_lines version.now start (map string_bytes words.now) config.now) ≡ true }
+{
+    are_numbers(start);
+    let mut out = Vec::new(alloc);
+    put_first(&mut out, version, start, words)?;
+    if out.len() > LONGEST {
+        return Err(HeaderError::TooLong);
+    }
+    out.extend_from_slice(b"\n")?;
+    put_config(&mut out, config)?;
+    Ok(out)
+}
+
+/// Whether a byte stands for itself in a word of a shell.
+fn is_plain(byte: u8) -> bool
+    ensures { result ≡ spec.is_plain byte }
+{
+    matches!(byte, b'+'..=b':' | b'@'..=b'Z' | b'a'..=b'z' | 0x80..=0xFF | b'%' | b'=' | b'_')
+}
+
+/// Adds a byte as a shell reads it.
+fn put_byte(out: &mut Vec<u8>, byte: u8) -> Result<(), AllocError>
+    ensures { OnOk result (out.new.items ≡ out.old.items ++ spec.byte_shown byte) }
+{
+    if is_plain(byte) {
+        out.extend_from_slice(&[byte])
+    } else if byte == b'\n' {
+        out.extend_from_slice(b"$'\\n'")
+    } else {
+        out.extend_from_slice(&[b'\\', byte])
+    }
+}
+
+/// Adds the bytes of a word as a shell reads them.
+fn put_bytes(out: &mut Vec<u8>, word: &[u8]) -> Result<(), AllocError>
+    ensures { OnOk result (out.new.items ≡ out.old.items ++ flat_map spec.byte_shown word.now) }
+{
+    for byte in word {
+        put_byte(out, *byte)?;
+    }
+    Ok(())
+}
+
+/// Adds a word as a shell reads it.
+fn put_word(out: &mut Vec<u8>, word: &[u8]) -> Result<(), AllocError>
+    ensures { OnOk result (out.new.items ≡ out.old.items ++ spec.word_shown word.now) }
+{
+    if word.is_empty() {
+        out.extend_from_slice(b"''")
+    } else {
+        put_bytes(out, word)
+    }
+}
+
+/// Adds words, each after a space.
+fn put_words(out: &mut Vec<u8>, words: &[String]) -> Result<(), AllocError>
+    ensures { OnOk result (out.new.items
+        ≡ out.old.items ++ spec.words_shown (map string_bytes words.now)) }
+{
+    for word in words {
+        out.extend_from_slice(b" ")?;
+        put_word(out, word.as_bytes())?;
+    }
+    Ok(())
+}
+
+/// Adds a number in decimal digits.
+fn put_number<I: Integer>(out: &mut Vec<u8>, number: I) -> Result<(), AllocError>
+    ensures { OnOk result (out.new.items ≡ out.old.items ++ I.text number) }
+{
+    out.extend_from_slice(Buffer::new().format(number).as_bytes())
+}
+
+// Does nothing: it lets a proof conclude that the numbers are those of 64 bits.
+fn are_numbers(start: Start)
+    ensures id { start.first_id < 2 ^ 64 }
+    ensures salt { start.salt < 2 ^ 64 }
+{
+    let _first_id = start.first_id;
+    let _salt = start.salt;
+}
+
+/// Adds the words that say how a run was started.
+#[tactic(auto, unfolding(crate::specs::Header::start_shown))]
+fn put_start(out: &mut Vec<u8>, start: Start) -> Result<(), AllocError>
+    ensures { OnOk result (out.new.items ≡ out.old.items ++ spec.start_shown start) }
+{
+    out.extend_from_slice(b" --replay --id ")?;
+    put_number(out, start.first_id)?;
+    out.extend_from_slice(b" --salt ")?;
+    put_number(out, start.salt)?;
+    Ok(())
+}
+
+/// Adds the first line, without its line feed.
+#[tactic(auto, unfolding(crate::specs::Header::first_line))]
+fn put_first(
+    out: &mut Vec<u8>,
+    version: &str,
+    start: Start,
+    words: &[String],
+) -> Result<(), AllocError>
+    ensures { OnOk result (out.new.items ≡ out.old.items
+        ++ spec.first_line version.now start (map string_bytes words.now)) }
+{
+    out.extend_from_slice(b"# coap-proxyd ")?;
+    put_word(out, version.as_bytes())?;
+    put_start(out, start)?;
+    put_words(out, words)?;
+    Ok(())
+}
+
+/// Adds a line of a configuration as a comment, with a line feed.
+fn put_config_line(out: &mut Vec<u8>, line: &[u8]) -> Result<(), HeaderError>
+    ensures ok { OnOk result (out.new.items ≡ out.old.items ++ spec.config_text (line.now ∷ [])) }
+    ensures short { OnOk result (spec.is_one_long (line.now ∷ []) ≡ false) }
+    ensures long { result ≡ Err errors.TooLong → spec.is_one_long (line.now ∷ []) ≡ true }
+{
+    if line.len() > LONGEST - 10 {
+        return Err(HeaderError::TooLong);
+    }
+    out.extend_from_slice(b"# config: ")?;
+    out.extend_from_slice(line)?;
+    out.extend_from_slice(b"\n")?;
+    Ok(())
+}
+
+/// The same for what is before a line feed, or for what follows the last one, if it isn't empty.
+fn put_part(out: &mut Vec<u8>, line: &[u8], rest: Option<&[u8]>) -> Result<(), HeaderError>
+    ensures ok { OnOk result (out.new.items
+        ≡ out.old.items ++ spec.config_text (spec.line_before line.now (option_copied rest.entry))) }
+    ensures short { OnOk result
+        (spec.is_one_long (spec.line_before line.now (option_copied rest.entry)) ≡ false) }
+    ensures long { result ≡ Err errors.TooLong
+        → spec.is_one_long (spec.line_before line.now (option_copied rest.entry)) ≡ true }
+{
+    match (line, rest) {
+        ([], None) => Ok(()),
+        _ => put_config_line(out, line),
+    }
+}
+
+/// Adds the lines of a configuration, each as a comment with a line feed.
+fn put_config(out: &mut Vec<u8>, config: &[u8]) -> Result<(), HeaderError>
+    ensures ok { OnOk result (out.new.items
+        ≡ out.old.items ++ spec.config_text (lines_of config.now)) }
+    ensures short { OnOk result (spec.is_one_long (lines_of config.now) ≡ false) }
+    ensures long { result ≡ Err errors.TooLong → spec.is_one_long (lines_of config.now) ≡ true }
+{
+    let mut rest = Some(config);
+    while let Some(text) = rest {
+        let (line, after) = first_part(text, b'\n');
+        put_part(out, line, after)?;
+        rest = after;
+    }
+    Ok(())
+}
