@@ -9,7 +9,7 @@ use Rattle.std.proofs.lemmas.List.Sums.{AllPass-from_list_all, list_all-from_All
 use Rattle.std.proofs.lemmas.Option.{none-some}
 use Rattle.std.proofs.lemmas.Slice.Eq.{bytes_eq-Decides}
 use Rattle.hex.specs.declared.error.FromHexError.{FromHexError}
-use Rattle.hex.specs.Hex.{decode_of, encode_upper, encode_with, upper_digits}
+use Rattle.hex.specs.Hex.{decode_of, encode_upper, encode_with, is_hex_digit, upper_digits}
 use Rattle.coap_message.specs.Datagram.{written_over}
 use Rattle.coap_lines.specs.Datagrams.{IsHex, bytes_at_front, bytes_read, decoded, digits_read}
 use Rattle.coap_lines.specs.Answers.{Finds}

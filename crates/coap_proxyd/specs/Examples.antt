@@ -17,6 +17,10 @@ no_settings = record {
   first_id = None;
   salt = None;
   turns = None;
+  recording = None;
+  explain = false;
+  stats = None;
+  stats_file = None;
 }
 
 -- a configuration with these own names, and nothing else

@@ -1,11 +1,11 @@
 //! Examples, computed on the definitions.
-ghost use Rattle.std.specs.Prelude.{◌≡◌, ◌∷◌, [], None, Some, Ok, Err, codes};
+ghost use Rattle.std.specs.Prelude.{◌≡◌, ◌∷◌, [], None, Some, Ok, Err, true, false, codes};
 ghost use Rattle.coap_endpoint.specs.declared.endpoint.Ip.TheVariants.{V4};
 ghost use Rattle.coap_proxyd.specs.Examples.{named, no_settings};
 ghost use Rattle.coap_proxyd.specs.Faults.{fault_text, status_of};
 ghost use Rattle.coap_proxyd.specs.Planning.{routes_said, with_names};
 ghost use Rattle.coap_proxyd.specs.Serving.{turns_of};
-ghost use Rattle.coap_proxyd.specs.Words.{local_of, names_said};
+ghost use Rattle.coap_proxyd.specs.Words.{go_together, local_of, names_said, wanted_of};
 ghost use Rattle.coap_proxyd.specs.declared.fault.Fault.TheVariants as faults;
 ghost use Rattle.coap_proxyd.specs.declared.planning.Plan.{Plan};
 ghost use Rattle.coap_target.specs.Examples.{loopback};
@@ -43,6 +43,18 @@ pub fn listens()
         ≡ Ok (record { ip = V4 (0 ∷ 0 ∷ 0 ∷ 0 ∷ []); port = 5683 }) }
     ensures port { local_of (record no_settings { port = Some 61616 })
         ≡ Ok (record { ip = V4 (0 ∷ 0 ∷ 0 ∷ 0 ∷ []); port = 61616 }) }
+{}
+
+/// What is for a socket alone, or for a replay alone.
+pub fn what_goes_together()
+    ensures nothing_said { go_together no_settings ≡ true }
+    ensures counted { go_together (record no_settings { stats = Some 60 }) ≡ true }
+    ensures explained { go_together (record no_settings { replay = true; explain = true })
+        ≡ true }
+    ensures socket_explained { go_together (record no_settings { explain = true }) ≡ false }
+    ensures replay_counted { go_together (record no_settings { replay = true; stats = Some 60 })
+        ≡ false }
+    ensures refused { wanted_of (record no_settings { explain = true }) ≡ Err faults.Arguments }
 {}
 
 /// Own names that are given replace those of the configuration, even if the list is empty.

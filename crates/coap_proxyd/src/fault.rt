@@ -14,7 +14,8 @@ use std::fmt;
 /// of memory is reported where it happens.
 #[derive(Debug, Drop)]
 pub enum Fault {
-    /// The words after the program's name aren't texts.
+    /// The words after the program's name aren't texts, or one of them is for a socket and another
+    /// for a replay.
     Arguments,
     /// `clap` refuses the words, or they ask for the help or the version. The text ends with a line
     /// end.

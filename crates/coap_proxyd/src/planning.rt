@@ -34,6 +34,14 @@ pub struct Plan {
     pub salt: Option<u64>,
     /// The number of turns to do, if it is given.
     pub turns: Option<u64>,
+    /// The path of the file to which events are recorded, if one is given.
+    pub recording: Option<String>,
+    /// Whether a replay says what each event did.
+    pub explain: bool,
+    /// How many seconds apart the lines of counts are, if they are asked for.
+    pub stats: Option<u64>,
+    /// The path of the file that holds the counts, if one is given.
+    pub stats_file: Option<String>,
 }
 
 /// What the program is to do, by what its words ask for and the bytes of the configuration, if
@@ -49,7 +57,7 @@ pub fn read_plan(alloc: Global, wanted: Wanted, file: Option<&[u8]>) -> Result<P
         local,
         next,
         names,
-        settings,
+        mut settings,
     } = wanted;
     let config = config_of(alloc, file)?;
     let config = with_names(config, names);
@@ -63,6 +71,10 @@ pub fn read_plan(alloc: Global, wanted: Wanted, file: Option<&[u8]>) -> Result<P
         first_id: settings.first_id,
         salt: settings.salt,
         turns: settings.turns,
+        recording: settings.recording.take(),
+        explain: settings.explain,
+        stats: settings.stats,
+        stats_file: settings.stats_file.take(),
     })
 }
 

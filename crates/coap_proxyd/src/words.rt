@@ -29,7 +29,8 @@ pub struct Wanted {
 /// What the words after the program's name ask for.
 ///
 /// # Errors
-/// The first fault, in this order: `clap`'s, with the help and the version; `-A`; `-P`.
+/// The first fault, in this order: `clap`'s, with the help and the version; `Arguments` for words
+/// of which one is for a socket and another for a replay; `-A`; `-P`.
 pub fn read_wanted(alloc: Global, words: &[String]) -> Result<Wanted, Fault>
     ensures { spec.Want (map string_bytes words.now) result }
 {
@@ -41,6 +42,9 @@ pub fn read_wanted(alloc: Global, words: &[String]) -> Result<Wanted, Fault>
 fn read_settings(alloc: Global, settings: Settings) -> Result<Wanted, Fault>
     ensures { Says spec.seen faults.OutOfMemory result (spec.wanted_of settings) }
 {
+    if !go_together(&settings) {
+        return Err(Fault::Arguments);
+    }
     let local = local(alloc, &settings)?;
     let named = read_names(alloc, &settings)?;
     Ok(Wanted {
@@ -49,6 +53,17 @@ fn read_settings(alloc: Global, settings: Settings) -> Result<Wanted, Fault>
         names: named.names,
         settings,
     })
+}
+
+/// Whether the options that are for a socket alone, or for a replay alone, are given for that.
+fn go_together(settings: &Settings) -> bool
+    ensures { result ≡ spec.go_together settings.now }
+{
+    if settings.replay {
+        settings.recording.is_none() && settings.stats.is_none() && settings.stats_file.is_none()
+    } else {
+        !settings.explain
+    }
 }
 
 /// Where to listen.

@@ -5,7 +5,7 @@ use Rattle.std.specs.Str.Parse.{IsNumeral, ParsesUnsigned, digits_value, without
 use Rattle.std.proofs.lemmas.Bool.{cases_Bool, and_parts, leb-true, le-leb}
 use Rattle.clap.specs.Words.{ReadsOne, Text}
 use Rattle.coap_words.specs.Settings.{AreInRange, AreSettings, IsNumberOf, SaysNumber, narrowed}
-use Rattle.coap_words.specs.OptionTable.{greatest}
+use Rattle.coap_words.specs.OptionTable.{greatest, longest_period}
 use Rattle.coap_words.specs.declared.settings.Settings.{Settings}
 use Rattle.clap.specs.Words.{Row}
 
@@ -80,4 +80,5 @@ settings-in-range rows s are = record {
   port = in-range 1 65535 _ s.port are.port;
   salt = not-above 0 greatest _ s.salt are.salt;
   turns = in-range 1 greatest _ s.turns are.turns;
+  stats = in-range 1 longest_period _ s.stats are.stats;
 }

@@ -14,6 +14,10 @@ by_letter id letter =
 abbrev pub by_name : Text → Rule
 by_name name = record (new_rule name) { long = Some name; action = Some Set; value_names = 1 }
 
+-- an option without a value, under a name
+abbrev pub flag : Text → Rule
+flag name = record (new_rule name) { long = Some name; action = Some SetTrue }
+
 -- its value must be one that a parser accepts
 abbrev pub parsed_by : ValueParser → Rule → Rule
 parsed_by parser rule = record rule { parser = Some parser }
@@ -36,10 +40,8 @@ config_rule = by_name (codes "config")
 abbrev pub map_rule : Rule
 map_rule = by_name (codes "map")
 
--- an option without a value
 abbrev pub replay_rule : Rule
-replay_rule =
-    record (new_rule (codes "replay")) { long = Some (codes "replay"); action = Some SetTrue }
+replay_rule = flag (codes "replay")
 
 abbrev pub id_rule : Rule
 id_rule = parsed_by (Signed (pos 0) (pos 65535)) (by_name (codes "id"))
@@ -49,6 +51,22 @@ salt_rule = parsed_by (Unsigned 0 greatest) (by_name (codes "salt"))
 
 abbrev pub turns_rule : Rule
 turns_rule = parsed_by (Unsigned 1 greatest) (by_name (codes "turns"))
+
+abbrev pub record_rule : Rule
+record_rule = by_name (codes "record")
+
+abbrev pub explain_rule : Rule
+explain_rule = flag (codes "explain")
+
+-- the longest period, in seconds: a day
+abbrev pub longest_period : ℕ
+longest_period = 86400
+
+abbrev pub stats_rule : Rule
+stats_rule = parsed_by (Unsigned 1 longest_period) (by_name (codes "stats"))
+
+abbrev pub stats_file_rule : Rule
+stats_file_rule = by_name (codes "stats-file")
 
 -- the program without options, whose words don't begin with its name, and which has a version
 abbrev pub program : App
@@ -60,9 +78,15 @@ program =
 abbrev pub with_three : App → Rule → Rule → Rule → App
 with_three app a b c = with_rule (with_rule (with_rule app a) b) c
 
+-- the options for what is seen of its work
+abbrev pub with_observing : App → App
+with_observing app =
+    with_rule (with_three app record_rule explain_rule stats_rule) stats_file_rule
+
 abbrev pub option_table : App
 option_table =
-    with_three
+    with_observing
+    (with_three
     (with_three (with_three program address_rule port_rule names_rule)
     config_rule map_rule replay_rule)
-    id_rule salt_rule turns_rule
+    id_rule salt_rule turns_rule)

@@ -5,7 +5,7 @@ use Rattle.std.specs.Str.Parse.{IsNumeral, digits_value, without_leading_plus}
 use Rattle.clap.specs.Words.{IsAmong, Kinds, Row, Text, fault_of, first_of, matches_of, one_of}
 use Rattle.clap.specs.declared.error.ErrorKind.{ErrorKind}
 use Rattle.clap.specs.declared.error.ErrorKind.TheVariants as kind
-use Rattle.coap_words.specs.OptionTable.{greatest, option_table}
+use Rattle.coap_words.specs.OptionTable.{greatest, longest_period, option_table}
 use Rattle.coap_words.specs.declared.settings.Settings.{Settings}
 use Rattle.coap_words.specs.declared.settings.WordsError.{WordsError}
 use Rattle.coap_words.specs.declared.settings.WordsError.TheVariants.{Usage, OutOfMemory}
@@ -44,12 +44,17 @@ pub record AreSettings (rows : List Row) (s : Settings) : Type 0 where
   pub first_id : IsNumberOf 0 65535 (one_of (codes "id") rows) s.first_id
   pub salt : IsNumberOf 0 greatest (one_of (codes "salt") rows) s.salt
   pub turns : IsNumberOf 1 greatest (one_of (codes "turns") rows) s.turns
+  pub recording : option_map string_bytes s.recording ≡ first_of (codes "record") rows
+  pub explain : s.explain ≡ is_given (codes "explain") rows
+  pub stats : IsNumberOf 1 longest_period (one_of (codes "stats") rows) s.stats
+  pub stats_file : option_map string_bytes s.stats_file ≡ first_of (codes "stats-file") rows
 
 -- the numbers are in their ranges
 pub record AreInRange (s : Settings) : Type 0 where
   pub port : IfSome s.port (λ n. (1 ≤ n) × (n ≤ 65535))
   pub salt : IfSome s.salt (λ n. n ≤ greatest)
   pub turns : IfSome s.turns (λ n. (1 ≤ n) × (n ≤ greatest))
+  pub stats : IfSome s.stats (λ n. (1 ≤ n) × (n ≤ longest_period))
 
 -- the help and the version end the program with 0, a refusal with 2
 abbrev pub status_of : ErrorKind → ℕ

@@ -138,6 +138,34 @@ pub fn words()
         ≡ kind.ValueValidation ∷ [] }
 {}
 
+/// The words for what is seen of the program's work.
+pub fn observing_words()
+    ensures recording { first_of (codes "record")
+        (matches_of option_table (codes "--record" ∷ codes "night.events" ∷ []))
+        ≡ Some (codes "night.events") }
+    ensures explain { is_given (codes "explain")
+        (matches_of option_table (codes "--replay" ∷ codes "--explain" ∷ []))
+        ≡ true }
+    ensures not_explained { is_given (codes "explain")
+        (matches_of option_table (codes "--replay" ∷ []))
+        ≡ false }
+    ensures stats { one_of (codes "stats")
+        (matches_of option_table (codes "--stats" ∷ codes "60" ∷ []))
+        ≡ Some (codes "60") }
+    ensures every_second { fault_of option_table (codes "--stats" ∷ codes "1" ∷ []) ≡ [] }
+    ensures no_period { fault_of option_table (codes "--stats" ∷ codes "0" ∷ [])
+        ≡ kind.ValueValidation ∷ [] }
+    ensures a_day { fault_of option_table (codes "--stats" ∷ codes "86400" ∷ []) ≡ [] }
+    ensures long_period { fault_of option_table (codes "--stats" ∷ codes "86401" ∷ [])
+        ≡ kind.ValueValidation ∷ [] }
+    ensures stats_file { first_of (codes "stats-file")
+        (matches_of option_table (codes "--stats-file=coap.prom" ∷ []))
+        ≡ Some (codes "coap.prom") }
+    ensures not_a_period { one_of (codes "stats")
+        (matches_of option_table (codes "--stats-file" ∷ codes "60" ∷ []))
+        ≡ None }
+{}
+
 /// Words that are refused, or ask for the help or the version.
 pub fn refused_words()
     ensures twice { fault_of option_table (codes "-p" ∷ codes "1" ∷ codes "-p" ∷ codes "2" ∷ [])

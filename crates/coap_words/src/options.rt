@@ -35,6 +35,16 @@ fn by_name<'a>(alloc: Global, name: &'a str, value: &'a str, help: &'a str) -> A
         .help(help)
 }
 
+/// An option without a value, under a name.
+fn flag<'a>(alloc: Global, name: &'a str, help: &'a str) -> Arg<'a>
+    ensures { rule_of result ≡ spec.flag name.entry.now }
+{
+    Arg::new(alloc, name)
+        .long(name)
+        .action(ArgAction::SetTrue)
+        .help(help)
+}
+
 /// `-A`: the local address.
 fn address<'a>(alloc: Global) -> Arg<'a>
     ensures { rule_of result ≡ spec.address_rule }
@@ -82,10 +92,8 @@ fn map<'a>(alloc: Global) -> Arg<'a>
 fn replay<'a>(alloc: Global) -> Arg<'a>
     ensures { rule_of result ≡ spec.replay_rule }
 {
-    Arg::new(alloc, "replay")
-        .long("replay")
-        .action(ArgAction::SetTrue)
-        .help("Takes events from standard input in place of a socket [default: a socket]")
+    let help = "Takes events from standard input in place of a socket [default: a socket]";
+    flag(alloc, "replay", help)
 }
 
 /// `--id`: the first Message ID.
@@ -110,6 +118,41 @@ fn turns<'a>(alloc: Global) -> Arg<'a>
 {
     let help = "Turns to do, 1 to 9223372036854775807 [default: the greatest]";
     by_name(alloc, "turns", "N", help).value_parser(value_parser!(u64).range(1..=i64::MAX))
+}
+
+/// `--record`: a file of events.
+fn recording<'a>(alloc: Global) -> Arg<'a>
+    ensures { rule_of result ≡ spec.record_rule }
+{
+    let help = "Writes the events of the socket to a new file, for --replay [default: none]";
+    by_name(alloc, "record", "FILE", help)
+}
+
+/// `--explain`: an account of each event.
+fn explain<'a>(alloc: Global) -> Arg<'a>
+    ensures { rule_of result ≡ spec.explain_rule }
+{
+    let help =
+        "Says after each event of a replay, in a comment, what it did [default: no comments]";
+    flag(alloc, "explain", help)
+}
+
+/// `--stats`: lines of counts.
+fn stats<'a>(alloc: Global) -> Arg<'a>
+    ensures { rule_of result ≡ spec.stats_rule }
+{
+    let help =
+        "Writes a line of counts to standard error so often, 1 to 86400 seconds [default: never]";
+    by_name(alloc, "stats", "SECONDS", help).value_parser(value_parser!(u64).range(1..=86_400))
+}
+
+/// `--stats-file`: a file of counts.
+fn stats_file<'a>(alloc: Global) -> Arg<'a>
+    ensures { rule_of result ≡ spec.stats_file_rule }
+{
+    let help = "Writes the counts to a file for Prometheus, as often as --stats says, \
+or else every 60 seconds [default: none]";
+    by_name(alloc, "stats-file", "FILE", help)
 }
 
 /// The program without options.
@@ -165,11 +208,20 @@ fn with_numbers<'a>(alloc: Global, command: Command<'a>) -> Result<Command<'a>, 
     )
 }
 
+/// A command with the options for what is seen of its work.
+fn with_observing<'a>(alloc: Global, command: Command<'a>) -> Result<Command<'a>, AllocError>
+    ensures { IfOk result (λ more. app_of more ≡ spec.with_observing (app_of command.entry)) }
+{
+    let command = with(with(command, recording(alloc))?, explain(alloc))?;
+    with(with(command, stats(alloc))?, stats_file(alloc))
+}
+
 /// The program with all its options.
 pub(crate) fn command<'a>(alloc: Global) -> Result<Command<'a>, AllocError>
     ensures { IfOk result (λ command. app_of command ≡ spec.option_table) }
 {
     let command = with_endpoint(alloc, program(alloc))?;
     let command = with_sources(alloc, command)?;
-    with_numbers(alloc, command)
+    let command = with_numbers(alloc, command)?;
+    with_observing(alloc, command)
 }

@@ -25,6 +25,14 @@ pub struct Settings {
     pub salt: Option<u64>,
     /// `--turns`: the number of turns to do, at least 1 and below 2^63.
     pub turns: Option<u64>,
+    /// `--record`: the path of the file to which events are recorded.
+    pub recording: Option<String>,
+    /// `--explain`: whether a replay says what each event did.
+    pub explain: bool,
+    /// `--stats`: how many seconds apart the lines of counts are, from 1 to 86,400.
+    pub stats: Option<u64>,
+    /// `--stats-file`: the path of the file that holds the counts for Prometheus.
+    pub stats_file: Option<String>,
 }
 
 impl Drop for Settings {
@@ -39,6 +47,10 @@ impl Drop for Settings {
             first_id: _,
             salt: _,
             turns: _,
+            recording: _,
+            explain: _,
+            stats: _,
+            stats_file: _,
         } = self;
     }
 }

@@ -40,6 +40,10 @@ fn settings(alloc: Global, matches: &ArgMatches<'_>) -> Result<Settings, WordsEr
         first_id: short_number(matches, "id", 0),
         salt: number(matches, "salt", 0, i64::MAX as u64),
         turns: number(matches, "turns", 1, i64::MAX as u64),
+        recording: text(alloc, matches, "record")?,
+        explain: is_given(matches, "explain"),
+        stats: number(matches, "stats", 1, 86_400),
+        stats_file: text(alloc, matches, "stats-file")?,
     })
 }
 
