@@ -150,6 +150,22 @@ def the_cache_holds_65536_entries():
 
 
 @case
+def message_ids_run_out_and_come_again():
+    script, told = Script(), ([max_age(FOREVER)], b"21")
+    script.fetch(0, *below("temp"), told)
+    for n in range(32_766):
+        script.come(0, "127.0.0.1:40002", message(NON, GET, n, b"", path("t", "temp")))
+        script.send(0, "127.0.0.1:40002", message(NON, CONTENT, script.new_id(), b"", *told))
+    # Half of all are given, and may not be given again in the lifetime of an exchange (RFC 7252, 4.4).
+    script.come(0, "127.0.0.1:40002", message(NON, GET, 32_766, b"", path("t", "temp")))
+    script.hit(0, "127.0.0.1:40002", path("t", "temp"), told, 1)
+    script.come(WINDOW - 1, "127.0.0.1:40003", message(NON, GET, 6, b"", path("u")))
+    script.come(WINDOW, "127.0.0.1:40003", message(NON, GET, 7, b"", path("u")))
+    script.send(WINDOW, "127.0.0.1:40003", message(NON, NOT_FOUND, script.new_id()))
+    return script.run("message_ids_run_out_and_come_again", "non_records = 65536")
+
+
+@case
 def of_65536_endpoints_a_confirmable_message_is_remembered():
     script, count = Script(), 65_536
     request = message(CON, GET, 0x0102, b"\xaa", path("u"))
