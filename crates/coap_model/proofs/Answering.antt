@@ -37,7 +37,7 @@ use Rattle.coap_model.proofs.Changing.{told-stays}
 use Rattle.coap_model.specs.Answers.{tainted_all, answer_for}
 use Rattle.coap_forward.specs.Changes.{changed_by, concerns}
 use Rattle.coap_store.specs.declared.key.CacheKey.{CacheKey}
-use Rattle.coap_model.specs.Promised.{IdsDiffer}
+use Rattle.coap_model.specs.MessageIds.{IdsDiffer}
 use Rattle.coap_model.proofs.OneMeant.{one-meant}
 use Rattle.coap_model.proofs.Places.{here, doing, opened-later, one-brought}
 use Rattle.coap_model.proofs.Quiet.{remembered-still, room-still}

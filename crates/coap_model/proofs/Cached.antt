@@ -83,6 +83,13 @@ cache-unique setting _ _ _ (otherwise d leaving c) (too_large _ y h also e) = ab
 cache-unique setting _ _ _ (otherwise d leaving c) (hit _ client request target entry also came to found e) = absurd (clash _ _ also refl leaving)
 cache-unique setting _ _ _ (otherwise {past = past} {cached = xs} d leaving c) (otherwise {cached = ys} _ also e) = cache-unique setting past xs ys c e
 
+-- a history that has a cache had one before its newest deed
+pub cache-before : {setting : Setting} {d : Deed} {past : List Deed} {cached : List Cached} → IsCacheOf setting (d ∷ past) cached → (former : List Cached) × IsCacheOf setting past former
+cache-before (kept d x gets opening is was opens at c) = (_, c)
+cache-before (too_large d x gets is c) = (_, c)
+cache-before (hit d client request target entry is came to found c) = (_, c)
+cache-before (otherwise d leaving c) = (_, c)
+
 -- the cache when an exchange was opened is unique
 pub former-once : {setting : Setting} {past : List Deed} {x : ℕ} {a b : List Cached} → WasCacheAt setting past x a → WasCacheAt setting past x b → a ≡ b
 former-once {setting} {past} {x} {a} {b} p q =

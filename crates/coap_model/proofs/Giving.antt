@@ -10,7 +10,7 @@ use Rattle.coap_model.specs.World.{World}
 use Rattle.coap_model.specs.Standing.{window_ids}
 use Rattle.coap_model.specs.History.{Entry, Deed, Place, IsPlaceOf, gives_id, ids_in, last_of, IsInOrder, Gives, AreIds}
 use Rattle.coap_model.specs.Carries.{Clock, Ids}
-use Rattle.coap_model.specs.Promised.{GivesId, IdsDiffer}
+use Rattle.coap_model.specs.MessageIds.{GivesId, IdsDiffer}
 use Rattle.coap_model.proofs.Places.{place-before, in-order}
 use Rattle.coap_model.proofs.Moments.{not-later, in-order-at}
 

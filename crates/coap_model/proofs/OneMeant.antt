@@ -7,7 +7,7 @@ use Rattle.coap_model.specs.Setting.{Setting}
 use Rattle.coap_model.specs.Events.{Event}
 use Rattle.coap_model.specs.History.{Act, Deed, Place, IsPlaceOf, IsInOrder, last_of, ids_given, comes_con, Brings, Sends, Gives}
 use Rattle.coap_model.specs.Justified.{Closes, IsMeant, to_acknowledge, to_reset, to_close, IsMeantAlone}
-use Rattle.coap_model.specs.Promised.{IdsDiffer}
+use Rattle.coap_model.specs.MessageIds.{IdsDiffer}
 use Rattle.coap_model.proofs.Places.{one-brought}
 use Rattle.coap_model.proofs.Moments.{not-later}
 use Rattle.coap_model.proofs.Sorts.{reset-id}

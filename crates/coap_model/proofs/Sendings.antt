@@ -28,7 +28,7 @@ use Rattle.coap_model.specs.World.{World}
 use Rattle.coap_model.specs.History.{Entry, moves, Deed, Place, IsPlaceOf, Never, comes_con, ids_given, last_of, Sends, Asks}
 use Rattle.coap_model.specs.Schedules.{same_act, is_sending, oldest, sends_for, sends_by}
 use Rattle.coap_model.specs.Justified.{IsForwarding, IsToSendAgain, request_again, answer_again, IsDelivery, IsUnsettled, JustifiedBy, AllJustified}
-use Rattle.coap_model.specs.Promised.{GivesId}
+use Rattle.coap_model.specs.MessageIds.{GivesId}
 use Rattle.coap_model.specs.Carries.{stage_at, IsTimer, WasAsked, WasSent, IsInFlight, IsState, IsExchangeOf, Bears}
 use Rattle.coap_model.proofs.Acting.{stage-is}
 use Rattle.coap_model.proofs.Frames.{same_act-self, same_act-true, sends-grow}

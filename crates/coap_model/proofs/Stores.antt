@@ -1,6 +1,6 @@
 -- A store that corresponds to the cache of a history: each way in which an entry moves preserves
 -- this, and what is changed is marked.
-use Rattle.std.proofs.Common.{◌≡◌, inr, ℕ, Bool, true, false, cond, List, [], ◌∷◌, Option, Some, None, map, refl, sym, ap, ◌∙◌, subst, arith}
+use Rattle.std.proofs.Common.{◌≡◌, inr, ℕ, ◌≤◌, length, Bool, true, false, cond, List, [], ◌∷◌, Option, Some, None, map, refl, sym, ap, ◌∙◌, subst, arith}
 use Rattle.coap_endpoint.specs.declared.endpoint.Endpoint.{Endpoint}
 use Rattle.coap_endpoint.specs.declared.target.Target.{Target}
 use Rattle.coap_endpoint.specs.Equality.{same_target}
@@ -12,7 +12,7 @@ use Rattle.coap_target.specs.Request.{request_target}
 use Rattle.coap_store.specs.declared.key.CacheKey.{CacheKey}
 use Rattle.coap_store.specs.declared.stored.Stored.{Stored}
 use Rattle.coap_store.specs.Entries.{Entry, entry_key, entry_size, marked, stored_for, IsStore}
-use Rattle.coap_store.specs.Lists.{of_key, others, put, used}
+use Rattle.coap_store.specs.Lists.{of_key, others, put, total, used}
 use Rattle.coap_store.proofs.Distinct.{of_key-key}
 use Rattle.coap_store.proofs.Held.{IsStore-others, IsStore-used, IsStore-put}
 use Rattle.coap_forward.specs.Changes.{changed_by, concerns}
@@ -242,6 +242,17 @@ cache-within setting _ _ (hit {past = past} {cached = cs} d client request targe
     let same = plain-all _ _ (Pairs-used IsPlain entry_key cached_key plain-key key (map entry_of_cached cs) cs (all-plain cs)) in
     subst (IsStore (store_limits setting)) same (IsStore-used (store_limits setting) key (map entry_of_cached cs) (cache-within setting past cs c))
 cache-within setting _ _ (otherwise {past = past} {cached = cs} d leaving c) = cache-within setting past cs c
+
+-- so it has no more entries and bytes than the store may have
+pub cache-few : (setting : Setting) (history : List Deed) (cached : List Cached) → IsCacheOf setting history cached → (length cached ≤ setting.limits.cache_entries) × (total cached_size cached ≤ setting.limits.cache_bytes)
+cache-few setting history cached c =
+    let within = cache-within setting history cached c in
+    let plain = all-plain cached in
+    let entries = within.within_entries in
+    let bytes = within.within_bytes in (
+      omega (arith, entries, Pairs-length IsPlain (map entry_of_cached cached) cached plain),
+      omega (arith, bytes, Pairs-total IsPlain entry_size cached_size (map entry_of_cached cached) cached plain-size plain),
+    )
 
 -- and so is a store that corresponds to it
 pub store-within : (setting : Setting) (history : List Deed) (store : List Entry) → IsStoreOf setting history store → IsStore (store_limits setting) store

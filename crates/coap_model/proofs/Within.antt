@@ -25,7 +25,7 @@ use Rattle.coap_model.specs.History.{Act, admits, moves, serves, Deed, Place, Is
 use Rattle.coap_model.specs.Standing.{Standing, Stage, Open, others_than, as_told, waiting_since, standing_by, standing_in, waits_for, told, open_since, at_stage, sent, done, acked, open_by, open_in, exchanges_of, waiters_of}
 use Rattle.coap_model.specs.Remembered.{is_remembered, goes_with, kept_of, kept_at, kept_by, kept_in, most_of_client, most_remembered, remembered_at, remembered_for, remembered_of}
 use Rattle.coap_model.specs.Justified.{IsOpening, JustifiedBy, AllJustified}
-use Rattle.coap_model.specs.Word.{until, IsWithin}
+use Rattle.coap_model.specs.Word.{until, IsCacheWithin, IsWithin}
 use Rattle.coap_model.proofs.Arrivals.{head_kind}
 use Rattle.coap_model.proofs.Duplicates.{goes-same}
 use Rattle.coap_model.proofs.Owned.{filtered-count, owned, AreFew, few-changed, few-left, few-more}
@@ -298,8 +298,8 @@ upto-ordered (d ∷ past) p ordered at =
     at
 
 -- so all limits hold there
-pub within-at : (setting : Setting) (p : Place) → AllJustified setting (until p) → IsInOrder (until p) → IsWithin setting (until p)
-within-at setting p all ordered =
+pub within-at : (setting : Setting) (p : Place) → AllJustified setting (until p) → IsInOrder (until p) → IsCacheWithin setting (until p) → IsWithin setting (until p)
+within-at setting p all ordered cache =
     record {
       exchanges = open-within setting (until p) all;
       waiters = standing-within setting (until p) all;
@@ -309,4 +309,5 @@ within-at setting p all ordered =
       client_waiters = standing-own-within setting (until p) all;
       client_con_records = λ from. omega (arith, remembered-owned from Con (last_of (until p)) (until p), remembered-own-within setting Con (until p) all ordered from);
       client_non_records = λ from. omega (arith, remembered-owned from Non (last_of (until p)) (until p), remembered-own-within setting Non (until p) all ordered from);
+      cache = cache;
     }

@@ -1,5 +1,5 @@
 -- A proxy keeps its promise: the promise in short, at each place of a history.
-use Rattle.std.proofs.Common.{◌≡◌, ℕ, List, Option, Some, subst}
+use Rattle.std.proofs.Common.{◌≡◌, inl, inr, ℕ, List, [], ◌∷◌, Option, Some, subst}
 use Rattle.coap_message.specs.Message.{Message}
 use Rattle.coap_endpoint.specs.declared.endpoint.Endpoint.{Endpoint}
 use Rattle.coap_target.specs.Routes.{AreRoutes}
@@ -9,22 +9,24 @@ use Rattle.coap_model.specs.declared.report.Outcome.{Outcome}
 use Rattle.coap_model.specs.declared.report.Outcome.TheVariants.{Again, Hit}
 use Rattle.coap_model.specs.Setting.{Setting}
 use Rattle.coap_model.specs.World.{World}
-use Rattle.coap_model.specs.History.{Entry, Place, IsPlaceOf, IsInOrder}
-use Rattle.coap_model.specs.Cached.{cached_key}
+use Rattle.coap_model.specs.History.{Entry, Deed, Place, IsPlaceOf, IsInOrder}
+use Rattle.coap_model.specs.Cached.{Cached, cached_key, IsCacheOf}
 use Rattle.coap_model.specs.Duplicates.{Repeats}
 use Rattle.coap_model.specs.Justified.{known_of, Comes, SaysAgain, IsRepetition, IsHit, JustifiedBy, AllJustified}
 use Rattle.coap_model.specs.Carries.{Carries}
 use Rattle.coap_model.specs.Runs.{Taken, turns_of, AreTurns, new_run, run_of}
-use Rattle.coap_model.specs.Word.{until, IsFromCache, IsToldAgain, KeepsItsWord}
+use Rattle.coap_model.specs.Word.{until, IsCacheWithin, IsFromCache, IsToldAgain, KeepsItsWord}
 use Rattle.coap_model.proofs.BySize.{all-owed}
+use Rattle.coap_model.proofs.Cached.{cache-before}
 use Rattle.coap_model.proofs.Carrying.{starts}
+use Rattle.coap_model.proofs.Giving.{ids-differ}
 use Rattle.coap_model.proofs.Obtaining.{found-obtained}
 use Rattle.coap_model.proofs.OwedThere.{owed-at, again-there}
 use Rattle.coap_model.proofs.Places.{one-brought, justified-at}
 use Rattle.coap_model.proofs.Repeats.{told-there}
 use Rattle.coap_model.proofs.Running.{runs_carry}
 use Rattle.coap_model.proofs.Stages.{all-before}
-use Rattle.coap_model.proofs.Stores.{store-within}
+use Rattle.coap_model.proofs.Stores.{cache-few, store-within}
 use Rattle.coap_model.proofs.Within.{upto-justified, upto-ordered, within-at}
 
 -- ---- each place
@@ -60,6 +62,16 @@ again-at setting p former source m all ordered is at comes repeats =
       again = subst (λ (e : Endpoint). SaysAgain e (told_again m.kind former.deed.entry.bytes) p.deed.entry) same.0 (subst (λ (r : Option (List ℕ)). SaysAgain j.source r p.deed.entry) reply j.says_again);
     }
 
+-- a history that has a cache had one at each place, which was within its limits
+cache-at : (setting : Setting) (history : List Deed) (cached : List Cached) (p : Place) → IsCacheOf setting history cached → IsPlaceOf history p → IsCacheWithin setting (until p)
+cache-at setting [] cached p c at = absurd at
+cache-at setting (d ∷ past) cached p c (inl here) =
+    let few = cache-few setting (d ∷ past) cached c in
+    subst (λ (q : Place). IsCacheWithin setting (until q)) here (record { cached = cached; is_cache = c; entries = few.0; bytes = few.1 })
+cache-at setting (d ∷ past) cached p c (inr there) =
+    let before = cache-before c in
+    cache-at setting past before.0 p before.1 there
+
 -- ---- the promise is kept
 
 -- a proxy keeps its promise for any history that it carries
@@ -75,7 +87,8 @@ keeps-word history w c =
       store = c.bears.store;
       entries = (store-within w.setting c.deeds w.store c.bears.store).within_entries;
       cached_bytes = (store-within w.setting c.deeds w.store c.bears.store).within_bytes;
-      within = λ p at. within-at setting p (upto p at) (ordered p at);
+      within = λ p at. within-at setting p (upto p at) (ordered p at) (cache-at setting c.deeds c.bears.store.cached p c.bears.store.is_cache at);
+      ids = ids-differ w.setting.first_id c.deeds c.bears.ids.are_ids c.bears.ids.windows c.bears.clock.in_order;
       from_cache = λ p at is. from-cache setting p c.bears.routes (all-before setting c.deeds p c.bears.past at) (justified-at setting c.deeds p Hit c.bears.past at is);
       duplicates = λ p former source m at before comes repeats.
           again-at setting p former source m (upto p at) (ordered p at)

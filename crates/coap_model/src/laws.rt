@@ -217,9 +217,9 @@ pub fn what_is_carried_is_promised()
 /// of it: pending exchanges, waiting clients, remembered messages and the cache are within their
 /// shared and client limits; each reply from the cache is a response that was received for an equal
 /// key, only renewed by later validations, fresh, with its Max-Age reduced by its age, and with a
-/// target that wasn't changed since it was requested; and each message that repeats one within its
-/// lifetime gets the kept reply again. So does a new proxy, whatever datagrams and ticks come at
-/// moments that never decrease.
+/// target that wasn't changed since it was requested; each message that repeats one within its
+/// lifetime gets the kept reply again; and no Message ID is given out twice within 247 seconds. So
+/// does a new proxy, whatever datagrams and ticks come at moments that never decrease.
 pub fn the_word_is_kept()
     ensures carried { (history : List Entry) (w : World)
         → Carries history w
