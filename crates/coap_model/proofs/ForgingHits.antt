@@ -128,7 +128,7 @@ unfolding read_message body_at options_within option_at extended uint_spelling
 reply_spelled = read_is (reply 25 9).entry.bytes _ (are-bytes (reply 25 9).entry.bytes refl) refl
 
 -- the client requests it
-abbrev reply_asked : (now left : ℕ) → IsRequestOf setting (client 4) get_read (reply now left).entry.event
+abbrev pub reply_asked : (now left : ℕ) → IsRequestOf setting (client 4) get_read (reply now left).entry.event
 reply_asked now left = record { brings = record { bytes = get_t []; came = refl; spells = get_spelled; short = omega arith }; kind = refl; method = refl }
 
 -- so the reply is justified
@@ -162,7 +162,7 @@ after_a_change hit =
 -- ---- replies from the cache
 
 -- the first answer was fetched
-first_fetched : IsFetched setting key_of_temp first_entry.asking first_entry.getting
+pub first_fetched : IsFetched setting key_of_temp first_entry.asking first_entry.getting
 unfolding token_of target_options target_sent key_sent spelling option_spelling uint_spelling
 first_fetched = record {
   exchange = 1;
@@ -175,7 +175,7 @@ first_fetched = record {
 }
 
 -- so it was obtained
-first_obtained : (past : List Deed) → IsPlaceOf past first_entry.asking → IsPlaceOf past first_entry.getting → WasObtained setting past first_entry
+pub first_obtained : (past : List Deed) → IsPlaceOf past first_entry.asking → IsPlaceOf past first_entry.getting → WasObtained setting past first_entry
 unfolding first_fetched token_of
 first_obtained past was_asked was_got = record { was_asked = was_asked; was_got = was_got; obtained = first_hand first_fetched refl (record { code = refl; age = omega arith }) }
 
@@ -219,12 +219,12 @@ not-of-the-change (validated {old = old} fetched tag obtained behind tagged sent
     not-valid e = absurd cc
 
 -- an entry with the first answer was requested by the first request
-asked-first : {key : CacheKey} {response : Message} {asking : Place} → IsObtained setting key response asking first_entry.getting → asking ≡ first_entry.asking
+pub asked-first : {key : CacheKey} {response : Message} {asking : Place} → IsObtained setting key response asking first_entry.getting → asking ≡ first_entry.asking
 asked-first (first_hand fetched is lasting) = sym fetched.asking_is ∙ (one-getting fetched.gets (first_gets Kept)).asking
 asked-first (validated fetched tag obtained behind tagged sent is renewal fit lasting) = sym fetched.asking_is ∙ (one-getting fetched.gets (first_gets Kept)).asking
 
 -- an answer arrives at no other place
-got-elsewhere : {key : CacheKey} {response : Message} {asking getting : Place} (p : Place) → takes p.deed.entry.report.outcome ≡ false → p ≡ getting → IsObtained setting key response asking getting → ⊥
+pub got-elsewhere : {key : CacheKey} {response : Message} {asking getting : Place} (p : Place) → takes p.deed.entry.report.outcome ≡ false → p ≡ getting → IsObtained setting key response asking getting → ⊥
 got-elsewhere {key} {response} {asking} {getting} p none same obtained = go (subst (λ (q : Place). IsObtained setting key response asking q) (sym same) obtained)
   where
     go : IsObtained setting key response asking p → ⊥
@@ -243,7 +243,7 @@ obtained-first (inr (inr (inr (inr (inr (inr (inl e))))))) o = absurd (got-elsew
 obtained-first (inr (inr (inr (inr (inr (inr (inr none))))))) o = absurd none
 
 -- the request has the key
-key-asked : (key : CacheKey) → verdict_on setting get_read ≡ may_ask key → key ≡ key_of_temp
+pub key-asked : (key : CacheKey) → verdict_on setting get_read ≡ may_ask key → key ≡ key_of_temp
 unfolding verdict_of request_target mapped_target
 key-asked key is = let e : may_ask key_of_temp ≡ may_ask key = is in let same : key_of_temp ≡ key = cc in sym same
 
@@ -268,7 +268,7 @@ too_late hit =
     absurd (let e = sym fresh ∙ stale in cc)
 
 -- the Max-Age in a message
-abbrev age_told : Result Message DecodeError → ℕ
+abbrev pub age_told : Result Message DecodeError → ℕ
 age_told (Ok m) = max_age_of m
 age_told (Err e) = 0
 
@@ -285,7 +285,7 @@ as_received hit =
 -- ---- what is kept
 
 -- the second request is sent before the first is answered
-early_unsent : Never (Sends 0 2) (opens_again ∷ asked ∷ opened ∷ [])
+pub early_unsent : Never (Sends 0 2) (opens_again ∷ asked ∷ opened ∷ [])
 early_unsent = (unsent 2 (asked ∷ opened ∷ []) opens_again (λ e. cc), (other, (unsent 2 [] opened (λ e. cc), tt)))
   where
     other : ¬ Sends 0 2 (here (opened ∷ []) asked)

@@ -75,4 +75,5 @@ pub mod Word
 pub mod Leaving
 pub mod ForgingClosings
 pub mod ForgingHits
+pub mod ForgingWords
 pub mod Bounding

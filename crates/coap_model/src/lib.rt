@@ -13,6 +13,7 @@ mod due;
 pub mod examples;
 pub mod laws;
 mod report;
+pub mod word_examples;
 
 pub use coap_limits::{Limit, LimitError, LimitValues, Limits};
 pub use due::DueItem;
