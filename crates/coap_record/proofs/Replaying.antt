@@ -1,17 +1,19 @@
 -- A replay of a recording does what was done in the recorded run.
-use Rattle.std.proofs.Common.{◌≡◌, ◌+◌, ◌≤◌, ◌^◌, ℕ, Bool, false, List, [], ◌∷◌, ◌++◌, length, Option, Some, None, Ok, option_map, refl, sym, ap, ap₂, ◌∙◌, subst}
+use Rattle.std.proofs.Common.{arith, ◌≡◌, inl, inr, ◌+◌, ◌≤◌, ◌^◌, ℕ, Bool, false, List, [], ◌∷◌, ◌++◌, length, Option, Some, None, Ok, option_map, refl, sym, ap, ap₂, ◌∙◌, subst}
 use Rattle.std.specs.Prelude.{IfSome}
+use Rattle.std.proofs.lemmas.List.{length-append}
 use Rattle.std.specs.Io.KnownBytes.{Appends}
 use Rattle.coap_endpoint.specs.declared.endpoint.Endpoint.{Endpoint}
 use Rattle.coap_model.specs.Runs.{Run, Taken, Turn, one_turn, run_of, step_taken, turns_of}
 use Rattle.coap_model.specs.World.{Step, World}
-use Rattle.coap_lines.specs.Lines.{ended}
-use Rattle.coap_lines.specs.Scripts.{Script}
+use Rattle.coap_lines.specs.Lines.{ended, lines_of}
+use Rattle.coap_lines.specs.Scripts.{AsksFor, Script, script_from, with_turn}
 use Rattle.coap_port.specs.Driven.{Given, IsDriven, run_at, run_by, sent_at, taken_of, world_by}
 use Rattle.coap_port.specs.declared.stats.Stats.{Stats}
-use Rattle.coap_replay.specs.Replays.{IsWhollyReplayed, line_sent, output_of, script_for, world_after}
+use Rattle.coap_replay.specs.Replays.{IsReplayed, IsThrough, line_sent, output_of, script_for, with_turns, world_after}
 use Rattle.coap_replay.specs.Replays as replay
-use Rattle.coap_replay.proofs.Replaying.{output-more, run-more}
+use Rattle.coap_replay.proofs.AllLines.{length-turns}
+use Rattle.coap_replay.proofs.Replaying.{output-more, run-more, turns_of-more}
 use Rattle.coap_record.specs.Recorder.{Gives, Recorder, Takes, recorded}
 use Rattle.coap_record.specs.Replayable.{AreDone, AreSkipped, IsReplayable, in_order, line_for, lines_handed, memory_of, texts_of}
 use Rattle.coap_record.proofs.Recorded.{IsRecorded, run-recorded}
@@ -57,12 +59,39 @@ taken-same (t ∷ ts) (u ∷ us) turns memory =
     let same : t ≡ u = ap₂ (λ (n : Turn) (b : Bool). record { turn = n; grown = b }) turn grown in
     ap₂ (λ (x : Taken) (xs : List Taken). x ∷ xs) same (taken-same ts us rest left)
 
+-- the turns in order are as many
+length-order : (givens : List Given) → length (turns_of (in_order givens)) ≡ length givens
+length-order [] = refl
+length-order (g ∷ before) = omega (arith, ap length (turns_of-more (in_order before) (taken_of g)), length-append (turns_of (in_order before)) (g.turn ∷ []), length-order before)
+
+-- lines ask for a turn, and then perhaps for more
+asked : (number last events : ℕ) (lines : List (List ℕ)) (turn : Turn) → AsksFor number last events lines turn → (rest : Script) × (script_from number last events lines ≡ with_turn turn rest)
+asked number last events [] turn asks = absurd asks
+asked number last events (line ∷ lines) turn asks = (script_from (number + 1) turn.now (events + 1) lines, asks.1)
+
+none : (ts : List Turn) → length ts ≤ 0 → ts ≡ []
+none [] few = refl
+none (t ∷ ts) few = absurd (omega (arith, few))
+
+-- as many turns of an input as it has are all of them
+all-turns : (w : World) (input : List ℕ) (left : Option (List ℕ)) (turns : List Taken) (all : List Turn) (most : ℕ) → script_for w input ≡ record { turns = all; bad = None } → length all ≤ most
+    → IsThrough w most input left turns → turns_of turns ≡ all
+all-turns w input left turns all most asks few (inl (fewer, done)) = ap (λ (s : Script). s.turns) (sym done ∙ asks)
+all-turns w input left turns all most asks few (inr (many, inl (nothing, unread))) =
+    ap turns_of nothing ∙ sym (none all (omega (arith, few, many, ap length nothing)))
+all-turns w input left turns all most asks few (inr (many, inr (before, last, are, done, text, rest, line, split, is, after, up, turn))) =
+    let next = asked _ _ _ (lines_of text) last.turn turn in
+    let whole : turns_of before ++ last.turn ∷ next.0.turns ≡ all = ap (λ (s : Script). s.turns) (sym (up.asked ∙ ap (with_turns before) next.1) ∙ asks) in
+    let count = length-append (turns_of before) (last.turn ∷ next.0.turns) in
+    let none-left : next.0.turns ≡ [] = none next.0.turns (omega (arith, few, many, ap length are, length-append before (last ∷ []), length-turns before, count, ap length whole)) in
+    ap turns_of are ∙ turns_of-more before last ∙ ap (λ (l : List Turn). turns_of before ++ last.turn ∷ l) (sym none-left) ∙ whole
+
 -- a replay that ends well, with as much memory, does what was done in the run
 replayed : (w : World) (givens : List Given) (input : List ℕ) → AreDone givens → script_for w input ≡ record { turns = turns_of (in_order givens); bad = None }
-    → (v : World) (left old new : Option (List ℕ)) (count : ℕ) (r : IsWhollyReplayed w v (Some input) left old new (Ok count)) → memory_of r.turns ≡ memory_of (in_order givens)
-    → (v ≡ world_by w givens) × Appends old new (lines_handed w givens)
-replayed w givens input done asks v left old new count r memory =
-    let turns : turns_of r.turns ≡ turns_of (in_order givens) = ap (λ (s : Script). s.turns) (sym r.whole ∙ asks) in
+    → (v : World) (most : ℕ) (left old new : Option (List ℕ)) (count : ℕ) (r : IsReplayed w v most (Some input) left old new (Ok count)) → length givens ≤ most
+    → memory_of r.turns ≡ memory_of (in_order givens) → (v ≡ world_by w givens) × Appends old new (lines_handed w givens)
+replayed w givens input done asks v most left old new count r few memory =
+    let turns = all-turns w input left r.turns (turns_of (in_order givens)) most asks (omega (arith, few, length-order givens)) r.ends.3 in
     let same : r.turns ≡ in_order givens = taken-same r.turns (in_order givens) turns memory in
     let world : v ≡ world_by w givens = r.done.world ∙ ap (world_after w) same ∙ ap (λ (q : Run). q.world) (run-same (run_at w []) givens done) in
     let lines : output_of w r.turns ≡ lines_handed w givens = ap (output_of w) same ∙ output-same w givens done in

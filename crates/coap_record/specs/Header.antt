@@ -9,8 +9,8 @@ use Rattle.coap_record.specs.declared.header.Start.{Start}
 abbrev pub is_between : ℕ → ℕ → ℕ → Bool
 is_between least most b = nat_le least b && nat_le b most
 
--- A byte that stands for itself in a word of a shell: a letter, a digit, one of `%+,-./:=@_`, or part
--- of a character that isn't ASCII.
+-- A byte that stands for itself in a word of a shell: a letter, a digit, one of `%+,-./:=@_`, or
+-- part of a character that isn't ASCII.
 abbrev pub is_plain : ℕ → Bool
 is_plain b = is_between 0x2B 0x3A b
     || (is_between 0x40 0x5A b

@@ -1,5 +1,5 @@
 -- A recorded run is done again by a replay of what was recorded.
-use Rattle.std.specs.Prelude.{◌≡◌, ℕ, Bool, true, false, List, [], ◌∷◌, ◌++◌, map, Option, Some, None, Ok}
+use Rattle.std.specs.Prelude.{◌≡◌, ◌≤◌, ℕ, Bool, true, false, List, [], ◌∷◌, ◌++◌, length, map, Option, Some, None, Ok}
 use Rattle.std.specs.Io.KnownBytes.{Appends}
 use Rattle.std.specs.List.{AllByRecursion}
 use Rattle.coap_endpoint.specs.declared.endpoint.Endpoint.{Endpoint}
@@ -9,7 +9,7 @@ use Rattle.coap_lines.specs.Lines.{ended, is_skipped, is_too_long, line_of}
 use Rattle.coap_lines.specs.Texts.{has, line_feed}
 use Rattle.coap_lines.specs.Turns.{turn_text}
 use Rattle.coap_port.specs.Driven.{Given, run_at, run_by, sent_at, taken_of, world_by}
-use Rattle.coap_replay.specs.Replays.{IsWhollyReplayed, script_for}
+use Rattle.coap_replay.specs.Replays.{IsReplayed, script_for}
 
 -- ---- a run over a port, whose turns are listed the newest first
 
@@ -55,12 +55,12 @@ memory_of taken = map (λ t. t.grown) taken
 --   Its lines are the turns of the run, in order, and none of them is bad.
 --   A proxy that starts as this one did and does these turns, each with as much memory, has the
 --   same tables and the same history after them: the same reports and the same datagrams.
---   So has one that replays the input to its end, each turn with as much memory; and that replay
---   writes the lines of exactly the datagrams that were handed to the port.
+--   So has one that replays the input, of which it may do at least as many turns, each with as much
+--   memory; and that replay writes the lines of exactly the datagrams that were handed to the port.
 pub record IsReplayable (w : World) (givens : List Given) (input : List ℕ) : Type 0 where
   pub asks : script_for w input ≡ record { turns = turns_of (in_order givens); bad = None }
   pub same : run_of (run_at w []) (in_order givens) ≡ run_by (run_at w []) givens
-  pub replayed : (v : World) (left old new : Option (List ℕ)) (count : ℕ)
-      (r : IsWhollyReplayed w v (Some input) left old new (Ok count))
+  pub replayed : (v : World) (most : ℕ) (left old new : Option (List ℕ)) (count : ℕ)
+      (r : IsReplayed w v most (Some input) left old new (Ok count)) → length givens ≤ most
       → memory_of r.turns ≡ memory_of (in_order givens)
       → (v ≡ world_by w givens) × Appends old new (lines_handed w givens)

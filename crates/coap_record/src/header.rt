@@ -171,8 +171,8 @@ fn put_config_line(out: &mut Vec<u8>, line: &[u8]) -> Result<(), HeaderError>
 
 /// The same for what is before a line feed, or for what follows the last one, if it isn't empty.
 fn put_part(out: &mut Vec<u8>, line: &[u8], rest: Option<&[u8]>) -> Result<(), HeaderError>
-    ensures ok { OnOk result (out.new.items
-        ≡ out.old.items ++ spec.config_text (spec.line_before line.now (option_copied rest.entry))) }
+    ensures ok { OnOk result (out.new.items ≡ out.old.items
+        ++ spec.config_text (spec.line_before line.now (option_copied rest.entry))) }
     ensures short { OnOk result
         (spec.is_one_long (spec.line_before line.now (option_copied rest.entry)) ≡ false) }
     ensures long { result ≡ Err errors.TooLong

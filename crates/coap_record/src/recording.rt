@@ -33,9 +33,9 @@ fn is_silent(wait: u64, from: Option<Endpoint>) -> bool
 /// A port around a port, which records its turns: for each, in order, ticks included, the line that
 /// a replay reads (`MOMENT DRAW FROM HEX`, or `MOMENT DRAW tick`).
 ///
-/// The lines are kept in a buffer that was allocated before, and written where it is full, where the
-/// port is about to wait after a wait in which nothing came, and at the end, by `finish`. So a turn
-/// takes no memory for its line, and no system call while datagrams come.
+/// The lines are kept in a buffer that was allocated before, and written where it is full, where
+/// the port is about to wait after a wait in which nothing came, and at the end, by `finish`. So a
+/// turn takes no memory for its line, and no system call while datagrams come.
 ///
 /// No turn fails because its line can't be written. What the writer doesn't take is lost then, and
 /// nothing more is recorded (`has_ended`).

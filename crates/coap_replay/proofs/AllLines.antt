@@ -35,7 +35,7 @@ few-turns number last events (line ∷ lines) =
     go false false (Some turn) skips further = said-turn turn (ltb events (2 ^ 63)) refl (further turn.now)
 
 -- turning taken turns into turns keeps their number
-length-turns : (ts : List Taken) → length (turns_of ts) ≡ length ts
+pub length-turns : (ts : List Taken) → length (turns_of ts) ≡ length ts
 length-turns [] = refl
 length-turns (t ∷ ts) = omega (arith, length-turns ts)
 
