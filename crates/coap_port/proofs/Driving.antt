@@ -8,7 +8,9 @@ use Rattle.coap_model.specs.Ticks.{next_due}
 use Rattle.coap_model.specs.World.{World}
 use Rattle.coap_endpoint.specs.declared.endpoint.Endpoint.{Endpoint}
 use Rattle.std.specs.Prelude.{is_some}
-use Rattle.coap_port.specs.Driven.{taken_of, takes_some, DidTurn, DoesTurn, Given, IsDriven, came_last, last_moment, run_at, run_by, run_given, sent_at, stats_of, wait_for, world_by}
+use Rattle.coap_watch.specs.Told.{Told}
+use Rattle.coap_watch.specs.Watched.{WasTold}
+use Rattle.coap_port.specs.Driven.{taken_of, takes_some, told_by, tolds_of, DidTurn, DidWatched, DoesTurn, Given, IsDriven, IsWatched, came_last, last_moment, run_at, run_by, run_given, sent_at, stats_of, wait_for, world_by}
 use Rattle.coap_port.specs.Stats.{no_stats, with_turn}
 use Rattle.coap_port.specs.declared.stats.Stats.{Stats}
 
@@ -106,3 +108,26 @@ module _ {P : Type 0} (gives : P → ℕ → Turn → P → Type 0) (takes : P �
       told = did.told;
       moment = did.moment;
     }
+
+module _ {P W : Type 0} (gives : P → ℕ → Turn → P → Type 0) (takes : P → Endpoint → List ℕ → Bool → P → Type 0) (sees : W → Told → W → Type 0) (clock failures : P → ℕ) where
+  -- the same, with a watcher that was told what was done
+  pub record IsAtWatched (first : ℕ) (w : World) (p : P) (a : W) (v : World) (q : P) (b : W) (s : Stats) (came : Bool) : Type 0 where
+    pub at : IsAt gives takes clock failures first w p v q s came
+    pub told : WasTold sees a (tolds_of w at.driven.givens) b
+
+  pub watched-start : (w : World) (p : P) (a : W) → IsAtWatched (clock p) w p a w p a no_stats false
+  unfolding at-start
+  watched-start w p a = record { at = at-start gives takes clock failures w p; told = refl }
+
+  pub watched-more : (first : ℕ) (w : World) (p : P) (a : W) (v : World) (q : P) (b : W) (s : Stats) (came : Bool) → IsAtWatched first w p a v q b s came
+      → (v' : World) (q' : P) (b' : W) (s' : Stats) (arrived : Bool) → DidWatched gives takes sees clock failures came v q b s v' q' b' s' arrived
+      → IsAtWatched first w p a v' q' b' s' arrived
+  unfolding one-more
+  watched-more first w p a v q b s came at v' q' b' s' arrived did = record {
+    at = one-more gives takes clock failures first w p v q s came at.at v' q' s' arrived did.did;
+    told = (b, at.told, subst (λ (u : World). sees b (told_by u did.did.given) b') at.at.driven.world did.told);
+  }
+
+  -- what was done so far, and told
+  pub watched-now : (first : ℕ) (w : World) (p : P) (a : W) (v : World) (q : P) (b : W) (s : Stats) (came : Bool) → IsAtWatched first w p a v q b s came → IsWatched gives takes sees first w p a v q b s
+  watched-now first w p a v q b s came at = record { driven = at.at.driven; told = at.told }

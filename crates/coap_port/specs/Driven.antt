@@ -11,6 +11,8 @@ use Rattle.coap_model.specs.Ticks.{next_due}
 use Rattle.coap_model.specs.Word.{KeepsItsWord}
 use Rattle.coap_model.specs.World.{Step, World}
 use Rattle.coap_core.specs.Steps.{wants_memory}
+use Rattle.coap_watch.specs.Told.{Told}
+use Rattle.coap_watch.specs.Watched.{WasTold}
 use Rattle.coap_port.specs.Stats.{no_stats, with_turn}
 use Rattle.coap_port.specs.declared.error.DriveError.{DriveError}
 use Rattle.coap_port.specs.declared.error.DriveError.TheVariants.{Port, OutOfMemory}
@@ -100,6 +102,21 @@ stats_of w [] = no_stats
 stats_of w (g ∷ before) =
     with_turn g.lost (is_some (sent_at (world_by w before) g)) g.went (stats_of w before)
 
+-- ---- what a watcher is told
+
+abbrev pub told_by : World → Given → Told
+told_by w g = record {
+  turn = g.turn;
+  report = if g.lost then None else Some (step_taken w (taken_of g)).report;
+  bytes = if g.lost then [] else (step_taken w (taken_of g)).bytes;
+  went = g.went;
+  world = (run_given (run_at w []) g).world;
+}
+
+abbrev pub tolds_of : World → List Given → List Told
+tolds_of w [] = []
+tolds_of w (g ∷ before) = told_by (world_by w before) g ∷ tolds_of w before
+
 -- ---- what a port gave and took
 
 -- a datagram is handed over once, if there is one
@@ -146,6 +163,22 @@ module _ {P : Type 0} (gives : P → ℕ → Turn → P → Type 0)
       ((m : P) × IsDriven (clock p) w p v m s) × (failures q ≡ failures p + 1)
   Ends clock failures turns w p v q (Err OutOfMemory) = (v ≡ w) × (q ≡ p)
 
+  -- The same, with a watcher that was told each of these turns, in order, and nothing else.
+  module _ {W : Type 0} (sees : W → Told → W → Type 0) where
+    pub record IsWatched (first : ℕ) (w : World) (p : P) (a : W) (v : World) (q : P) (b : W)
+        (s : Stats) : Type 0 where
+      pub driven : IsDriven first w p v q s
+      pub told : WasTold sees a (tolds_of w driven.givens) b
+
+    abbrev pub EndsWatched : (P → ℕ) → (P → ℕ) → ℕ → World → P → W → World → P → W
+        → Result Stats DriveError → Type 0
+    EndsWatched clock failures turns w p a v q b (Ok s) =
+        IsWatched (clock p) w p a v q b s × (s.turns ≡ turns) × (failures q ≡ failures p)
+    EndsWatched clock failures turns w p a v q b (Err (Port s)) =
+        ((m : P) × IsWatched (clock p) w p a v m b s) × (failures q ≡ failures p + 1)
+    EndsWatched clock failures turns w p a v q b (Err OutOfMemory) =
+        (v ≡ w) × (q ≡ p) × (b ≡ a)
+
   -- One turn; `came` says whether the turn before was a datagram.
   pub record DidTurn (clock failures : P → ℕ) (came : Bool) (v : World) (p : P) (s : Stats)
       (v' : World) (q : P) (s' : Stats) (arrived : Bool) : Type 0 where
@@ -162,3 +195,10 @@ module _ {P : Type 0} (gives : P → ℕ → Turn → P → Type 0)
     pub onward : v'.last ≤ clock q
     pub events : v'.events ≤ v.events + 1
     pub still : failures q ≡ failures p
+
+  -- One turn, of which a watcher was told.
+  pub record DidWatched {W : Type 0} (sees : W → Told → W → Type 0) (clock failures : P → ℕ)
+      (came : Bool) (v : World) (p : P) (a : W) (s : Stats) (v' : World) (q : P) (b : W)
+      (s' : Stats) (arrived : Bool) : Type 0 where
+    pub did : DidTurn clock failures came v p s v' q s' arrived
+    pub told : sees a (told_by v did.given) b

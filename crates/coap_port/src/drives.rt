@@ -1,6 +1,6 @@
 //! The loop that drives a core over a port.
 ghost use Rattle.std.specs.Prelude.{◌≤◌, ◌<◌, ◌+◌, ◌^◌};
-ghost use Rattle.coap_port.specs.Driven.{Ends};
+ghost use Rattle.coap_port.specs.Driven.{Ends, EndsWatched};
 
 use crate::error::{DriveError, PortFault};
 use crate::port::Port;
@@ -9,6 +9,7 @@ use crate::turns::do_turn;
 use coap_core::Core;
 use coap_message::Datagram;
 use coap_store::Store;
+use coap_watch::{Unwatched, Watch};
 use std::alloc::Global;
 
 /// Drives a core over a port for `turns` turns: the core handles each turn that the port gives, and
@@ -35,6 +36,27 @@ pub fn drive<P: Port, S: Store + Drop>(
     ensures { Ends (P.gives (core.old.setting.limits.datagram + 1)) P.takes P.clock P.failures turns
         core.old port.old core.new port.new result }
 {
+    drive_watched(alloc, core, port, &mut Unwatched, turns)
+}
+
+/// Does the same as `drive`, and tells a watcher each turn after it was done: what the port gave,
+/// what the step did, what was sent and whether it was taken, or that the turn was lost.
+///
+/// # Errors
+/// Those of `drive`. The watcher was told the turns that are counted.
+pub fn drive_watched<P: Port, S: Store + Drop, W: Watch>(
+    alloc: Global,
+    core: &mut Core<S>,
+    port: &mut P,
+    watcher: &mut W,
+    turns: u64,
+) -> Result<Stats, DriveError>
+    requires events { core.old.events + turns ≤ 2 ^ 63 }
+    requires onward { core.old.last ≤ P.clock port.old }
+    requires failures { P.failures port.old < 2 ^ 63 }
+    ensures { EndsWatched (P.gives (core.old.setting.limits.datagram + 1)) P.takes W.sees P.clock
+        P.failures turns core.old port.old watcher.old core.new port.new watcher.new result }
+{
     let longest = core.datagram();
     let Some(room) = longest.checked_add(1) else {
         return Err(DriveError::OutOfMemory);
@@ -48,7 +70,15 @@ pub fn drive<P: Port, S: Store + Drop>(
     let mut stats = Stats::default();
     let mut came = false;
     for done in 0..turns {
-        match do_turn(core, port, came, &mut input, &mut output, &mut stats) {
+        match do_turn(
+            core,
+            port,
+            watcher,
+            came,
+            &mut input,
+            &mut output,
+            &mut stats,
+        ) {
             Ok(arrived) => came = arrived,
             Err(PortFault) => return Err(DriveError::Port { stats }),
         }

@@ -17,7 +17,8 @@ mod port;
 mod stats;
 mod turns;
 
-pub use drives::drive;
+pub use coap_watch::{Seen, Unwatched, Watch};
+pub use drives::{drive, drive_watched};
 pub use error::{DriveError, PortFault};
 pub use memory::{Handed, MemoryPort, Scripted};
 pub use port::{Port, Turn};

@@ -1,19 +1,22 @@
 //! One turn of a port.
-ghost use Rattle.std.specs.Prelude.{◌≡◌, ◌≤◌, ◌<◌, ◌+◌, ◌^◌, IfOk, OnErr, is_some, length, option_map};
+ghost use Rattle.std.specs.Prelude.{◌≡◌, ◌≤◌, ◌<◌, ◌+◌, ◌^◌, [], None, Some, false, IfOk, OnErr, is_some, length, option_map};
 ghost use Rattle.coap_message.specs.Uint.{IsBytes};
 ghost use Rattle.coap_model.specs.Events.{IsEvent};
+ghost use Rattle.coap_model.specs.World.{World};
 ghost use Rattle.coap_core.specs.Events.{seen};
+ghost use Rattle.coap_watch.specs.Told.{told};
 ghost use Rattle.coap_port.specs.Driven as spec;
 ghost use Rattle.coap_port.specs.Given.{event_given};
 ghost use Rattle.coap_port.specs.Stats.{AreWithin, with_turn};
 
 use crate::error::PortFault;
-use crate::port::Port;
+use crate::port::{Port, Turn};
 use crate::stats::Stats;
-use coap_core::{Core, Event};
+use coap_core::{Core, Event, Report};
 use coap_endpoint::Endpoint;
 use coap_message::{Datagram, OutOfMemory};
 use coap_store::Store;
+use coap_watch::{Seen, Watch};
 
 /// The longest wait, in milliseconds.
 const LONGEST_WAIT: u64 = 1000;
@@ -85,14 +88,55 @@ fn count(stats: &mut Stats, lost: bool, sent: bool, went: bool)
     }
 }
 
-/// Does one turn: the core handles what the port gives, and what it sends is handed over. Returns
-/// whether a datagram came.
+/// What a watcher is told of a turn that was done.
+fn done<'a>(turn: Turn, event: Event<'a>, report: Report, sent: &'a [u8], went: bool) -> Seen<'a>
+    ensures { (w : World) → told result w ≡ record {
+      turn = record { now = turn.now; draw = turn.draw; event = seen event.entry };
+      report = Some report;
+      bytes = sent.entry.now;
+      went = went;
+      world = w;
+    } }
+{
+    Seen {
+        now: turn.now,
+        draw: turn.draw,
+        event,
+        report: Some(report),
+        sent,
+        went,
+    }
+}
+
+/// What a watcher is told of a turn that was lost.
+fn lost<'a>(turn: Turn, event: Event<'a>) -> Seen<'a>
+    ensures { (w : World) → told result w ≡ record {
+      turn = record { now = turn.now; draw = turn.draw; event = seen event.entry };
+      report = None;
+      bytes = [];
+      went = false;
+      world = w;
+    } }
+{
+    Seen {
+        now: turn.now,
+        draw: turn.draw,
+        event,
+        report: None,
+        sent: &[],
+        went: false,
+    }
+}
+
+/// Does one turn: the core handles what the port gives, what it sends is handed over, and the
+/// watcher is told. Returns whether a datagram came.
 ///
 /// # Errors
-/// The port failed. The core and the counts don't change then.
-pub(crate) fn do_turn<P: Port, S: Store + Drop>(
+/// The port failed. The core, the watcher and the counts don't change then.
+pub(crate) fn do_turn<P: Port, S: Store + Drop, W: Watch>(
     core: &mut Core<S>,
     port: &mut P,
+    watcher: &mut W,
     came: bool,
     input: &mut Datagram,
     output: &mut Datagram,
@@ -104,13 +148,15 @@ pub(crate) fn do_turn<P: Port, S: Store + Drop>(
     requires room { core.old.setting.limits.datagram ≤ output.old.room }
     requires within { AreWithin stats.old }
     requires few { stats.old.turns < 2 ^ 63 }
-    ensures done { IfOk result (spec.DidTurn (P.gives input.old.room) P.takes P.clock P.failures
-        came core.old port.old stats.old core.new port.new stats.new) }
+    ensures done { IfOk result (spec.DidWatched (P.gives input.old.room) P.takes W.sees P.clock
+        P.failures came core.old port.old watcher.old stats.old core.new port.new watcher.new
+        stats.new) }
     ensures within { AreWithin stats.new }
     ensures input { input.new.room ≡ input.old.room }
     ensures room { output.new.room ≡ output.old.room }
     ensures setting { core.new.setting ≡ core.old.setting }
     ensures nothing { OnErr result (core.new ≡ core.old) }
+    ensures untold { OnErr result (watcher.new ≡ watcher.old) }
     ensures uncounted { OnErr result (stats.new ≡ stats.old) }
     ensures fails { OnErr result (P.failures port.new ≡ P.failures port.old + 1) }
 {
@@ -119,10 +165,15 @@ pub(crate) fn do_turn<P: Port, S: Store + Drop>(
     let event = event_of(turn.from, input.bytes());
     match core.step(turn.now, turn.draw, event, output) {
         Ok(report) => {
-            let went = hand_over(port, report.send, output.bytes());
+            let sent = output.bytes();
+            let went = hand_over(port, report.send, sent);
             count(stats, false, report.send.is_some(), went);
+            watcher.see(done(turn, event, report, sent, went), core);
         }
-        Err(OutOfMemory) => count(stats, true, false, false),
+        Err(OutOfMemory) => {
+            count(stats, true, false, false);
+            watcher.see(lost(turn, event), core);
+        }
     }
     Ok(turn.from.is_some())
 }

@@ -1,32 +1,22 @@
-use Rattle.std.proofs.Common.{◌≡◌, ◌∙◌, ◌+◌, ap, refl, arith}
-use Rattle.coap_port.proofs.Driving.{at-start, one-more}
+use Rattle.std.proofs.Common.{◌+◌, ℕ, Bool, List, Result, Ok, Err}
+use Rattle.coap_endpoint.specs.declared.endpoint.Endpoint.{Endpoint}
+use Rattle.coap_model.specs.Runs.{Turn}
+use Rattle.coap_model.specs.World.{World}
+use Rattle.coap_watch.specs.Told.{Told}
+use Rattle.coap_port.specs.Driven.{Ends, EndsWatched}
+use Rattle.coap_port.specs.declared.error.DriveError.{DriveError}
+use Rattle.coap_port.specs.declared.error.DriveError.TheVariants.{Port, OutOfMemory}
 use Rattle.coap_port.specs.declared.stats.Stats.{Stats}
 use Rattle.coap_port.proofs.drives.drive.Goals as goal
 
-pub loop-done-init : goal.loop-done-init
-loop-done-init g c = record {
-  at = rw c.default-stats.ensures (at-start (g.P.Port.gives (c.args.core.now.setting.limits.datagram + 1)) g.P.Port.takes g.P.Port.clock g.P.Port.failures c.args.core.now c.args.port.now);
-  counted = rw c.default-stats.ensures refl;
-  within = rw c.default-stats.ensures (record { sent = omega arith; send_faults = omega arith; lost = omega arith });
-  onward = c.requires.onward;
-  events = omega arith;
-  input = rw c.in-Ok.ensures (omega (arith, c.in-Some.ensures, c.datagram-longest.ensures.exact));
-  room = rw (c.in-Ok-new.ensures, c.datagram-longest.ensures.exact) (omega arith);
-  failures = refl;
-}
+-- what ends with a watcher ends without it
+without-watcher : {P W : Type 0} (gives : P → ℕ → Turn → P → Type 0) (takes : P → Endpoint → List ℕ → Bool → P → Type 0) (sees : W → Told → W → Type 0) (clock failures : P → ℕ) (turns : ℕ)
+    (w : World) (p : P) (a : W) (v : World) (q : P) (b : W) (r : Result Stats DriveError)
+    → EndsWatched gives takes sees clock failures turns w p a v q b r → Ends gives takes clock failures turns w p v q r
+without-watcher gives takes sees clock failures turns w p a v q b (Ok s) ends = (ends.0.driven, ends.1, ends.2)
+without-watcher gives takes sees clock failures turns w p a v q b (Err (Port s)) ends = ((ends.0.0, ends.0.1.driven), ends.1)
+without-watcher gives takes sees clock failures turns w p a v q b (Err OutOfMemory) ends = (ends.0, ends.1)
 
-pub loop-done-preserved : goal.loop-done-preserved
-loop-done-preserved g c =
-    let i = c.loop-done.invariant in
-    let did = rw i.input at c.in-Ok-do_turn.ensures.done in
-    let more : c.do_turn.new.stats.turns ≡ c.loop-done.stats.turns + 1 = ap (λ (s : Stats). s.turns) did.counted in
-    record {
-      at = one-more (g.P.Port.gives (c.args.core.now.setting.limits.datagram + 1)) g.P.Port.takes g.P.Port.clock g.P.Port.failures _ _ _ _ _ _ _ i.at _ _ _ _ did;
-      counted = omega (arith, more, i.counted);
-      within = c.do_turn.ensures.within;
-      onward = did.onward;
-      events = omega (arith, did.events, i.events);
-      input = c.do_turn.ensures.input ∙ i.input;
-      room = rw (c.do_turn.ensures.setting, c.do_turn.ensures.room) i.room;
-      failures = did.still ∙ i.failures;
-    }
+pub returns : goal.returns
+returns g c =
+    without-watcher (g.P.Port.gives (c.args.core.now.setting.limits.datagram + 1)) g.P.Port.takes _ g.P.Port.clock g.P.Port.failures _ _ _ _ _ _ _ _ c.drive_watched.ensures

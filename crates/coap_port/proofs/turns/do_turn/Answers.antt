@@ -2,6 +2,7 @@ use Rattle.std.proofs.Common.{◌≡◌, ◌∙◌, ap, ap₂, subst, arith}
 use Rattle.coap_core.specs.Events.{seen}
 use Rattle.coap_model.specs.Events.{IsEvent}
 use Rattle.coap_model.specs.Ticks.{next_due}
+use Rattle.coap_watch.specs.Told.{Told}
 use Rattle.coap_port.specs.Driven.{is_arrival, wait_for}
 use Rattle.coap_port.specs.Given.{event_given, given_by}
 use Rattle.coap_port.proofs.Turning.{arrival-is, did-nothing, did-step}
@@ -20,18 +21,20 @@ returns-clause-done g c =
     let arrives : c.is_some-2.result ≡ is_arrival (event_given turn.from bytes) = c.is_some-2.ensures ∙ arrival-is turn.from bytes in
     elim c.match-step.branch [
       | in-Ok w ↦
-          rw (w.port-is, w.stats-is)
-          (did-step (g.P.Port.gives c.args.input.now.room) g.P.Port.takes g.P.Port.clock g.P.Port.failures c.args.came c.args.core.now c.args.port.now c.args.stats.now
+          rw (w.port-is, w.stats-is, w.watcher-is)
+          (did-step (g.P.Port.gives c.args.input.now.room) g.P.Port.takes g.W.Watch.sees g.P.Port.clock g.P.Port.failures c.args.came c.args.core.now c.args.port.now c.args.watcher.now w.see.new.self c.args.stats.now
           c.wait_for-wait.result (given_by turn bytes) c.next.new.self c.is_some-2.result asked c.in_ok-turn.ensures.gives arrives onward.held
           c.step.new.self w.hand_over-went.new.port w.count.new.stats (seen c.event_of-event.result) w.in-Ok.report c.args.output.now c.step.new.out w.hand_over-went.result
           same event w.in-Ok.ensures.exact w.in-Ok.ensures.carries
-          (rw w.bytes-in-Ok.ensures.bytes at w.hand_over-went.ensures.takes)
+          (rw w.bytes-sent.ensures.bytes at w.hand_over-went.ensures.takes)
           w.hand_over-went.ensures.clock (w.hand_over-went.ensures.failures ∙ c.in_ok-turn.ensures.works)
-          (rw w.is_some.ensures at w.count.ensures.exact))
+          (rw w.is_some.ensures at w.count.ensures.exact)
+          (rw w.bytes-sent.ensures.bytes at (subst (λ (u : Told). g.W.Watch.sees c.args.watcher.now u w.see.new.self) (w.done.ensures c.step.new.self) w.see.ensures)))
       | in-Err w ↦
-          rw (w.port-is, w.stats-is)
-          (did-nothing (g.P.Port.gives c.args.input.now.room) g.P.Port.takes g.P.Port.clock g.P.Port.failures c.args.came c.args.core.now c.args.port.now c.args.stats.now
+          rw (w.port-is, w.stats-is, w.watcher-is)
+          (did-nothing (g.P.Port.gives c.args.input.now.room) g.P.Port.takes g.W.Watch.sees g.P.Port.clock g.P.Port.failures c.args.came c.args.core.now c.args.port.now c.args.watcher.now w.see-in-Err.new.self c.args.stats.now
           c.wait_for-wait.result (given_by turn bytes) c.next.new.self c.is_some-2.result asked c.in_ok-turn.ensures.gives arrives onward.held
           c.step.new.self w.count-in-Err.new.stats (seen c.event_of-event.result) same w.in-Err.ensures.err w.in-Err.ensures.memory
-          (omega (arith, c.requires.onward, onward.onward)) c.in_ok-turn.ensures.works w.count-in-Err.ensures.exact)
+          (omega (arith, c.requires.onward, onward.onward)) c.in_ok-turn.ensures.works w.count-in-Err.ensures.exact
+          (subst (λ (u : Told). g.W.Watch.sees c.args.watcher.now u w.see-in-Err.new.self) (w.lost.ensures c.step.new.self) w.see-in-Err.ensures))
     ]

@@ -1,11 +1,11 @@
 use Rattle.std.proofs.Common.{◌≡◌, ◌≤◌, ◌+◌}
-use Rattle.coap_port.proofs.Driving.{IsAt}
+use Rattle.coap_port.proofs.Driving.{IsAtWatched}
 use Rattle.coap_port.specs.Stats.{AreWithin}
-use Rattle.coap_port.proofs.drives.drive.Given as goal
+use Rattle.coap_port.proofs.drives.drive_watched.Given as goal
 
 abbrev pub invariant-loop-done : goal.invariant-loop-done
 invariant-loop-done g l = record {
-  at : IsAt (g.P.Port.gives (l.fn.core.setting.limits.datagram + 1)) g.P.Port.takes g.P.Port.clock g.P.Port.failures (g.P.Port.clock l.fn.port) l.fn.core l.fn.port l.core l.port l.stats l.came;
+  at : IsAtWatched (g.P.Port.gives (l.fn.core.setting.limits.datagram + 1)) g.P.Port.takes g.W.Watch.sees g.P.Port.clock g.P.Port.failures (g.P.Port.clock l.fn.port) l.fn.core l.fn.port l.fn.watcher l.core l.port l.watcher l.stats l.came;
   counted : l.stats.turns ≡ l.done;
   within : AreWithin l.stats;
   onward : l.core.last ≤ g.P.Port.clock l.port;
