@@ -1,0 +1,24 @@
+//! Statistics of a proxy: counts of what its turns did, and their text as a line and as metrics.
+//!
+//! # First use
+//!
+//! ```rust
+//! let mut tally = Tally::new();
+//! drive_watched(alloc, &mut core, &mut port, &mut tally, turns)?;
+//! let mut text = Vec::new(alloc);
+//! put_line(&mut text, &tally, &core.counts(), &limits)?;
+//! // seconds=60 received=12 sent=12 hit=9 ..
+//! ```
+#![tactic(auto)]
+
+mod clock;
+pub mod laws;
+mod line;
+mod metrics;
+mod tally;
+mod words;
+
+pub use clock::{StandingClock, period_end};
+pub use line::put_line;
+pub use metrics::put_metrics;
+pub use tally::{AnswerCounts, RefusalCounts, RequestCounts, Tally};

@@ -1,0 +1,198 @@
+//! The counts as metrics, in the text format that Prometheus reads.
+
+use crate::line::{put, put_number};
+use crate::tally::Tally;
+use crate::words::{Share, Word, answer_words, refusal_words, request_words, shares};
+use coap_core::{Counts, LimitValues};
+use coap_message::OutOfMemory;
+
+/// A metric.
+#[derive(Clone, Copy)]
+struct Metric {
+    name: &'static str,
+    /// `counter` for what only grows, `gauge` for what goes up and down.
+    kind: &'static str,
+    help: &'static str,
+}
+
+const UPTIME: Metric = Metric {
+    name: "coap_proxyd_uptime_seconds",
+    kind: "gauge",
+    help: "Full seconds since the start.",
+};
+
+const RECEIVED: Metric = Metric {
+    name: "coap_proxyd_datagrams_received_total",
+    kind: "counter",
+    help: "Datagrams that came.",
+};
+
+const SENT: Metric = Metric {
+    name: "coap_proxyd_datagrams_sent_total",
+    kind: "counter",
+    help: "Datagrams that the system took.",
+};
+
+const SEND_FAULTS: Metric = Metric {
+    name: "coap_proxyd_send_faults_total",
+    kind: "counter",
+    help: "Datagrams that the system didn't take.",
+};
+
+const LOST: Metric = Metric {
+    name: "coap_proxyd_lost_turns_total",
+    kind: "counter",
+    help: "Turns that ran out of memory, so that nothing was done.",
+};
+
+const RESENT: Metric = Metric {
+    name: "coap_proxyd_retransmissions_total",
+    kind: "counter",
+    help: "Requests and answers that were sent again.",
+};
+
+const GAVE_UP: Metric = Metric {
+    name: "coap_proxyd_given_up_total",
+    kind: "counter",
+    help: "Requests without an answer, and answers without an acknowledgement.",
+};
+
+const REQUESTS: Metric = Metric {
+    name: "coap_proxyd_requests_total",
+    kind: "counter",
+    help: "Messages by what became of them.",
+};
+
+const ANSWERS: Metric = Metric {
+    name: "coap_proxyd_answers_total",
+    kind: "counter",
+    help: "Responses of origin servers by what the cache did with them.",
+};
+
+const HELD: Metric = Metric {
+    name: "coap_proxyd_held",
+    kind: "gauge",
+    help: "How much the proxy holds.",
+};
+
+const LIMIT: Metric = Metric {
+    name: "coap_proxyd_limit",
+    kind: "gauge",
+    help: "How much the proxy may hold.",
+};
+
+/// Adds the lines that describe a metric.
+fn put_head(out: &mut Vec<u8>, metric: Metric) -> Result<(), OutOfMemory> {
+    put(out, b"# HELP ")?;
+    put(out, metric.name.as_bytes())?;
+    put(out, b" ")?;
+    put(out, metric.help.as_bytes())?;
+    put(out, b"\n# TYPE ")?;
+    put(out, metric.name.as_bytes())?;
+    put(out, b" ")?;
+    put(out, metric.kind.as_bytes())?;
+    put(out, b"\n")
+}
+
+/// Adds a metric that has one number.
+fn put_metric(out: &mut Vec<u8>, metric: Metric, number: u64) -> Result<(), OutOfMemory> {
+    put_head(out, metric)?;
+    put(out, metric.name.as_bytes())?;
+    put(out, b" ")?;
+    put_number(out, number)?;
+    put(out, b"\n")
+}
+
+/// Adds the line of one of a metric's numbers: `NAME{LABEL="KEY"} NUMBER`.
+fn put_sample(out: &mut Vec<u8>, name: &str, label: &str, word: Word) -> Result<(), OutOfMemory> {
+    put(out, name.as_bytes())?;
+    put(out, b"{")?;
+    put(out, label.as_bytes())?;
+    put(out, b"=\"")?;
+    put(out, word.key.as_bytes())?;
+    put(out, b"\"} ")?;
+    put_number(out, word.number)?;
+    put(out, b"\n")
+}
+
+/// Adds the lines of several of a metric's numbers.
+fn put_samples(
+    out: &mut Vec<u8>,
+    metric: Metric,
+    label: &str,
+    words: &[Word],
+) -> Result<(), OutOfMemory> {
+    for word in words {
+        put_sample(out, metric.name, label, *word)?;
+    }
+    Ok(())
+}
+
+/// Adds the metrics that have one number each.
+fn put_traffic(out: &mut Vec<u8>, tally: &Tally) -> Result<(), OutOfMemory> {
+    put_metric(out, UPTIME, tally.last / 1000)?;
+    put_metric(out, RECEIVED, tally.received)?;
+    put_metric(out, SENT, tally.sent)?;
+    put_metric(out, SEND_FAULTS, tally.send_faults)?;
+    put_metric(out, LOST, tally.lost)?;
+    put_metric(out, RESENT, tally.resent)?;
+    put_metric(out, GAVE_UP, tally.gave_up)
+}
+
+/// Adds the counts of requests and of answers.
+fn put_outcomes(out: &mut Vec<u8>, tally: &Tally) -> Result<(), OutOfMemory> {
+    put_head(out, REQUESTS)?;
+    put_samples(out, REQUESTS, "outcome", &request_words(&tally.requests))?;
+    put_samples(
+        out,
+        REQUESTS,
+        "outcome",
+        &refusal_words(&tally.requests.refused),
+    )?;
+    put_head(out, ANSWERS)?;
+    put_samples(out, ANSWERS, "storing", &answer_words(&tally.answers))
+}
+
+/// Adds the line of what a proxy holds of one kind, or may hold.
+fn put_share(
+    out: &mut Vec<u8>,
+    metric: Metric,
+    share: Share,
+    number: u64,
+) -> Result<(), OutOfMemory> {
+    let word = Word {
+        key: share.key,
+        number,
+    };
+    put_sample(out, metric.name, "what", word)
+}
+
+/// Adds what a proxy holds, and what it may hold.
+fn put_held(out: &mut Vec<u8>, shares: &[Share]) -> Result<(), OutOfMemory> {
+    put_head(out, HELD)?;
+    for share in shares {
+        put_share(out, HELD, *share, share.count)?;
+    }
+    put_head(out, LIMIT)?;
+    for share in shares {
+        put_share(out, LIMIT, *share, share.limit)?;
+    }
+    Ok(())
+}
+
+/// Adds the counts as metrics, each with its help and its type: what turns did, by its outcome where
+/// there are several; then what the proxy holds, and its limits. The numbers and their keys are
+/// those of `put_line`.
+///
+/// # Errors
+/// Out of memory. Part of the text was added then.
+pub fn put_metrics(
+    out: &mut Vec<u8>,
+    tally: &Tally,
+    counts: &Counts,
+    limits: &LimitValues,
+) -> Result<(), OutOfMemory> {
+    put_traffic(out, tally)?;
+    put_outcomes(out, tally)?;
+    put_held(out, &shares(counts, limits))
+}
