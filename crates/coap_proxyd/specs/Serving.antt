@@ -3,12 +3,14 @@ use Rattle.std.specs.Prelude.{◌≡◌, ◌⊎◌, ℕ, min, Bool, List, [], Op
 use Rattle.std.specs.Io.KnownBytes.{Appends}
 use Rattle.std.specs.Option.{unwrap_or}
 use Rattle.coap_model.specs.Runs.{Turn}
-use Rattle.coap_model.specs.World.{World}
+use Rattle.coap_model.specs.World.{World, counts}
+use Rattle.coap_model.specs.declared.report.Counts.{Counts}
 use Rattle.coap_port.specs.Driven as port
 use Rattle.coap_port.specs.declared.error.DriveError.{DriveError}
 use Rattle.coap_port.specs.declared.stats.Stats.{Stats}
 use Rattle.coap_endpoint.specs.declared.endpoint.Endpoint.{Endpoint}
 use Rattle.coap_replay.specs.declared.error.ReplayError.{ReplayError}
+use Rattle.coap_watch.specs.Told.{Told}
 use Rattle.coap_proxyd.specs.declared.fault.Fault.{Fault}
 use Rattle.coap_proxyd.specs.declared.fault.Fault.TheVariants.{OutOfMemory}
 use Rattle.coap_proxyd.specs.declared.planning.Plan.{Plan}
@@ -51,3 +53,20 @@ IsServedOver gives takes clock failures turns proxy p q result =
     ⊎ ((after : World) × (driven : Result Stats DriveError)
     × port.Ends gives takes clock failures turns proxy p after q driven
     × (result ≡ driven_as driven))
+
+-- ---- over a port, with a watcher
+
+-- how it ends, with how much the proxy holds then
+abbrev pub counted_as : World → Result Stats DriveError → Result Counts Fault
+counted_as after (Ok stats) = Ok (counts after)
+counted_as after (Err e) = Err (drive_fault e)
+
+-- the same, and the watcher was told each turn; or nothing was done, and it was told nothing
+abbrev pub IsWatchedOver : {P W : Type 0} → (P → ℕ → Turn → P → Type 0)
+    → (P → Endpoint → List ℕ → Bool → P → Type 0) → (W → Told → W → Type 0) → (P → ℕ) → (P → ℕ)
+    → ℕ → World → P → W → P → W → Result Counts Fault → Type 0
+IsWatchedOver gives takes sees clock failures turns proxy p a q b result =
+    ((result ≡ Err OutOfMemory) × (q ≡ p) × (b ≡ a))
+    ⊎ ((after : World) × (driven : Result Stats DriveError)
+    × port.EndsWatched gives takes sees clock failures turns proxy p a after q b driven
+    × (result ≡ counted_as after driven))

@@ -18,7 +18,8 @@ mod serving;
 mod words;
 
 pub use coap_port::{
-    DriveError, Handed, MemoryPort, Port, PortFault, Scripted, Stats, Turn, drive,
+    DriveError, Handed, MemoryPort, Port, PortFault, Scripted, Seen, Stats, Turn, Unwatched, Watch,
+    drive, drive_watched,
 };
 pub use coap_replay::{ReplayError, replay};
 pub use coap_words::{
@@ -27,5 +28,5 @@ pub use coap_words::{
 };
 pub use fault::Fault;
 pub use planning::{Plan, read_plan};
-pub use serving::{serve_events, serve_port};
+pub use serving::{serve_events, serve_port, serve_watched};
 pub use words::{Wanted, read_wanted};

@@ -6,8 +6,8 @@ ghost use Rattle.coap_proxyd.specs.Serving as spec;
 
 use crate::fault::Fault;
 use crate::planning::{Plan, core_of};
-use coap_core::Core;
-use coap_port::{DriveError, Port, Stats, drive};
+use coap_core::{Core, Counts};
+use coap_port::{DriveError, Port, Stats, Watch, drive, drive_watched};
 use coap_replay::{ReplayError, replay_turns};
 use coap_store::Store;
 use std::alloc::Global;
@@ -96,6 +96,44 @@ pub fn serve_port<P: Port, S: Store + Drop>(
         return Err(Fault::OutOfMemory);
     };
     driven(drive(alloc, &mut core, port, turns))
+}
+
+/// Does the same as `serve_port`, and tells a watcher each turn (`drive_watched`). Returns how much
+/// the proxy holds at the end.
+///
+/// # Errors
+/// Those of `serve_port`. The watcher was told of the turns that were done.
+pub fn serve_watched<P: Port, S: Store + Drop, W: Watch>(
+    alloc: Global,
+    seed: S::Seed,
+    plan: Plan,
+    first_id: u16,
+    salt: u64,
+    port: &mut P,
+    watcher: &mut W,
+) -> Result<Counts, Fault>
+    requires failures { P.failures port.old < 2 ^ 63 }
+    ensures { spec.IsWatchedOver (P.gives (plan.limits.datagram + 1)) P.takes W.sees P.clock
+        P.failures (spec.turns_of plan) (new_world (setting_of plan first_id salt))
+        port.old watcher.old port.new watcher.new result }
+{
+    let turns = turns_of(&plan);
+    let Ok(mut core) = core_of::<S>(alloc, seed, plan, first_id, salt) else {
+        return Err(Fault::OutOfMemory);
+    };
+    let driven = drive_watched(alloc, &mut core, port, watcher, turns);
+    counted(driven, &core)
+}
+
+/// How much a core holds at the end of a loop over a port, unless that failed.
+fn counted<S: Store + Drop>(
+    driven: Result<Stats, DriveError>,
+    core: &Core<S>,
+) -> Result<Counts, Fault>
+    ensures { result ≡ spec.counted_as core.now driven }
+{
+    driven?;
+    Ok(core.counts())
 }
 
 /// How the program ends after a loop over a port.

@@ -1,8 +1,15 @@
 //! The program: a proxy over a socket, or a replay of recorded events.
 #![tactic(auto)]
 
+ghost use Rattle.std.specs.Prelude.{◌<◌, ◌^◌};
+
+mod reporter;
+
+use crate::reporter::Reporter;
 use coap_cache::LruStore;
-use coap_proxyd::{Fault, Plan, read_plan, read_wanted, serve_events, serve_port};
+use coap_proxyd::{
+    Fault, Plan, Port, read_plan, read_wanted, serve_events, serve_port, serve_watched,
+};
 use coap_udp::UdpPort;
 use std::hash::RandomState;
 use std::io::ErrorKind;
@@ -72,11 +79,29 @@ fn seed(rt: &HostRuntime) -> Result<RandomState, Fault> {
 fn serve_socket(rt: &HostRuntime, plan: Plan) -> Result<(), Fault> {
     let (first_id, salt) = draw(rt)?;
     match UdpPort::bind(rt, rt.alloc(), plan.local) {
-        Ok(mut port) => {
-            serve_port::<_, Cache>(rt.alloc(), seed(rt)?, plan, first_id, salt, &mut port)
-        }
+        Ok(mut port) => serve(rt, plan, first_id, salt, &mut port),
         Err(error) => Err(fault_of(&error, Fault::Socket)),
     }
+}
+
+/// Serves a port. If counts are asked for, writes them meanwhile and at the end.
+fn serve<P: Port>(
+    rt: &HostRuntime,
+    plan: Plan,
+    first_id: u16,
+    salt: u64,
+    port: &mut P,
+) -> Result<(), Fault>
+    requires failures { P.failures port.old < 2 ^ 63 }
+{
+    let (alloc, seed) = (rt.alloc(), seed(rt)?);
+    let Some(mut reporter) = Reporter::of(rt, &plan)? else {
+        return serve_port::<_, Cache>(alloc, seed, plan, first_id, salt, port);
+    };
+    let watcher = &mut reporter;
+    let counts = serve_watched::<_, Cache, _>(alloc, seed, plan, first_id, salt, port, watcher)?;
+    reporter.report(&counts);
+    Ok(())
 }
 
 /// Does what the words and the configuration ask for.

@@ -1,0 +1,149 @@
+//! What the program writes of its counts while it serves a socket.
+ghost use Rattle.std.specs.Prelude.{◌≡◌, ◌<◌, ◌≤◌};
+
+use coap_core::{Core, Counts, LimitValues};
+use coap_message::OutOfMemory;
+use coap_proxyd::{Fault, Plan, Seen, Watch};
+use coap_stats::{StandingClock, Tally, period_end, put_line, put_metrics};
+use coap_store::Store;
+use std::io::Write;
+use std::{fs, io};
+
+/// The period of a file of counts if no other is given, in seconds.
+const PERIOD: u64 = 60;
+
+/// The longest period, in seconds.
+const LONGEST: u64 = 86_400;
+
+/// The last moment, in milliseconds.
+const LAST_MOMENT: u64 = 1 << 62;
+
+/// A file that is written beside its name, and then takes it, so that it is never read in part.
+#[derive(Drop)]
+struct StatsFile {
+    path: String,
+    beside: String,
+}
+
+/// Writes counts once in a period: a line to standard error, and a file. What can't be written
+/// doesn't stop the program; it is said once.
+#[derive(Drop)]
+pub(crate) struct Reporter<'a> {
+    rt: &'a HostRuntime,
+    limits: LimitValues,
+    tally: Tally,
+    clock: StandingClock,
+    /// The length of a period, in milliseconds.
+    period: u64,
+    /// The moment from which on the next report is due.
+    due: u64,
+    /// Whether lines are asked for.
+    lines: bool,
+    file: Option<StatsFile>,
+    /// Whether it was said that the file can't be written.
+    said: bool,
+    text: Vec<u8>,
+    ghost some: { 0 < period },
+    ghost short: { period ≤ 86400000 },
+}
+
+/// The file of a plan, if there is one.
+fn stats_file(rt: &HostRuntime, plan: &Plan) -> Result<Option<StatsFile>, OutOfMemory> {
+    let Some(path) = &plan.stats_file else {
+        return Ok(None);
+    };
+    Ok(Some(StatsFile {
+        path: String::from_str(rt.alloc(), path.as_str())?,
+        beside: format!(in rt.alloc(); "{path}.tmp")?,
+    }))
+}
+
+impl<'a> Reporter<'a> {
+    /// The reporter of a plan, if it asks for counts.
+    pub(crate) fn of(rt: &'a HostRuntime, plan: &Plan) -> Result<Option<Reporter<'a>>, Fault> {
+        if plan.stats.is_none() && plan.stats_file.is_none() {
+            return Ok(None);
+        }
+        let Ok(file) = stats_file(rt, plan) else {
+            return Err(Fault::OutOfMemory);
+        };
+        let period = plan.stats.unwrap_or(PERIOD).min(LONGEST).max(1) * 1000;
+        Ok(Some(Reporter {
+            rt,
+            limits: *plan.limits.values(),
+            tally: Tally::new(),
+            clock: StandingClock::new(),
+            period,
+            due: period,
+            lines: plan.stats.is_some(),
+            file,
+            said: false,
+            text: Vec::new(rt.alloc()),
+        }))
+    }
+
+    /// Writes the line of counts.
+    fn write_line(&mut self, counts: &Counts) -> io::Result<()>
+        ensures { self.new.tally ≡ self.old.tally }
+    {
+        self.text.clear();
+        if put_line(&mut self.text, &self.tally, counts, &self.limits).is_err() {
+            return Err(io::Error::from(io::ErrorKind::OutOfMemory));
+        }
+        self.rt.stderr().write_all(&self.text)
+    }
+
+    /// Writes the file of counts, if there is one.
+    fn write_file(&mut self, counts: &Counts) -> io::Result<()>
+        ensures { self.new.tally ≡ self.old.tally }
+    {
+        let Some(file) = &self.file else {
+            return Ok(());
+        };
+        self.text.clear();
+        if put_metrics(&mut self.text, &self.tally, counts, &self.limits).is_err() {
+            return Err(io::Error::from(io::ErrorKind::OutOfMemory));
+        }
+        fs::write(self.rt, file.beside.as_str(), self.text.as_slice())?;
+        fs::rename(self.rt, file.beside.as_str(), file.path.as_str())
+    }
+
+    /// Writes the counts, with how much the proxy holds.
+    pub(crate) fn report(&mut self, counts: &Counts)
+        ensures { self.new.tally ≡ self.old.tally }
+    {
+        if self.lines {
+            // Where standard error can't be written, nothing can be said either.
+            let _ = self.write_line(counts);
+        }
+        if self.write_file(counts).is_err() && !self.said {
+            self.said = true;
+            let _ = eprintln!(self.rt; "coap-proxyd: the counts can't be written to their file");
+        }
+    }
+
+    /// Says once that the clock stands still.
+    fn note_clock(&mut self, now: u64)
+        ensures { self.new.tally ≡ self.old.tally }
+    {
+        if self.clock.stops(now) {
+            let _ = eprintln!(self.rt; "coap-proxyd: the clock stands still");
+        }
+    }
+}
+
+impl Watch for Reporter<'_> {
+    ghost use Rattle.std.specs.Prelude.{◌≡◌};
+    ghost use Rattle.coap_stats.specs.Tally.{with_told};
+
+    ghost sees = { λ before told after. after.tally ≡ with_told told before.tally };
+
+    fn see<S: Store + Drop>(&mut self, turn: Seen<'_>, core: &Core<S>) {
+        self.tally.count(turn);
+        self.note_clock(turn.now);
+        if turn.now >= self.due {
+            self.due = period_end(turn.now.min(LAST_MOMENT), self.period);
+            self.report(&core.counts());
+        }
+    }
+}
