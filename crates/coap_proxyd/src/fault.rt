@@ -1,5 +1,6 @@
 //! Faults of the program: its exit status and its text for each.
-ghost use Rattle.std.specs.Prelude.{◌≡◌, Some};
+ghost use Rattle.std.specs.Prelude.{◌≡◌, ◌≢◌, Some};
+ghost use Rattle.coap_words.specs.declared.config_error.ConfigError.TheVariants as errors;
 ghost use Rattle.coap_proxyd.specs.Faults as spec;
 
 use coap_port::DriveError;
@@ -8,6 +9,43 @@ use coap_uri::UriError;
 use coap_words::{ConfigError, MapOptionError, ProxyOptionError, WordsError};
 use std::error::Error;
 use std::fmt;
+use std::marker::Model;
+
+/// Why a configuration is refused: not because memory ran out. A contract sees the error.
+#[derive(Debug, Drop)]
+pub struct ConfigFault {
+    error: ConfigError,
+}
+
+impl Model for ConfigFault {
+    ghost use Rattle.std.specs.Prelude.{◌≢◌};
+    ghost use Rattle.coap_words.specs.declared.config_error.ConfigError.{ConfigError};
+    ghost use Rattle.coap_words.specs.declared.config_error.ConfigError.TheVariants as errors;
+
+    ghost Value = { ConfigError };
+
+    ghost view = { λ f. f.error };
+
+    ghost invariant = { λ f. f.error ≢ errors.OutOfMemory };
+}
+
+impl ConfigFault {
+    /// What is wrong with a configuration.
+    fn new(error: ConfigError) -> ConfigFault
+        requires { error ≢ errors.OutOfMemory }
+        ensures { result ≡ error }
+    {
+        ConfigFault { error }
+    }
+
+    /// What is wrong with the configuration.
+    pub fn error(&self) -> &ConfigError
+        ensures exact { result.now ≡ self.now }
+        ensures refused { self.now ≢ errors.OutOfMemory }
+    {
+        &self.error
+    }
+}
 
 /// Why the program stops before it is done. Faults of the arguments, of the configuration and of
 /// the socket are reported in this order; a hasher that can't be seeded is `File`, and running out
@@ -27,7 +65,7 @@ pub enum Fault {
     /// A file or the input couldn't be read, or the output couldn't be written.
     File,
     /// The configuration is refused.
-    Config(ConfigError),
+    Config(ConfigFault),
     /// The value of `--map` is refused.
     MapOption,
     /// The socket couldn't be opened, or can't be read any more.
@@ -98,7 +136,7 @@ impl From<ConfigError> for Fault {
     fn from(error: ConfigError) -> Fault {
         match error {
             ConfigError::OutOfMemory => Fault::OutOfMemory,
-            error => Fault::Config(error),
+            error => Fault::Config(ConfigFault::new(error)),
         }
     }
 }
@@ -147,7 +185,7 @@ impl fmt::Display for Fault {
             Fault::Address => f.write_str("coap-proxyd: address"),
             Fault::ProxyOption => f.write_str("coap-proxyd: proxy option"),
             Fault::File => f.write_str("coap-proxyd: file"),
-            Fault::Config(error) => write!(f, "coap-proxyd: config: {error}"),
+            Fault::Config(fault) => write!(f, "coap-proxyd: config: {}", fault.error()),
             Fault::MapOption => f.write_str("coap-proxyd: map option"),
             Fault::Socket => f.write_str("coap-proxyd: socket"),
             Fault::OutOfMemory => f.write_str("coap-proxyd: out of memory"),

@@ -26,7 +26,7 @@ pub use coap_words::{
     Config, ConfigError, KeyName, MapOptionError, ProxyOption, ProxyOptionError, Settings,
     WordsError, parse_map_option, parse_proxy_option, read_config, read_words,
 };
-pub use fault::Fault;
+pub use fault::{ConfigFault, Fault};
 pub use planning::{Plan, read_plan};
 pub use serving::{serve_events, serve_port, serve_watched};
 pub use words::{Wanted, read_wanted};
