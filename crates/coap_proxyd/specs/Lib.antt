@@ -2,12 +2,16 @@ pub mod Faults
 pub mod Words
 pub mod Planning
 pub mod Serving
+pub mod Recordings
 pub mod Examples
 pub use Rattle.coap_port.specs.Given
 pub use Rattle.coap_port.specs.Stats
 pub use Rattle.coap_port.specs.Driven
 pub use Rattle.coap_port.specs.Memory
 pub use Rattle.coap_replay.specs.Replays
+pub use Rattle.coap_record.specs.Header
+pub use Rattle.coap_record.specs.Recorder
+pub use Rattle.coap_record.specs.Replayable
 pub use Rattle.coap_words.specs.MapOption
 pub use Rattle.coap_words.specs.ProxyOption
 pub use Rattle.coap_words.specs.Config

@@ -14,6 +14,7 @@
 mod examples;
 mod fault;
 mod planning;
+mod recording;
 mod serving;
 mod words;
 
@@ -21,6 +22,7 @@ pub use coap_port::{
     DriveError, Handed, MemoryPort, Port, PortFault, Scripted, Seen, Stats, Turn, Unwatched, Watch,
     drive, drive_watched,
 };
+pub use coap_record::{HeaderError, Recording, Start, header_of};
 pub use coap_replay::{ReplayError, replay};
 pub use coap_words::{
     Config, ConfigError, KeyName, MapOptionError, ProxyOption, ProxyOptionError, Settings,
@@ -28,5 +30,6 @@ pub use coap_words::{
 };
 pub use fault::{ConfigFault, Fault};
 pub use planning::{Plan, read_plan};
+pub use recording::{RecordFile, words_again};
 pub use serving::{serve_events, serve_port, serve_watched};
 pub use words::{Wanted, read_wanted};
