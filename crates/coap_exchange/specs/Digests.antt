@@ -1,5 +1,5 @@
 -- Digests, by which exchanges are found.
-use Rattle.std.specs.Prelude.{ℕ, ◌+◌, ◌*◌}
+use Rattle.std.specs.Prelude.{ℕ, ◌+◌, ◌*◌, ◌%◌, ◌^◌}
 use Rattle.std.specs.Int.{w32, from_be_bytes}
 use Rattle.std.specs.Hash.{HashWrites}
 use Rattle.std.specs.Hash.DefaultHasher as sip
@@ -25,9 +25,11 @@ digest_of_key key = digest_of ((keys.ghosts).hash_input key)
 abbrev pub digest_of_target : Target → ℕ
 digest_of_target target = digest_of ((targets.ghosts).hash_input target)
 
--- of an endpoint: an IPv4 address and a port are one number, of others a hasher makes one
+-- of an endpoint: an IPv4 address and a port are one number, which is spread by multiplication; of
+-- others a hasher makes one
 abbrev pub digest_with : Ip → Endpoint → ℕ
-digest_with (V4 octets) at = from_be_bytes w32 octets * 65536 + at.port
+digest_with (V4 octets) at =
+    ((from_be_bytes w32 octets * 65536 + at.port) * 11400714819323198485) % 2 ^ 64
 digest_with (V6 octets) at = digest_of ((endpoints.ghosts).hash_input at)
 
 abbrev pub digest_of_endpoint : Endpoint → ℕ
