@@ -11,6 +11,7 @@ use Rattle.coap_port.specs.declared.stats.Stats.{Stats}
 use Rattle.coap_endpoint.specs.declared.endpoint.Endpoint.{Endpoint}
 use Rattle.coap_replay.specs.declared.error.ReplayError.{ReplayError}
 use Rattle.coap_watch.specs.Told.{Told}
+use Rattle.coap_replay.specs.Watched as replay
 use Rattle.coap_proxyd.specs.declared.fault.Fault.{Fault}
 use Rattle.coap_proxyd.specs.declared.fault.Fault.TheVariants.{OutOfMemory}
 use Rattle.coap_proxyd.specs.declared.planning.Plan.{Plan}
@@ -35,6 +36,10 @@ abbrev pub IsServed : ℕ → World → Option (List ℕ) → Option (List ℕ) 
 IsServed turns proxy input old new result = ((result ≡ Err OutOfMemory) × Appends old new [])
     ⊎ ((after : World) × (left : Option (List ℕ)) × (replayed : Result ℕ ReplayError)
     × IsReplayed proxy after turns input left old new replayed × (result ≡ ended_as replayed))
+
+-- a watcher was told of turns of that proxy, in order, from its first one on
+abbrev pub IsTold : {V : Type 0} → (V → Told → V → Type 0) → World → V → V → Type 0
+IsTold sees proxy a b = (after : World) × replay.IsTold sees proxy a after b
 
 -- ---- over a port
 

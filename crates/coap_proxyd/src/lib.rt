@@ -31,5 +31,5 @@ pub use coap_words::{
 pub use fault::{ConfigFault, Fault};
 pub use planning::{Plan, read_plan};
 pub use recording::{RecordFile, words_again};
-pub use serving::{serve_events, serve_port, serve_watched};
+pub use serving::{serve_events, serve_events_watched, serve_port, serve_watched};
 pub use words::{Wanted, read_wanted};

@@ -7,8 +7,8 @@ ghost use Rattle.coap_proxyd.specs.Serving as spec;
 use crate::fault::Fault;
 use crate::planning::{Plan, core_of};
 use coap_core::{Core, Counts};
-use coap_port::{DriveError, Port, Stats, Watch, drive, drive_watched};
-use coap_replay::{ReplayError, replay_turns};
+use coap_port::{DriveError, Port, Stats, Unwatched, Watch, drive, drive_watched};
+use coap_replay::{ReplayError, replay_watched};
 use coap_store::Store;
 use std::alloc::Global;
 use std::io::{BufReader, Read, Write};
@@ -40,29 +40,51 @@ pub fn serve_events<R: Read + Drop, W: Write, S: Store + Drop>(
     ensures { spec.IsServed (spec.turns_of plan) (new_world (setting_of plan 1 0))
         (R.remaining input) (W.contents output.old) (W.contents output.new) result }
 {
+    serve_events_watched::<_, _, S, _>(alloc, seed, plan, input, output, &mut Unwatched)
+}
+
+/// Does the same as `serve_events`, and tells a watcher each turn after its line was written
+/// (`replay_watched`).
+///
+/// # Errors
+/// Those of `serve_events`. The watcher was told the turns that were done.
+pub fn serve_events_watched<R: Read + Drop, W: Write, S: Store + Drop, V: Watch>(
+    alloc: Global,
+    seed: S::Seed,
+    plan: Plan,
+    input: R,
+    output: &mut W,
+    watcher: &mut V,
+) -> Result<(), Fault>
+    ensures served { spec.IsServed (spec.turns_of plan) (new_world (setting_of plan 1 0))
+        (R.remaining input) (W.contents output.old) (W.contents output.new) result }
+    ensures told { spec.IsTold V.sees (new_world (setting_of plan 1 0)) watcher.old watcher.new }
+{
     let turns = turns_of(&plan);
     let Ok(mut core) = core_of::<S>(alloc, seed, plan, 1, 0) else {
         return Err(Fault::OutOfMemory);
     };
-    serve_on(alloc, &mut core, input, output, turns)
+    serve_on(alloc, &mut core, input, output, watcher, turns)
 }
 
-/// Replays the events of an input with this core, for at most `turns` turns, and writes the
-/// datagrams that are sent.
-fn serve_on<R: Read + Drop, W: Write, S: Store + Drop>(
+/// Replays the events of an input with this core, for at most `turns` turns, writes the datagrams
+/// that are sent, and tells a watcher.
+fn serve_on<R: Read + Drop, W: Write, S: Store + Drop, V: Watch>(
     alloc: Global,
     core: &mut Core<S>,
     input: R,
     output: &mut W,
+    watcher: &mut V,
     turns: u64,
 ) -> Result<(), Fault>
-    ensures { spec.IsServed turns core.old (R.remaining input)
+    ensures served { spec.IsServed turns core.old (R.remaining input)
         (W.contents output.old) (W.contents output.new) result }
+    ensures told { spec.IsTold V.sees core.old watcher.old watcher.new }
 {
     let Ok(mut reader) = BufReader::new(alloc, input) else {
         return Err(Fault::OutOfMemory);
     };
-    ended(replay_turns(alloc, &mut reader, output, core, turns))
+    ended(replay_watched(alloc, &mut reader, output, core, watcher, turns))
 }
 
 /// How the program ends after a replay.

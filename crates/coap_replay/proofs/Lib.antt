@@ -1,3 +1,4 @@
 pub mod Asking
 pub mod Replaying
 pub mod AllLines
+pub mod Telling

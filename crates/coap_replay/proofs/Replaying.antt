@@ -30,7 +30,7 @@ run-more r [] t = refl
 run-more r (u ∷ ts) t = run-more (one_turn r u) ts t
 
 -- the tables after a run don't depend on the history before it
-run-apart : (r q : Run) (ts : List Taken) → r.world ≡ q.world → (run_of r ts).world ≡ (run_of q ts).world
+pub run-apart : (r q : Run) (ts : List Taken) → r.world ≡ q.world → (run_of r ts).world ≡ (run_of q ts).world
 run-apart r q [] e = e
 run-apart r q (t ∷ ts) e = run-apart (one_turn r t) (one_turn q t) ts (ap (λ (w : World). (step_taken w t).world) e)
 

@@ -15,6 +15,7 @@ mod error;
 mod replays;
 mod whole;
 
+pub use coap_watch::{Seen, Unwatched, Watch};
 pub use error::ReplayError;
-pub use replays::replay_turns;
+pub use replays::{replay_turns, replay_watched};
 pub use whole::replay;

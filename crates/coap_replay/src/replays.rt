@@ -1,8 +1,11 @@
 //! Replays: a core handles the events of an input one after the other, and what it sends is
 //! written.
-ghost use Rattle.std.specs.Prelude.{◌≡◌, ◌≤◌, ℕ, IfSome, length, vec_capacity};
+ghost use Rattle.std.specs.Prelude.{◌≡◌, ◌≤◌, ℕ, true, Some, IfSome, length, vec_capacity};
+ghost use Rattle.coap_model.specs.World.{World};
 ghost use Rattle.coap_core.specs.Events.{seen};
 ghost use Rattle.coap_replay.specs.Buffers.{HaveRoom};
+ghost use Rattle.coap_watch.specs.Told.{told};
+ghost use Rattle.coap_replay.specs.Watched.{IsTold, TellsTurn};
 ghost use Rattle.coap_replay.specs.Replays.{AsksNext, DoesTurn, IfDo, IsReplayed, MayBeDone, line_for};
 ghost use Rattle.coap_lines.specs.Room.{longest_line};
 ghost use Rattle.coap_lines.specs.Turns.{turn_seen, event_seen};
@@ -14,6 +17,7 @@ use coap_endpoint::Endpoint;
 use coap_lines::{Next, Turn, is_skipped, next_line, put_line, read_turn, write_bytes};
 use coap_message::Datagram;
 use coap_store::Store;
+use coap_watch::{Seen, Unwatched, Watch};
 use std::alloc::Global;
 use std::io::{BufRead, Write};
 
@@ -94,10 +98,32 @@ fn line_for(text: &mut Vec<u8>, now: u64, report: Report, out: &Datagram)
     }
 }
 
-/// Does a turn, and writes the line of what it sends. If it runs out of memory, nothing was done.
-fn do_turn<W: Write, S: Store + Drop>(
+/// What a watcher is told of a turn.
+fn done<'a>(turn: Turn, event: Event<'a>, report: Report, sent: &'a [u8]) -> Seen<'a>
+    ensures { (w : World) → told result w ≡ record {
+      turn = record { now = turn.now; draw = turn.draw; event = seen event.entry };
+      report = Some report;
+      bytes = sent.entry.now;
+      went = true;
+      world = w;
+    } }
+{
+    Seen {
+        now: turn.now,
+        draw: turn.draw,
+        event,
+        report: Some(report),
+        sent,
+        went: true,
+    }
+}
+
+/// Does a turn, tells the watcher, and writes the line of what it sends. If it runs out of memory,
+/// nothing was done, and the watcher isn't told.
+fn do_turn<W: Write, S: Store + Drop, V: Watch>(
     writer: &mut W,
     core: &mut Core<S>,
+    watcher: &mut V,
     turn: Turn,
     number: u64,
     buffers: &mut Buffers,
@@ -107,6 +133,8 @@ fn do_turn<W: Write, S: Store + Drop>(
     requires room { HaveRoom core.old.setting.limits.datagram buffers.old }
     ensures does { DoesTurn core.old core.new (turn_seen turn buffers.old.input.bytes)
         (W.contents writer.old) (W.contents writer.new) number result }
+    ensures told { TellsTurn V.sees core.old watcher.old core.new watcher.new
+        (turn_seen turn buffers.old.input.bytes) result }
     ensures room { HaveRoom core.new.setting.limits.datagram buffers.new }
 {
     let event = event_of(turn.from, buffers.input.bytes());
@@ -114,6 +142,7 @@ fn do_turn<W: Write, S: Store + Drop>(
         return Err(ReplayError::OutOfMemory { line: number });
     };
     line_for(&mut buffers.text, turn.now, report, &buffers.output);
+    watcher.see(done(turn, event, report, buffers.output.bytes()), core);
     if write_bytes(writer, &buffers.text).is_err() {
         return Err(ReplayError::Write);
     }
@@ -142,6 +171,27 @@ pub fn replay_turns<R: BufRead, W: Write, S: Store + Drop>(
     ensures replayed { IsReplayed core.old core.new turns (R.remaining reader.old)
         (R.remaining reader.new) (W.contents writer.old) (W.contents writer.new) result }
 {
+    replay_watched(alloc, reader, writer, core, &mut Unwatched, turns)
+}
+
+/// Does the same as `replay_turns`, and tells a watcher each turn that was done, before the line of
+/// what it sends is written.
+///
+/// # Errors
+/// Those of `replay_turns`. The watcher was told the turns that were done, also the one whose line
+/// couldn't be written.
+pub fn replay_watched<R: BufRead, W: Write, S: Store + Drop, V: Watch>(
+    alloc: Global,
+    reader: &mut R,
+    writer: &mut W,
+    core: &mut Core<S>,
+    watcher: &mut V,
+    turns: u64,
+) -> Result<u64, ReplayError>
+    ensures replayed { IsReplayed core.old core.new turns (R.remaining reader.old)
+        (R.remaining reader.new) (W.contents writer.old) (W.contents writer.new) result }
+    ensures told { IsTold V.sees core.old watcher.old core.new watcher.new }
+{
     if turns == 0 {
         return Ok(0);
     }
@@ -155,7 +205,7 @@ pub fn replay_turns<R: BufRead, W: Write, S: Store + Drop>(
             Asked::End => return Ok(count),
             Asked::Skip => {}
             Asked::Do(turn) => {
-                do_turn(writer, core, turn, number, &mut buffers)?;
+                do_turn(writer, core, watcher, turn, number, &mut buffers)?;
                 count += 1;
                 if count == turns {
                     return Ok(count);

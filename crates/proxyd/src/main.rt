@@ -6,9 +6,11 @@ ghost use Rattle.std.specs.Prelude.{◌<◌, ◌^◌};
 mod reporter;
 
 use crate::reporter::Reporter;
+use coap_account::Explainer;
 use coap_cache::LruStore;
 use coap_proxyd::{
-    Fault, Plan, Port, read_plan, read_wanted, serve_events, serve_port, serve_watched,
+    Fault, Plan, Port, read_plan, read_wanted, serve_events, serve_events_watched, serve_port,
+    serve_watched,
 };
 use coap_udp::UdpPort;
 use std::hash::RandomState;
@@ -104,19 +106,36 @@ fn serve<P: Port>(
     Ok(())
 }
 
+/// Replays standard input.
+fn replay(rt: &HostRuntime, plan: Plan) -> Result<(), Fault> {
+    let (alloc, seed) = (rt.alloc(), seed(rt)?);
+    serve_events::<_, _, Cache>(alloc, seed, plan, rt.reader(), &mut io::writer(rt))
+}
+
+/// Replays standard input, and says after each event what it did. The routes are read once more for
+/// that, since those of the plan become the core's.
+fn explain(rt: &HostRuntime, plan: Plan) -> Result<(), Fault> {
+    let (alloc, seed) = (rt.alloc(), seed(rt)?);
+    let Plan { limits, routes, .. } = self::plan(rt)?;
+    let mut explainer = Explainer::new(alloc, limits, routes, io::writer(rt));
+    let (input, output) = (rt.reader(), &mut io::writer(rt));
+    serve_events_watched::<_, _, Cache, _>(alloc, seed, plan, input, output, &mut explainer)?;
+    if explainer.failed() {
+        return Err(Fault::File);
+    }
+    Ok(())
+}
+
 /// Does what the words and the configuration ask for.
 fn run(rt: &HostRuntime) -> Result<(), Fault> {
     let plan = plan(rt)?;
-    if plan.replay {
-        return serve_events::<_, _, Cache>(
-            rt.alloc(),
-            seed(rt)?,
-            plan,
-            rt.reader(),
-            &mut io::writer(rt),
-        );
+    if plan.explain {
+        explain(rt, plan)
+    } else if plan.replay {
+        replay(rt, plan)
+    } else {
+        serve_socket(rt, plan)
     }
-    serve_socket(rt, plan)
 }
 
 /// Prints a fault on standard error, and the help and the version on standard output.

@@ -1,5 +1,6 @@
 use Rattle.std.proofs.Common.{◌≡◌, ℕ, List, [], Option, Some, None, Result, inr, refl, subst}
 use Rattle.std.specs.Io.KnownBytes.{prepend_known}
+use Rattle.coap_replay.proofs.Telling.{told-none}
 use Rattle.coap_replay.specs.Replays.{IsReplayed}
 use Rattle.coap_replay.specs.declared.error.ReplayError.{ReplayError}
 use Rattle.coap_model.specs.World.{World}
@@ -20,4 +21,10 @@ served turns proxy after input left old new replayed is =
 pub returns : goal.returns
 returns g c =
     let reader = c.in-Ok.ensures in
-    rw c.ended.ensures (served _ c.args.core.now _ (g.R.Read.remaining c.args.input) _ _ _ c.replay_turns.result (rw (reader.capacity, reader.empty, reader.inner) at c.replay_turns.ensures.replayed))
+    record {
+      served = rw c.ended.ensures (served _ c.args.core.now _ (g.R.Read.remaining c.args.input) _ _ _ c.replay_watched.result (rw (reader.capacity, reader.empty, reader.inner) at c.replay_watched.ensures.replayed));
+      told = (c.replay_watched.new.core, c.replay_watched.ensures.told);
+    }
+
+pub returns-in_default-clause-told : goal.returns-in_default-clause-told
+returns-in_default-clause-told g c = (c.args.core.now, told-none g.V.Watch.sees c.args.core.now c.args.watcher.now)

@@ -1,0 +1,154 @@
+//! Messages in words.
+
+use coap_endpoint::{Endpoint, Ip, Target};
+use coap_message::{Code, Kind, MessageRef, uint};
+use coap_option::numbers;
+use std::io;
+use std::io::Write;
+use std::net::Ipv6Addr;
+
+/// The port of `coap` (RFC 7252, 6.1).
+const DEFAULT_PORT: u16 = 5683;
+
+/// Adds four numbers, with dots between them.
+fn put_octets(line: &mut Vec<u8>, octets: [u8; 4]) -> io::Result<()> {
+    let [a, b, c, d] = octets;
+    write!(line, "{a}.{b}.{c}.{d}")
+}
+
+/// Adds eight groups in brackets, with colons between them.
+fn put_groups(line: &mut Vec<u8>, octets: [u8; 16]) -> io::Result<()> {
+    let [a, b, c, d, e, f, g, h] = Ipv6Addr::from_octets(octets).segments();
+    write!(line, "[{a:x}:{b:x}:{c:x}:{d:x}:")?;
+    write!(line, "{e:x}:{f:x}:{g:x}:{h:x}]")
+}
+
+/// Adds an address: four numbers, or eight groups in brackets.
+fn put_ip(line: &mut Vec<u8>, ip: Ip) -> io::Result<()> {
+    match ip {
+        Ip::V4(octets) => put_octets(line, octets),
+        Ip::V6(octets) => put_groups(line, octets),
+    }
+}
+
+/// Adds an endpoint as a replay's lines have it: its address, a colon, and its port.
+pub(crate) fn put_endpoint(line: &mut Vec<u8>, endpoint: Endpoint) -> io::Result<()> {
+    put_ip(line, endpoint.ip)?;
+    let port = endpoint.port;
+    write!(line, ":{port}")
+}
+
+/// The name of a type (RFC 7252, 4.2 and 4.3).
+fn kind_name(kind: Kind) -> &'static str {
+    match kind {
+        Kind::Con => "CON",
+        Kind::Non => "NON",
+        Kind::Ack => "ACK",
+        Kind::Rst => "RST",
+    }
+}
+
+/// Adds a code: the name of a method (RFC 7252, 5.8), or the class, a dot and the detail in two
+/// digits.
+pub(crate) fn put_code(line: &mut Vec<u8>, code: Code) -> io::Result<()> {
+    match code.0 {
+        1 => line.write_all(b"GET"),
+        2 => line.write_all(b"POST"),
+        3 => line.write_all(b"PUT"),
+        4 => line.write_all(b"DELETE"),
+        _ => {
+            let (class, detail) = (code.class(), code.detail());
+            write!(line, "{class}.{detail:02}")
+        }
+    }
+}
+
+/// Adds the type of a message, and its method or its code.
+pub(crate) fn put_kind(line: &mut Vec<u8>, message: &MessageRef<'_>) -> io::Result<()> {
+    let kind = kind_name(message.kind());
+    write!(line, " {kind} ")?;
+    put_code(line, message.code())
+}
+
+/// Whether a byte stands for itself in a path or a query (RFC 3986, 3.3 and 3.4). A slash and an
+/// ampersand, which separate parts, don't.
+fn is_plain(byte: u8) -> bool {
+    byte.is_ascii_alphanumeric() || b"-._~!$'()*+,;=:@".contains(&byte)
+}
+
+/// Adds a part of a path or of a query, with `%XX` for what doesn't stand for itself.
+fn put_part(line: &mut Vec<u8>, part: &[u8]) -> io::Result<()> {
+    for byte in part {
+        if is_plain(*byte) {
+            line.write_all(&[*byte])?;
+        } else {
+            write!(line, "%{byte:02X}")?;
+        }
+    }
+    Ok(())
+}
+
+/// Adds a port of a URI behind a colon, unless it is the default one.
+fn put_port(line: &mut Vec<u8>, port: u16) -> io::Result<()> {
+    if port == DEFAULT_PORT {
+        return Ok(());
+    }
+    write!(line, ":{port}")
+}
+
+/// Adds the scheme, the host and the port of a target.
+fn put_authority(line: &mut Vec<u8>, target: &Target) -> io::Result<()> {
+    line.write_all(b"coap://")?;
+    match &target.host {
+        Some(host) => line.write_all(host.as_slice())?,
+        None => put_ip(line, target.at.ip)?,
+    }
+    put_port(line, target.port.unwrap_or(target.at.port))
+}
+
+/// Adds the URI of a target.
+pub(crate) fn put_target(line: &mut Vec<u8>, target: &Target) -> io::Result<()> {
+    put_authority(line, target)?;
+    if target.path.is_empty() {
+        line.write_all(b"/")?;
+    }
+    for part in target.path.iter() {
+        line.write_all(b"/")?;
+        put_part(line, part)?;
+    }
+    let mut mark = b"?";
+    for part in target.query.iter() {
+        line.write_all(mark)?;
+        put_part(line, part)?;
+        mark = b"&";
+    }
+    Ok(())
+}
+
+/// Adds bytes in hexadecimal digits.
+fn put_hex(line: &mut Vec<u8>, bytes: &[u8]) -> io::Result<()> {
+    for byte in bytes {
+        write!(line, "{byte:02x}")?;
+    }
+    Ok(())
+}
+
+/// Adds what a sent message is: its method or its code, its ETags and its Max-Age.
+pub(crate) fn put_sent(line: &mut Vec<u8>, sent: &[u8]) -> io::Result<()> {
+    let Ok(message) = MessageRef::read(sent) else {
+        return Ok(());
+    };
+    line.write_all(b" ")?;
+    put_code(line, message.code())?;
+    for option in message.options() {
+        if option.number == numbers::ETAG {
+            line.write_all(b" ETag ")?;
+            put_hex(line, option.value)?;
+        }
+        if option.number == numbers::MAX_AGE && option.value.len() <= 4 {
+            let seconds = uint(option.value);
+            write!(line, " Max-Age {seconds}")?;
+        }
+    }
+    Ok(())
+}

@@ -1,0 +1,84 @@
+-- A watcher that is told turn by turn.
+use Rattle.std.proofs.Common.{◌≡◌, ◌≢◌, ◌++◌, ◌∙◌, ℕ, true, List, [], ◌∷◌, Option, Some, Result, Ok, Err, refl, sym, ap, subst}
+use Rattle.std.specs.Io.KnownBytes.{Appends}
+use Rattle.std.specs.Result.{OnErr, is_err}
+use Rattle.coap_core.specs.Steps.{Does}
+use Rattle.coap_message.specs.Datagram.{Datagram}
+use Rattle.coap_model.specs.Events.{Event}
+use Rattle.coap_model.specs.History.{grown_of}
+use Rattle.coap_model.specs.Step.{step_of}
+use Rattle.coap_model.specs.declared.report.Report.{Report}
+use Rattle.coap_model.specs.Runs.{Run, Taken, Turn, one_turn, step_taken}
+use Rattle.coap_model.specs.World.{Step, World}
+use Rattle.coap_watch.specs.Told as watch
+use Rattle.coap_replay.specs.Replays.{DoesTurn, line_for, run_at, taken, world_after}
+use Rattle.coap_replay.specs.Watched.{AreTold, DoesTold, IsTold, TellsTurn, told_in}
+use Rattle.coap_replay.specs.declared.error.ReplayError.{ReplayError}
+use Rattle.coap_replay.specs.declared.error.ReplayError.TheVariants.{BadEvent, OutOfMemory, Read, Write}
+use Rattle.coap_replay.proofs.Replaying.{run-apart, run-more}
+
+-- the tables after a turn and more turns
+after-more : (w : World) (u : Taken) (ts : List Taken) → world_after w (u ∷ ts) ≡ world_after (step_taken w u).world ts
+after-more w u ts = run-apart (one_turn (run_at w []) u) (run_at (step_taken w u).world []) ts refl
+
+-- what is told of a step
+abbrev pub told_of : ℕ → ℕ → Event → Report → List ℕ → World → watch.Told
+told_of now draw event report bytes w = record { turn = record { now = now; draw = draw; event = event }; report = Some report; bytes = bytes; went = true; world = w }
+
+-- what holds on an error holds if there is one
+pub err-holds : {T E P : Type 0} (r : Result T E) → is_err r ≡ true → OnErr r P → P
+err-holds (Ok x) never p = absurd cc
+err-holds (Err e) true-is p = p
+
+-- a step was done, and its line was written in part
+pub failed-write : (w v : World) (t : Turn) (event : Event) (report : Report) (out out' : Datagram) (old new : Option (List ℕ)) (number : ℕ) (text : List ℕ) → event ≡ t.event
+    → Does (step_of w t.now t.draw (grown_of report.outcome) event) report out out' v → text ≡ line_for t.now report.send out'.bytes
+    → ((done rest : List ℕ) × (text ≡ done ++ rest) × (rest ≢ []) × Appends old new done) → DoesTurn w v t old new number (Err Write)
+failed-write w v t event report out out' old new number text same does line front =
+    let done = subst (λ (e : Event). Does (step_of w t.now t.draw (grown_of report.outcome) e) report out out' v) same does in
+    let step : Step = step_of w t.now t.draw (grown_of report.outcome) t.event in
+    let sent : line_for t.now step.report.send step.bytes ≡ text =
+    sym (line ∙ ap (λ (r : Report). line_for t.now r.send out'.bytes) done.0 ∙ ap (λ (d : Datagram). line_for t.now step.report.send d.bytes) done.1) in
+    (grown_of report.outcome, done.2, (front.0, front.1, sent ∙ front.2, front.3, front.4))
+
+module _ {V : Type 0} (sees : V → watch.Told → V → Type 0) where
+  -- a step that was done is told
+  pub step-told : (w v : World) (t : Turn) (event : Event) (report : Report) (out out' : Datagram) (a b : V) → event ≡ t.event → Does (step_of w t.now t.draw (grown_of report.outcome) event) report out out' v
+      → sees a (told_of t.now t.draw event report out'.bytes v) b → DoesTold sees w a v b t
+  step-told w v t event report out out' a b same does seen =
+      let done = subst (λ (e : Event). Does (step_of w t.now t.draw (grown_of report.outcome) e) report out out' v) same does in
+      let step : Step = step_of w t.now t.draw (grown_of report.outcome) t.event in
+      let is : told_of t.now t.draw event report out'.bytes v ≡ told_of t.now t.draw t.event step.report step.bytes step.world =
+      ap (λ (e : Event). told_of t.now t.draw e report out'.bytes v) same
+      ∙ ap (λ (r : Report). told_of t.now t.draw t.event r out'.bytes v) done.0
+      ∙ ap (λ (d : Datagram). told_of t.now t.draw t.event step.report d.bytes v) done.1
+      ∙ ap (told_of t.now t.draw t.event step.report step.bytes) done.2 in
+      (grown_of report.outcome, done.2, subst (λ (u : watch.Told). sees a u b) is seen)
+
+  -- one more turn is told
+  more : (w : World) (a m b : V) (ts : List Taken) (t : Taken) → AreTold sees w a ts m → sees m (told_in (world_after w ts) t) b → AreTold sees w a (ts ++ t ∷ []) b
+  more w a m b [] t told one = (b, subst (λ (x : V). sees x (told_in w t) b) told one, refl)
+  more w a m b (u ∷ ts) t told one =
+      (told.0, told.1, more (step_taken w u).world told.0 m b ts t told.2 (subst (λ (v : World). sees m (told_in v t) b) (after-more w u ts) one))
+
+  -- nothing is told at first
+  pub told-none : (w : World) (a : V) → IsTold sees w a w a
+  told-none w a = record { turns = []; world = refl; told = refl }
+
+  -- a turn that was done is told
+  done-told : (w : World) (a : V) (v : World) (m : V) (v' : World) (b : V) (t : Turn) → IsTold sees w a v m → DoesTold sees v m v' b t → IsTold sees w a v' b
+  done-told w a v m v' b t is one =
+      let u : Taken = taken t one.0 in
+      record {
+        turns = is.turns ++ u ∷ [];
+        world = one.1 ∙ ap (λ (x : World). (step_taken x u).world) is.world ∙ sym (ap (λ (r : Run). r.world) (run-more (run_at w []) is.turns u));
+        told = more w a m b is.turns u is.told (subst (λ (x : World). sees m (told_in x u) b) is.world one.2);
+      }
+
+  -- a turn is told, or nothing is done
+  pub told-more : (w : World) (a : V) (v : World) (m : V) (v' : World) (b : V) (t : Turn) (r : Result (Unit {0}) ReplayError) → IsTold sees w a v m → TellsTurn sees v m v' b t r → IsTold sees w a v' b
+  told-more w a v m v' b t (Ok u) is one = done-told w a v m v' b t is one
+  told-more w a v m v' b t (Err (BadEvent line)) is one = absurd one
+  told-more w a v m v' b t (Err (OutOfMemory line)) is one = rw (one.0, one.1) is
+  told-more w a v m v' b t (Err Read) is one = absurd one
+  told-more w a v m v' b t (Err Write) is one = done-told w a v m v' b t is one
