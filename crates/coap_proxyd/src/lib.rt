@@ -25,7 +25,7 @@ pub use coap_port::{
 pub use coap_record::{HeaderError, Recording, Start, header_of};
 pub use coap_replay::{ReplayError, replay};
 pub use coap_words::{
-    Config, ConfigError, KeyName, MapOptionError, ProxyOption, ProxyOptionError, Settings,
+    Config, ConfigError, KeyName, MapOptionError, ProxyOption, ProxyOptionError, Settings, VERSION,
     WordsError, parse_map_option, parse_proxy_option, read_config, read_words,
 };
 pub use fault::{ConfigFault, Fault};

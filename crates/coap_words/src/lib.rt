@@ -32,6 +32,7 @@ pub use config_error::{ConfigError, KeyName};
 pub use error::{MapOptionError, ProxyOptionError};
 pub use limit_keys::limit_key;
 pub use map_option::parse_map_option;
+pub use options::VERSION;
 pub use proxy_option::{ProxyOption, parse_proxy_option};
 pub use settings::{Settings, WordsError};
 pub use words::read_words;

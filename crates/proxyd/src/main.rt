@@ -9,12 +9,12 @@ use crate::reporter::Reporter;
 use coap_account::Explainer;
 use coap_cache::LruStore;
 use coap_proxyd::{
-    Fault, Plan, Port, read_plan, read_wanted, serve_events, serve_events_watched, serve_port,
-    serve_watched,
+    Fault, HeaderError, Plan, Port, RecordFile, Recording, Start, VERSION, header_of, read_plan,
+    read_wanted, serve_events, serve_events_watched, serve_port, serve_watched, words_again,
 };
 use coap_udp::UdpPort;
 use std::hash::RandomState;
-use std::io::ErrorKind;
+use std::io::{ErrorKind, Write};
 use std::process::ExitCode;
 use std::random::RandomSource;
 use std::{env, fs, io};
@@ -81,9 +81,59 @@ fn seed(rt: &HostRuntime) -> Result<RandomState, Fault> {
 fn serve_socket(rt: &HostRuntime, plan: Plan) -> Result<(), Fault> {
     let (first_id, salt) = draw(rt)?;
     match UdpPort::bind(rt, rt.alloc(), plan.local) {
-        Ok(mut port) => serve(rt, plan, first_id, salt, &mut port),
+        Ok(mut port) if plan.recording.is_none() => serve(rt, plan, first_id, salt, &mut port),
+        Ok(port) => record(rt, plan, first_id, salt, port),
         Err(error) => Err(fault_of(&error, Fault::Socket)),
     }
+}
+
+/// How a recording begins: with the words and the configuration of this run.
+fn header(rt: &HostRuntime, start: Start) -> Result<Vec<u8>, Fault> {
+    let wanted = read_wanted(rt.alloc(), &words(rt)?)?;
+    let config = file(rt, &wanted.settings.config)?;
+    let Ok(words) = words_again(rt.alloc(), &wanted.settings) else {
+        return Err(Fault::OutOfMemory);
+    };
+    let config = config.as_deref().unwrap_or(&[]);
+    match header_of(rt.alloc(), VERSION, start, &words, config) {
+        Ok(header) => Ok(header),
+        Err(HeaderError::TooLong) => Err(Fault::File),
+        Err(HeaderError::OutOfMemory) => Err(Fault::OutOfMemory),
+    }
+}
+
+/// Creates the file of a recording, with its header.
+fn recording<'a>(rt: &'a HostRuntime, path: &str, start: Start) -> Result<RecordFile<'a>, Fault> {
+    let header = header(rt, start)?;
+    let written = RecordFile::create(rt, path).and_then(|mut file| {
+        file.write_all(&header)?;
+        Ok(file)
+    });
+    written.map_err(|error| fault_of(&error, Fault::File))
+}
+
+/// Serves a port, and records its turns.
+fn record<P: Port + Drop>(
+    rt: &HostRuntime,
+    plan: Plan,
+    first_id: u16,
+    salt: u64,
+    port: P,
+) -> Result<(), Fault>
+    requires failures { P.failures port < 2 ^ 63 }
+{
+    let start = Start {
+        first_id: plan.first_id.unwrap_or(first_id),
+        salt: plan.salt.unwrap_or(salt),
+    };
+    let path = plan.recording.as_deref().unwrap_or("");
+    let file = recording(rt, path, start)?;
+    let Ok(mut recording) = Recording::new(rt.alloc(), port, file) else {
+        return Err(Fault::OutOfMemory);
+    };
+    let served = serve(rt, plan, start.first_id, start.salt, &mut recording);
+    recording.finish();
+    served
 }
 
 /// Serves a port. If counts are asked for, writes them meanwhile and at the end.
