@@ -2,10 +2,11 @@
 expected is worked out by hand."""
 
 import subprocess
+import tempfile
 
 from testing.coap import (
-    ACK, BLOCK2, CHANGED, CON, CONTENT, EMPTY, ETAG, GET, MAX_AGE, NON, NOT_FOUND, POST, PROXY_URI, RST, URI_PATH,
-    URI_QUERY, message, number_bytes,
+    ACK, BLOCK2, CON, CONTENT, EMPTY, ETAG, GET, MAX_AGE, NON, NOT_FOUND, POST, PROXY_URI, RST, URI_PATH, URI_QUERY,
+    message, number_bytes,
 )
 from testing.network import expect
 
@@ -24,22 +25,25 @@ def token(number):
     return number.to_bytes(8, "big")
 
 
-def explained(program, events, *words, config=None, folder=None):
+def explained(program, events, config):
     """The comments that a program writes for events: moments, and datagrams with their sources or None for ticks."""
     lines = []
     for now, event in events:
         lines.append(f"{now} 0 tick" if event is None else f"{now} 0 {event[0]} {event[1].hex().upper()}")
-    done = subprocess.run(
-        [*program, "--replay", "--explain", "--map", MAP, *words],
-        input="\n".join(lines).encode() + b"\n", stdout=subprocess.PIPE, stderr=subprocess.PIPE, timeout=20,
-    )
+    with tempfile.NamedTemporaryFile("w", prefix="coap-proxyd-test-", suffix=".toml") as file:
+        file.write(config)
+        file.flush()
+        done = subprocess.run(
+            [*program, "--replay", "--explain", "--map", MAP, "--config", file.name],
+            input="\n".join(lines).encode() + b"\n", stdout=subprocess.PIPE, stderr=subprocess.PIPE, timeout=50,
+        )
     expect("the status and standard error", (0, b""), (done.returncode, done.stderr))
     return [line for line in done.stdout.decode().splitlines() if line.startswith("#")]
 
 
-def check(program, script, *words):
+def check(program, script, config="version = 1\n"):
     """Has a program say this of these events."""
-    comments = explained(program, [(now, event) for now, event, _ in script], *words)
+    comments = explained(program, [(now, event) for now, event, _ in script], config)
     for at, (now, event, text) in enumerate(script):
         source = "tick" if event is None else event[0]
         wanted = f"# {at + 1} {now} {source} {text}"
@@ -112,4 +116,41 @@ def a_silent_origin(program):
     ])
 
 
-CASES = (an_exchange_and_hits, refusals, answers_that_are_not_kept, a_silent_origin)
+def full_tables(program):
+    limits = "exchanges = 1\nclient_exchanges = 1\nnon_records = 3\nclient_non_records = 2\ncon_records = 1\n"
+    wanted = [(T, (URI_PATH, name)) for name in (b"a", b"b", b"c", b"d")]
+    texts = [f"{HERE}/{name}" for name in "abcd"]
+    check(program, [
+        (0, (client(1), message(NON, GET, 1, b"", wanted[0])), f"NON GET {texts[0]} opened"),
+        (0, (client(2), message(NON, GET, 1, b"", wanted[1])), f"NON GET {texts[1]} overloaded 5.03 exchanges 1/1"),
+        (0, (client(1), message(NON, GET, 2, b"", wanted[2])),
+         f"NON GET {texts[2]} overloaded 5.03 exchanges 1/1 client exchanges 1/1"),
+        (0, (client(1), message(NON, GET, 3, b"", wanted[3])),
+         f"NON GET {texts[3]} no record room non 3/3 client non 2/2"),
+        (0, (client(3), message(CON, GET, 1, b"", wanted[0])), f"CON GET {texts[0]} joined 0.00"),
+        (0, (client(4), message(CON, GET, 1, b"", wanted[0])), f"CON GET {texts[0]} no record room con 1/1"),
+    ], f"version = 2\n[limits]\n{limits}")
+
+
+def ids_that_run_out(program):
+    script = [
+        (0, (client(1), message(NON, GET, 1, b"a", [T])), f"NON GET {HERE} opened"),
+        (0, None, f"sent GET to {THERE}"),
+        (0, (THERE, message(ACK, CONTENT, 1, token(1), [AGE], b"21")), "ACK 2.05 answered 2.05 kept"),
+        (0, None, f"delivered 2.05 Max-Age 60 to {client(1)}"),
+    ]
+    # Half of all Message IDs are of one window. Two are used, and one is to be left.
+    for number in range(32_765):
+        hit = message(NON, GET, number, b"", [T])
+        script.append((0, (client(2), hit), f"NON GET {HERE} hit 2.05 Max-Age 60"))
+    other, text = [T, (URI_PATH, b"x")], f"{HERE}/x"
+    script += [
+        (0, (client(3), message(NON, GET, 1, b"", other)), f"NON GET {text} overloaded 5.03 ids"),
+        (0, (client(3), message(NON, GET, 2, b"", [T])), f"NON GET {HERE} no id"),
+        (0, (client(3), message(CON, GET, 3, b"", other)), f"CON GET {text} overloaded 5.03 ids"),
+        (0, (client(3), message(CON, GET, 4, b"", [T])), f"CON GET {HERE} hit 2.05 Max-Age 60"),
+    ]
+    check(program, script, "version = 1\n[limits]\nnon_records = 65536\n")
+
+
+CASES = (an_exchange_and_hits, refusals, answers_that_are_not_kept, a_silent_origin, full_tables, ids_that_run_out)
