@@ -66,58 +66,32 @@ fn drive_on<W: Write>(
     drive(alloc, core, port, 4)
 }
 
-/// Drives a new core over such a port, by which both datagrams are handed over.
-fn drive_anew<W: Write>(
-    rt: &impl Abort,
-    alloc: Global,
-    port: &mut Recording<MemoryPort, W>,
-) -> Result<(), Fail> {
-    let mut core = core(alloc)?;
-    let done = drive_on(rt, alloc, &mut core, port);
-    assert!(rt; done == Ok(stats(4, 2, 0)));
-    Ok(())
-}
-
-/// Records the turns of a new core.
-fn record<W: Write + Drop>(
-    rt: &impl Abort,
-    alloc: Global,
-    writer: W,
-) -> Result<Recording<MemoryPort, W>, Fail> {
-    let port = port(alloc)?;
-    let mut port = Recording::new(alloc, port, writer)?;
-    drive_anew(rt, alloc, &mut port)?;
-    Ok(port)
-}
-
-/// Checks what was handed over.
-fn check_handed(rt: &impl Abort, alloc: Global, port: &MemoryPort) -> Result<(), Fail> {
-    let written = shown(alloc, port.handed())?;
-    assert_eq!(rt; written.as_str(), BOTH);
-    Ok(())
-}
-
-/// Checks what a new core writes in a replay of these lines.
-fn check_replayed(rt: &impl Abort, alloc: Global, lines: &[u8]) -> Result<(), Fail> {
+/// What a new core writes in a replay of these lines.
+fn replayed(alloc: Global, lines: &[u8]) -> Result<Vec<u8>, Fail> {
     let mut core = core(alloc)?;
     let mut reader = lines;
     let mut out = Vec::new(alloc);
     replay(alloc, &mut reader, &mut out, &mut core)?;
-    assert_eq!(rt; out.as_slice(), REPLAYED.as_bytes());
-    Ok(())
+    Ok(out)
 }
 
 #[test]
 fn a_recording_is_replayed(rt: HostRuntime) -> Result<(), Fail> {
     let alloc = rt.alloc();
-    let mut port = record(&rt, alloc, Vec::new(alloc))?;
+    let mut core = core(alloc)?;
+    let mut port = Recording::new(alloc, port(alloc)?, Vec::new(alloc))?;
+    let done = drive_on(&rt, alloc, &mut core, &mut port);
+    assert!(&rt; done == Ok(stats(4, 2, 0)));
+    let written = shown(alloc, port.port().handed())?;
+    assert_eq!(&rt; written.as_str(), BOTH);
     // nothing is written as long as something comes
     assert_eq!(&rt; port.writer().len(), 0);
     port.finish();
     assert!(&rt; !port.has_ended());
     assert_eq!(&rt; port.writer().as_slice(), RECORDED.as_bytes());
-    check_handed(&rt, alloc, port.port())?;
-    check_replayed(&rt, alloc, port.writer().as_slice())
+    let again = replayed(alloc, port.writer().as_slice())?;
+    assert_eq!(&rt; again.as_slice(), REPLAYED.as_bytes());
+    Ok(())
 }
 
 // ---- a writer that fails
@@ -145,21 +119,24 @@ impl Write for Disk {
     }
 }
 
-/// Checks that the disk holds what fits, and whether the recording has ended.
-fn check_disk(rt: &impl Abort, held: &[u8], room: usize, ended: bool) {
-    let all = RECORDED.as_bytes();
-    assert!(rt; ended == (room < all.len()));
-    assert!(rt; held.len() == room.min(all.len()) && all.starts_with(held));
-}
-
 /// Records the turns on a disk with room for `room` bytes: the datagrams that are sent are the
 /// same, and the disk holds what fits.
 fn check_full(rt: &impl Abort, alloc: Global, room: usize) -> Result<(), Fail> {
-    let held = Vec::new(alloc);
-    let mut port = record(rt, alloc, Disk { held, room })?;
+    let mut core = core(alloc)?;
+    let disk = Disk {
+        held: Vec::new(alloc),
+        room,
+    };
+    let mut port = Recording::new(alloc, port(alloc)?, disk)?;
+    let done = drive_on(rt, alloc, &mut core, &mut port);
+    assert!(rt; done == Ok(stats(4, 2, 0)));
     port.finish();
-    check_disk(rt, port.writer().held.as_slice(), room, port.has_ended());
-    check_handed(rt, alloc, port.port())
+    let written = shown(alloc, port.port().handed())?;
+    assert_eq!(rt; written.as_str(), BOTH);
+    let all = RECORDED.as_bytes();
+    assert_eq!(rt; port.has_ended(), room < all.len());
+    assert_eq!(rt; port.writer().held.as_slice(), &all[..room.min(all.len())]);
+    Ok(())
 }
 
 #[test]
